@@ -1,15 +1,15 @@
 -- What a graph that runs in bands leaves in the end, cell by cell.
 use Rattle.std.proofs.Common.{◌≡◌, ℕ, Bool, true, false, eqb, List, [], ◌∷◌, ◌++◌, map, length, Option, Some, None, inl, inr, refl, sym, ap, subst, ◌∙◌, arith, ◌==◌, ◌&&◌, ◌||◌, not, if◌then◌else◌, IsTrue, is_some, is_none, All, IfSome, unwrap_or, option_map, option_and_then}
-use Rattle.graph_run.proofs.Common.{IsStrictlyIncreasing, cases_Bool, eqb-true, eq-eqb, and_parts, or_left, or_right, false_from_ne_true, U8, Kind, Node, Output, First, Second, VirtualImage, Cell, cell_of, Description, IsDescription, parameters, accumulates, ImageValue, new_image, description_of, IsNode, is_node, given, outputs, operands, second_kind, ObjectValue, ImageObject, VirtualObject, IsObject, object_kind, node_image, node_output, written_to, written_in, written_from, written_by, SecondHasSize, in_slot, Named, object_held, held, with_written, image_value, cell_object, image_held, HoldsImage, names_of, held_by_name, map-told, VirtualOutput, Operand, Image, Delay, Verified, reads, writes, is_written, In, AllIn, operand_of, resolved, In-from_same, same-from_In, In-left, In-right, In-append, In-from_any, any-from_In, In-from_map, AllIn-permutation, AllIn-permutation_back, CanRun, HasInputs, reach, matrix_in, RunsInBands, HasHeight, final_of, is_target, is_virtual_name, banded, counts, counter_of, one_writer, and_from, reach_of, rows_beside, begun_as, begun, forgotten, is_virtual_object, one_by_one, rounds_of_nodes, run_of_graph, Lasts, HoldsOperand, names_cell, StandsFor, CellsStand, operand_held, Solves, label_of, HoldsVirtual, AreApart, RunsTo, HoldsKind, CanRunNow}
+use Rattle.graph_run.proofs.Common.{IsStrictlyIncreasing, cases_Bool, eqb-true, eq-eqb, and_parts, or_left, or_right, false_from_ne_true, Format, S16, U8, Kind, Node, Output, First, Second, VirtualImage, Cell, cell_of, Description, IsDescription, parameters, accumulates, ImageValue, IsImage, new_image, description_of, from_two, formula_of_two, added_to, object_held_has, IsNode, is_node, given, outputs, operands, second_kind, ObjectValue, ImageObject, VirtualObject, IsObject, object_kind, beside_first, node_image, node_output, written_to, written_in, written_from, written_by, SecondHasSize, in_slot, Named, object_held, held, with_written, image_value, cell_object, image_held, HoldsImage, names_of, held_by_name, map-told, VirtualOutput, Operand, Image, Delay, Verified, reads, writes, is_written, In, AllIn, operand_of, resolved, In-from_same, same-from_In, In-left, In-right, In-append, In-from_any, any-from_In, In-from_map, AllIn-permutation, AllIn-permutation_back, CanRun, HasInputs, reach, matrix_in, RunsInBands, HasHeight, final_of, is_target, is_virtual_name, banded, counts, counter_of, one_writer, and_from, reach_of, rows_beside, begun_as, begun, forgotten, is_virtual_object, one_by_one, rounds_of_nodes, run_of_graph, Lasts, HoldsOperand, names_cell, StandsFor, CellsStand, operand_held, Solves, label_of, HoldsVirtual, AreApart, RunsTo, HoldsKind, CanRunNow}
 use Rattle.vx_base.specs.declared.kind.Kind.TheVariants as kind
 use Rattle.vx_base.proofs.ImageLaws.{new_image_is}
 use Rattle.vx_base.proofs.PictureLaws.{side}
 use Rattle.graph_verify.specs.Operand.{is_virtual as is_virtual_operand}
-use Rattle.graph_run.proofs.CellLemmas.{kind_there, there_is, holds_there, one_cell}
+use Rattle.graph_run.proofs.CellLemmas.{held_whole, kind_there, there_is, holds_there, one_cell}
 use Rattle.graph_run.proofs.AgreeLemmas.{begin, begins, written_before}
 use Rattle.graph_run.proofs.BegunLaws.{both_held, kept_virtual, labels-begun, labels-forgotten, object_held-forgotten, object_held-unwritten, virtual_as_operand}
 use Rattle.vx_base.specs.Object.{DistributionObject, ExtremesObject}
-use Rattle.graph_run.specs.Bands.{tallies}
+use Rattle.graph_run.specs.Bands.{is_sum, tallies}
 use Rattle.graph_run.proofs.CountLemmas.{counts_other, distribution_of_kind, extremes_of_kind, locates_output, tallies_output, find_none, find_some}
 use Rattle.graph_run.proofs.FoundLemmas.{OfOperands, of_operands}
 use Rattle.graph_run.proofs.LastingLemmas.{Lasts-trans, Lasts-names}
@@ -17,11 +17,12 @@ use Rattle.graph_run.proofs.LinkLaws.{All-from_In, In-from_All, reads_first, rea
 use Rattle.graph_run.proofs.NameLaws.{Rising, by_names, rising}
 use Rattle.graph_run.proofs.NodeLaws.{written_held}
 use Rattle.graph_run.proofs.ObjectLaws.{format-node_image}
-use Rattle.graph_run.proofs.OperandLaws.{no_delay, begun_stands}
+use Rattle.graph_run.proofs.OperandLaws.{adds_to_none, no_delay, begun_stands}
 use Rattle.graph_run.proofs.OrderLaws.{order_gives_rounds}
 use Rattle.graph_run.proofs.RoundLaws.{labels-one_by_one}
 use Rattle.graph_run.proofs.RunLemmas.{runs_first, has_of_node, runs_second, two_outputs, written_is, Lasts-outputs}
 use Rattle.graph_run.proofs.SolutionLaws.{rounds_are_solution}
+use Rattle.graph_run.proofs.SumLemmas.{sums_output, writes_sums}
 use Rattle.graph_run.proofs.TurnLaws.{at_its_turn, run_in_order}
 use Rattle.graph_run.proofs.VerifiedLemmas.{in_outputs, output_known, output_object, output_whole, output_written, can, can_run_now, pairs_of}
 
@@ -75,14 +76,11 @@ second_seen l (Some c) k holds = there_is l c (holds_there l (c, k) holds)
 abbrev pub IsMade : List Named → Node → Output → Cell → Type 0
 IsMade l n which c = held l c ≡ Some (ImageObject (node_image n which (image_held l c).format (image_held l n.in1) (option_map (cell_object l) n.in2)))
 
--- a cell that holds what a node writes to it, which adds nothing, holds what the node makes
+-- a cell that holds what a node writes to it holds what the node makes
 made_in_cell : (n : Node) (which : Output) (c : Cell) (now : Cell → Option ObjectValue) (old second : Option ObjectValue) (a b : ImageValue)
-    → now n.in1 ≡ Some (ImageObject a) → old ≡ Some (ImageObject b) → accumulates n.function ≡ false
-    → ((w : Cell × ObjectValue) → In w (written_to n which c (now n.in1) second old) → now w.0 ≡ Some w.1)
-    → now c ≡ Some (ImageObject (node_image n which b.format a second))
-made_in_cell n which c now old second a b first there plain written =
-    written (c, node_output n which (ImageObject a) second (ImageObject b)) (rw (first, there) (inl refl))
-    ∙ ap (λ (x : Bool). Some (ImageObject (node_image n which b.format a (if x then Some (ImageObject b) else second)))) plain
+    → now n.in1 ≡ Some (ImageObject a) → old ≡ Some (ImageObject b) → ((w : Cell × ObjectValue) → In w (written_to n which c (now n.in1) second old) → now w.0 ≡ Some w.1)
+    → now c ≡ Some (ImageObject (node_image n which b.format a (beside_first n second (ImageObject b))))
+made_in_cell n which c now old second a b first there written = written (c, node_output n which (ImageObject a) second (ImageObject b)) (rw (first, there) (inl refl))
 
 high_image : (height : ℕ) (found : Option ObjectValue) (operand : Operand) → option_map operand_of found ≡ Some operand → HasHeight height operand
     → ((image_value (unwrap_or found (ImageObject (new_image 0 0 U8)))).height ≡ height) × (option_map object_kind found ≡ Some kind.Image)
@@ -295,11 +293,8 @@ module _ (objects : List Named) (nodes : List Node) (v : Verified) (height besid
       (no_delay known nodes first_objects (begun_stands work is nodes graph_can objects r.ready.cells)))
       first_solves
 
-  pub does_write : (n : Node) → In n steps → (counts n ≡ false → (parameters n.function).output ≡ kind.Image) × (accumulates n.function ≡ false)
-  does_write n i = In-from_All (λ m. (counts m ≡ false → (parameters m.function).output ≡ kind.Image) × (accumulates m.function ≡ false)) steps r.images n i
-
-  pub writes_images : (n : Node) → In n steps → counts n ≡ false → ((parameters n.function).output ≡ kind.Image) × (accumulates n.function ≡ false)
-  writes_images n i plain = ((does_write n i).0 plain, (does_write n i).1)
+  pub writes_images : (n : Node) → In n steps → counts n ≡ false → (parameters n.function).output ≡ kind.Image
+  writes_images n i no_count = In-from_All (λ m. counts m ≡ false → (parameters m.function).output ≡ kind.Image) steps r.images n i no_count
 
   pub of_final : (n : Node) → In n steps → OfOperands (HoldsKind final) n
   of_final n i = of_operands (HoldsKind final) n (final_can n i).kinds
@@ -310,14 +305,16 @@ module _ (objects : List Named) (nodes : List Node) (v : Verified) (height besid
   pub held_second : (n : Node) → In n steps → option_and_then (held final) n.in2 ≡ option_map (cell_object final) n.in2
   held_second n i = second_seen final n.in2 (second_kind n) (of_final n i).in2
 
-  made_at : (n : Node) → In n steps → counts n ≡ false → (which : Output) (cell : Option Cell) → IfSome cell (λ c. HoldsKind first_objects (c, (parameters n.function).output))
+  made_at : (n : Node) → In n steps → counts n ≡ false → accumulates n.function ≡ false → (which : Output) (cell : Option Cell) → IfSome cell (λ c. HoldsKind first_objects (c, (parameters n.function).output))
       → ((w : Cell × ObjectValue) → In w (written_in n which cell (held first_objects) (held final)) → held final w.0 ≡ Some w.1)
       → IfSome cell (IsMade final n which)
-  made_at n i plain which None old written = tt
-  made_at n i plain which (Some c) old written =
+  made_at n i no_count plain which None old written = tt
+  made_at n i no_count plain which (Some c) old written =
       let a = image_of_kind (held final n.in1) (of_final n i).in1 in
-      let b = image_of_kind (held first_objects c) (old ∙ ap Some (writes_images n i plain).0) in
-      let made = made_in_cell n which c (held final) (held first_objects c) (option_and_then (held final) n.in2) a.0 b.0 a.1 b.1 (writes_images n i plain).1 written in
+      let b = image_of_kind (held first_objects c) (old ∙ ap Some (writes_images n i no_count)) in
+      let second = option_and_then (held final) n.in2 in
+      let made = made_in_cell n which c (held final) (held first_objects c) second a.0 b.0 a.1 b.1 written
+      ∙ ap (λ (x : Bool). Some (ImageObject (node_image n which b.0.format a.0 (if x then Some (ImageObject b.0) else second)))) plain in
       let image : ImageValue = node_image n which b.0.format a.0 (option_and_then (held final) n.in2) in
       let format : b.0.format ≡ (image_held final c).format =
       sym (format-node_image n which b.0.format a.0 (option_and_then (held final) n.in2)) ∙ ap (λ (m : ImageValue). m.format) (sym (image_there final c image made)) in
@@ -332,14 +329,14 @@ module _ (objects : List Named) (nodes : List Node) (v : Verified) (height besid
       In-from_All (λ (x : Cell × ObjectValue). held final x.0 ≡ Some x.1) (written_from (held first_objects) n (held final))
       (In-from_All (λ m. All (λ x. held final x.0 ≡ Some x.1) (written_from (held first_objects) m (held final))) nodes final_solves.written n (in_nodes n i)) w j
 
-  pub made_first : (n : Node) → In n steps → counts n ≡ false → IfSome n.out1 (IsMade final n First)
-  made_first n i plain =
-      made_at n i plain First n.out1 (of_first n i).out1
+  pub made_first : (n : Node) → In n steps → counts n ≡ false → accumulates n.function ≡ false → IfSome n.out1 (IsMade final n First)
+  made_first n i no_count plain =
+      made_at n i no_count plain First n.out1 (of_first n i).out1
       (λ w j. all_made n i w (In-left w (written_in n First n.out1 (held first_objects) (held final)) (written_in n Second n.out2 (held first_objects) (held final)) j))
 
-  pub made_second : (n : Node) → In n steps → counts n ≡ false → IfSome n.out2 (IsMade final n Second)
-  made_second n i plain =
-      made_at n i plain Second n.out2 (of_first n i).out2
+  pub made_second : (n : Node) → In n steps → counts n ≡ false → accumulates n.function ≡ false → IfSome n.out2 (IsMade final n Second)
+  made_second n i no_count plain =
+      made_at n i no_count plain Second n.out2 (of_first n i).out2
       (λ w j. all_made n i w (In-right w (written_in n First n.out1 (held first_objects) (held final)) (written_in n Second n.out2 (held first_objects) (held final)) j))
 
   -- what a node counted
@@ -406,7 +403,7 @@ module _ (objects : List Named) (nodes : List Node) (v : Verified) (height besid
     | inr plain ↦
         (let output = has_output n (is_node_of n i).shape in
         let runs = (runs_to n i output.0 output.1).runs in
-        same_height (cell_object final n.in1) (cell_object final output.0) runs.first_kind (runs.out_kind ∙ (writes_images n i plain).0) runs.out_size
+        same_height (cell_object final n.in1) (cell_object final output.0) runs.first_kind (runs.out_kind ∙ writes_images n i plain) runs.out_size
         ∙ (out_height n i plain output.0 output.1).0)
   ]
 
@@ -553,6 +550,64 @@ module _ (objects : List Named) (nodes : List Node) (v : Verified) (height besid
           let parts = and_parts (counts m) (writes m (cell_of c.name)) found.1 in
           e ∙ ap (λ (q : Node). Some q) (only_writer m n c found.0 i (ap (writes m) (sym (cell_is_whole n i c w)) ∙ parts.1) w)
 
+  -- ---- who adds
+
+  -- what a node adds to is no virtual image
+  pub added_real : (n : Node) → In n steps → accumulates n.function ≡ true → (c : Cell) → In c (outputs n) → is_virtual_name v c.name ≡ false
+  added_real n i sums c j = false_from_ne_true (is_virtual_name v c.name) (λ virtual.
+      let w = same-from_In c (outputs n) j in
+      let object = virtual_held c.name virtual in
+      let of_virtual : is_virtual_operand (is c) ≡ true =
+      ap (λ d. is_virtual_operand (is d)) (sym (cell_is_whole n i c w)) ∙ ap is_virtual_operand (own_operand objects c.name (VirtualObject object.0) object.1) ∙ virtual_as_operand (VirtualObject object.0) refl in
+      let plain = adds_to_none work is nodes graph_can n c (in_nodes n i) w of_virtual in
+      cc)
+
+  -- it becomes what it was before the run, and what the node gives of its input added to that
+  pub record IsSummed (n : Node) (c : Cell) : Type 0 where
+    pub before : ImageValue
+    pub there : object_held objects c.name ≡ Some (ImageObject before)
+    pub before_is : IsImage before
+    pub ends : object_held final c.name ≡ Some (ImageObject (added_to n (image_held final n.in1) before))
+
+  summed_at : (n : Node) → In n steps → accumulates n.function ≡ true → (which : Output) (cell : Option Cell) → ((c : Cell) → In c (given cell) → In c (outputs n))
+      → IfSome cell (λ c. HoldsKind first_objects (c, (parameters n.function).output))
+      → ((w : Cell × ObjectValue) → In w (written_in n which cell (held first_objects) (held final)) → held final w.0 ≡ Some w.1)
+      → IfSome cell (IsSummed n)
+  summed_at n i sums which None among old written = tt
+  summed_at n i sums which (Some c) among old written =
+      let j = among c (inl refl) in
+      let none = out_whole n i c j in
+      let a = image_of_kind (held final n.in1) (of_final n i).in1 in
+      let b = image_of_kind (held first_objects c) (old ∙ ap Some (sums_output n.function sums)) in
+      let second = option_and_then (held final) n.in2 in
+      let sum : Format → ImageValue → ImageValue = λ f image. from_two f (formula_of_two n.function f n.policy n.amount) image b.0 in
+      let made : held final c ≡ Some (ImageObject (sum b.0.format a.0)) =
+      made_in_cell n which c (held final) (held first_objects c) second a.0 b.0 a.1 b.1 written
+      ∙ ap (λ (x : Bool). Some (ImageObject (node_image n which b.0.format a.0 (if x then Some (ImageObject b.0) else second)))) sums in
+      let format : b.0.format ≡ S16 = ap (λ (m : ImageValue). m.format) (sym (image_there final c (sum b.0.format a.0) made)) ∙ writes_sums final n c (runs_to n i c j) sums in
+      let there : object_held objects c.name ≡ Some (ImageObject b.0) =
+      (begins objects nodes v r.ready).same c.name (inl (added_real n i sums c j)) ∙ sym (held_whole first_objects c none) ∙ b.1 in
+      record {
+        before = b.0;
+        there = there;
+        before_is = subst (λ (o : Option ObjectValue). IfSome o IsObject) there (object_held_has IsObject objects c.name r.are_objects);
+        ends =
+            sym (held_whole final c none) ∙ made ∙ ap (λ f. Some (ImageObject (sum f a.0))) format
+            ∙ ap (λ m. Some (ImageObject (sum S16 m))) (sym (image_there final n.in1 a.0 a.1));
+      }
+
+  pub summed_end : (n : Node) → In n steps → accumulates n.function ≡ true → IfSome n.out1 (IsSummed n)
+  summed_end n i sums =
+      summed_at n i sums First n.out1 (λ c j. In-left c (given n.out1) (given n.out2) j) (of_first n i).out1
+      (λ w j. all_made n i w (In-left w (written_in n First n.out1 (held first_objects) (held final)) (written_in n Second n.out2 (held first_objects) (held final)) j))
+
+  -- the node that adds to a name is the one that writes it
+  pub adder_is : (n : Node) → In n steps → (name : ℕ) → is_sum v name ≡ true → writes n (cell_of name) ≡ true → accumulates n.function ≡ true
+  adder_is n i name sum w =
+      let found = In-from_any (λ (m : Node). accumulates m.function && writes m (cell_of name)) steps sum in
+      let parts = and_parts (accumulates found.0.function) (writes found.0 (cell_of name)) found.2 in
+      ap (λ (m : Node). accumulates m.function) (sym (only_writer found.0 n (cell_of name) found.1 i parts.1 w)) ∙ parts.0
+
   -- who writes an image counts nothing
   pub image_writer : (n : Node) → In n steps → (c : Cell) → writes n c ≡ true → HoldsImage final c → counts n ≡ false
   image_writer n i c w image = false_from_ne_true (counts n) (λ does.
@@ -625,5 +680,5 @@ module _ (objects : List Named) (nodes : List Node) (v : Verified) (height besid
         ap (λ m. unwrap_or (reach n.function m) 0) same ∙ ap (λ o. unwrap_or o 0) (sym reached),
       )
 
-  pub second_given : (n : Node) → In n steps → HasInputs n.function (option_map (cell_object final) n.in2)
-  second_given n i = inputs_given n (is_node_of n i).shape (cell_object final) n.in2 refl (does_write n i).1
+  pub second_given : (n : Node) → In n steps → accumulates n.function ≡ false → HasInputs n.function (option_map (cell_object final) n.in2)
+  second_given n i plain = inputs_given n (is_node_of n i).shape (cell_object final) n.in2 refl plain

@@ -43,6 +43,7 @@ pub mod StripLemmas
 pub mod StripStepLemmas
 pub mod StripRunLemmas
 pub mod SeenLemmas
+pub mod AddedLemmas
 pub mod PairSeenLemmas
 pub mod SettledLemmas
 pub mod SettleLemmas

@@ -13,7 +13,7 @@ use Rattle.graph_run.proofs.StepLemmas.{Alike}
 -- ---- samples
 
 -- rows of all
-band_part : (width height start count : ℕ) (f : ℕ → ℕ → ℤ) → start + count ≤ height → take (count * width) (drop (start * width) (band width 0 height f)) ≡ band width start count f
+pub band_part : (width height start count : ℕ) (f : ℕ → ℕ → ℤ) → start + count ≤ height → take (count * width) (drop (start * width) (band width 0 height f)) ≡ band width start count f
 band_part width height start count f room =
     let rest = height - start - count in
     let parts : height ≡ start + (count + rest) = omega arith in

@@ -71,7 +71,7 @@ module _ (strip : Strip) (part old : ImageValue) (is : IsImage part) (was : IsIm
       subst (λ (d : Description). All (IsSample d.format) (band d.width from strip.band.count (at part))) described
       (all_samples (part_of from strip.band.count part) band_is)
 
-  with_band_is : IsImage (with_band strip part old)
+  pub with_band_is : IsImage (with_band strip part old)
   with_band_is =
       let before = take (strip.band.start * old.width) old.samples in
       let among = band old.width from strip.band.count (at part) in
@@ -122,7 +122,7 @@ module _ (rows : Band) (s : Stage) (n : Node) (output : Cell) (h : SeesParts row
 
   -- ---- what the node makes of what it sees
 
-  seen_image : IsImage (image_value (seen rows s n.in1))
+  pub seen_image : IsImage (image_value (seen rows s n.in1))
   seen_image =
       let of_kind : object_kind (cell_object objects n.in1) ≡ kind.Image = grind (arith, h.in1) in
       image_seen (slot_of s.slots.items n.in1.name) rows (cell_object objects n.in1) of_kind h.first h.in1_rows
@@ -244,7 +244,6 @@ module _ (rows : Band) (s : Stage) (n : Node) (output : Cell) (h : SeesParts row
             in2_rows = second_rows;
             in1_apart = k.in1_apart;
             in2_apart = k.in2_apart;
-            plain = k.plain;
             can_run = rw (seen_there n.in1 h.in1_apart, second_seen, there) k.can_run;
           }
 
@@ -269,7 +268,7 @@ module _ (rows : Band) (s : Stage) (n : Node) (output : Cell) (h : SeesParts row
 
     -- what is lent to the kernel
     module _ (a : ImageValue) (b : Option ObjectValue) (is_first : ImageObject a ≡ seen rows t n.in1) (is_second : b ≡ option_map (seen rows t) n.in2) where
-      first_is : a ≡ image_value (seen rows s n.in1)
+      pub first_is : a ≡ image_value (seen rows s n.in1)
       first_is = ap image_value (is_first ∙ seen_there n.in1 h.in1_apart)
 
       pub runs_there : (d : Description) → d ≡ target → CanRunTo n a b (image_over d empty [])
@@ -301,7 +300,25 @@ module _ (rows : Band) (s : Stage) (n : Node) (output : Cell) (h : SeesParts row
             ∙ ap (λ (i : ImageValue). with_objects (scene s) (with_object objects output (ImageObject i)))
             (is_part which d area (take (sample_count d) zs) d_is high valid written)
 
-        -- a band, beside all other samples
+        -- rows of it, beside all other samples
+        pub rows_put : (strip : Strip) (within : IsWithinRows strip) (room : IsInRows out.height strip.rows) (part : Description) (part_is : part ≡ target) (old : List ℤ) (long : length old ≡ sample_count d)
+            (image : ImageValue) → take (sample_count d) old ≡ out.samples
+            → zs ≡ take (strip.band.start * part.width) old ++ band part.width (strip.band.start - strip.rows.start) strip.band.count (at image) ++ drop ((strip.band.start + strip.band.count) * part.width) old
+            → back ≡ with_objects (scene s) (with_object objects output (ImageObject (record (with_band strip image out) { valid = area })))
+        rows_put strip within room part part_is old long image old_is written =
+            let end = strip.band.start + strip.band.count in
+            let start = strip.band.start - strip.rows.start in
+            let banded : Description → List ℤ → List ℤ = λ e l. take (strip.band.start * e.width) l ++ band e.width start strip.band.count (at image) ++ drop (end * e.width) l in
+            let same : old ≡ out.samples = sym (take_all (sample_count d) old (omega (arith, long))) ∙ old_is in
+            let count = band_count strip within room d part d_is part_is old long (at image) zs written in
+            put_so
+            ∙ ap (λ (i : ImageValue). with_objects (scene s) (with_object objects output (ImageObject i)))
+            (ap (image_over d area) (take_all (sample_count d) zs (omega (arith, count, long)) ∙ written)
+            ∙ ap (λ (e : Description). image_over d area (banded e old)) part_is
+            ∙ ap (λ l. image_over d area (banded target l)) same
+            ∙ ap (λ (e : Description). image_over e area (banded target out.samples)) d_is)
+
+        -- a band of what the node makes
         pub band_put : (strip : Strip) (within : IsWithinRows strip) (room : IsInRows out.height strip.rows) (part : Description) (part_is : part ≡ target) (old : List ℤ) (long : length old ≡ sample_count d)
             → take (sample_count d) old ≡ out.samples → area ≡ whole d.width d.height
             → zs ≡ take (strip.band.start * part.width) old
@@ -309,19 +326,11 @@ module _ (rows : Band) (s : Stage) (n : Node) (output : Cell) (h : SeesParts row
             ++ drop ((strip.band.start + strip.band.count) * part.width) old
             → back ≡ with_objects (scene s) (with_object objects output (ImageObject (with_band strip (part_made rows s n which output) out)))
         band_put strip within room part part_is old long old_is valid written =
-            let end = strip.band.start + strip.band.count in
-            let start = strip.band.start - strip.rows.start in
-            let banded : Description → ImageValue → List ℤ → List ℤ = λ e image l. take (strip.band.start * e.width) l ++ band e.width start strip.band.count (at image) ++ drop (end * e.width) l in
-            let same : old ≡ out.samples = sym (take_all (sample_count d) old (omega (arith, long))) ∙ old_is in
-            let count = band_count strip within room d part d_is part_is old long (at (node_image n which part.format a b)) zs written in
-            put_so
-            ∙ ap (λ (i : ImageValue). with_objects (scene s) (with_object objects output (ImageObject i)))
-            (ap (image_over d area) (take_all (sample_count d) zs (omega (arith, count, long)) ∙ written)
-            ∙ ap (λ (e : Description). image_over d area (banded e (node_image n which e.format a b) old)) part_is
-            ∙ ap (λ (i : ImageValue). image_over d area (banded target i old)) (made_there which out.format refl)
-            ∙ ap (λ l. image_over d area (banded target (part_made rows s n which output) l)) same
-            ∙ ap (λ r. image_over d r (banded target (part_made rows s n which output) out.samples)) valid
-            ∙ ap (λ (e : Description). image_over e (whole e.width e.height) (banded target (part_made rows s n which output) out.samples)) d_is)
+            let stands : Rectangle → ImageValue → Context = λ r image. with_objects (scene s) (with_object objects output (ImageObject (record (with_band strip image out) { valid = r }))) in
+            rows_put strip within room part part_is old long (node_image n which part.format a b) old_is written
+            ∙ ap (λ (e : Description). stands area (node_image n which e.format a b)) part_is
+            ∙ ap (stands area) (made_there which out.format refl)
+            ∙ ap (λ r. stands r (part_made rows s n which output)) (valid ∙ ap (λ (e : Description). whole e.width e.height) d_is)
 
 -- ---- an output, wherever it stands
 

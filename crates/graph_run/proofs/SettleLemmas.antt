@@ -11,7 +11,9 @@ use Rattle.graph_run.specs.Settle.{IsBandOutput, IsHigh, area_alone_of, area_alo
 use Rattle.graph_run.proofs.FinalLemmas as final_lemmas
 use Rattle.graph_run.proofs.LinkLaws.{All-from_In, In-from_All, reads_first, reads_second, is_unwritten}
 use Rattle.graph_run.proofs.RunLemmas.{has_of_node}
+use Rattle.graph_run.proofs.CellLemmas.{held_whole}
 use Rattle.graph_run.proofs.StageLemmas.{placed, placed_passes}
+use Rattle.graph_run.proofs.SumLemmas.{sums_once}
 
 -- ---- names
 
@@ -48,7 +50,7 @@ module _ (objects : List Named) (nodes : List Node) (v : Verified) (height besid
         names = names;
         are_objects = are;
         described = described;
-        images = All-from_In (λ (n : Node). (counts n ≡ false → (parameters n.function).output ≡ kind.Image) × (accumulates n.function ≡ false)) v.steps.items (λ n i. ((suits n i).image, (suits n i).plain));
+        images = All-from_In (λ (n : Node). counts n ≡ false → (parameters n.function).output ≡ kind.Image) v.steps.items (λ n i. (suits n i).image);
         near = near;
         together = together;
         heights = All-from_In (λ (n : Node). All (λ c. HasHeight height (resolved (operand_held objects) nodes c)) (banded n)) v.steps.items
@@ -134,11 +136,11 @@ module _ (objects : List Named) (nodes : List Node) (v : Verified) (height besid
         by_writer None none = unwritten_area cell read none
 
     -- what the node makes is valid there
-    all_valid : counts n ≡ false → (area : Rectangle) → ((which : Output) (format : Format) → (node_image n which format (image_held final n.in1) (option_map (cell_object final) n.in2)).valid ≡ area)
+    all_valid : counts n ≡ false → accumulates n.function ≡ false → (area : Rectangle) → ((which : Output) (format : Format) → (node_image n which format (image_held final n.in1) (option_map (cell_object final) n.in2)).valid ≡ area)
         → All (λ c. (image_held final c).valid ≡ area) (outputs n)
-    all_valid no_count area made = All-from_In (λ (c : Cell). (image_held final c).valid ≡ area) (outputs n) (λ c j. elim (In-append c (given n.out1) (given n.out2) j) [
-      | inl one ↦ output First n.out1 (final_lemmas.made_first objects nodes v height beside r n member no_count) c one
-      | inr other ↦ output Second n.out2 (final_lemmas.made_second objects nodes v height beside r n member no_count) c other
+    all_valid no_count plain area made = All-from_In (λ (c : Cell). (image_held final c).valid ≡ area) (outputs n) (λ c j. elim (In-append c (given n.out1) (given n.out2) j) [
+      | inl one ↦ output First n.out1 (final_lemmas.made_first objects nodes v height beside r n member no_count plain) c one
+      | inr other ↦ output Second n.out2 (final_lemmas.made_second objects nodes v height beside r n member no_count plain) c other
     ])
       where
         output : (which : Output) (cell : Option Cell)
@@ -150,16 +152,39 @@ module _ (objects : List Named) (nodes : List Node) (v : Verified) (height besid
             final_lemmas.of_given (λ (d : Cell). held final d ≡ Some (ImageObject (node_image n which (image_held final d).format (image_held final n.in1) (option_map (cell_object final) n.in2)))) cell holds c j in
             ap (λ (i : ImageValue). i.valid) (final_lemmas.image_there final c image at) ∙ made which (image_held final c).format
 
-    pub area_of_one : counts n ≡ false → (first : Rectangle) → first ≡ area_among objects before areas n.in1 → n.in2 ≡ None → All (λ c. (image_held final c).valid ≡ area_alone n first) (outputs n)
-    area_of_one no_count first is none =
+    pub area_of_one : counts n ≡ false → accumulates n.function ≡ false → (first : Rectangle) → first ≡ area_among objects before areas n.in1 → n.in2 ≡ None → All (λ c. (image_held final c).valid ≡ area_alone n first) (outputs n)
+    area_of_one no_count plain first is none =
         let at : first ≡ (image_held final n.in1).valid = is ∙ area_right n.in1 (reads_first n) (final_lemmas.of_final objects nodes v height beside r n member).in1 in
         let second : option_map (cell_object final) n.in2 ≡ None = ap (option_map (cell_object final)) none in
         let near : IsTrue (is_some (reach n.function None)) =
         subst (λ o. IsTrue (is_some (reach n.function (matrix_in o)))) second (final_lemmas.second_near objects nodes v height beside r n member no_count).0 in
-        all_valid no_count (area_alone n first) (λ which format.
+        all_valid no_count plain (area_alone n first) (λ which format.
         ap (λ o. (node_image n which format (image_held final n.in1) o).valid) second ∙ valid_alone n which format (image_held final n.in1) near ∙ ap (area_alone n) (sym at))
 
-    module _ (no_count : counts n ≡ false) (cell : Cell) (there : n.in2 ≡ Some cell) where
+    -- what it adds to is valid where that was, too
+    pub area_of_sum : accumulates n.function ≡ true → (first area : Rectangle) → first ≡ area_among objects before areas n.in1 → IfSome n.out1 (λ cell. area ≡ meet_of first (image_held objects cell).valid)
+        → All (λ c. (image_held final c).valid ≡ area) (outputs n)
+    area_of_sum sums first area is found = All-from_In (λ (c : Cell). (image_held final c).valid ≡ area) (outputs n) (λ c j. elim (In-append c (given n.out1) (given n.out2) j) [
+      | inl one ↦ of_sum n.out1 (final_lemmas.summed_end objects nodes v height beside r n member sums) found c one (final_lemmas.out_whole objects nodes v height beside r n member c j)
+      | inr other ↦ absurd (subst (λ o. In c (given o)) (sums_once n (final_lemmas.is_node_of objects nodes v height beside r n member) sums) other)
+    ])
+      where
+        at : first ≡ (image_held final n.in1).valid
+        at = is ∙ area_right n.in1 (reads_first n) (final_lemmas.of_final objects nodes v height beside r n member).in1
+
+        of_sum : (cell : Option Cell) → IfSome cell (final_lemmas.IsSummed objects nodes v height beside r n) → IfSome cell (λ c. area ≡ meet_of first (image_held objects c).valid)
+            → (c : Cell) → In c (given cell) → c.slot ≡ None → (image_held final c).valid ≡ area
+        of_sum None summed found c j none = absurd j
+        of_sum (Some d) summed found c (inr j) none = absurd j
+        of_sum (Some d) summed found c (inl same) none =
+            let whole : d.slot ≡ None = ap (λ (e : Cell). e.slot) (sym same) ∙ none in
+            ap (λ (e : Cell). (image_held final e).valid) same
+            ∙ ap (λ (i : ImageValue). i.valid) (final_lemmas.image_there final d _ (held_whole final d whole ∙ summed.ends))
+            ∙ ap (λ q. meet_of q summed.before.valid) (sym at)
+            ∙ ap (λ (i : ImageValue). meet_of first i.valid) (sym (final_lemmas.image_there objects d summed.before (held_whole objects d whole ∙ summed.there)))
+            ∙ sym found
+
+    module _ (no_count : counts n ≡ false) (plain : accumulates n.function ≡ false) (cell : Cell) (there : n.in2 ≡ Some cell) where
       of_kind : HoldsKind final (cell, second_kind n)
       of_kind = subst (λ o. IfSome o (λ c. HoldsKind final (c, second_kind n))) there (final_lemmas.of_final objects nodes v height beside r n member).in2
 
@@ -175,7 +200,7 @@ module _ (objects : List Named) (nodes : List Node) (v : Verified) (height besid
           let image = final_lemmas.image_of_kind (held final cell) (of_kind ∙ ap (λ o. Some (unwrap_or o kind.Image)) wanted) in
           let object : cell_object final cell ≡ ImageObject image.0 = ap (λ o. unwrap_or o (ImageObject (new_image 0 0 U8))) image.1 in
           let same : image_held final cell ≡ image.0 = final_lemmas.image_there final cell image.0 image.1 in
-          all_valid no_count (meet_of first second) (λ which format.
+          all_valid no_count plain (meet_of first second) (λ which format.
           with_second which format
           ∙ ap (λ o. (node_image n which format (image_held final n.in1) (Some o)).valid) object
           ∙ ap (λ (i : ImageValue). meet_of (image_held final n.in1).valid i.valid) (sym same)
@@ -189,7 +214,7 @@ module _ (objects : List Named) (nodes : List Node) (v : Verified) (height besid
           → All (λ c. (image_held final c).valid ≡ window_valid n.border (m.columns / 2) (m.rows / 2) first) (outputs n)
       area_by_matrix first m is matrix =
           let at : first ≡ (image_held final n.in1).valid = is ∙ area_right n.in1 (reads_first n) (final_lemmas.of_final objects nodes v height beside r n member).in1 in
-          all_valid no_count (window_valid n.border (m.columns / 2) (m.rows / 2) first) (λ which format.
+          all_valid no_count plain (window_valid n.border (m.columns / 2) (m.rows / 2) first) (λ which format.
           with_second which format
           ∙ valid_matrix n which format (image_held final n.in1) (cell_object final cell) m (matrix_here ∙ matrix)
           ∙ ap (window_valid n.border (m.columns / 2) (m.rows / 2)) (sym at))
@@ -198,7 +223,7 @@ module _ (objects : List Named) (nodes : List Node) (v : Verified) (height besid
           → (parameters n.function).second_input ≢ Some kind.Image → All (λ c. (image_held final c).valid ≡ first) (outputs n)
       area_as_first first is none other =
           let at : first ≡ (image_held final n.in1).valid = is ∙ area_right n.in1 (reads_first n) (final_lemmas.of_final objects nodes v height beside r n member).in1 in
-          all_valid no_count first (λ which format.
+          all_valid no_count plain first (λ which format.
           with_second which format
           ∙ valid_other n which format (image_held final n.in1) (cell_object final cell) (matrix_here ∙ none)
           (not_image (parameters n.function).second_input (held final cell) n.in2 cell there

@@ -485,6 +485,7 @@ module _ (objects : List Named) (nodes : List Node) (v : Verified) (height besid
         labels = refl;
         others = λ name none. refl;
         targets = λ name target. begins_so name target (counter_of v name) refl;
+        kept = λ name target sum. refl;
       }
     where
       final_image : (name : ℕ) → HoldsImage final (cell_of name) → (f : ImageValue) × (object_held final name ≡ Some (ImageObject f))

@@ -1,6 +1,6 @@
 -- A node that runs on the rows of a strip: what it sees, and what it makes.
-use Rattle.std.proofs.Common.{◌≡◌, ℕ, ◌+◌, ◌≤◌, false, List, [], ◌∷◌, ◌++◌, Option, Some, IfSome, sym, ap, subst, ◌∙◌, arith, IsTrue, is_some, sum_by, unwrap_or, option_map}
-use Rattle.graph_run.proofs.Common.{nat_tests, sum_by-append, Node, Output, Cell, Description, parameters, accumulates, ImageValue, IsImage, ObjectValue, IsObject, node_image, Named, image_value, cell_object, image_held, HoldsImage, StandsBeside, HasInputs, first_right, end_right, reach, matrix_in, Strip, Stage, seen, part_made, SeesParts, HasPlaceIn, IsSeen, IsStrip, rows_beside, right_from, right_to, scene, slot_of, RunsTo}
+use Rattle.std.proofs.Common.{◌≡◌, ℕ, ◌+◌, ◌≤◌, List, [], ◌∷◌, ◌++◌, Option, Some, IfSome, sym, ap, subst, ◌∙◌, arith, IsTrue, is_some, sum_by, unwrap_or, option_map}
+use Rattle.graph_run.proofs.Common.{nat_tests, sum_by-append, Node, Output, Cell, Description, parameters, ImageValue, IsImage, ObjectValue, IsObject, node_image, Named, image_value, cell_object, image_held, HoldsImage, StandsBeside, HasInputs, first_right, end_right, reach, matrix_in, Strip, Stage, seen, part_made, SeesParts, HasPlaceIn, IsSeen, IsStrip, rows_beside, right_from, right_to, scene, slot_of, RunsTo}
 use Rattle.vx_base.specs.declared.kind.Kind.TheVariants as kind
 use Rattle.node_rows.specs.Parts.{StandsFor}
 use Rattle.node_rows.proofs.PartRowLaws.{node_right}
@@ -21,7 +21,7 @@ module _ (objects final : List Named) (height beside : ℕ) (strip : Strip) (is_
   module _ (s : Stage) (before : List Node) (n : Node) (which : Output) (c : Cell)
       (first : SeesRight objects final height before strip.rows s n.in1)
       (second : IfSome n.in2 (SeesRightBeside objects final height before strip.rows s))
-      (out : HasPlace strip s final c) (runs : RunsTo final n c) (images : (parameters n.function).output ≡ kind.Image) (plain : accumulates n.function ≡ false) where
+      (out : HasPlace strip s final c) (runs : RunsTo final n c) (images : (parameters n.function).output ≡ kind.Image) where
     abbrev seconds : Option ObjectValue
     seconds = option_map (cell_object final) n.in2
 
@@ -50,7 +50,6 @@ module _ (objects final : List Named) (height beside : ℕ) (strip : Strip) (is_
           in2_rows = second_rows _ _ _ _ _ _ n.in2 second;
           in1_apart = runs.in1_apart;
           in2_apart = runs.in2_apart;
-          plain = plain;
           can_run =
               parts_can_run n _ _ _ _ (image_value (seen strip.rows s n.in1)) (image_held final n.in1) (option_map (seen strip.rows s) n.in2) seconds (image_held final c) _
               (can_run n (cell_object final n.in1) seconds (cell_object final c) runs.runs (runs.runs.out_kind ∙ images)) stands_first stands_beside

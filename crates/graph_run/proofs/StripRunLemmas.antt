@@ -1,14 +1,14 @@
 -- The nodes of a graph on the rows of a strip, one after the other.
 use Rattle.std.proofs.Common.{◌≡◌, ◌≢◌, ℕ, ◌+◌, ◌≤◌, ◌<◌, Bool, true, false, List, [], ◌∷◌, ◌++◌, map, length, take, drop, get_or, Option, Some, None, ◌⊎◌, inl, inr, IfSome, refl, sym, ap, subst, ◌∙◌, arith, unwrap_or, ◌==◌, ◌||◌, ◌&&◌, not, sum_by, slice_get, if◌then◌else◌, option_map, option_and_then}
-use Rattle.graph_run.proofs.Common.{take-append-drop, take_more, take_all, drop_more, list_any-append, sum_by-append, cases_Bool, eqb-true, or_left, or_right, and_parts, and_from, false_from_ne_true, Node, First, Second, Cell, cell_of, Description, ImageValue, IsImage, description_of, outputs, ObjectValue, ImageObject, VirtualObject, IsObject, object_kind, with_objects, in_slot, Named, held, object_held, image_value, image_held, HoldsImage, VirtualOutput, Verified, reads, writes, is_written, In, is_used, PlanValue, Strip, Slot, Stage, AreSeen, RunsInBands, final_of, IsStrip, is_virtual_name, is_target, IsFinished, IsAsFar, CanCount, counter_of, counts, after_node, with_counted, RowsAreAs, IsPartOf, output_part, with_seen, AreShared, strip_plan, room_of, planned_rooms, AreEmpty, label_of, scene, shown, slot_of, standing_image, IsStage, HoldsVirtual, Keeps, virtual_named, AreVirtual, map-told, same_cell-refl, same_cell-true, In-right, In-from_any, any-from_In, same_cell, second_kind, held_is, stands_fewer, rows_beside, HoldsKind, IsPlan, claimed_at}
+use Rattle.graph_run.proofs.Common.{take-append-drop, take_more, take_all, drop_more, list_any-append, sum_by-append, cases_Bool, eqb-true, or_left, or_right, and_parts, and_from, false_from_ne_true, Node, First, Second, Cell, cell_of, Description, ImageValue, IsImage, description_of, outputs, ObjectValue, ImageObject, VirtualObject, IsObject, object_kind, with_objects, in_slot, Named, held, object_held, image_value, image_held, HoldsImage, VirtualOutput, Verified, accumulates, reads, writes, is_written, In, is_used, PlanValue, Strip, Slot, Stage, AreSeen, RunsInBands, final_of, IsStrip, is_virtual_name, is_target, IsFinished, IsAsFar, CanCount, counter_of, counts, after_node, with_counted, RowsAreAs, IsPartOf, output_part, with_seen, AreShared, strip_plan, room_of, planned_rooms, AreEmpty, label_of, scene, shown, slot_of, standing_image, IsStage, HoldsVirtual, Keeps, virtual_named, AreVirtual, map-told, same_cell-refl, same_cell-true, In-right, In-from_any, any-from_In, same_cell, second_kind, held_is, stands_fewer, rows_beside, HoldsKind, IsPlan, claimed_at}
 use Rattle.vx_base.specs.declared.kind.Kind.TheVariants as kind
-use Rattle.graph_run.specs.Bands.{rows_by_now}
+use Rattle.graph_run.specs.Bands.{CanAdd, is_sum, rows_by_now, rows_from, with_added}
 use Rattle.node_rows.proofs.PartLookLaws.{first_within, end_within}
 use Rattle.graph_run.proofs.BandLemmas.{right_above, right_below, rows_of}
 use Rattle.graph_run.proofs.AgreeLemmas.{written_once}
 use Rattle.graph_run.proofs.CellLemmas.{held_image, held_whole, one_cell}
 use Rattle.graph_run.proofs.ClaimLemmas.{virtual_there}
-use Rattle.graph_run.proofs.FinalLemmas.{final_are, final_can, in_height, out_height, out_whole, counter_none, counter_is, counted_real, second_height, real_read, virtual_read, virtual_here, virtual_image}
+use Rattle.graph_run.proofs.FinalLemmas.{added_real, adder_is, final_are, final_can, in_height, out_height, out_whole, counter_none, counter_is, counted_real, second_height, real_read, virtual_read, virtual_here, virtual_image}
 use Rattle.graph_run.proofs.FoundLemmas.{OfOperands, of_operands}
 use Rattle.graph_run.proofs.LinkLaws.{All-from_In, In-from_All, reads_first, reads_second}
 use Rattle.graph_run.proofs.StageLemmas.{found_as_it_is}
@@ -18,7 +18,8 @@ use Rattle.graph_run.proofs.VerifiedLemmas.{are_virtual}
 use Rattle.graph_run.proofs.StepLemmas.{nothing, none_alike, slots_alike, forgotten_kept, none_standing}
 use Rattle.graph_run.proofs.SharingLemmas.{WereWritten, name_of_output}
 use Rattle.graph_run.proofs.SeesLemmas.{SeesRight, SeesRightBeside, sees_standing, sees_rows}
-use Rattle.graph_run.proofs.StripStepLemmas.{SeesInputs, IsOpen, IsToCount, HasRun, has_counted, has_run, output_counts, outputs_seen}
+use Rattle.graph_run.proofs.StripStepLemmas.{SeesInputs, IsOpen, IsToAdd, IsToCount, HasRun, has_added, has_counted, has_run, output_counts, outputs_add, outputs_seen}
+use Rattle.graph_run.proofs.SumLemmas.{sums_no_count}
 
 -- what is shown as an image and is virtual stands in a slot
 stands_somewhere : (slots : List Slot) (l : List Named) (name : ℕ) (image : ImageValue) → HoldsVirtual l name → object_held (shown slots l) name ≡ Some (ImageObject image)
@@ -166,17 +167,27 @@ module _ (objects : List Named) (nodes : List Node) (v : Verified) (height besid
 
       -- ---- what it writes
 
+      itself : (c : Cell) → In c (outputs n) → writes n (cell_of c.name) ≡ true
+      itself c i = ap (writes n) (one_cell (cell_of c.name) c refl refl (out_whole objects nodes v height beside r n in_steps c i)) ∙ any-from_In (same_cell c) c (outputs n) i (same_cell-refl c)
+
+      target_there : (c : Cell) → In c (outputs n) → is_virtual_name v c.name ≡ false → is_target v c.name ≡ true
+      target_there c i real =
+          and_from (is_written v.steps.items (cell_of c.name)) (not (is_virtual_name v c.name)) (any-from_In (λ m. writes m (cell_of c.name)) n v.steps.items in_steps (itself c i)) (ap not real)
+
+      -- no node before wrote it
+      rows_so_far : (c : Cell) → In c (outputs n) → rows_by_now before strip c.name ≡ strip.band.start
+      rows_so_far c i =
+          ap (λ (b : Bool). if b then strip.band.start + strip.band.count else strip.band.start)
+          (false_from_ne_true (is_written before (cell_of c.name)) (λ early. written_once objects nodes v r.ready before after n parts (cell_of c.name) (itself c i) early))
+
+      found_real : (c : Cell) → is_virtual_name v c.name ≡ false → object_held now c.name ≡ object_held s.table.objects c.name
+      found_real c real = found_as_it_is s.slots.items s.table.objects c.name (h.real c.name real)
+
       -- an output that is no virtual image is as far as the strip's band begins
       as_far : (c : Cell) → In c (outputs n) → is_virtual_name v c.name ≡ false → IsAsFar (counter_of v c.name) final strip.band.start (object_held now c.name) (object_held final c.name)
       as_far c i real =
-          let none = out_whole objects nodes v height beside r n in_steps c i in
-          let writer : writes n c ≡ true = any-from_In (same_cell c) c (outputs n) i (same_cell-refl c) in
-          let itself : cell_of c.name ≡ c = one_cell (cell_of c.name) c refl refl none in
-          let target : is_target v c.name ≡ true = and_from (is_written v.steps.items (cell_of c.name)) (not (is_virtual_name v c.name)) (any-from_In (λ m. writes m (cell_of c.name)) n v.steps.items in_steps (ap (writes n) itself ∙ writer)) (ap not real) in
-          let not_yet : is_written before (cell_of c.name) ≡ false = false_from_ne_true (is_written before (cell_of c.name)) (λ early. written_once objects nodes v r.ready before after n parts c writer (ap (is_written before) (sym itself) ∙ early)) in
-          let found : object_held now c.name ≡ object_held s.table.objects c.name = found_as_it_is s.slots.items s.table.objects c.name (h.real c.name real) in
-          subst (λ o. IsAsFar (counter_of v c.name) final strip.band.start o (object_held final c.name)) (sym found)
-          (subst (λ y. IsAsFar (counter_of v c.name) final y (object_held s.table.objects c.name) (object_held final c.name)) (ap (λ (b : Bool). if b then strip.band.start + strip.band.count else strip.band.start) not_yet) (h.finished.targets c.name target))
+          subst (λ o. IsAsFar (counter_of v c.name) final strip.band.start o (object_held final c.name)) (sym (found_real c real))
+          (subst (λ y. IsAsFar (counter_of v c.name) final y (object_held s.table.objects c.name) (object_held final c.name)) (rows_so_far c i) (h.finished.targets c.name (target_there c i real)))
 
       pub output_to_count : counts n ≡ true → (c : Cell) → In c (outputs n) → IsToCount objects nodes v height beside r strip is_strip before after n parts s c
       output_to_count does c i =
@@ -244,6 +255,20 @@ module _ (objects : List Named) (nodes : List Node) (v : Verified) (height besid
                 real = λ _. (slot, before_band);
               }
 
+      pub output_to_add : accumulates n.function ≡ true → (c : Cell) → In c (outputs n) → IsToAdd objects nodes v height beside r strip is_strip before after n parts s c
+      output_to_add sums c i =
+          let real = added_real objects nodes v height beside r n in_steps sums c i in
+          let sum : is_sum v c.name ≡ true =
+          any-from_In (λ m. accumulates m.function && writes m (cell_of c.name)) n v.steps.items in_steps (and_from (accumulates n.function) (writes n (cell_of c.name)) sums (itself c i)) in
+          record {
+            opened = output_open (sums_no_count n sums) c i;
+            real = real;
+            kept =
+                ap (option_map (rows_from strip.band.start)) (found_real c real)
+                ∙ subst (λ y. option_map (rows_from y) (object_held s.table.objects c.name) ≡ option_map (rows_from y) (object_held objects c.name)) (rows_so_far c i)
+                (h.finished.kept c.name (target_there c i real) sum);
+          }
+
     -- ---- once it has run
 
     module _ (s later : Stage) (h : IsClaimed s) (is_later : IsStage later) (keeps : Keeps s later)
@@ -297,24 +322,41 @@ module _ (objects : List Named) (nodes : List Node) (v : Verified) (height besid
             labels = labels_kept ∙ h.finished.labels;
             others = λ name not_target. others_kept name not_target ∙ h.finished.others name not_target;
             targets = λ name target. of_target name target (cases_Bool (writes n (cell_of name)));
+            kept = λ name target sum. of_sum name target sum (cases_Bool (writes n (cell_of name)));
           }
         where
+          real_name : (name : ℕ) → is_target v name ≡ true → is_virtual_name v name ≡ false
+          real_name name target = not_true (is_virtual_name v name) (and_parts (is_written v.steps.items (cell_of name)) (not (is_virtual_name v name)) target).1
+
+          -- how far a name that the node writes is, and another
+          rows_now : (name : ℕ) → writes n (cell_of name) ≡ true → strip.band.start + strip.band.count ≡ rows_by_now done strip name
+          rows_now name w = sym (ap (λ (b : Bool). if b then strip.band.start + strip.band.count else strip.band.start) (written_done (cell_of name) ∙ or_right (is_written before (cell_of name)) (writes n (cell_of name)) w))
+
+          rows_still : (name : ℕ) → writes n (cell_of name) ≡ false → rows_by_now before strip name ≡ rows_by_now done strip name
+          rows_still name none = ap (λ (b : Bool). if b then strip.band.start + strip.band.count else strip.band.start) (sym (written_done (cell_of name) ∙ none_or (is_written before (cell_of name)) (writes n (cell_of name)) none))
+
+          same_there : (name : ℕ) → is_virtual_name v name ≡ false → writes n (cell_of name) ≡ false → object_held s.table.objects name ≡ object_held later.table.objects name
+          same_there name real none = sym (sym (real_found name real) ∙ run.others name (other_output name none) ∙ real_before name real)
+
+          of_sum : (name : ℕ) → is_target v name ≡ true → is_sum v name ≡ true → (writes n (cell_of name) ≡ true) ⊎ (writes n (cell_of name) ≡ false)
+              → option_map (rows_from (rows_by_now done strip name)) (object_held later.table.objects name) ≡ option_map (rows_from (rows_by_now done strip name)) (object_held objects name)
+          of_sum name target sum (inl w) =
+              let sums = adder_is objects nodes v height beside r n in_steps name sum w in
+              subst (λ y. option_map (rows_from y) (object_held later.table.objects name) ≡ option_map (rows_from y) (object_held objects name)) (rows_now name w)
+              (ap (option_map (rows_from (strip.band.start + strip.band.count))) (sym (real_found name (real_name name target))) ∙ run.kept sums (cell_of name) (output_in n (cell_of name) w))
+          of_sum name target sum (inr none) =
+              subst (λ y. option_map (rows_from y) (object_held later.table.objects name) ≡ option_map (rows_from y) (object_held objects name)) (rows_still name none)
+              (ap (option_map (rows_from (rows_by_now before strip name))) (sym (same_there name (real_name name target) none)) ∙ h.finished.kept name target sum)
+
           of_target : (name : ℕ) → is_target v name ≡ true → (writes n (cell_of name) ≡ true) ⊎ (writes n (cell_of name) ≡ false)
               → IsAsFar (counter_of v name) final (rows_by_now done strip name) (object_held later.table.objects name) (object_held final name)
           of_target name target (inl w) =
-              let real = not_true (is_virtual_name v name) (and_parts (is_written v.steps.items (cell_of name)) (not (is_virtual_name v name)) target).1 in
               let made = run.made (cell_of name) (output_in n (cell_of name) w) in
-              let rows : strip.band.start + strip.band.count ≡ rows_by_now done strip name =
-              sym (ap (λ (b : Bool). if b then strip.band.start + strip.band.count else strip.band.start) (written_done (cell_of name) ∙ or_right (is_written before (cell_of name)) (writes n (cell_of name)) w)) in
-              subst (λ y. IsAsFar (counter_of v name) final y (object_held later.table.objects name) (object_held final name)) rows
-              (subst (λ o. IsAsFar (counter_of v name) final (strip.band.start + strip.band.count) o (object_held final name)) (real_found name real) (made.rows real))
+              subst (λ y. IsAsFar (counter_of v name) final y (object_held later.table.objects name) (object_held final name)) (rows_now name w)
+              (subst (λ o. IsAsFar (counter_of v name) final (strip.band.start + strip.band.count) o (object_held final name)) (real_found name (real_name name target)) (made.rows (real_name name target)))
           of_target name target (inr none) =
-              let real = not_true (is_virtual_name v name) (and_parts (is_written v.steps.items (cell_of name)) (not (is_virtual_name v name)) target).1 in
-              let same : object_held s.table.objects name ≡ object_held later.table.objects name = sym (sym (real_found name real) ∙ run.others name (other_output name none) ∙ real_before name real) in
-              let rows : rows_by_now before strip name ≡ rows_by_now done strip name =
-              ap (λ (b : Bool). if b then strip.band.start + strip.band.count else strip.band.start) (sym (written_done (cell_of name) ∙ none_or (is_written before (cell_of name)) (writes n (cell_of name)) none)) in
-              subst (λ y. IsAsFar (counter_of v name) final y (object_held later.table.objects name) (object_held final name)) rows
-              (subst (λ o. IsAsFar (counter_of v name) final (rows_by_now before strip name) o (object_held final name)) same (h.finished.targets name target))
+              subst (λ y. IsAsFar (counter_of v name) final y (object_held later.table.objects name) (object_held final name)) (rows_still name none)
+              (subst (λ o. IsAsFar (counter_of v name) final (rows_by_now before strip name) o (object_held final name)) (same_there name (real_name name target) none) (h.finished.targets name target))
 
       stands_more : (o : VirtualOutput) → In o outs → is_written done o.cell ≡ true → is_used after o.cell ≡ true
           → IsPartOf objects height done strip.rows (object_held (scene later).objects o.cell.name) (object_held final o.cell.name)
@@ -356,7 +398,7 @@ module _ (objects : List Named) (nodes : List Node) (v : Verified) (height besid
       record {
         shared = record { rooms = rooms; homes = λ k a at. absurd (none_standing slots empty k a at) };
         written = λ k a at. absurd (none_standing slots empty k a at);
-        finished = record { labels = finished.labels; others = finished.others; targets = finished.targets };
+        finished = record { labels = finished.labels; others = finished.others; targets = finished.targets; kept = finished.kept };
         stands = λ o i written used. absurd (cc);
       }
 
@@ -366,11 +408,15 @@ module _ (objects : List Named) (nodes : List Node) (v : Verified) (height besid
       record {
         labels = h.finished.labels;
         others = h.finished.others;
-        targets = λ name target.
-            let all : is_written (take k v.steps.items) (cell_of name) ≡ true =
-            ap (λ done. is_written done (cell_of name)) (take_all k v.steps.items past) ∙ (and_parts (is_written v.steps.items (cell_of name)) (not (is_virtual_name v name)) target).0 in
-            subst (λ y. IsAsFar (counter_of v name) final y (object_held l name) (object_held final name)) (ap (λ (b : Bool). if b then strip.band.start + strip.band.count else strip.band.start) all) (h.finished.targets name target);
+        targets = λ name target. subst (λ y. IsAsFar (counter_of v name) final y (object_held l name) (object_held final name)) (all_rows name target) (h.finished.targets name target);
+        kept = λ name target sum.
+            subst (λ y. option_map (rows_from y) (object_held l name) ≡ option_map (rows_from y) (object_held objects name)) (all_rows name target) (h.finished.kept name target sum);
       }
+    where
+      all_rows : (name : ℕ) → is_target v name ≡ true → rows_by_now (take k v.steps.items) strip name ≡ strip.band.start + strip.band.count
+      all_rows name target =
+          ap (λ (b : Bool). if b then strip.band.start + strip.band.count else strip.band.start)
+          (ap (λ done. is_written done (cell_of name)) (take_all k v.steps.items past) ∙ (and_parts (is_written v.steps.items (cell_of name)) (not (is_virtual_name v name)) target).0)
 
   -- virtual images stay where they are
   pub still_virtual : (p : PlanValue) (k : ℕ) (l : List Named) (slots : List Slot) → IsInStrip p k l slots → AreVirtual l outs
@@ -466,15 +512,23 @@ module _ (objects : List Named) (nodes : List Node) (v : Verified) (height besid
       here : IsClaimed before after n parts s
       here = strip_claimed l slots one h first both second s is table items
 
-      -- it may write what it writes, or count
-      pub node_may : (counts n ≡ false → AreSeen strip s n) × (counts n ≡ true → IfSome n.out1 (λ cell. CanCount n strip s cell.name))
+      -- it may write what it writes, add to it, or count
+      pub record MayRun : Type 0 where
+        pub may_write : counts n ≡ false → accumulates n.function ≡ false → AreSeen strip s n
+        pub may_add : accumulates n.function ≡ true → IfSome n.out1 (CanAdd strip s n)
+        pub may_count : counts n ≡ true → IfSome n.out1 (λ cell. CanCount n strip s cell.name)
+
+      pub node_may : MayRun
       node_may =
-          let inputs = sees_inputs before after n parts s here in (
-            λ no_count.
-                outputs_seen objects nodes v height beside r strip is_strip before after n parts s inputs no_count (output_open before after n parts s here no_count),
-            λ does.
-                output_counts objects nodes v height beside r strip is_strip before after n parts s inputs does (output_to_count before after n parts s here does),
-          )
+          let inputs = sees_inputs before after n parts s here in
+          record {
+            may_write = λ no_count plain.
+                outputs_seen objects nodes v height beside r strip is_strip before after n parts s inputs no_count plain (output_open before after n parts s here no_count);
+            may_add = λ sums.
+                outputs_add objects nodes v height beside r strip is_strip before after n parts s inputs sums (output_to_add before after n parts s here sums);
+            may_count = λ does.
+                output_counts objects nodes v height beside r strip is_strip before after n parts s inputs does (output_to_count before after n parts s here does);
+          }
 
       pub node_runs : (later : Stage) → IsStage later → scene later ≡ with_objects (scene s) (after_node strip s n) → Keeps s later
           → IsInStrip strips (k + 1) later.table.objects later.slots.items
@@ -482,15 +536,22 @@ module _ (objects : List Named) (nodes : List Node) (v : Verified) (height besid
           let claimed = claims l slots one h first both second in
           let inputs = sees_inputs before after n parts s here in
           let seen = with_seen strip s n Second n.out2 (with_seen strip s n First n.out1 (scene s).objects) in
+          let added = with_added strip s n n.out1 (scene s).objects in
           let counted = with_counted strip s n n.out1 (scene s).objects in
+          let chosen : Bool → Bool → List Named = λ b c. if b then counted else if c then added else seen in
           strip_more s later here is_later keeps
           (elim (cases_Bool (counts n)) [
             | inl does ↦
                 has_counted objects nodes v height beside r strip is_strip before after n parts s inputs does (output_to_count before after n parts s here does) later
-                (value ∙ ap (λ (b : Bool). with_objects (scene s) (if b then counted else seen)) does) keeps.slots
-            | inr no_count ↦
-                has_run objects nodes v height beside r strip is_strip before after n parts s inputs no_count (output_open before after n parts s here no_count) later
-                (value ∙ ap (λ (b : Bool). with_objects (scene s) (if b then counted else seen)) no_count) keeps.slots
+                (value ∙ ap (λ (b : Bool). with_objects (scene s) (chosen b (accumulates n.function))) does) keeps.slots
+            | inr no_count ↦ elim (cases_Bool (accumulates n.function)) [
+              | inl sums ↦
+                  has_added objects nodes v height beside r strip is_strip before after n parts s inputs sums (output_to_add before after n parts s here sums) later
+                  (value ∙ ap (λ (b : Bool). with_objects (scene s) (chosen b (accumulates n.function))) no_count ∙ ap (λ (b : Bool). with_objects (scene s) (chosen false b)) sums) keeps.slots
+              | inr plain ↦
+                  has_run objects nodes v height beside r strip is_strip before after n parts s inputs no_count plain (output_open before after n parts s here no_count) later
+                  (value ∙ ap (λ (b : Bool). with_objects (scene s) (chosen b (accumulates n.function))) no_count ∙ ap (λ (b : Bool). with_objects (scene s) (chosen false b)) plain) keeps.slots
+            ]
           ])
           (subst (AreShared strips (map (output_part strip.rows.count) outs)) (sym items) claimed.shared)
           (subst (WereWritten (before ++ n ∷ [])) (sym items) claimed.written)

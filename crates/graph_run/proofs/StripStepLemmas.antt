@@ -1,22 +1,25 @@
 -- How a stage is after so many nodes of a strip, and after one more.
-use Rattle.std.proofs.Common.{◌≡◌, ◌≢◌, ℕ, ◌+◌, ◌^◌, ◌<◌, ◌≤◌, slice_index, length, true, false, List, [], ◌∷◌, ◌++◌, map, Option, Some, None, inl, inr, IfSome, refl, sym, ap, subst, ◌∙◌, arith, sum_by, option_map, option_and_then, unwrap_or, Bool, if◌then◌else◌}
-use Rattle.graph_run.proofs.Common.{eq-eqb, object_under, skeleton, append_assoc, sum_by-append, Node, Output, First, Second, Cell, same_cell, ImageValue, IsImage, outputs, given, ObjectValue, ImageObject, object_kind, Context, with_objects, Named, object_held, with_object, image_value, cell_object, image_held, HoldsImage, VirtualOutput, Verified, writes, In, Strip, Slot, Stage, AreSeen, part_made, made_in, made_seen, with_seen, IsSeen, IsStrip, rows_beside, RunsInBands, final_of, is_virtual_name, RowsAreAs, IsPartOf, right_from, right_to, scene, slot_of, fixed, RunsTo, node_image_is, parameters, accumulates, same_cell-refl, In-left, In-right, any-from_In, in_slot, seen, AreApart, IsAsFar, IsCounted, CanCount, counter_of, counts, with_counted, cell_of, cases_Bool, Kind}
+use Rattle.std.proofs.Common.{◌≡◌, ◌≢◌, ℕ, ◌+◌, ◌^◌, ◌<◌, ◌≤◌, slice_index, length, true, false, List, [], ◌∷◌, ◌++◌, map, Option, Some, None, inl, inr, IfSome, refl, sym, ap, subst, ◌∙◌, arith, sum_by, option_map, option_and_then, unwrap_or, Bool, if◌then◌else◌, ◌==◌}
+use Rattle.graph_run.proofs.Common.{eq-eqb, object_under, skeleton, append_assoc, sum_by-append, Node, Output, First, Second, Cell, same_cell, ImageValue, IsImage, outputs, given, ObjectValue, ImageObject, object_kind, Context, with_objects, Named, object_held, with_object, image_value, cell_object, image_held, HoldsImage, VirtualOutput, Verified, writes, In, Strip, Slot, Stage, AreSeen, part_made, made_in, made_seen, with_seen, IsSeen, IsStrip, rows_beside, RunsInBands, final_of, is_virtual_name, RowsAreAs, IsPartOf, right_from, right_to, scene, slot_of, fixed, RunsTo, node_image_is, parameters, accumulates, same_cell-refl, In-left, In-right, any-from_In, in_slot, seen, AreApart, IsAsFar, IsCounted, CanCount, counter_of, counts, with_counted, cell_of, cases_Bool, Kind, and_parts, eqb-true, added_to, HasPlaceIn, IsInRows, stands_fewer, first_right, end_right}
 use Rattle.vx_base.specs.declared.kind.Kind.TheVariants as kind
 use Rattle.vx_base.specs.Object.{DistributionObject, DistributionValue, ExtremesObject}
 use Rattle.vx_base.specs.declared.extremes.Extremes.{Extremes}
 use Rattle.object_table.specs.Object.{distribution_value}
-use Rattle.graph_run.specs.Bands.{CanLocate, CanTally, SeesBand, band_seen, counted_above, counted_before, counted_too, extremes_value, located_before, located_too, tallied_too, tallies}
+use Rattle.graph_run.specs.Bands.{CanAdd, CanLocate, CanTally, SeesBand, band_seen, counted_above, counted_before, counted_too, extremes_value, located_before, located_too, rows_from, sum_made, tallied_too, tallies, with_added, with_sums}
 use Rattle.vx_base.specs.Statistics.{extremes, valid_samples}
 use Rattle.stat_kernels.specs.Part.{valid_in}
 use Rattle.graph_run.proofs.CountLemmas.{counts_fit, counts_once, distribution_lasts, distribution_of_kind, extremes_last, extremes_of_kind, found_too, locates_output, locates_short, places_fit, tallies_bytes, tallies_output, too_is}
 use Rattle.graph_run.proofs.BandLemmas.{right_above, right_below, rows_right}
 use Rattle.graph_run.proofs.SeesLemmas.{IsRightFor, SeesRight, SeesRightBeside, seen_is_object}
 use Rattle.graph_run.proofs.AgreeLemmas.{output_cases}
-use Rattle.graph_run.proofs.FinalLemmas.{IsMade, out_whole, counter_none, counter_is, counted_real, is_node_of, second_near, second_given, in_height, out_height, final_first, final_second, final_apart, made_first, made_second, writes_images}
+use Rattle.graph_run.proofs.FinalLemmas.{IsMade, IsSummed, image_there, summed_end, out_whole, counter_none, counter_is, counted_real, is_node_of, second_near, second_given, in_height, out_height, final_first, final_second, final_apart, made_first, made_second, writes_images}
 use Rattle.graph_run.proofs.CellLemmas.{there_is, held_after, held_image, held_whole}
 use Rattle.graph_run.proofs.HeldLaws.{object_held-with_object}
 use Rattle.graph_run.proofs.OutputLemmas.{image_of_object, out_is_image}
 use Rattle.graph_run.proofs.StepLemmas.{nothing}
+use Rattle.graph_run.proofs.SumLemmas.{sums_near, sums_no_count, sums_once}
+use Rattle.graph_run.proofs.AddedLemmas.{same_end, same_first, still_kept, sums_stand}
+use Rattle.node_rows.specs.Parts.{StandsFor}
 use Rattle.graph_run.proofs.StageLemmas.{held_beside}
 use Rattle.graph_run.proofs.StripLemmas.{HasPlace, is_seen, made_stands}
 
@@ -77,22 +80,33 @@ module _ (objects : List Named) (nodes : List Node) (v : Verified) (height besid
       pub virtual : is_virtual_name v c.name ≡ true → (t : Slot) × (slot_of s.slots.items c.name ≡ Some t)
       pub real : is_virtual_name v c.name ≡ false → (slot_of s.slots.items c.name ≡ None) × RowsAreAs strip.band.start (object_held (scene s).objects c.name) (object_held final c.name)
 
+    -- of its first input the band is right
+    module _ (s : Stage) (sees : SeesInputs s) where
+      first_stands : IsRightFor objects height before strip.rows (image_value (seen strip.rows s n.in1)) (image_held final n.in1)
+      first_stands = rw (sees.first.seen_is, sees.first.ends_as) sees.first.stands
+
+      less_before : sum_by (rows_beside objects) before ≤ beside
+      less_before = omega (arith, beside_less before after n parts, sum_by-append (rows_beside objects) before (n ∷ []))
+
+      above_band : right_from objects before strip.rows ≤ strip.band.start
+      above_band = omega (arith, right_above (sum_by (rows_beside objects) before) beside strip.rows.start less_before, is_strip.above)
+
+      below_band : end ≤ right_to objects height before strip.rows
+      below_band = omega (arith, right_below (sum_by (rows_beside objects) before) beside height (strip.rows.start + strip.rows.count) less_before, is_strip.below)
+
     module _ (s : Stage) (sees : SeesInputs s) (which : Output) (c : Cell) (out : In c (outputs n)) (is : IsOpen s c) (runs : RunsTo final n c) (no_count : counts n ≡ false) where
       abbrev images : (parameters n.function).output ≡ kind.Image
-      images = (writes_images objects nodes v height beside r n in_steps no_count).0
-
-      abbrev plain : accumulates n.function ≡ false
-      plain = (writes_images objects nodes v height beside r n in_steps no_count).1
+      images = writes_images objects nodes v height beside r n in_steps no_count
 
       pub seen_output : IsSeen strip s n c
-      seen_output = is_seen objects final height beside strip is_strip s before n which c sees.first sees.second is.place runs images plain
+      seen_output = is_seen objects final height beside strip is_strip s before n which c sees.first sees.second is.place runs images
 
-      module _ (ends : IsMade final n which c) where
+      module _ (plain : accumulates n.function ≡ false) (ends : IsMade final n which c) where
         stands : IsRightFor objects height done strip.rows (part_made strip.rows s n which c) (image_held final c)
         stands =
             let near = second_near objects nodes v height beside r n in_steps no_count in
-            made_stands objects final height beside strip is_strip s before n which c sees.first sees.second is.place runs images plain
-            (in_height objects nodes v height beside r n in_steps) (second_given objects nodes v height beside r n in_steps) near.0 near.1 runs.runs.second_is ends
+            made_stands objects final height beside strip is_strip s before n which c sees.first sees.second is.place runs images
+            (in_height objects nodes v height beside r n in_steps) (second_given objects nodes v height beside r n in_steps plain) near.0 near.1 runs.runs.second_is ends
             (rw sees.first.seen_is sees.first.part_is) (image_of_object (cell_object final n.in1) runs.runs.first_kind runs.runs.first_is)
 
         final_is : IsImage (image_held final c)
@@ -164,13 +178,15 @@ module _ (objects : List Named) (nodes : List Node) (v : Verified) (height besid
 
     -- ---- once it has run
 
-    -- what is found once a node has written its outputs: each is made, and all else is as it was
+    -- what is found once a node has written its outputs: each is made, below the band what it adds to is as it was before the run, and all
+    -- else is as it was
     pub record HasRun (s later : Stage) : Type 0 where
       pub made : (c : Cell) → In c (outputs n) → AsMade done c (object_held (scene later).objects c.name)
+      pub kept : accumulates n.function ≡ true → (c : Cell) → In c (outputs n) → option_map (rows_from end) (object_held (scene later).objects c.name) ≡ option_map (rows_from end) (object_held objects c.name)
       pub others : (name : ℕ) → ((c : Cell) → In c (outputs n) → name ≢ c.name) → object_held (scene later).objects name ≡ object_held (scene s).objects name
       pub slots : map fixed later.slots.items ≡ map fixed s.slots.items
 
-    module _ (s : Stage) (sees : SeesInputs s) (no_count : counts n ≡ false) (opens : (c : Cell) → In c (outputs n) → IsOpen s c) where
+    module _ (s : Stage) (sees : SeesInputs s) (no_count : counts n ≡ false) (plain : accumulates n.function ≡ false) (opens : (c : Cell) → In c (outputs n) → IsOpen s c) where
       -- its outputs can be written
       if_seen : (which : Output) (o : Option Cell) → ((c : Cell) → o ≡ Some c → In c (outputs n)) → IfSome o (RunsTo final n) → IfSome o (IsSeen strip s n)
       if_seen which None among runs = tt
@@ -179,6 +195,7 @@ module _ (objects : List Named) (nodes : List Node) (v : Verified) (height besid
       pub outputs_seen : AreSeen strip s n
       outputs_seen =
           record {
+            plain = plain;
             first = if_seen First n.out1 first_in (final_first objects nodes v height beside r n in_steps);
             second = if_seen Second n.out2 second_in (final_second objects nodes v height beside r n in_steps);
             apart = final_apart objects nodes v height beside r n in_steps;
@@ -198,11 +215,11 @@ module _ (objects : List Named) (nodes : List Node) (v : Verified) (height besid
 
         output_made : (which : Output) (c : Cell) → In c (outputs n) → RunsTo final n c → IsMade final n which c → object_held (scene later).objects c.name ≡ Some (made_seen strip s n which c)
             → AsMade done c (object_held (scene later).objects c.name)
-        output_made which c i runs ends found = subst (AsMade done c) (sym found) (as_made s sees which c i (opens c i) runs no_count ends)
+        output_made which c i runs ends found = subst (AsMade done c) (sym found) (as_made s sees which c i (opens c i) runs no_count plain ends)
 
         first_made : (c : Cell) → n.out1 ≡ Some c → AsMade done c (object_held (scene later).objects c.name)
         first_made c e =
-            output_made First c (first_in c e) (runs_first c e) (subst (λ (o : Option Cell). IfSome o (IsMade final n First)) e (made_first objects nodes v height beside r n in_steps no_count))
+            output_made First c (first_in c e) (runs_first c e) (subst (λ (o : Option Cell). IfSome o (IsMade final n First)) e (made_first objects nodes v height beside r n in_steps no_count plain))
             (found_later c.name
             ∙ with_others Second n.out2 one c.name (λ d f same. outputs_differ c d e f same)
             ∙ ap (λ o. object_held (with_seen strip s n First o (scene s).objects) c.name) e
@@ -212,13 +229,14 @@ module _ (objects : List Named) (nodes : List Node) (v : Verified) (height besid
         second_made c e =
             let kept = with_others First n.out1 (scene s).objects c.name (λ d f same. outputs_differ d c f e (sym same)) in
             let here : HoldsImage one c = ap (option_map object_kind) (ap (option_and_then (in_slot c.slot)) kept) ∙ (opens c (second_in c e)).place.here in
-            output_made Second c (second_in c e) (runs_second c e) (subst (λ (o : Option Cell). IfSome o (IsMade final n Second)) e (made_second objects nodes v height beside r n in_steps no_count))
+            output_made Second c (second_in c e) (runs_second c e) (subst (λ (o : Option Cell). IfSome o (IsMade final n Second)) e (made_second objects nodes v height beside r n in_steps no_count plain))
             (found_later c.name ∙ ap (λ o. object_held (with_seen strip s n Second o one) c.name) e ∙ at_output one c _ (whole_cell c (second_in c e)) here)
 
         pub has_run : HasRun s later
         has_run =
             record {
               made = λ c i. elim (output_cases n c (written_output c i)) [ inl e ↦ first_made c e | inr e ↦ second_made c e ];
+              kept = λ sums. absurd (cc);
               others = λ name other.
                   found_later name
                   ∙ with_others Second n.out2 one name (λ c e. other c (second_in c e))
@@ -248,19 +266,16 @@ module _ (objects : List Named) (nodes : List Node) (v : Verified) (height besid
         runs = runs_first c given_is
 
         stands_first : IsRightFor objects height before strip.rows part image
-        stands_first = rw (sees.first.seen_is, sees.first.ends_as) sees.first.stands
+        stands_first = first_stands s sees
 
         image_is : IsImage image
         image_is = image_of_object (cell_object final n.in1) runs.runs.first_kind runs.runs.first_is
 
-        less : sum_by (rows_beside objects) before ≤ beside
-        less = omega (arith, beside_less before after n parts, sum_by-append (rows_beside objects) before (n ∷ []))
-
         above : right_from objects before strip.rows ≤ strip.band.start
-        above = omega (arith, right_above (sum_by (rows_beside objects) before) beside strip.rows.start less, is_strip.above)
+        above = above_band s sees
 
         below : end ≤ right_to objects height before strip.rows
-        below = omega (arith, right_below (sum_by (rows_beside objects) before) beside height (strip.rows.start + strip.rows.count) less, is_strip.below)
+        below = below_band s sees
 
         -- what it is in the end
         end_kind : option_map object_kind (object_held final c.name) ≡ Some (parameters n.function).output
@@ -422,6 +437,130 @@ module _ (objects : List Named) (nodes : List Node) (v : Verified) (height besid
                   | inl e ↦ counted_there c e
                   | inr e ↦ (let none = counts_once n (is_node_of objects nodes v height beside r n in_steps) does in absurd (cc))
                 ];
+                kept = λ sums. let none = sums_no_count n sums in absurd (cc);
                 others = λ name other. found_now name ∙ counted_beside n.out1 refl name other;
+                slots = slots;
+              }
+
+    -- ---- where it adds
+
+    -- an output as a node that adds to it finds it: from the strip's band on it is as it was before the run
+    pub record IsToAdd (s : Stage) (c : Cell) : Type 0 where
+      pub opened : IsOpen s c
+      pub real : is_virtual_name v c.name ≡ false
+      pub kept : option_map (rows_from strip.band.start) (object_held (scene s).objects c.name) ≡ option_map (rows_from strip.band.start) (object_held objects c.name)
+
+    module _ (s : Stage) (sees : SeesInputs s) (sums : accumulates n.function ≡ true) where
+      module _ (c : Cell) (given_is : n.out1 ≡ Some c) (is : IsToAdd s c) where
+        abbrev old : ImageValue
+        old = image_held (scene s).objects c
+
+        abbrev addend : ImageValue
+        addend = image_value (seen strip.rows s n.in1)
+
+        abbrev addend_end : ImageValue
+        addend_end = image_held final n.in1
+
+        abbrev made : ImageValue
+        made = sum_made strip.rows s n c
+
+        at_place : slot_of s.slots.items c.name ≡ None
+        at_place = (is.opened.real is.real).0
+
+        runs_adding : RunsTo final n c
+        runs_adding = runs_first c given_is
+
+        sees_output : IsSeen strip s n c
+        sees_output = seen_output s sees First c (first_in c given_is) is.opened runs_adding (sums_no_count n sums)
+
+        has_room : IsInRows old.height strip.rows
+        has_room = subst (λ x. HasPlaceIn x strip old) at_place is.opened.place.place
+
+        pub can_add : CanAdd strip s n c
+        can_add = record { sees = sees_output.0; slot = at_place; rows = has_room }
+
+        summed : IsSummed objects nodes v height beside r n c
+        summed = subst (λ (o : Option Cell). IfSome o (IsSummed objects nodes v height beside r n)) given_is (summed_end objects nodes v height beside r n in_steps sums)
+
+        abbrev ended : ImageValue
+        ended = added_to n addend_end summed.before
+
+        here : object_held (scene s).objects c.name ≡ Some (ImageObject old)
+        here = sym (held_whole (scene s).objects c (whole_cell c (first_in c given_is))) ∙ held_image (scene s).objects c is.opened.place.here
+
+        kept_so : Some (rows_from strip.band.start (ImageObject old)) ≡ Some (rows_from strip.band.start (ImageObject summed.before))
+        kept_so = ap (option_map (rows_from strip.band.start)) (sym here) ∙ is.kept ∙ ap (option_map (rows_from strip.band.start)) summed.there
+
+        stands_in_band : StandsFor strip.rows.start strip.rows.count strip.band.start end addend addend_end
+        stands_in_band =
+            stands_fewer strip.rows.start strip.rows.count (right_from objects before strip.rows) strip.band.start end (right_to objects height before strip.rows) addend addend_end (above_band s sees) (below_band s sees)
+            (first_stands s sees)
+
+        ended_is : IsImage ended
+        ended_is =
+            subst IsImage (image_there final c ended (held_whole final c (whole_cell c (first_in c given_is)) ∙ summed.ends))
+            (out_is_image final n First c runs_adding (writes_images objects nodes v height beside r n in_steps (sums_no_count n sums)))
+
+        rows_added : RowsAreAs end (Some (ImageObject (with_sums strip made old))) (object_held final c.name)
+        rows_added =
+            let rows = subst (RowsAreAs strip.band.start (Some (ImageObject old))) summed.ends (subst (λ o. RowsAreAs strip.band.start o (object_held final c.name)) here (is.opened.real is.real).1) in
+            let stands = sums_stand strip is_strip.within old summed.before kept_so has_room n addend addend_end (rw sees.first.seen_is sees.first.part_is)
+            (image_of_object (cell_object final n.in1) runs_adding.runs.first_kind runs_adding.runs.first_is) summed.before_is stands_in_band (sums_near n.function sums) in
+            let right = rows_right strip made old ended is_strip.within (first_right 0 strip.band.start) (end_right 0 addend_end.height end) stands (same_first strip.band.start) (same_end addend_end.height end)
+            ended_is is.opened.place.is.size rows.0 rows.1 in
+            rw summed.ends (rows.0, right)
+
+        wide : addend.width ≡ old.width
+        wide = sym (eqb-true old.width addend.width (and_parts (old.width == addend.width) (strip.rows.count == addend.height) sees_output.0.can_run.size).0)
+
+        still_below : option_map (rows_from end) (Some (ImageObject (with_sums strip made old))) ≡ option_map (rows_from end) (object_held objects c.name)
+        still_below =
+            still_kept strip is_strip.within old summed.before kept_so made wide is.opened.place.is (omega (arith, has_room, is_strip.within.below))
+            ∙ ap (option_map (rows_from end)) (sym summed.there)
+
+        as_added : AsMade done c (Some (ImageObject (with_sums strip made old)))
+        as_added =
+            record {
+              part = λ virtual. let real = is.real in absurd (cc);
+              rows = λ _.
+                  subst (λ w. IsAsFar w final end (Some (ImageObject (with_sums strip made old))) (object_held final c.name))
+                  (sym (counter_none objects nodes v height beside r n in_steps (sums_no_count n sums) c (first_in c given_is))) rows_added;
+            }
+
+      module _ (opens : (c : Cell) → In c (outputs n) → IsToAdd s c) where
+        pub outputs_add : IfSome n.out1 (CanAdd strip s n)
+        outputs_add = of_output n.out1 refl
+          where
+            of_output : (o : Option Cell) → n.out1 ≡ o → IfSome o (CanAdd strip s n)
+            of_output None e = tt
+            of_output (Some c) e = can_add c e (opens c (first_in c e))
+
+        module _ (later : Stage) (value : scene later ≡ with_objects (scene s) (with_added strip s n n.out1 (scene s).objects)) (slots : map fixed later.slots.items ≡ map fixed s.slots.items) where
+          found_added : (name : ℕ) → object_held (scene later).objects name ≡ object_held (with_added strip s n n.out1 (scene s).objects) name
+          found_added name = ap (λ (t : Context). object_held t.objects name) value
+
+          added_there : (c : Cell) → n.out1 ≡ Some c → object_held (scene later).objects c.name ≡ Some (ImageObject (with_sums strip (sum_made strip.rows s n c) (image_held (scene s).objects c)))
+          added_there c e =
+              found_added c.name
+              ∙ ap (λ o. object_held (with_added strip s n o (scene s).objects) c.name) e
+              ∙ at_output (scene s).objects c _ (whole_cell c (first_in c e)) (opens c (first_in c e)).opened.place.here
+
+          added_beside : (o : Option Cell) → n.out1 ≡ o → (name : ℕ) → ((c : Cell) → In c (outputs n) → name ≢ c.name)
+              → object_held (with_added strip s n o (scene s).objects) name ≡ object_held (scene s).objects name
+          added_beside None e name other = refl
+          added_beside (Some c) e name other = held_beside (scene s).objects c name _ (other c (first_in c e))
+
+          only_output : (c : Cell) → In c (outputs n) → n.out1 ≡ Some c
+          only_output c i = elim (output_cases n c (written_output c i)) [
+            | inl e ↦ e
+            | inr e ↦ (let none = sums_once n (is_node_of objects nodes v height beside r n in_steps) sums in absurd (cc))
+          ]
+
+          pub has_added : HasRun s later
+          has_added =
+              record {
+                made = λ c i. let e = only_output c i in subst (AsMade done c) (sym (added_there c e)) (as_added c e (opens c (first_in c e)));
+                kept = λ _ c i. let e = only_output c i in ap (option_map (rows_from end)) (added_there c e) ∙ still_below c e (opens c (first_in c e));
+                others = λ name other. found_added name ∙ added_beside n.out1 refl name other;
                 slots = slots;
               }

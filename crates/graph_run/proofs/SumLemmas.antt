@@ -1,6 +1,6 @@
 -- Nodes that add to the image that they write: its samples are taken out, and put back once they are added to.
-use Rattle.std.proofs.Common.{◌≡◌, ◌*◌, true, ℤ, List, Option, None, refl, sym, ap, ◌∙◌, arith, ◌==◌, option_map}
-use Rattle.graph_run.proofs.Common.{Format, S16, Function, Node, Cell, Description, takes_formats, parameters, accumulates, ImageValue, description_of, image_over, IsNode, from_two, length-table, Band, ImageMut, all_rows, HaveSameSize, written, Writes, all_written, ObjectValue, ImageObject, object_kind, object_format, Rectangle, image_of_kind, Named, image_value, cell_object, image_held, RunsTo, and_parts, eqb-true}
+use Rattle.std.proofs.Common.{◌≡◌, ◌*◌, true, false, ℤ, List, Option, Some, None, is_some, is_none, if◌then◌else◌, ◌&&◌, ◌||◌, refl, sym, ap, ◌∙◌, arith, ◌==◌, option_map}
+use Rattle.graph_run.proofs.Common.{Format, S16, Function, Node, Cell, Description, takes_formats, parameters, accumulates, ImageValue, description_of, image_over, IsNode, from_two, length-table, Band, ImageMut, all_rows, HaveSameSize, written, Writes, all_written, ObjectValue, ImageObject, object_kind, object_format, Rectangle, image_of_kind, Named, image_value, cell_object, image_held, RunsTo, and_parts, eqb-true, reach, counts, counts_rows}
 use Rattle.vx_base.specs.declared.function.Function.TheVariants.{Accumulate, AccumulateSquare}
 use Rattle.vx_base.specs.declared.kind.Kind.TheVariants as kind
 use Rattle.image_core.specs.Bands.{rows_in}
@@ -20,8 +20,31 @@ sums_output other h = absurd (cc h)
 pub sums_second : (n : Node) → IsNode n → accumulates n.function ≡ true → n.in2 ≡ None
 sums_second n node h = grind (arith, has_of_node, and_parts)
 
+-- they look at a row alone
+pub sums_near : (function : Function) → accumulates function ≡ true → reach function None ≡ Some 0
+sums_near Accumulate h = refl
+sums_near AccumulateSquare h = refl
+sums_near other h = absurd (cc h)
+
+-- they count nothing
+pub sums_no_count : (n : Node) → accumulates n.function ≡ true → counts n ≡ false
+sums_no_count n h = by_function n.function h
+  where
+    by_function : (f : Function) → accumulates f ≡ true → counts_rows f ≡ false
+    by_function f is = grind arith
+
+-- they have one output
+pub sums_once : (n : Node) → IsNode n → accumulates n.function ≡ true → n.out2 ≡ None
+sums_once n node h = of_test n.out1 n.out2 (ap (λ b. if b then (is_some n.out1 || is_some n.out2) else (is_some n.out1 && is_none n.out2)) (sym (one n.function h)) ∙ (and_parts _ _ (has_of_node n node.shape)).1)
+  where
+    of_test : (a b : Option Cell) → (is_some a && is_none b) ≡ true → b ≡ None
+    of_test a b e = grind arith
+
+    one : (f : Function) → accumulates f ≡ true → (parameters f).output_pair ≡ false
+    one f is = grind arith
+
 -- they write S16 samples
-sums_image : (function : Function) (a : Format) (second : Option Format) (out : ObjectValue) → accumulates function ≡ true → object_kind out ≡ kind.Image → takes_formats function a second (object_format out) ≡ true
+pub sums_image : (function : Function) (a : Format) (second : Option Format) (out : ObjectValue) → accumulates function ≡ true → object_kind out ≡ kind.Image → takes_formats function a second (object_format out) ≡ true
     → (image_value out).format ≡ S16
 sums_image Accumulate a second out h e t = grind arith
 sums_image AccumulateSquare a second out h e t = grind arith

@@ -47,7 +47,7 @@ use Rattle.graph_run.specs.Graph.{begun, one_by_one}
 use Rattle.graph_run.specs.Operands.{operand_held, IsReady}
 use Rattle.graph_run.specs.Solution.{label_of}
 use Rattle.graph_run.specs.Stage.{scene, slot_of}
-use Rattle.graph_run.specs.Steps.{AreApart, Holds, CanRunTo, IsRead, made_as}
+use Rattle.graph_run.specs.Steps.{AreApart, Holds, CanRunTo, IsRead, added_to, made_as}
 
 -- ---- what nodes see
 
@@ -104,7 +104,6 @@ pub record SeesParts (rows : Band) (s : Stage) (n : Node) (output : Cell) : Type
   pub in2_rows : IfSome n.in2 (HasRows rows s)
   pub in1_apart : AreApart n.in1 output
   pub in2_apart : IfSome n.in2 (λ cell. AreApart cell output)
-  pub plain : accumulates n.function ≡ false
   pub can_run : CanRunTo n (image_value (seen rows s n.in1)) (option_map (seen rows s) n.in2)
       (image_over (record { width = (image_held (scene s).objects output).width; height = rows.count; format = (image_held (scene s).objects output).format }) empty [])
 
@@ -150,8 +149,9 @@ HasPlaceIn (Some slot) strip image = image.height ≡ strip.rows.count
 abbrev pub IsSeen : Strip → Stage → Node → Cell → Type 0
 IsSeen strip s n output = SeesParts strip.rows s n output × HasPlaceIn (slot_of s.slots.items output.name) strip (image_held (scene s).objects output)
 
--- outputs of a node that can be written, each apart from the other
+-- outputs of a node that can be written whatever they hold, each apart from the other
 pub record AreSeen (strip : Strip) (s : Stage) (n : Node) : Type 0 where
+  pub plain : accumulates n.function ≡ false
   pub first : IfSome n.out1 (IsSeen strip s n)
   pub second : IfSome n.out2 (IsSeen strip s n)
   pub apart : IfSome n.out1 (λ a. IfSome n.out2 (λ b. AreApart b a))
@@ -248,10 +248,34 @@ with_counted strip s n None objects = objects
 with_counted strip s n (Some output) objects =
     with_object objects (cell_of output.name) (counted_too n strip (image_value (seen strip.rows s n.in1)) (object_under objects output.name))
 
+-- ---- what nodes add to
+
+-- what comes of these rows of an image, to which a node adds what it gives of the rows that it sees
+abbrev pub sum_made : Band → Stage → Node → Cell → ImageValue
+sum_made rows s n output = added_to n (image_value (seen rows s n.in1)) (part_of rows.start rows.count (image_held (scene s).objects output))
+
+-- an image once the band's rows of such a part are written to it; until the run ends it counts as valid where it did before
+abbrev pub with_sums : Strip → ImageValue → ImageValue → ImageValue
+with_sums strip part old = record (with_band strip part old) { valid = old.valid }
+
+-- an output to which a node can add the band: an image of the client's
+pub record CanAdd (strip : Strip) (s : Stage) (n : Node) (output : Cell) : Type 0 where
+  pub sees : SeesParts strip.rows s n output
+  pub slot : slot_of s.slots.items output.name ≡ None
+  pub rows : IsInRows (image_held (scene s).objects output).height strip.rows
+
+-- the objects once a node has added the band to an output, if it is there
+abbrev pub with_added : Strip → Stage → Node → Option Cell → List Named → List Named
+with_added strip s n None objects = objects
+with_added strip s n (Some output) objects = with_object objects output (ImageObject (with_sums strip (sum_made strip.rows s n output) (image_held (scene s).objects output)))
+
+-- ---- what nodes do
+
 -- the objects once a node has run on the rows of a strip
 abbrev pub after_node : Strip → Stage → Node → List Named
 after_node strip s n =
     if counts n then with_counted strip s n n.out1 (scene s).objects
+    else if accumulates n.function then with_added strip s n n.out1 (scene s).objects
     else with_seen strip s n Second n.out2 (with_seen strip s n First n.out1 (scene s).objects)
 
 -- ---- graphs that can run so
@@ -280,14 +304,14 @@ banded n = if counts n then n.in1 ∷ [] else outputs n
 abbrev pub is_virtual_name : Verified → ℕ → Bool
 is_virtual_name v name = list_any (λ (o : VirtualOutput). name == o.cell.name) v.virtual_outputs.items
 
--- a graph that can run in bands of rows of images of this height: its nodes write images of this height, each from rows that are near, or
--- count one, and read nothing of the client's that one of them writes; together they look so many rows up and down
+-- a graph that can run in bands of rows of images of this height: its nodes write images of this height or add to them, each from rows that
+-- are near, or count one, and read nothing of the client's that one of them writes; together they look so many rows up and down
 pub record RunsInBands (objects : List Named) (nodes : List Node) (v : Verified) (height beside : ℕ) : Type 0 where
   pub ready : IsReady objects nodes v
   pub names : IsStrictlyIncreasing (map (λ o. o.name) objects)
   pub are_objects : All (λ o. IsObject o.object) objects
   pub described : All (λ o. IsDescription o.desc) v.virtual_outputs.items
-  pub images : All (λ n. (counts n ≡ false → (parameters n.function).output ≡ kind.Image) × (accumulates n.function ≡ false)) v.steps.items
+  pub images : All (λ n. counts n ≡ false → (parameters n.function).output ≡ kind.Image) v.steps.items
   pub near : All (λ n. IsTrue (is_some (reach_of objects n))) v.steps.items
   pub together : sum_by (rows_beside objects) v.steps.items ≡ beside
   pub heights : All (λ n. All (λ c. HasHeight height (resolved (operand_held objects) nodes c)) (banded n)) v.steps.items
@@ -333,12 +357,22 @@ IsAsFar (Some n) ended y now final = IsCounted n (image_held ended n.in1) y now 
 abbrev pub is_target : Verified → ℕ → Bool
 is_target v name = is_written v.steps.items (cell_of name) && not (is_virtual_name v name)
 
+-- whether a node adds to what has a name
+abbrev pub is_sum : Verified → ℕ → Bool
+is_sum v name = list_any (λ n. accumulates n.function && writes n (cell_of name)) v.steps.items
+
+-- an image without its first rows; another object as it is
+abbrev pub rows_from : ℕ → ObjectValue → ObjectValue
+rows_from y (ImageObject image) = ImageObject (record image { samples = drop (y * image.width) image.samples })
+rows_from y other = other
+
 -- a client's objects while a graph runs in bands: of what the nodes write so many rows are as they are in the end, or are counted as they
--- are; all else is as it was
+-- are; the rows below of what nodes add to are as they were, and so is all else
 pub record IsFinished (rows : ℕ → ℕ) (v : Verified) (objects final now : List Named) : Type 0 where
   pub labels : map label_of now ≡ map label_of objects
   pub others : (name : ℕ) → is_target v name ≡ false → object_held now name ≡ object_held objects name
   pub targets : (name : ℕ) → is_target v name ≡ true → IsAsFar (counter_of v name) final (rows name) (object_held now name) (object_held final name)
+  pub kept : (name : ℕ) → is_target v name ≡ true → is_sum v name ≡ true → option_map (rows_from (rows name)) (object_held now name) ≡ option_map (rows_from (rows name)) (object_held objects name)
 
 -- in the part of a strip: those written by now are finished down to its end, others down to its start
 abbrev pub rows_by_now : List Node → Strip → ℕ → ℕ

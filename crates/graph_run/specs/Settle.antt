@@ -6,7 +6,7 @@ use Rattle.vx_base.specs.declared.function.Function.TheVariants.{NotBits, Conver
 use Rattle.vx_base.specs.declared.kind.Kind.TheVariants as kind
 use Rattle.vx_base.specs.declared.node.Node.{Node}
 use Rattle.vx_base.specs.Cell.{Cell}
-use Rattle.vx_base.specs.Function.{parameters, accumulates}
+use Rattle.vx_base.specs.Function.{parameters}
 use Rattle.vx_base.specs.Node.{outputs}
 use Rattle.vx_base.specs.Rectangle.{Rectangle}
 use Rattle.vx_base.specs.Window.{window_valid}
@@ -28,10 +28,9 @@ pub record IsBandOutput (v : Verified) (c : Cell) : Type 0 where
   pub whole : c.slot ≡ None
   pub unread : is_virtual_name v c.name ≡ false → (n : Node) (d : Cell) → In n v.steps.items → reads n d ≡ true → d.name ≢ c.name
 
--- a node that writes images of this height, whatever they hold, or counts one
+-- a node that writes images of this height, adds to one, or counts one
 pub record SuitsBands (objects : List Named) (v : Verified) (height : ℕ) (n : Node) : Type 0 where
   pub image : counts n ≡ false → (parameters n.function).output ≡ kind.Image
-  pub plain : accumulates n.function ≡ false
   pub heights : All (IsHigh objects v height) (banded n)
   pub outputs : All (IsBandOutput v) (outputs n)
 

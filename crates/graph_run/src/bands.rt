@@ -27,7 +27,7 @@ ghost use Rattle.graph_verify.specs.Verified.{IsVerified};
 ghost use Rattle.buffer_plan.specs.Places.{told};
 ghost use Rattle.buffer_plan.specs.Plan.{IsPlan};
 ghost use Rattle.graph_run.specs.Bands.{SeesParts, part_made, with_band, made_seen, with_seen};
-ghost use Rattle.graph_run.specs.Bands.{CanCount, after_node, band_seen, counts};
+ghost use Rattle.graph_run.specs.Bands.{CanAdd, CanCount, after_node, band_seen, counts};
 ghost use Rattle.graph_run.specs.Bands.{IsWithinRows, IsSeen, AreSeen, IsStrip};
 ghost use Rattle.graph_run.specs.Bands.{output_part, RunsInBands, final_of};
 ghost use Rattle.graph_run.specs.Bands.{IsFinished, AreAreas, is_image_held, with_area, rows_made};
@@ -42,6 +42,7 @@ ghost use Rattle.graph_run.specs.Stage.{scene, slot_of, IsStage, IsArranged, Kee
 ghost use Rattle.graph_run.specs.Steps.{AreApart, CanMake, made_as};
 ghost use Rattle.graph_run.specs.Turns.{AreVirtual};
 
+use crate::adding::add_output;
 use crate::counting::{count_output, counts};
 use crate::kernel::run_node;
 use crate::runs::place_of;
@@ -244,7 +245,10 @@ fn claim_part(
 fn run_on_strip(stage: &mut Stage, node: &Node, strip: Strip)
     requires stage { IsStage stage.old }
     requires strip { IsWithinRows strip }
-    requires seen { counts node.now ≡ false → AreSeen strip stage.old node.now }
+    requires seen { counts node.now ≡ false → accumulates node.now.function ≡ false →
+        AreSeen strip stage.old node.now }
+    requires added { counts node.now ≡ false → accumulates node.now.function ≡ true →
+        IfSome node.now.out1 (CanAdd strip stage.old node.now) }
     requires counted { counts node.now ≡ true → IfSome node.now.out1
         (λ cell. CanCount node.now strip stage.old cell.name) }
     ensures value { scene stage.new ≡ with_objects (scene stage.old)
@@ -254,6 +258,8 @@ fn run_on_strip(stage: &mut Stage, node: &Node, strip: Strip)
 {
     if counts(node) {
         count_output(stage, node, strip);
+    } else if node.function.accumulates() {
+        add_output(stage, node, strip);
     } else {
         run_outputs(stage, node, strip);
     }
@@ -284,6 +290,7 @@ fn run_pair(stage: &mut Stage, node: &Node, out1: ObjRef, out2: ObjRef, strip: S
     requires stage { IsStage stage.old }
     requires strip { IsWithinRows strip }
     requires function { node.now.function ≡ Sobel }
+    requires plain { accumulates node.now.function ≡ false }
     requires first { IsSeen strip stage.old node.now out1 }
     requires second { IsSeen strip stage.old node.now out2 }
     requires apart { AreApart out2 out1 }
@@ -308,6 +315,7 @@ fn run_pair(stage: &mut Stage, node: &Node, out1: ObjRef, out2: ObjRef, strip: S
 fn run_output(stage: &mut Stage, node: &Node, which: Output, output: ObjRef, strip: Strip)
     requires stage { IsStage stage.old }
     requires strip { IsWithinRows strip }
+    requires plain { accumulates node.now.function ≡ false }
     requires sees { IsSeen strip stage.old node.now output }
     ensures value { scene stage.new ≡ with_objects (scene stage.old)
         (with_object (scene stage.old).objects output
@@ -349,6 +357,7 @@ fn write_parts(stage: &mut Stage, node: &Node, out1: ObjRef, out2: ObjRef, rows:
 /// Writes what a node makes of the rows that it sees to what stands in a slot.
 fn write_part(stage: &mut Stage, node: &Node, which: Output, output: ObjRef, rows: Band)
     requires stage { IsArranged stage.old }
+    requires plain { accumulates node.now.function ≡ false }
     requires sees { SeesParts rows stage.old node.now output }
     requires slot { IsSome (slot_of stage.old.slots.items output.name) }
     requires height { (image_held (scene stage.old).objects output).height ≡ rows.count }
@@ -374,6 +383,7 @@ fn write_part(stage: &mut Stage, node: &Node, which: Output, output: ObjRef, row
 /// counts as wholly valid until the run ends.
 fn write_band(stage: &mut Stage, node: &Node, which: Output, output: ObjRef, strip: Strip)
     requires stage { IsArranged stage.old }
+    requires plain { accumulates node.now.function ≡ false }
     requires sees { SeesParts strip.rows stage.old node.now output }
     requires slot { slot_of stage.old.slots.items output.name ≡ None }
     requires strip { IsWithinRows strip }

@@ -1,12 +1,13 @@
 //! The kernel of each function.
 ghost use Rattle.std.specs.Prelude.{◌≡◌, true, IsTrue, None, Some};
 ghost use Rattle.vx_base.specs.Function.{accumulates};
+ghost use Rattle.vx_base.specs.Image.{ImageValue};
 ghost use Rattle.vx_base.specs.Node.{is_node};
 ghost use Rattle.vx_base.specs.Object.{ImageObject};
 ghost use Rattle.vx_base.specs.Outputs.{node_image};
 ghost use Rattle.vx_base.specs.Rectangle.{IsWithin};
 ghost use Rattle.image_core.specs.Second.{second_object};
-ghost use Rattle.image_core.specs.Bands.{all_rows};
+ghost use Rattle.image_core.specs.Bands.{all_rows, rows_in};
 ghost use Rattle.image_core.specs.Fits.{Fits};
 ghost use Rattle.image_core.specs.Target.{written, SameSlices, Writes};
 ghost use Rattle.graph_run.specs.Run.{CanRun};
@@ -67,9 +68,28 @@ pub fn run_whole(
     run_node(node, which, first, second, output);
 }
 
-/// Adds what the node's function gives of an image to the image that it writes, all of whose rows
-/// are lent: each sample where both are valid, and the rectangle.
+/// Adds what the node's function gives of an image to the image that it writes, or to the rows of
+/// it that are lent: each sample where both are valid, and the rectangle. `old` is any image whose
+/// rows stood there.
 pub fn run_sum(node: &Node, image: &Image<'_>, sums: &mut ImageMut<'_>)
+    requires function { accumulates node.now.function ≡ true }
+    requires shape { IsTrue (is_node node.now) }
+    requires fits { Fits node.now.function image.now None sums.old }
+    requires room { IsWithin (written sums.old).valid (written sums.old).width
+        (written sums.old).height }
+    ensures { (old : ImageValue) → rows_in sums.old.rows old ≡ written sums.old →
+        Writes (added_to node.now image.now old) sums.old sums.new }
+{
+    match node.function {
+        Function::Accumulate => accumulate(image, sums),
+        Function::AccumulateSquare => accumulate_square(image, sums, node.amount),
+        _ => unreachable!(),
+    }
+}
+
+/// Adds what the node's function gives of an image to the image that it writes, all of whose rows
+/// are lent.
+pub fn run_whole_sum(node: &Node, image: &Image<'_>, sums: &mut ImageMut<'_>)
     requires function { accumulates node.now.function ≡ true }
     requires shape { IsTrue (is_node node.now) }
     requires fits { Fits node.now.function image.now None sums.old }
@@ -79,11 +99,7 @@ pub fn run_sum(node: &Node, image: &Image<'_>, sums: &mut ImageMut<'_>)
     ensures value { written sums.new ≡ added_to node.now image.now (written sums.old) }
     ensures slices { SameSlices sums.old sums.new }
 {
-    match node.function {
-        Function::Accumulate => accumulate(image, sums),
-        Function::AccumulateSquare => accumulate_square(image, sums, node.amount),
-        _ => unreachable!(),
-    }
+    run_sum(node, image, sums);
 }
 
 /// Writes what a function of one image gives.

@@ -10,6 +10,7 @@
 //! - `settle`: whether a graph runs in bands of rows, and how
 //! - `bands`: a graph that runs so, each band going through all nodes before the next one does
 //! - `counting`: what such a graph counts of images, or finds in them
+//! - `adding`: what it adds to images
 //! - `part`: rows of images, lent to kernels as images of their own
 //! - `stage`: what nodes run on: a table, and slots in which virtual images are images for a while
 //! - `step`: a node that runs on what its cells hold
@@ -19,6 +20,7 @@
 //! - `examples`: runs of small graphs
 #![tactic(auto)]
 
+mod adding;
 mod bands;
 mod counting;
 pub mod examples;

@@ -120,7 +120,7 @@ fn part_of(image: &Stored, rows: Band) -> Image<'_>
 }
 
 /// The places of a rectangle that are in these rows, counted from the first of them.
-fn rows_of(rows: Band, valid: Rect) -> Rect
+pub fn rows_of(rows: Band, valid: Rect) -> Rect
     ensures { result ≡ rows_of rows.start rows.count valid }
 {
     let y0 = valid.y0().saturating_sub(rows.start);

@@ -9,9 +9,10 @@ ghost use Rattle.vx_base.specs.declared.node.Node.{Node as NodeFields};
 ghost use Rattle.vx_base.specs.declared.kind.Kind.TheVariants as kind;
 ghost use Rattle.vx_base.specs.Cell.{Cell};
 ghost use Rattle.vx_base.specs.Description.{IsDescription};
-ghost use Rattle.vx_base.specs.Function.{parameters, accumulates};
+ghost use Rattle.vx_base.specs.Function.{parameters};
 ghost use Rattle.vx_base.specs.Node.{inputs};
 ghost use Rattle.vx_base.specs.Object.{IsObject};
+ghost use Rattle.vx_base.specs.Rectangle.{meet_of};
 ghost use Rattle.object_table.specs.Delay.{object_in};
 ghost use Rattle.object_table.specs.Named.{held};
 ghost use Rattle.object_table.specs.Object.{image_value};
@@ -67,9 +68,9 @@ const ROWS_FOR_ONE_BESIDE: u32 = 16;
 const LEAST_FOR_ONE_BESIDE: u16 = 4;
 
 /// How a verified graph runs in bands of rows. `None`: its nodes run one after another on whole
-/// images: these are small, or of several heights; a node looks at all rows of an image at once,
-/// adds to one, or reads an image of the client's that another writes; or nodes look further up and
-/// down together than pays.
+/// images: these are small, or of several heights; a node looks at all rows of an image at once, or
+/// reads an image of the client's that another writes; or nodes look further up and down together
+/// than pays.
 pub fn bands_of(
     alloc: Global,
     table: &Table,
@@ -202,7 +203,7 @@ fn matrix_of<'a>(table: &'a Table, node: &Node) -> Option<&'a Convolution>
 
 // ---- nodes
 
-/// Whether all nodes write images of this height, whatever these hold, or count one.
+/// Whether all nodes write images of this height, add to one, or count one.
 fn all_suit(table: &Table, verified: &Verified, height: u16) -> bool
     ensures { result ≡ true →
         All (SuitsBands table.now.objects verified.now height) verified.now.steps.items }
@@ -215,7 +216,7 @@ fn all_suit(table: &Table, verified: &Verified, height: u16) -> bool
     true
 }
 
-/// Whether a node writes images of this height, whatever they hold, or counts one.
+/// Whether a node writes images of this height, adds to one, or counts one.
 fn suits(table: &Table, verified: &Verified, height: u16, node: &Node) -> bool
     ensures { result ≡ true → SuitsBands table.now.objects verified.now height node.now }
 {
@@ -225,13 +226,12 @@ fn suits(table: &Table, verified: &Verified, height: u16, node: &Node) -> bool
         && output_suits(verified, node.out2)
 }
 
-/// Whether a node writes images, whatever they hold, or counts one.
+/// Whether a node writes images, or counts one.
 fn writes_in_bands(node: &Node) -> bool
-    ensures image { result ≡ true → counts node.now ≡ false →
+    ensures { result ≡ true → counts node.now ≡ false →
         (parameters node.now.function).output ≡ kind.Image }
-    ensures plain { result ≡ true → accumulates node.now.function ≡ false }
 {
-    counts(node) || node.function.parameters().output == Kind::Image && !node.function.accumulates()
+    counts(node) || node.function.parameters().output == Kind::Image
 }
 
 /// Whether the images that a node writes, or the one that it counts, are of this height.
@@ -335,6 +335,9 @@ fn area_after(table: &Table, before: &[Node], areas: &[Rect], node: &Node) -> Re
     ensures { IsArea table.now.objects before.now areas.now node.now result }
 {
     let first = area_of(table, before, areas, node.in1);
+    if node.function.accumulates() {
+        return area_added(table, node, first);
+    }
     let Some(second) = node.in2 else {
         return area_alone(node, first);
     };
@@ -346,6 +349,17 @@ fn area_after(table: &Table, before: &[Node], areas: &[Rect], node: &Node) -> Re
             let (columns, rows) = (matrix.columns() / 2, matrix.rows() / 2);
             window_valid(node.border, u16::from(columns), u16::from(rows), first)
         }
+        None => first,
+    }
+}
+
+/// The valid rectangle of the image to which a node adds that reads an image which is valid here.
+fn area_added(table: &Table, node: &Node, first: Rect) -> Rect
+    ensures { IfSome node.now.out1
+        (λ cell. result ≡ meet_of first (image_held table.now.objects cell).valid) }
+{
+    match node.out1 {
+        Some(cell) => first.meet(area_held(table, cell)),
         None => first,
     }
 }

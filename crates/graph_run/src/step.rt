@@ -30,7 +30,7 @@ ghost use Rattle.graph_run.specs.Steps.{added_to, counted_in, with_output, CanMa
 ghost use Rattle.graph_run.specs.Turns.{CanRunNow};
 ghost use Rattle.graph_run.specs.Stage.{scene, IsStage, IsArranged, Keeps, Stays};
 
-use crate::kernel::{run_sum, run_whole};
+use crate::kernel::{run_whole, run_whole_sum};
 use crate::stage::Stage;
 use image_core::{Image, ImageMut, Second};
 use object_table::{Content, Distribution, Object, Table};
@@ -394,7 +394,7 @@ fn add_shorts(desc: Desc, valid: Rect, samples: &mut [i16], node: &Node, image: 
 {
     let mut sums = ImageMut::new(desc, samples);
     sums.set_valid(valid);
-    run_sum(node, image, &mut sums);
+    run_whole_sum(node, image, &mut sums);
     sums.valid()
 }
 

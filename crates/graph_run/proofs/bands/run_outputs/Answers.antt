@@ -15,6 +15,7 @@ run_pair-requires c =
       stage = c.requires.stage;
       strip = c.requires.strip;
       function = has_two n _ _ first.0.can_run.node one other;
+      plain = c.requires.seen.plain;
       first = first;
       second = second;
       apart = subst (λ (o : Option Cell). IfSome o (λ b. AreApart b c.in-Some-Some.out1)) other

@@ -76,7 +76,7 @@ run_on_strip-requires c =
     c.loop-node.stage.table.objects c.loop-node.stage.slots.items c.claim_part.new.stage.slots.items claimed.slots.items
     (c.loop-node.invariant.course runs.0 runs.1 runs.2 c.requires.strip runs.3) c.claim_part.ensures.slots c.claim_part-in-loop-node.ensures.slots
     claimed c.claim_part-in-loop-node.ensures.stage (ap objects_of (c.claim_part-in-loop-node.ensures.table ∙ c.claim_part.ensures.table)) refl in
-    record { stage = c.claim_part-in-loop-node.ensures.stage; strip = c.requires.strip.within; seen = may.0; counted = may.1 }
+    record { stage = c.claim_part-in-loop-node.ensures.stage; strip = c.requires.strip.within; seen = may.may_write; added = λ _ sums. may.may_add sums; counted = may.may_count }
 
 pub loop-node-preserved : goal.loop-node-preserved
 loop-node-preserved c =
