@@ -67,7 +67,7 @@ def any_style(rng: random.Random) -> Style:
     def now_and_then(share: float) -> bool:
         return rng.random() < share
 
-    statistics = rng.choices(((), COUNTED, (*COUNTED, *WHOLE)), (10, 2, 1))[0]
+    statistics = rng.choices(((), (*COUNTED, *ADDING), (*COUNTED, *ADDING, *WHOLE)), (10, 2, 1))[0]
     return Style(rng.choice((0, 0.1, 0.2, 0.4, 0.8)), statistics, now_and_then(0.12),
                  rng.choice((0, 0, 0, 1, 2)), now_and_then(0.4))
 

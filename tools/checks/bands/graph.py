@@ -9,10 +9,10 @@ from feqyldan import wire
 GRAPH = 1
 # So many samples and more are a large image.
 LARGE = 131_072
-# What can be counted band by band; and what keeps a graph from running in bands.
+# What is counted, or added, band by band; and what keeps a graph from running in bands.
 COUNTED = (wire.HISTOGRAM, wire.MIN_MAX_LOCATION)
 ADDING = (wire.ACCUMULATE, wire.ACCUMULATE_SQUARE)
-WHOLE = (wire.INTEGRAL, *ADDING)
+WHOLE = (wire.INTEGRAL,)
 WINDOWED = range(wire.BOX, wire.CONVOLVE + 1)
 
 
