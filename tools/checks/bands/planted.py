@@ -13,7 +13,7 @@ from checks.bands.pictures import Rectangle
 from checks.bands.server import Server
 
 # A fault is found in so many graphs, or never.
-FAULT_GRAPHS = 60
+FAULT_GRAPHS = 240
 # Where a band begins.
 EDGE = 16
 
