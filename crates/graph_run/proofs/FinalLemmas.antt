@@ -1,6 +1,6 @@
 -- What a graph that runs in bands leaves in the end, cell by cell.
 use Rattle.std.proofs.Common.{◌≡◌, ℕ, Bool, true, false, eqb, List, [], ◌∷◌, ◌++◌, map, length, Option, Some, None, inl, inr, refl, sym, ap, subst, ◌∙◌, arith, ◌==◌, ◌&&◌, ◌||◌, not, if◌then◌else◌, IsTrue, is_some, is_none, All, IfSome, unwrap_or, option_map, option_and_then}
-use Rattle.graph_run.proofs.Common.{IsStrictlyIncreasing, cases_Bool, eqb-true, eq-eqb, and_parts, or_left, or_right, false_from_ne_true, Format, S16, U8, Kind, Node, Output, First, Second, VirtualImage, Cell, cell_of, Description, IsDescription, parameters, accumulates, ImageValue, IsImage, new_image, description_of, from_two, formula_of_two, added_to, object_held_has, IsNode, is_node, given, outputs, operands, second_kind, ObjectValue, ImageObject, VirtualObject, IsObject, object_kind, beside_first, node_image, node_output, written_to, written_in, written_from, written_by, SecondHasSize, in_slot, Named, object_held, held, with_written, image_value, cell_object, image_held, HoldsImage, names_of, held_by_name, map-told, VirtualOutput, Operand, Image, Delay, Verified, reads, writes, is_written, In, AllIn, operand_of, resolved, In-from_same, same-from_In, In-left, In-right, In-append, In-from_any, any-from_In, In-from_map, AllIn-permutation, AllIn-permutation_back, CanRun, HasInputs, reach, matrix_in, RunsInBands, HasHeight, final_of, is_target, is_virtual_name, banded, counts, counter_of, one_writer, and_from, reach_of, rows_beside, begun_as, begun, forgotten, is_virtual_object, one_by_one, rounds_of_nodes, run_of_graph, Lasts, HoldsOperand, names_cell, StandsFor, CellsStand, operand_held, Solves, label_of, HoldsVirtual, AreApart, RunsTo, HoldsKind, CanRunNow}
+use Rattle.graph_run.proofs.Common.{IsStrictlyIncreasing, cases_Bool, eqb-true, eq-eqb, and_parts, or_left, or_right, false_from_ne_true, Format, S16, U8, Kind, Node, Output, First, Second, VirtualImage, Cell, cell_of, Description, IsDescription, parameters, accumulates, ImageValue, IsImage, new_image, description_of, from_two, formula_of_two, added_to, object_held_has, IsNode, is_node, given, outputs, operands, second_kind, ObjectValue, ImageObject, VirtualObject, IsObject, object_kind, beside_first, image_of_one, object_format, takes_formats, node_image, node_output, written_to, written_in, written_from, written_by, SecondHasSize, in_slot, Named, object_held, held, with_written, image_value, cell_object, image_held, HoldsImage, names_of, held_by_name, map-told, VirtualOutput, Operand, Image, Delay, Verified, reads, writes, is_written, In, AllIn, operand_of, resolved, In-from_same, same-from_In, In-left, In-right, In-append, In-from_any, any-from_In, In-from_map, AllIn-permutation, AllIn-permutation_back, CanRun, HasInputs, reach, matrix_in, RunsInBands, HasHeight, final_of, is_target, is_virtual_name, banded, counts, counter_of, one_writer, and_from, reach_of, rows_beside, begun_as, begun, forgotten, is_virtual_object, one_by_one, rounds_of_nodes, run_of_graph, Lasts, HoldsOperand, names_cell, StandsFor, CellsStand, operand_held, Solves, label_of, HoldsVirtual, AreApart, RunsTo, HoldsKind, CanRunNow}
 use Rattle.vx_base.specs.declared.kind.Kind.TheVariants as kind
 use Rattle.vx_base.proofs.ImageLaws.{new_image_is}
 use Rattle.vx_base.proofs.PictureLaws.{side}
@@ -9,7 +9,8 @@ use Rattle.graph_run.proofs.CellLemmas.{held_whole, kind_there, there_is, holds_
 use Rattle.graph_run.proofs.AgreeLemmas.{begin, begins, written_before}
 use Rattle.graph_run.proofs.BegunLaws.{both_held, kept_virtual, labels-begun, labels-forgotten, object_held-forgotten, object_held-unwritten, virtual_as_operand}
 use Rattle.vx_base.specs.Object.{DistributionObject, ExtremesObject}
-use Rattle.graph_run.specs.Bands.{is_sum, tallies}
+use Rattle.vx_base.specs.Statistics.{integral, sums_in}
+use Rattle.graph_run.specs.Bands.{integrates, is_sum, tallies}
 use Rattle.graph_run.proofs.CountLemmas.{counts_other, distribution_of_kind, extremes_of_kind, locates_output, tallies_output, find_none, find_some}
 use Rattle.graph_run.proofs.FoundLemmas.{OfOperands, of_operands}
 use Rattle.graph_run.proofs.LastingLemmas.{Lasts-trans, Lasts-names}
@@ -22,7 +23,7 @@ use Rattle.graph_run.proofs.OrderLaws.{order_gives_rounds}
 use Rattle.graph_run.proofs.RoundLaws.{labels-one_by_one}
 use Rattle.graph_run.proofs.RunLemmas.{runs_first, has_of_node, runs_second, two_outputs, written_is, Lasts-outputs}
 use Rattle.graph_run.proofs.SolutionLaws.{rounds_are_solution}
-use Rattle.graph_run.proofs.SumLemmas.{sums_output, writes_sums}
+use Rattle.graph_run.proofs.SumLemmas.{integral_formats, integral_is, integral_second, sums_output, writes_sums}
 use Rattle.graph_run.proofs.TurnLaws.{at_its_turn, run_in_order}
 use Rattle.graph_run.proofs.VerifiedLemmas.{in_outputs, output_known, output_object, output_whole, output_written, can, can_run_now, pairs_of}
 
@@ -608,6 +609,27 @@ module _ (objects : List Named) (nodes : List Node) (v : Verified) (height besid
       let parts = and_parts (accumulates found.0.function) (writes found.0 (cell_of name)) found.2 in
       ap (λ (m : Node). accumulates m.function) (sym (only_writer found.0 n (cell_of name) found.1 i parts.1 w)) ∙ parts.0
 
+  -- ---- who sums up
+
+  -- it writes images of the client's
+  pub summing_real : (n : Node) → In n steps → integrates n ≡ true → (c : Cell) → In c (outputs n) → is_virtual_name v c.name ≡ false
+  summing_real n i does c j =
+      In-from_All (λ d. is_virtual_name v d.name ≡ false) (outputs n) (In-from_All (λ m. integrates m ≡ true → All (λ d. is_virtual_name v d.name ≡ false) (outputs m)) steps r.real n i does) c j
+
+  -- which become the integral image of what it reads
+  pub integral_end : (n : Node) → In n steps → integrates n ≡ true → (c : Cell) → In c (outputs n) → IsMade final n First c → object_held final c.name ≡ Some (ImageObject (integral (image_held final n.in1)))
+  integral_end n i does c j made =
+      let a = image_held final n.in1 in
+      let image = image_held final c in
+      let second : option_map (cell_object final) n.in2 ≡ None = ap (option_map (cell_object final)) (integral_second n (is_node_of n i) does) in
+      let runs = (runs_to n i c j).runs in
+      let there : cell_object final c ≡ ImageObject image = ap (λ o. unwrap_or o (ImageObject (new_image 0 0 U8))) made ∙ ap ImageObject (sym (image_there final c _ made)) in
+      let takes = subst (λ o. IsTrue (takes_formats n.function a.format (option_and_then object_format (option_map (cell_object final) n.in2)) (object_format o))) there runs.formats in
+      sym (held_whole final c (out_whole n i c j)) ∙ made
+      ∙ ap (λ o. Some (ImageObject (node_image n First image.format a o))) second
+      ∙ ap (λ f. Some (ImageObject (image_of_one f n First image.format a))) (integral_is n.function does)
+      ∙ ap (λ f. Some (ImageObject (sums_in f a))) (integral_formats n does a.format _ image.format takes).1
+
   -- who writes an image counts nothing
   pub image_writer : (n : Node) → In n steps → (c : Cell) → writes n c ≡ true → HoldsImage final c → counts n ≡ false
   image_writer n i c w image = false_from_ne_true (counts n) (λ does.
@@ -670,12 +692,12 @@ module _ (objects : List Named) (nodes : List Node) (v : Verified) (height besid
       read : reads n c ≡ true
       read = reads_second n c at
 
-  pub second_near : (n : Node) → In n steps → counts n ≡ false
+  pub second_near : (n : Node) → In n steps → counts n ≡ false → integrates n ≡ false
       → IsTrue (is_some (reach n.function (matrix_in (option_map (cell_object final) n.in2)))) × (unwrap_or (reach n.function (matrix_in (option_map (cell_object final) n.in2))) 0 ≡ rows_beside objects n)
-  second_near n i plain =
+  second_near n i no_count no_sums =
       let same = matrix_same n i n.in2 refl in
       let far : Option ℕ = reach n.function (matrix_in (option_and_then (held objects) n.in2)) in
-      let reached : reach_of objects n ≡ far = ap (λ b. if b then Some 0 else far) plain in (
+      let reached : reach_of objects n ≡ far = ap (λ b. if b || integrates n then Some 0 else far) no_count ∙ ap (λ b. if b then Some 0 else far) no_sums in (
         ap (λ m. is_some (reach n.function m)) same ∙ subst (λ o. IsTrue (is_some o)) reached (In-from_All (λ m. IsTrue (is_some (reach_of objects m))) steps r.near n i),
         ap (λ m. unwrap_or (reach n.function m) 0) same ∙ ap (λ o. unwrap_or o 0) (sym reached),
       )

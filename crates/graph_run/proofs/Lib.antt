@@ -44,6 +44,7 @@ pub mod StripStepLemmas
 pub mod StripRunLemmas
 pub mod SeenLemmas
 pub mod AddedLemmas
+pub mod SummedLemmas
 pub mod PairSeenLemmas
 pub mod SettledLemmas
 pub mod SettleLemmas

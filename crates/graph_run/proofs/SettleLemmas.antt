@@ -7,6 +7,7 @@ use Rattle.vx_base.specs.declared.kind.Kind.TheVariants as kind
 use Rattle.vx_base.specs.Object.{ConvolutionObject}
 use Rattle.vx_base.specs.Rectangle.{meet_of}
 use Rattle.graph_verify.proofs.MemberLemmas.{position-None}
+use Rattle.graph_run.specs.Bands.{integrates}
 use Rattle.graph_run.specs.Settle.{IsBandOutput, IsHigh, area_alone_of, area_alone}
 use Rattle.graph_run.proofs.FinalLemmas as final_lemmas
 use Rattle.graph_run.proofs.LinkLaws.{All-from_In, In-from_All, reads_first, reads_second, is_unwritten}
@@ -51,6 +52,7 @@ module _ (objects : List Named) (nodes : List Node) (v : Verified) (height besid
         are_objects = are;
         described = described;
         images = All-from_In (λ (n : Node). counts n ≡ false → (parameters n.function).output ≡ kind.Image) v.steps.items (λ n i. (suits n i).image);
+        real = All-from_In (λ (n : Node). integrates n ≡ true → All (λ c. is_virtual_name v c.name ≡ false) (outputs n)) v.steps.items (λ n i. (suits n i).real);
         near = near;
         together = together;
         heights = All-from_In (λ (n : Node). All (λ c. HasHeight height (resolved (operand_held objects) nodes c)) (banded n)) v.steps.items
@@ -63,11 +65,11 @@ module _ (objects : List Named) (nodes : List Node) (v : Verified) (height besid
 
 -- ---- where what a node makes is valid
 
-pub valid_alone : (n : Node) (which : Output) (format : Format) (a : ImageValue) → IsTrue (is_some (reach n.function None)) → (node_image n which format a None).valid ≡ area_alone n a.valid
-valid_alone n which format a near = by_function n.function near
+pub valid_alone : (n : Node) (which : Output) (format : Format) (a : ImageValue) → (node_image n which format a None).valid ≡ area_alone n a.valid
+valid_alone n which format a = by_function n.function
   where
-    by_function : (function : Function) → IsTrue (is_some (reach function None)) → (image_of_one function n which format a).valid ≡ area_alone_of function n.border a.valid
-    by_function function near = grind arith
+    by_function : (function : Function) → (image_of_one function n which format a).valid ≡ area_alone_of function n.border a.valid
+    by_function function = grind arith
 
 valid_matrix : (n : Node) (which : Output) (format : Format) (a : ImageValue) (x : ObjectValue) (m : ConvolutionValue) → matrix_in (Some x) ≡ Some m
     → (node_image n which format a (Some x)).valid ≡ window_valid n.border (m.columns / 2) (m.rows / 2) a.valid
@@ -156,10 +158,8 @@ module _ (objects : List Named) (nodes : List Node) (v : Verified) (height besid
     area_of_one no_count plain first is none =
         let at : first ≡ (image_held final n.in1).valid = is ∙ area_right n.in1 (reads_first n) (final_lemmas.of_final objects nodes v height beside r n member).in1 in
         let second : option_map (cell_object final) n.in2 ≡ None = ap (option_map (cell_object final)) none in
-        let near : IsTrue (is_some (reach n.function None)) =
-        subst (λ o. IsTrue (is_some (reach n.function (matrix_in o)))) second (final_lemmas.second_near objects nodes v height beside r n member no_count).0 in
         all_valid no_count plain (area_alone n first) (λ which format.
-        ap (λ o. (node_image n which format (image_held final n.in1) o).valid) second ∙ valid_alone n which format (image_held final n.in1) near ∙ ap (area_alone n) (sym at))
+        ap (λ o. (node_image n which format (image_held final n.in1) o).valid) second ∙ valid_alone n which format (image_held final n.in1) ∙ ap (area_alone n) (sym at))
 
     -- what it adds to is valid where that was, too
     pub area_of_sum : accumulates n.function ≡ true → (first area : Rectangle) → first ≡ area_among objects before areas n.in1 → IfSome n.out1 (λ cell. area ≡ meet_of first (image_held objects cell).valid)

@@ -2,7 +2,7 @@
 use Rattle.std.proofs.Common.{◌≡◌, ◌≢◌, ℕ, ◌+◌, ◌≤◌, ◌<◌, Bool, true, false, List, [], ◌∷◌, ◌++◌, map, length, take, drop, get_or, Option, Some, None, ◌⊎◌, inl, inr, IfSome, refl, sym, ap, subst, ◌∙◌, arith, unwrap_or, ◌==◌, ◌||◌, ◌&&◌, not, sum_by, slice_get, if◌then◌else◌, option_map, option_and_then}
 use Rattle.graph_run.proofs.Common.{take-append-drop, take_more, take_all, drop_more, list_any-append, sum_by-append, cases_Bool, eqb-true, or_left, or_right, and_parts, and_from, false_from_ne_true, Node, First, Second, Cell, cell_of, Description, ImageValue, IsImage, description_of, outputs, ObjectValue, ImageObject, VirtualObject, IsObject, object_kind, with_objects, in_slot, Named, held, object_held, image_value, image_held, HoldsImage, VirtualOutput, Verified, accumulates, reads, writes, is_written, In, is_used, PlanValue, Strip, Slot, Stage, AreSeen, RunsInBands, final_of, IsStrip, is_virtual_name, is_target, IsFinished, IsAsFar, CanCount, counter_of, counts, after_node, with_counted, RowsAreAs, IsPartOf, output_part, with_seen, AreShared, strip_plan, room_of, planned_rooms, AreEmpty, label_of, scene, shown, slot_of, standing_image, IsStage, HoldsVirtual, Keeps, virtual_named, AreVirtual, map-told, same_cell-refl, same_cell-true, In-right, In-from_any, any-from_In, same_cell, second_kind, held_is, stands_fewer, rows_beside, HoldsKind, IsPlan, claimed_at}
 use Rattle.vx_base.specs.declared.kind.Kind.TheVariants as kind
-use Rattle.graph_run.specs.Bands.{CanAdd, is_sum, rows_by_now, rows_from, with_added}
+use Rattle.graph_run.specs.Bands.{CanAdd, CanSum, integrates, with_integral, is_sum, rows_by_now, rows_from, with_added}
 use Rattle.node_rows.proofs.PartLookLaws.{first_within, end_within}
 use Rattle.graph_run.proofs.BandLemmas.{right_above, right_below, rows_of}
 use Rattle.graph_run.proofs.AgreeLemmas.{written_once}
@@ -18,8 +18,8 @@ use Rattle.graph_run.proofs.VerifiedLemmas.{are_virtual}
 use Rattle.graph_run.proofs.StepLemmas.{nothing, none_alike, slots_alike, forgotten_kept, none_standing}
 use Rattle.graph_run.proofs.SharingLemmas.{WereWritten, name_of_output}
 use Rattle.graph_run.proofs.SeesLemmas.{SeesRight, SeesRightBeside, sees_standing, sees_rows}
-use Rattle.graph_run.proofs.StripStepLemmas.{SeesInputs, IsOpen, IsToAdd, IsToCount, HasRun, has_added, has_counted, has_run, output_counts, outputs_add, outputs_seen}
-use Rattle.graph_run.proofs.SumLemmas.{sums_no_count}
+use Rattle.graph_run.proofs.StripStepLemmas.{SeesInputs, IsOpen, IsToAdd, IsToCount, HasRun, has_added, has_counted, has_run, output_counts, has_summed, outputs_add, outputs_seen, outputs_sum}
+use Rattle.graph_run.proofs.SumLemmas.{integral_no_count, sums_no_count}
 
 -- what is shown as an image and is virtual stands in a slot
 stands_somewhere : (slots : List Slot) (l : List Named) (name : ℕ) (image : ImageValue) → HoldsVirtual l name → object_held (shown slots l) name ≡ Some (ImageObject image)
@@ -512,9 +512,10 @@ module _ (objects : List Named) (nodes : List Node) (v : Verified) (height besid
       here : IsClaimed before after n parts s
       here = strip_claimed l slots one h first both second s is table items
 
-      -- it may write what it writes, add to it, or count
+      -- it may write what it writes, sum up, add, or count
       pub record MayRun : Type 0 where
-        pub may_write : counts n ≡ false → accumulates n.function ≡ false → AreSeen strip s n
+        pub may_write : counts n ≡ false → accumulates n.function ≡ false → integrates n ≡ false → AreSeen strip s n
+        pub may_sum : integrates n ≡ true → IfSome n.out1 (λ cell. (image : ImageValue) × CanSum strip s n cell image)
         pub may_add : accumulates n.function ≡ true → IfSome n.out1 (CanAdd strip s n)
         pub may_count : counts n ≡ true → IfSome n.out1 (λ cell. CanCount n strip s cell.name)
 
@@ -522,17 +523,20 @@ module _ (objects : List Named) (nodes : List Node) (v : Verified) (height besid
       node_may =
           let inputs = sees_inputs before after n parts s here in
           record {
-            may_write = λ no_count plain.
-                outputs_seen objects nodes v height beside r strip is_strip before after n parts s inputs no_count plain (output_open before after n parts s here no_count);
+            may_write = λ no_count plain no_sums.
+                outputs_seen objects nodes v height beside r strip is_strip before after n parts s inputs no_count plain no_sums (output_open before after n parts s here no_count);
+            may_sum = λ does.
+                outputs_sum objects nodes v height beside r strip is_strip before after n parts s inputs does (output_open before after n parts s here (integral_no_count n does));
             may_add = λ sums.
                 outputs_add objects nodes v height beside r strip is_strip before after n parts s inputs sums (output_to_add before after n parts s here sums);
             may_count = λ does.
                 output_counts objects nodes v height beside r strip is_strip before after n parts s inputs does (output_to_count before after n parts s here does);
           }
 
-      pub node_runs : (later : Stage) → IsStage later → scene later ≡ with_objects (scene s) (after_node strip s n) → Keeps s later
-          → IsInStrip strips (k + 1) later.table.objects later.slots.items
-      node_runs later is_later value keeps =
+      pub node_runs : (later : Stage) → IsStage later → (integrates n ≡ false → scene later ≡ with_objects (scene s) (after_node strip s n))
+          → (integrates n ≡ true → IfSome n.out1 (λ cell. (image : ImageValue) → CanSum strip s n cell image → scene later ≡ with_objects (scene s) (with_integral strip s cell image)))
+          → Keeps s later → IsInStrip strips (k + 1) later.table.objects later.slots.items
+      node_runs later is_later values summed keeps =
           let claimed = claims l slots one h first both second in
           let inputs = sees_inputs before after n parts s here in
           let seen = with_seen strip s n Second n.out2 (with_seen strip s n First n.out1 (scene s).objects) in
@@ -540,17 +544,21 @@ module _ (objects : List Named) (nodes : List Node) (v : Verified) (height besid
           let counted = with_counted strip s n n.out1 (scene s).objects in
           let chosen : Bool → Bool → List Named = λ b c. if b then counted else if c then added else seen in
           strip_more s later here is_later keeps
-          (elim (cases_Bool (counts n)) [
+          (elim (cases_Bool (integrates n)) [
             | inl does ↦
-                has_counted objects nodes v height beside r strip is_strip before after n parts s inputs does (output_to_count before after n parts s here does) later
-                (value ∙ ap (λ (b : Bool). with_objects (scene s) (chosen b (accumulates n.function))) does) keeps.slots
-            | inr no_count ↦ elim (cases_Bool (accumulates n.function)) [
-              | inl sums ↦
-                  has_added objects nodes v height beside r strip is_strip before after n parts s inputs sums (output_to_add before after n parts s here sums) later
-                  (value ∙ ap (λ (b : Bool). with_objects (scene s) (chosen b (accumulates n.function))) no_count ∙ ap (λ (b : Bool). with_objects (scene s) (chosen false b)) sums) keeps.slots
-              | inr plain ↦
-                  has_run objects nodes v height beside r strip is_strip before after n parts s inputs no_count plain (output_open before after n parts s here no_count) later
-                  (value ∙ ap (λ (b : Bool). with_objects (scene s) (chosen b (accumulates n.function))) no_count ∙ ap (λ (b : Bool). with_objects (scene s) (chosen false b)) plain) keeps.slots
+                has_summed objects nodes v height beside r strip is_strip before after n parts s inputs does (output_open before after n parts s here (integral_no_count n does)) later (summed does) keeps.slots
+            | inr no_sums ↦ elim (cases_Bool (counts n)) [
+              | inl does ↦
+                  has_counted objects nodes v height beside r strip is_strip before after n parts s inputs does (output_to_count before after n parts s here does) later
+                  (values no_sums ∙ ap (λ (b : Bool). with_objects (scene s) (chosen b (accumulates n.function))) does) keeps.slots
+              | inr no_count ↦ elim (cases_Bool (accumulates n.function)) [
+                | inl sums ↦
+                    has_added objects nodes v height beside r strip is_strip before after n parts s inputs sums (output_to_add before after n parts s here sums) later
+                    (values no_sums ∙ ap (λ (b : Bool). with_objects (scene s) (chosen b (accumulates n.function))) no_count ∙ ap (λ (b : Bool). with_objects (scene s) (chosen false b)) sums) keeps.slots
+                | inr plain ↦
+                    has_run objects nodes v height beside r strip is_strip before after n parts s inputs no_count plain no_sums (output_open before after n parts s here no_count) later
+                    (values no_sums ∙ ap (λ (b : Bool). with_objects (scene s) (chosen b (accumulates n.function))) no_count ∙ ap (λ (b : Bool). with_objects (scene s) (chosen false b)) plain) keeps.slots
+              ]
             ]
           ])
           (subst (AreShared strips (map (output_part strip.rows.count) outs)) (sym items) claimed.shared)

@@ -1,23 +1,27 @@
 -- How a stage is after so many nodes of a strip, and after one more.
-use Rattle.std.proofs.Common.{◌≡◌, ◌≢◌, ℕ, ◌+◌, ◌^◌, ◌<◌, ◌≤◌, slice_index, length, true, false, List, [], ◌∷◌, ◌++◌, map, Option, Some, None, inl, inr, IfSome, refl, sym, ap, subst, ◌∙◌, arith, sum_by, option_map, option_and_then, unwrap_or, Bool, if◌then◌else◌, ◌==◌}
-use Rattle.graph_run.proofs.Common.{eq-eqb, object_under, skeleton, append_assoc, sum_by-append, Node, Output, First, Second, Cell, same_cell, ImageValue, IsImage, outputs, given, ObjectValue, ImageObject, object_kind, Context, with_objects, Named, object_held, with_object, image_value, cell_object, image_held, HoldsImage, VirtualOutput, Verified, writes, In, Strip, Slot, Stage, AreSeen, part_made, made_in, made_seen, with_seen, IsSeen, IsStrip, rows_beside, RunsInBands, final_of, is_virtual_name, RowsAreAs, IsPartOf, right_from, right_to, scene, slot_of, fixed, RunsTo, node_image_is, parameters, accumulates, same_cell-refl, In-left, In-right, any-from_In, in_slot, seen, AreApart, IsAsFar, IsCounted, CanCount, counter_of, counts, with_counted, cell_of, cases_Bool, Kind, and_parts, eqb-true, added_to, HasPlaceIn, IsInRows, stands_fewer, first_right, end_right}
+use Rattle.std.proofs.Common.{◌≡◌, ◌≢◌, ℕ, ◌+◌, ◌-◌, ◌*◌, ◌^◌, ◌<◌, ◌≤◌, slice_index, take, length, true, false, List, [], ◌∷◌, ◌++◌, map, Option, Some, None, inl, inr, IfSome, refl, sym, ap, subst, ◌∙◌, arith, sum_by, option_map, option_and_then, unwrap_or, Bool, if◌then◌else◌, ◌==◌}
+use Rattle.graph_run.proofs.Common.{eq-eqb, object_under, skeleton, append_assoc, sum_by-append, Node, Output, First, Second, Cell, same_cell, ImageValue, IsImage, outputs, given, ObjectValue, ImageObject, object_kind, Context, with_objects, Named, object_held, with_object, image_value, cell_object, image_held, HoldsImage, VirtualOutput, Verified, writes, In, Strip, Slot, Stage, AreSeen, part_made, made_in, made_seen, with_seen, IsSeen, IsStrip, rows_beside, RunsInBands, final_of, is_virtual_name, RowsAreAs, IsPartOf, right_from, right_to, scene, slot_of, fixed, RunsTo, node_image_is, parameters, accumulates, same_cell-refl, In-left, In-right, any-from_In, in_slot, seen, AreApart, IsAsFar, IsCounted, CanCount, counter_of, counts, with_counted, cell_of, cases_Bool, Kind, and_parts, eqb-true, added_to, at, description_of, Description, part_of, with_band, HasPlaceIn, IsInRows, stands_fewer, first_right, end_right}
 use Rattle.vx_base.specs.declared.kind.Kind.TheVariants as kind
 use Rattle.vx_base.specs.Object.{DistributionObject, DistributionValue, ExtremesObject}
 use Rattle.vx_base.specs.declared.extremes.Extremes.{Extremes}
 use Rattle.object_table.specs.Object.{distribution_value}
-use Rattle.graph_run.specs.Bands.{CanAdd, CanLocate, CanTally, SeesBand, band_seen, counted_above, counted_before, counted_too, extremes_value, located_before, located_too, rows_from, sum_made, tallied_too, tallies, with_added, with_sums}
+use Rattle.vx_base.specs.Rectangle.{inside}
+use Rattle.vx_base.specs.Statistics.{integral}
+use Rattle.stat_kernels.specs.Sums.{AreRowsOf}
+use Rattle.node_rows.proofs.PartLaws.{part_stands}
+use Rattle.graph_run.specs.Bands.{CanAdd, CanLocate, CanSum, CanTally, integrates, with_integral, SeesBand, band_seen, counted_above, counted_before, counted_too, extremes_value, located_before, located_too, rows_from, sum_made, tallied_too, tallies, with_added, with_sums}
 use Rattle.vx_base.specs.Statistics.{extremes, valid_samples}
 use Rattle.stat_kernels.specs.Part.{valid_in}
 use Rattle.graph_run.proofs.CountLemmas.{counts_fit, counts_once, distribution_lasts, distribution_of_kind, extremes_last, extremes_of_kind, found_too, locates_output, locates_short, places_fit, tallies_bytes, tallies_output, too_is}
 use Rattle.graph_run.proofs.BandLemmas.{right_above, right_below, rows_right}
 use Rattle.graph_run.proofs.SeesLemmas.{IsRightFor, SeesRight, SeesRightBeside, seen_is_object}
 use Rattle.graph_run.proofs.AgreeLemmas.{output_cases}
-use Rattle.graph_run.proofs.FinalLemmas.{IsMade, IsSummed, image_there, summed_end, out_whole, counter_none, counter_is, counted_real, is_node_of, second_near, second_given, in_height, out_height, final_first, final_second, final_apart, made_first, made_second, writes_images}
+use Rattle.graph_run.proofs.FinalLemmas.{IsMade, IsSummed, image_there, integral_end, summing_real, summed_end, out_whole, counter_none, counter_is, counted_real, is_node_of, second_near, second_given, in_height, out_height, final_first, final_second, final_apart, made_first, made_second, writes_images}
 use Rattle.graph_run.proofs.CellLemmas.{there_is, held_after, held_image, held_whole}
 use Rattle.graph_run.proofs.HeldLaws.{object_held-with_object}
 use Rattle.graph_run.proofs.OutputLemmas.{image_of_object, out_is_image}
 use Rattle.graph_run.proofs.StepLemmas.{nothing}
-use Rattle.graph_run.proofs.SumLemmas.{sums_near, sums_no_count, sums_once}
+use Rattle.graph_run.proofs.SumLemmas.{integral_no_count, integral_outputs, integral_plain, sums_near, sums_no_count, sums_once}
 use Rattle.graph_run.proofs.AddedLemmas.{same_end, same_first, still_kept, sums_stand}
 use Rattle.node_rows.specs.Parts.{StandsFor}
 use Rattle.graph_run.proofs.StageLemmas.{held_beside}
@@ -101,10 +105,10 @@ module _ (objects : List Named) (nodes : List Node) (v : Verified) (height besid
       pub seen_output : IsSeen strip s n c
       seen_output = is_seen objects final height beside strip is_strip s before n which c sees.first sees.second is.place runs images
 
-      module _ (plain : accumulates n.function ≡ false) (ends : IsMade final n which c) where
+      module _ (plain : accumulates n.function ≡ false) (no_sums : integrates n ≡ false) (ends : IsMade final n which c) where
         stands : IsRightFor objects height done strip.rows (part_made strip.rows s n which c) (image_held final c)
         stands =
-            let near = second_near objects nodes v height beside r n in_steps no_count in
+            let near = second_near objects nodes v height beside r n in_steps no_count no_sums in
             made_stands objects final height beside strip is_strip s before n which c sees.first sees.second is.place runs images
             (in_height objects nodes v height beside r n in_steps) (second_given objects nodes v height beside r n in_steps plain) near.0 near.1 runs.runs.second_is ends
             (rw sees.first.seen_is sees.first.part_is) (image_of_object (cell_object final n.in1) runs.runs.first_kind runs.runs.first_is)
@@ -186,7 +190,7 @@ module _ (objects : List Named) (nodes : List Node) (v : Verified) (height besid
       pub others : (name : ℕ) → ((c : Cell) → In c (outputs n) → name ≢ c.name) → object_held (scene later).objects name ≡ object_held (scene s).objects name
       pub slots : map fixed later.slots.items ≡ map fixed s.slots.items
 
-    module _ (s : Stage) (sees : SeesInputs s) (no_count : counts n ≡ false) (plain : accumulates n.function ≡ false) (opens : (c : Cell) → In c (outputs n) → IsOpen s c) where
+    module _ (s : Stage) (sees : SeesInputs s) (no_count : counts n ≡ false) (plain : accumulates n.function ≡ false) (no_sums : integrates n ≡ false) (opens : (c : Cell) → In c (outputs n) → IsOpen s c) where
       -- its outputs can be written
       if_seen : (which : Output) (o : Option Cell) → ((c : Cell) → o ≡ Some c → In c (outputs n)) → IfSome o (RunsTo final n) → IfSome o (IsSeen strip s n)
       if_seen which None among runs = tt
@@ -215,7 +219,7 @@ module _ (objects : List Named) (nodes : List Node) (v : Verified) (height besid
 
         output_made : (which : Output) (c : Cell) → In c (outputs n) → RunsTo final n c → IsMade final n which c → object_held (scene later).objects c.name ≡ Some (made_seen strip s n which c)
             → AsMade done c (object_held (scene later).objects c.name)
-        output_made which c i runs ends found = subst (AsMade done c) (sym found) (as_made s sees which c i (opens c i) runs no_count plain ends)
+        output_made which c i runs ends found = subst (AsMade done c) (sym found) (as_made s sees which c i (opens c i) runs no_count plain no_sums ends)
 
         first_made : (c : Cell) → n.out1 ≡ Some c → AsMade done c (object_held (scene later).objects c.name)
         first_made c e =
@@ -562,5 +566,142 @@ module _ (objects : List Named) (nodes : List Node) (v : Verified) (height besid
                 made = λ c i. let e = only_output c i in subst (AsMade done c) (sym (added_there c e)) (as_added c e (opens c (first_in c e)));
                 kept = λ _ c i. let e = only_output c i in ap (option_map (rows_from end)) (added_there c e) ∙ still_below c e (opens c (first_in c e));
                 others = λ name other. found_added name ∙ added_beside n.out1 refl name other;
+                slots = slots;
+              }
+
+    -- ---- where it sums up
+
+    module _ (s : Stage) (sees : SeesInputs s) (does : integrates n ≡ true) where
+      abbrev read_now : ImageValue
+      read_now = image_value (seen strip.rows s n.in1)
+
+      abbrev read_end : ImageValue
+      read_end = image_held final n.in1
+
+      abbrev sums_end : ImageValue
+      sums_end = integral read_end
+
+      module _ (c : Cell) (given_is : n.out1 ≡ Some c) (is : IsOpen s c) where
+        abbrev held_now : ImageValue
+        held_now = image_held (scene s).objects c
+
+        is_real : (slot_of s.slots.items c.name ≡ None) × RowsAreAs strip.band.start (object_held (scene s).objects c.name) (object_held final c.name)
+        is_real = is.real (summing_real objects nodes v height beside r n in_steps does c (first_in c given_is))
+
+        runs_summing : RunsTo final n c
+        runs_summing = runs_first c given_is
+
+        ends_as : object_held final c.name ≡ Some (ImageObject sums_end)
+        ends_as =
+            integral_end objects nodes v height beside r n in_steps does c (first_in c given_is)
+            (subst (λ (o : Option Cell). IfSome o (IsMade final n First)) given_is (made_first objects nodes v height beside r n in_steps (integral_no_count n does) (integral_plain n does)))
+
+        sums_are : IsImage sums_end
+        sums_are =
+            subst IsImage (image_there final c sums_end (held_whole final c (whole_cell c (first_in c given_is)) ∙ ends_as))
+            (out_is_image final n First c runs_summing (writes_images objects nodes v height beside r n in_steps (integral_no_count n does)))
+
+        rows_before : (description_of held_now ≡ description_of sums_end) × (take (strip.band.start * read_end.width) held_now.samples ≡ take (strip.band.start * read_end.width) sums_end.samples)
+        rows_before =
+            let now_is : object_held (scene s).objects c.name ≡ Some (ImageObject held_now) = sym (held_whole (scene s).objects c (whole_cell c (first_in c given_is))) ∙ held_image (scene s).objects c is.place.here in
+            subst (RowsAreAs strip.band.start (Some (ImageObject held_now))) ends_as (subst (λ o. RowsAreAs strip.band.start o (object_held final c.name)) now_is is_real.1)
+
+        sum_room : IsInRows held_now.height strip.rows
+        sum_room = subst (λ x. HasPlaceIn x strip held_now) is_real.0 is.place.place
+
+        rows_of_input : AreRowsOf read_now (band_seen strip) read_end strip.band.start
+        rows_of_input =
+            let stands = first_stands s sees in
+            let above = above_band s sees in
+            let below = below_band s sees in
+            record {
+              is = image_of_object (cell_object final n.in1) runs_summing.runs.first_kind runs_summing.runs.first_is;
+              each = λ k less.
+                  let place : strip.band.start - strip.rows.start + k ≡ strip.band.start + k - strip.rows.start = omega (arith, is_strip.within.above) in
+                  record {
+                    width = ap (λ d. d.width) stands.description;
+                    valid = λ x. ap (inside read_now.valid x) place ∙ stands.valid x (strip.band.start + k) (omega (arith, above)) (omega (arith, below, less));
+                    samples = λ x left. ap (at read_now x) place ∙ stands.samples x (strip.band.start + k) left (omega (arith, above)) (omega (arith, below, less));
+                  };
+            }
+
+        pub can_sum : CanSum strip s n c read_end
+        can_sum =
+            record {
+              sees = (seen_output s sees First c (first_in c given_is) is runs_summing (integral_no_count n does)).0;
+              slot = is_real.0;
+              rows = sum_room;
+              height = ap (λ d. d.height) (first_stands s sees).description;
+              band = rows_of_input;
+              sums = sums_are;
+              same = rows_before.0;
+              above = rows_before.1;
+            }
+
+        abbrev summed_now : ImageValue
+        summed_now = with_band strip (part_of strip.rows.start strip.rows.count sums_end) held_now
+
+        as_summed : AsMade done c (Some (ImageObject summed_now))
+        as_summed =
+            record {
+              part = λ virtual. let real = summing_real objects nodes v height beside r n in_steps does c (first_in c given_is) in absurd (cc);
+              rows = λ _.
+                  subst (λ w. IsAsFar w final end (Some (ImageObject summed_now)) (object_held final c.name))
+                  (sym (counter_none objects nodes v height beside r n in_steps (integral_no_count n does) c (first_in c given_is))) rows_summed;
+            }
+          where
+            rows_summed : RowsAreAs end (Some (ImageObject summed_now)) (object_held final c.name)
+            rows_summed =
+                let fits : strip.rows.start + strip.rows.count ≤ sums_end.height = omega (arith, sum_room, ap (λ (d : Description). d.height) rows_before.0) in
+                let right = rows_right strip (part_of strip.rows.start strip.rows.count sums_end) held_now sums_end is_strip.within strip.rows.start (strip.rows.start + strip.rows.count)
+                (part_stands strip.rows.start strip.rows.count sums_end fits) is_strip.within.above is_strip.within.below sums_are is.place.is.size rows_before.0 rows_before.1 in
+                rw ends_as (rows_before.0, right)
+
+      module _ (opens : (c : Cell) → In c (outputs n) → IsOpen s c) where
+        pub outputs_sum : IfSome n.out1 (λ cell. (image : ImageValue) × CanSum strip s n cell image)
+        outputs_sum = of_output n.out1 refl
+          where
+            of_output : (o : Option Cell) → n.out1 ≡ o → IfSome o (λ cell. (image : ImageValue) × CanSum strip s n cell image)
+            of_output None e = tt
+            of_output (Some c) e = (read_end, can_sum c e (opens c (first_in c e)))
+
+        module _ (later : Stage) (value : IfSome n.out1 (λ cell. (image : ImageValue) → CanSum strip s n cell image → scene later ≡ with_objects (scene s) (with_integral strip s cell image)))
+            (slots : map fixed later.slots.items ≡ map fixed s.slots.items) where
+          abbrev its_outputs : ((c : Cell) × (n.out1 ≡ Some c)) × (n.out2 ≡ None)
+          its_outputs = integral_outputs n (is_node_of objects nodes v height beside r n in_steps) does
+
+          abbrev the_output : Cell
+          the_output = its_outputs.0.0
+
+          output_is : n.out1 ≡ Some the_output
+          output_is = its_outputs.0.1
+
+          only_this : (c : Cell) → In c (outputs n) → c ≡ the_output
+          only_this c i = elim (output_cases n c (written_output c i)) [
+            | inl e ↦ (let same : Some c ≡ Some the_output = sym e ∙ output_is in cc)
+            | inr e ↦ (let none = its_outputs.1 in absurd (cc))
+          ]
+
+          value_is : scene later ≡ with_objects (scene s) (with_integral strip s the_output read_end)
+          value_is =
+              subst (λ (o : Option Cell). IfSome o (λ cell. (image : ImageValue) → CanSum strip s n cell image → scene later ≡ with_objects (scene s) (with_integral strip s cell image))) output_is value
+              read_end (can_sum the_output output_is (opens the_output (first_in the_output output_is)))
+
+          found_summed : (name : ℕ) → object_held (scene later).objects name ≡ object_held (with_integral strip s the_output read_end) name
+          found_summed name = ap (λ (t : Context). object_held t.objects name) value_is
+
+          made_there : AsMade done the_output (object_held (scene later).objects the_output.name)
+          made_there =
+              let opened = opens the_output (first_in the_output output_is) in
+              subst (AsMade done the_output)
+              (sym (found_summed the_output.name ∙ at_output (scene s).objects the_output _ (whole_cell the_output (first_in the_output output_is)) opened.place.here))
+              (as_summed the_output output_is opened)
+
+          pub has_summed : HasRun s later
+          has_summed =
+              record {
+                made = λ c i. subst (λ (d : Cell). AsMade done d (object_held (scene later).objects d.name)) (sym (only_this c i)) made_there;
+                kept = λ sums. let plain = integral_plain n does in absurd (cc);
+                others = λ name other. found_summed name ∙ held_beside (scene s).objects the_output name _ (other the_output (first_in the_output output_is));
                 slots = slots;
               }

@@ -1,13 +1,13 @@
 -- Graphs that run in bands of rows: each band goes through all nodes before the next one does. Nodes see parts of images, which are a
 -- band and some rows beside it.
-use Rattle.std.specs.Prelude.{ℕ, ℤ, ◌+◌, ◌-◌, ◌*◌, ◌^◌, ◌<◌, ◌≤◌, ◌≡◌, ◌≢◌, IsTrue, is_some, ⊤, Bool, true, false, not, ◌&&◌, ◌==◌, if◌then◌else◌, List, [], ◌∷◌, ◌++◌, find, replicate, slice_index, map, take, drop, length, sum_by, slice_get, All, Option, Some, None, IfSome, unwrap_or}
+use Rattle.std.specs.Prelude.{ℕ, ℤ, ◌+◌, ◌-◌, ◌*◌, ◌^◌, ◌<◌, ◌≤◌, ◌≡◌, ◌≢◌, IsTrue, is_some, ⊤, Bool, true, false, not, ◌&&◌, ◌||◌, ◌==◌, if◌then◌else◌, List, [], ◌∷◌, ◌++◌, find, replicate, slice_index, map, take, drop, length, sum_by, slice_get, All, Option, Some, None, IfSome, unwrap_or}
 use Rattle.std.specs.Option.{option_map, option_and_then}
 use Rattle.std.specs.List.{list_any}
 use Rattle.std.specs.List.Sorted.{IsStrictlyIncreasing}
 use Rattle.vx_base.specs.declared.extremes.Extremes.{Extremes}
 use Rattle.vx_base.specs.declared.format.Format.TheVariants.{U8, U32}
 use Rattle.vx_base.specs.declared.function.Function.{Function}
-use Rattle.vx_base.specs.declared.function.Function.TheVariants.{Histogram, MinMaxLoc}
+use Rattle.vx_base.specs.declared.function.Function.TheVariants.{Histogram, Integral, MinMaxLoc}
 use Rattle.vx_base.specs.declared.kind.Kind.TheVariants as kind
 use Rattle.vx_base.specs.declared.node.Node.{Node}
 use Rattle.vx_base.specs.declared.output.Output.{Output}
@@ -20,12 +20,13 @@ use Rattle.vx_base.specs.Node.{outputs}
 use Rattle.vx_base.specs.Object.{DistributionValue, ObjectValue, ExtremesObject, ImageObject, IsObject, no_extremes, object_kind}
 use Rattle.vx_base.specs.Outputs.{node_image, node_output}
 use Rattle.vx_base.specs.Rectangle.{Rectangle, whole, empty}
-use Rattle.vx_base.specs.Statistics.{extremes, histogram, valid_samples}
+use Rattle.vx_base.specs.Statistics.{extremes, histogram, integral, valid_samples}
 use Rattle.image_core.specs.declared.band.Band.{Band}
 use Rattle.image_core.specs.Bands.{IsInRows, all_rows}
 use Rattle.stat_kernels.specs.Counts.{added}
 use Rattle.stat_kernels.specs.Located.{added_extremes}
 use Rattle.stat_kernels.specs.Part.{valid_in}
+use Rattle.stat_kernels.specs.Sums.{AreRowsOf}
 use Rattle.object_table.specs.Named.{Named, object_held, held, with_object}
 use Rattle.object_table.specs.Object.{distribution_value, image_value, with_counts}
 use Rattle.object_table.specs.Skeleton.{skeleton}
@@ -269,9 +270,36 @@ abbrev pub with_added : Strip → Stage → Node → Option Cell → List Named 
 with_added strip s n None objects = objects
 with_added strip s n (Some output) objects = with_object objects output (ImageObject (with_sums strip (sum_made strip.rows s n output) (image_held (scene s).objects output)))
 
+-- ---- what nodes sum up
+
+-- whether a node sums up what is above and to the left
+abbrev pub integrates_rows : Function → Bool
+integrates_rows Integral = true
+integrates_rows other = false
+
+abbrev pub integrates : Node → Bool
+integrates n = integrates_rows n.function
+
+-- an output to which a node can write the band of the integral image of an image, whose rows it sees: an image of the client's, in which the
+-- rows above the band stand already
+pub record CanSum (strip : Strip) (s : Stage) (n : Node) (output : Cell) (image : ImageValue) : Type 0 where
+  pub sees : SeesParts strip.rows s n output
+  pub slot : slot_of s.slots.items output.name ≡ None
+  pub rows : IsInRows (image_held (scene s).objects output).height strip.rows
+  pub height : (image_value (seen strip.rows s n.in1)).height ≡ strip.rows.count
+  pub band : AreRowsOf (image_value (seen strip.rows s n.in1)) (band_seen strip) image strip.band.start
+  pub sums : IsImage (integral image)
+  pub same : description_of (image_held (scene s).objects output) ≡ description_of (integral image)
+  pub above : take (strip.band.start * image.width) (image_held (scene s).objects output).samples ≡ take (strip.band.start * image.width) (integral image).samples
+
+-- the objects once it is written
+abbrev pub with_integral : Strip → Stage → Cell → ImageValue → List Named
+with_integral strip s output image =
+    with_object (scene s).objects output (ImageObject (with_band strip (part_of strip.rows.start strip.rows.count (integral image)) (image_held (scene s).objects output)))
+
 -- ---- what nodes do
 
--- the objects once a node has run on the rows of a strip
+-- the objects once a node has run on the rows of a strip that sums nothing up
 abbrev pub after_node : Strip → Stage → Node → List Named
 after_node strip s n =
     if counts n then with_counted strip s n n.out1 (scene s).objects
@@ -284,9 +312,9 @@ after_node strip s n =
 abbrev pub output_part : ℕ → VirtualOutput → VirtualOutput
 output_part count o = record { cell = o.cell; desc = record { width = o.desc.width; height = count; format = o.desc.format } }
 
--- how far a node looks up and down, beside the matrix that its second cell holds; one that counts looks at the band alone
+-- how far a node looks up and down, beside the matrix that its second cell holds; one that counts or sums up looks at the band alone
 abbrev pub reach_of : List Named → Node → Option ℕ
-reach_of objects n = if counts n then Some 0 else reach n.function (matrix_in (option_and_then (held objects) n.in2))
+reach_of objects n = if counts n || integrates n then Some 0 else reach n.function (matrix_in (option_and_then (held objects) n.in2))
 
 abbrev pub rows_beside : List Named → Node → ℕ
 rows_beside objects n = unwrap_or (reach_of objects n) 0
@@ -305,13 +333,14 @@ abbrev pub is_virtual_name : Verified → ℕ → Bool
 is_virtual_name v name = list_any (λ (o : VirtualOutput). name == o.cell.name) v.virtual_outputs.items
 
 -- a graph that can run in bands of rows of images of this height: its nodes write images of this height or add to them, each from rows that
--- are near, or count one, and read nothing of the client's that one of them writes; together they look so many rows up and down
+-- are near, or write the sums of one, which are images of the client's, or count one, and read nothing of the client's that one of them writes; together they look so many rows up and down
 pub record RunsInBands (objects : List Named) (nodes : List Node) (v : Verified) (height beside : ℕ) : Type 0 where
   pub ready : IsReady objects nodes v
   pub names : IsStrictlyIncreasing (map (λ o. o.name) objects)
   pub are_objects : All (λ o. IsObject o.object) objects
   pub described : All (λ o. IsDescription o.desc) v.virtual_outputs.items
   pub images : All (λ n. counts n ≡ false → (parameters n.function).output ≡ kind.Image) v.steps.items
+  pub real : All (λ n. integrates n ≡ true → All (λ c. is_virtual_name v c.name ≡ false) (outputs n)) v.steps.items
   pub near : All (λ n. IsTrue (is_some (reach_of objects n))) v.steps.items
   pub together : sum_by (rows_beside objects) v.steps.items ≡ beside
   pub heights : All (λ n. All (λ c. HasHeight height (resolved (operand_held objects) nodes c)) (banded n)) v.steps.items

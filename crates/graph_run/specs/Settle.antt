@@ -2,7 +2,7 @@
 use Rattle.std.specs.Prelude.{ℕ, ◌≡◌, ◌≢◌, true, false, List, ◌∷◌, ◌++◌, All, None}
 use Rattle.vx_base.specs.declared.border.Border.{Border}
 use Rattle.vx_base.specs.declared.function.Function.{Function}
-use Rattle.vx_base.specs.declared.function.Function.TheVariants.{NotBits, ConvertDepth}
+use Rattle.vx_base.specs.declared.function.Function.TheVariants.{NotBits, ConvertDepth, Integral}
 use Rattle.vx_base.specs.declared.kind.Kind.TheVariants as kind
 use Rattle.vx_base.specs.declared.node.Node.{Node}
 use Rattle.vx_base.specs.Cell.{Cell}
@@ -16,7 +16,7 @@ use Rattle.graph_verify.specs.declared.verified.Verified.{Verified}
 use Rattle.graph_verify.specs.Links.{reads}
 use Rattle.graph_verify.specs.Members.{In}
 use Rattle.graph_verify.specs.Outlines.{resolved}
-use Rattle.graph_run.specs.Bands.{HasHeight, RunsInBands, AreAreas, banded, counts, final_of, is_virtual_name}
+use Rattle.graph_run.specs.Bands.{HasHeight, RunsInBands, AreAreas, banded, counts, final_of, integrates, is_virtual_name}
 use Rattle.graph_run.specs.Operands.{operand_held, IsReady}
 
 -- an image of this height
@@ -28,9 +28,10 @@ pub record IsBandOutput (v : Verified) (c : Cell) : Type 0 where
   pub whole : c.slot ≡ None
   pub unread : is_virtual_name v c.name ≡ false → (n : Node) (d : Cell) → In n v.steps.items → reads n d ≡ true → d.name ≢ c.name
 
--- a node that writes images of this height, adds to one, or counts one
+-- a node that writes images of this height, adds to one, or counts one; sums it writes to images of the client's
 pub record SuitsBands (objects : List Named) (v : Verified) (height : ℕ) (n : Node) : Type 0 where
   pub image : counts n ≡ false → (parameters n.function).output ≡ kind.Image
+  pub real : integrates n ≡ true → All (λ c. is_virtual_name v c.name ≡ false) (outputs n)
   pub heights : All (IsHigh objects v height) (banded n)
   pub outputs : All (IsBandOutput v) (outputs n)
 
@@ -44,6 +45,7 @@ IsArea objects before areas n area =
 abbrev pub area_alone_of : Function → Border → Rectangle → Rectangle
 area_alone_of NotBits border valid = valid
 area_alone_of ConvertDepth border valid = valid
+area_alone_of Integral border valid = valid
 area_alone_of other border valid = window_valid border 1 1 valid
 
 abbrev pub area_alone : Node → Rectangle → Rectangle

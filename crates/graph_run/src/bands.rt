@@ -9,7 +9,7 @@ ghost use Rattle.vx_base.specs.declared.node.Node.{Node as NodeFields};
 ghost use Rattle.vx_base.specs.declared.output.Output.TheVariants as outputs;
 ghost use Rattle.vx_base.specs.Cell.{Cell};
 ghost use Rattle.vx_base.specs.Function.{accumulates};
-ghost use Rattle.vx_base.specs.Image.{band, at};
+ghost use Rattle.vx_base.specs.Image.{ImageValue, band, at};
 ghost use Rattle.vx_base.specs.Object.{ImageObject, IsObject};
 ghost use Rattle.vx_base.specs.Picture.{values, samples_format};
 ghost use Rattle.vx_base.specs.Rectangle.{empty};
@@ -27,7 +27,8 @@ ghost use Rattle.graph_verify.specs.Verified.{IsVerified};
 ghost use Rattle.buffer_plan.specs.Places.{told};
 ghost use Rattle.buffer_plan.specs.Plan.{IsPlan};
 ghost use Rattle.graph_run.specs.Bands.{SeesParts, part_made, with_band, made_seen, with_seen};
-ghost use Rattle.graph_run.specs.Bands.{CanAdd, CanCount, after_node, band_seen, counts};
+ghost use Rattle.graph_run.specs.Bands.{CanAdd, CanCount, CanSum, after_node, band_seen, counts};
+ghost use Rattle.graph_run.specs.Bands.{integrates, with_integral};
 ghost use Rattle.graph_run.specs.Bands.{IsWithinRows, IsSeen, AreSeen, IsStrip};
 ghost use Rattle.graph_run.specs.Bands.{output_part, RunsInBands, final_of};
 ghost use Rattle.graph_run.specs.Bands.{IsFinished, AreAreas, is_image_held, with_area, rows_made};
@@ -48,6 +49,7 @@ use crate::kernel::run_node;
 use crate::runs::place_of;
 use crate::stage::Stage;
 use crate::step::{Making, write_gradients, write_samples};
+use crate::summing::{integrates, sum_output};
 use buffer_plan::Plan;
 use graph_verify::{Verified, VirtualOutput};
 use image_core::{Band, Image, ImageMut, Second};
@@ -246,13 +248,19 @@ fn run_on_strip(stage: &mut Stage, node: &Node, strip: Strip)
     requires stage { IsStage stage.old }
     requires strip { IsWithinRows strip }
     requires seen { counts node.now ≡ false → accumulates node.now.function ≡ false →
-        AreSeen strip stage.old node.now }
+        integrates node.now ≡ false → AreSeen strip stage.old node.now }
+    requires summed { integrates node.now ≡ true → IfSome node.now.out1
+        (λ cell. (image : ImageValue) × CanSum strip stage.old node.now cell image) }
     requires added { counts node.now ≡ false → accumulates node.now.function ≡ true →
         IfSome node.now.out1 (CanAdd strip stage.old node.now) }
     requires counted { counts node.now ≡ true → IfSome node.now.out1
         (λ cell. CanCount node.now strip stage.old cell.name) }
-    ensures value { scene stage.new ≡ with_objects (scene stage.old)
-        (after_node strip stage.old node.now) }
+    ensures value { integrates node.now ≡ false → scene stage.new
+        ≡ with_objects (scene stage.old) (after_node strip stage.old node.now) }
+    ensures sums { integrates node.now ≡ true → IfSome node.now.out1 (λ cell.
+        (image : ImageValue) → CanSum strip stage.old node.now cell image → scene stage.new
+        ≡ with_objects (scene stage.old) (with_integral strip stage.old cell image)) }
+    ensures next { stage.new.table.next ≡ stage.old.table.next }
     ensures stage { IsStage stage.new }
     ensures keeps { Keeps stage.old stage.new }
 {
@@ -260,6 +268,8 @@ fn run_on_strip(stage: &mut Stage, node: &Node, strip: Strip)
         count_output(stage, node, strip);
     } else if node.function.accumulates() {
         add_output(stage, node, strip);
+    } else if integrates(node) {
+        sum_output(stage, node, strip);
     } else {
         run_outputs(stage, node, strip);
     }

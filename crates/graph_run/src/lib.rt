@@ -11,6 +11,7 @@
 //! - `bands`: a graph that runs so, each band going through all nodes before the next one does
 //! - `counting`: what such a graph counts of images, or finds in them
 //! - `adding`: what it adds to images
+//! - `summing`: integral images that it writes
 //! - `part`: rows of images, lent to kernels as images of their own
 //! - `stage`: what nodes run on: a table, and slots in which virtual images are images for a while
 //! - `step`: a node that runs on what its cells hold
@@ -32,6 +33,7 @@ mod runs;
 mod settle;
 mod stage;
 mod step;
+mod summing;
 mod verify;
 
 pub use kernel::run_node;

@@ -10,7 +10,7 @@ ghost use Rattle.vx_base.specs.declared.kind.Kind.TheVariants as kind;
 ghost use Rattle.vx_base.specs.Cell.{Cell};
 ghost use Rattle.vx_base.specs.Description.{IsDescription};
 ghost use Rattle.vx_base.specs.Function.{parameters};
-ghost use Rattle.vx_base.specs.Node.{inputs};
+ghost use Rattle.vx_base.specs.Node.{inputs, outputs};
 ghost use Rattle.vx_base.specs.Object.{IsObject};
 ghost use Rattle.vx_base.specs.Rectangle.{meet_of};
 ghost use Rattle.object_table.specs.Delay.{object_in};
@@ -23,12 +23,13 @@ ghost use Rattle.graph_verify.specs.Members.{In};
 ghost use Rattle.graph_verify.specs.Outlines.{resolved};
 ghost use Rattle.node_rows.specs.Reach.{matrix_in};
 ghost use Rattle.graph_run.specs.Bands.{RunsInBands, AreAreas, final_of, is_virtual_name};
-ghost use Rattle.graph_run.specs.Bands.{banded, counts, reach_of, rows_beside};
+ghost use Rattle.graph_run.specs.Bands.{banded, counts, integrates, reach_of, rows_beside};
 ghost use Rattle.graph_run.specs.Operands.{operand_held, IsReady};
 ghost use Rattle.graph_run.specs.Settle.{IsBandOutput, IsHigh, SuitsBands, IsArea, area_alone};
 
 use crate::bands::Bands;
 use crate::counting::counts;
+use crate::summing::integrates;
 use crate::verify::operand_held;
 use border_rows::window_valid;
 use buffer_plan::steps_before;
@@ -68,8 +69,8 @@ const ROWS_FOR_ONE_BESIDE: u32 = 16;
 const LEAST_FOR_ONE_BESIDE: u16 = 4;
 
 /// How a verified graph runs in bands of rows. `None`: its nodes run one after another on whole
-/// images: these are small, or of several heights; a node looks at all rows of an image at once, or
-/// reads an image of the client's that another writes; or nodes look further up and down together
+/// images: these are small, or of several heights; a node reads an image of the client's that
+/// another writes, or sums one up to a virtual image; or nodes look further up and down together
 /// than pays.
 pub fn bands_of(
     alloc: Global,
@@ -175,11 +176,12 @@ fn rows_beside(table: &Table, steps: &[Node]) -> Option<u16>
     Some(beside)
 }
 
-/// How many rows up and down a node looks, none where it counts. `None`: it looks at all rows.
+/// How many rows up and down a node looks, none where it counts or sums up. `None`: it looks at all
+/// rows.
 fn reach_of(table: &Table, node: &Node) -> Option<u16>
     ensures { result ≡ reach_of table.now.objects node.now }
 {
-    if counts(node) {
+    if counts(node) || integrates(node) {
         Some(0)
     } else {
         reach(node.function, matrix_of(table, node))
@@ -221,6 +223,7 @@ fn suits(table: &Table, verified: &Verified, height: u16, node: &Node) -> bool
     ensures { result ≡ true → SuitsBands table.now.objects verified.now height node.now }
 {
     writes_in_bands(node)
+        && sums_suit(verified, node)
         && are_high(table, verified, height, node)
         && output_suits(verified, node.out1)
         && output_suits(verified, node.out2)
@@ -232,6 +235,25 @@ fn writes_in_bands(node: &Node) -> bool
         (parameters node.now.function).output ≡ kind.Image }
 {
     counts(node) || node.function.parameters().output == Kind::Image
+}
+
+/// Whether a node that sums up writes images of the client's, in which the sums above a band stand.
+fn sums_suit(verified: &Verified, node: &Node) -> bool
+    ensures { result ≡ true → integrates node.now ≡ true →
+        All (λ c. is_virtual_name verified.now c.name ≡ false) (outputs node.now) }
+{
+    !integrates(node) || is_real(verified, node.out1) && is_real(verified, node.out2)
+}
+
+/// Whether an output, if it is there, is no virtual image.
+fn is_real(verified: &Verified, output: Option<ObjRef>) -> bool
+    ensures { result ≡ true →
+        IfSome output (λ c. is_virtual_name verified.now c.name ≡ false) }
+{
+    match output {
+        Some(cell) => !is_virtual(verified, cell.name()),
+        None => true,
+    }
 }
 
 /// Whether the images that a node writes, or the one that it counts, are of this height.
@@ -377,7 +399,7 @@ fn area_alone(node: &Node, first: Rect) -> Rect
     ensures { result ≡ area_alone node.now first }
 {
     match node.function {
-        Function::NotBits | Function::ConvertDepth => first,
+        Function::NotBits | Function::ConvertDepth | Function::Integral => first,
         _ => window_valid(node.border, 1, 1, first),
     }
 }

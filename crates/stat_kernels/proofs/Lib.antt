@@ -6,4 +6,5 @@ pub mod BandLaws
 pub mod LocatedLaws
 mod LaneSums
 mod SumLaws
+pub mod NextRowLaws
 mod ExtremeLaws

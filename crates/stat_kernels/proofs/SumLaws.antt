@@ -39,7 +39,7 @@ corner_at : (r : Rectangle) (x y : ℕ) → r.x0 ≤ x → x < r.x1 → r.y0 ≤
 corner_at r x y a b d e = grind (arith, nat_tests)
 
 -- the definition's sum at a valid place
-sum_at : (image : ImageValue) (x y : ℕ) → image.valid.x0 ≤ x → x < image.valid.x1 → image.valid.y0 ≤ y → y < image.valid.y1 → sum_to image x y ≡ pos (sum_before image (x + 1) (y + 1) % 4294967296)
+pub sum_at : (image : ImageValue) (x y : ℕ) → image.valid.x0 ≤ x → x < image.valid.x1 → image.valid.y0 ≤ y → y < image.valid.y1 → sum_to image x y ≡ pos (sum_before image (x + 1) (y + 1) % 4294967296)
 sum_at image x y a b d e = ap (λ r. pos (sum_by unsigned_abs (samples_in r image) % 4294967296)) (corner_at image.valid x y a b d e)
 
 -- ---- a row of the integral image

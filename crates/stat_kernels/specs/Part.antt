@@ -1,5 +1,5 @@
 -- The valid part of an image.
-use Rattle.std.specs.Prelude.{◌≡◌, ◌+◌, ◌-◌, ◌<◌, ◌≤◌, ◌^◌, min, max}
+use Rattle.std.specs.Prelude.{ℕ, ◌≡◌, ◌+◌, ◌-◌, ◌<◌, ◌≤◌, ◌^◌, min, max, Bool, ◌&&◌, nat_le, nat_lt}
 use Rattle.vx_base.specs.Image.{ImageValue}
 use Rattle.vx_base.specs.Rectangle.{Rectangle}
 use Rattle.image_core.specs.declared.band.Band.{Band}
@@ -17,6 +17,10 @@ pub record IsValidPart (image : ImageValue) (part : Part) : Type 0 where
   pub in_rows : part.bottom ≤ image.height
   pub columns_fit : part.x + part.count < 2 ^ 16
   pub rows_fit : part.bottom < 2 ^ 16
+
+-- whether there are places of it in a row
+abbrev pub has_row : Part → ℕ → Bool
+has_row part y = nat_lt 0 part.count && (nat_le part.top y && nat_lt y part.bottom)
 
 -- the rows of a rectangle that are in a band
 abbrev pub band_of : Band → Rectangle → Rectangle

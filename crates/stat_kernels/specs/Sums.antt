@@ -1,9 +1,10 @@
 -- Sums of samples to the left and above.
-use Rattle.std.specs.Prelude.{ℕ, ◌≡◌, ◌+◌, ◌-◌, ◌%◌, ◌^◌, ◌<◌, ◌==◌, max, if◌then◌else◌, unsigned_abs, Option, Some, None, List, length, map, slice_index, take, drop}
+use Rattle.std.specs.Prelude.{ℕ, ℤ, pos, ◌≡◌, ◌+◌, ◌-◌, ◌%◌, ◌^◌, ◌<◌, ◌≤◌, ◌==◌, max, if◌then◌else◌, unsigned_abs, Option, Some, None, List, length, map, slice_index, take, drop}
 use Rattle.std.specs.List.{sum, sum_by, range_with_len}
-use Rattle.vx_base.specs.Rectangle.{Rectangle}
-use Rattle.vx_base.specs.Image.{ImageValue}
-use Rattle.vx_base.specs.Statistics.{samples_in}
+use Rattle.vx_base.specs.Rectangle.{Rectangle, inside}
+use Rattle.vx_base.specs.Image.{ImageValue, IsImage, at, run, within}
+use Rattle.vx_base.specs.Statistics.{samples_in, sum_to}
+use Rattle.image_core.specs.declared.band.Band.{Band}
 use Rattle.stat_kernels.specs.declared.part.Part.{Part}
 
 -- the part of a rectangle that is left of column x and above row y
@@ -33,3 +34,29 @@ AreAbove image part y row = y < part.bottom → AreSums image (max part.top y) (
 -- the last row of those before, if there is one
 abbrev pub last_row : ℕ → (before : List ℕ) → Option (List ℕ)
 last_row width before = if length before == 0 then None else Some (drop (length before - width) before)
+
+-- ---- rows of which others are there already
+
+-- a row of the integral image of an image
+abbrev pub sums_row : ImageValue → ℕ → List ℤ
+sums_row whole line = run 0 whole.width (λ x. within whole.valid (sum_to whole) x line)
+
+-- the row above row `line` of it, if there is one
+abbrev pub IsRowAbove : ImageValue → ℕ → Option (List ℕ) → Type 0
+IsRowAbove whole line None = line ≡ 0
+IsRowAbove whole line (Some row) = (1 ≤ line) × (map pos row ≡ sums_row whole (line - 1))
+
+-- a row of an image is row `line` of another: the same places are valid, with the same samples
+pub record IsRowOf (part : ImageValue) (y : ℕ) (whole : ImageValue) (line : ℕ) : Type 0 where
+  pub width : part.width ≡ whole.width
+  pub valid : (x : ℕ) → inside part.valid x y ≡ inside whole.valid x line
+  pub samples : (x : ℕ) → x < whole.width → at part x y ≡ at whole x line
+
+-- rows of an image are those of another from row `line` on
+pub record AreRowsOf (part : ImageValue) (rows : Band) (whole : ImageValue) (line : ℕ) : Type 0 where
+  pub is : IsImage whole
+  pub each : (k : ℕ) → k < rows.count → IsRowOf part (rows.start + k) whole (line + k)
+
+-- the row before the next one, or this one where there is none
+abbrev pub last_row_or : ℕ → (before : List ℕ) → Option (List ℕ) → Option (List ℕ)
+last_row_or width before above = if length before == 0 then above else Some (drop (length before - width) before)

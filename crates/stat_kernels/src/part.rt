@@ -1,5 +1,5 @@
 //! The valid part of an image.
-ghost use Rattle.std.specs.Prelude.{◌+◌, ◌<◌, ◌^◌};
+ghost use Rattle.std.specs.Prelude.{◌≡◌, ◌+◌, ◌<◌, ◌^◌};
 ghost use Rattle.vx_base.specs.Image.{ImageValue};
 ghost use Rattle.image_core.specs.Bands.{IsInRows};
 
@@ -16,7 +16,7 @@ pub struct Part {
 }
 
 impl Part {
-    ghost use Rattle.stat_kernels.specs.Part.{IsValidPart, valid_in};
+    ghost use Rattle.stat_kernels.specs.Part.{IsValidPart, has_row, valid_in};
 
     pub fn of(image: &Image<'_>) -> Part
         ensures { IsValidPart image.now result }
@@ -29,6 +29,14 @@ impl Part {
             bottom: valid.y1(),
         }
     }
+
+    /// Whether there are valid samples in a row.
+    pub fn has_row(self, y: u16) -> bool
+        ensures { result ≡ has_row self y }
+    {
+        self.count > 0 && self.top <= y && y < self.bottom
+    }
+
     /// The places of these rows alone.
     pub fn in_rows(self, rows: Band) -> Part
         requires { rows.start + rows.count < 2 ^ 16 }

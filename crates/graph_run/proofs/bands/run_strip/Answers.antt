@@ -76,7 +76,7 @@ run_on_strip-requires c =
     c.loop-node.stage.table.objects c.loop-node.stage.slots.items c.claim_part.new.stage.slots.items claimed.slots.items
     (c.loop-node.invariant.course runs.0 runs.1 runs.2 c.requires.strip runs.3) c.claim_part.ensures.slots c.claim_part-in-loop-node.ensures.slots
     claimed c.claim_part-in-loop-node.ensures.stage (ap objects_of (c.claim_part-in-loop-node.ensures.table ∙ c.claim_part.ensures.table)) refl in
-    record { stage = c.claim_part-in-loop-node.ensures.stage; strip = c.requires.strip.within; seen = may.may_write; added = λ _ sums. may.may_add sums; counted = may.may_count }
+    record { stage = c.claim_part-in-loop-node.ensures.stage; strip = c.requires.strip.within; seen = may.may_write; summed = may.may_sum; added = λ _ sums. may.may_add sums; counted = may.may_count }
 
 pub loop-node-preserved : goal.loop-node-preserved
 loop-node-preserved c =
@@ -86,14 +86,14 @@ loop-node-preserved c =
     let claimed = c.claim_part-in-loop-node.new.stage in
     record {
       stage = c.run_on_strip.ensures.stage;
-      next = ap next_of c.run_on_strip.ensures.value ∙ ap next_of (c.claim_part-in-loop-node.ensures.table ∙ c.claim_part.ensures.table) ∙ c.loop-node.invariant.next;
+      next = c.run_on_strip.ensures.next ∙ ap next_of (c.claim_part-in-loop-node.ensures.table ∙ c.claim_part.ensures.table) ∙ c.loop-node.invariant.next;
       course = λ objects nodes r is_strip finished.
           node_runs objects nodes _ _ _ r c.args.strip is_strip (most_rows c.args.bands.now) c.requires.rows (told c.args.plan.now) c.requires.plan k n
           (subst (λ (l : List Node). k < length l) items c.loop-node-test.true) (c.node-item.is ∙ ap (λ (l : List Node). get_or l k n) items)
           c.loop-node.stage.table.objects c.loop-node.stage.slots.items c.claim_part.new.stage.slots.items claimed.slots.items
           (c.loop-node.invariant.course objects nodes r is_strip finished) c.claim_part.ensures.slots c.claim_part-in-loop-node.ensures.slots
           claimed c.claim_part-in-loop-node.ensures.stage (ap objects_of (c.claim_part-in-loop-node.ensures.table ∙ c.claim_part.ensures.table)) refl
-          c.run_on_strip.new.stage c.run_on_strip.ensures.stage c.run_on_strip.ensures.value c.run_on_strip.ensures.keeps;
+          c.run_on_strip.new.stage c.run_on_strip.ensures.stage c.run_on_strip.ensures.value c.run_on_strip.ensures.sums c.run_on_strip.ensures.keeps;
     }
 
 pub returns-clause-rooms : goal.returns-clause-rooms

@@ -1,0 +1,35 @@
+use Rattle.std.proofs.Common.{◌≡◌, ◌+◌, ◌*◌, ◌≤◌, ◌∙◌, pos, length, map, take, drop, ap, sym, subst, arith, option_copied}
+use Rattle.std.proofs.lemmas.List.{length-take-le}
+use Rattle.vx_base.specs.Description.{Description}
+use Rattle.vx_base.specs.Image.{run, within}
+use Rattle.vx_base.specs.Statistics.{sum_to}
+use Rattle.vx_base.proofs.TableLaws.{row_fits}
+use Rattle.stat_kernels.specs.Sums.{IsRowAbove}
+use Rattle.stat_kernels.proofs.SumLaws.{rows_written}
+use Rattle.stat_kernels.proofs.NextRowLaws.{row_above}
+use Rattle.stat_kernels.proofs.sums.integral_on.Goals as goal
+
+pub loop-k-preserved : goal.loop-k-preserved
+loop-k-preserved c =
+    let image = c.args.image.now in
+    let rows = c.args.rows in
+    let k = c.loop-k.k in
+    let width = c.from-width.result in
+    let before = c.split_at_mut-before.result.0.now in
+    let others = c.split_at_mut-before.result.1.now in
+    let at : c.from.result * width ≡ k * width = ap (λ n. n * width) c.from.ensures in
+    let wide : width ≡ image.width = c.from-width.ensures ∙ c.width.ensures.value ∙ ap (λ (d : Description). d.width) c.desc.ensures in
+    let size : length c.loop-k.samples ≡ rows.count * width = c.loop-k.auto.samples ∙ c.requires.size ∙ ap (λ n. rows.count * n) (sym wide) in
+    let start : length before ≡ k * width = c.split_at_mut-before.ensures.front_len ∙ at in
+    let room : width ≤ length others = omega (arith, row_fits width rows.count k c.loop-k-test.true, c.split_at_mut-before.ensures.back_len, at, size) in
+    let long : length c.write_on.new.out ≡ width = c.write_on.auto.out ∙ length-take-le width others room in
+    record {
+      written = λ whole line are is_above.
+          let row = are.each k c.loop-k-test.true in
+          let same : width ≡ whole.width = wide ∙ row.width in
+          let so_far = ap (map pos) (c.split_at_mut-before.ensures.front ∙ ap (λ n. take n c.loop-k.samples) at) ∙ c.loop-k.invariant.written whole line are is_above in
+          let above = subst (IsRowAbove whole (line + k)) (sym c.row_above_or-above.ensures)
+          (row_above whole line k width before (option_copied c.args.above) (omega (arith, c.width.ensures.limits, c.from-width.ensures)) same so_far start is_above) in
+          rows_written k width before c.write_on.new.out (drop width others) start long line (within whole.valid (sum_to whole)) so_far
+          (c.write_on.ensures whole (line + k) are.is row above ∙ ap (λ n. run 0 n (λ x. within whole.valid (sum_to whole) x (line + k))) (sym same));
+    }

@@ -1,0 +1,12 @@
+use Rattle.std.proofs.Common.{◌≡◌, ◌*◌, ℕ, pos, map, take, option_copied}
+use Rattle.vx_base.specs.Image.{ImageValue, band, within}
+use Rattle.vx_base.specs.Statistics.{sum_to}
+use Rattle.stat_kernels.specs.Sums.{AreRowsOf, IsRowAbove}
+use Rattle.stat_kernels.proofs.sums.integral_on.Given as goal
+
+abbrev pub invariant-loop-k : goal.invariant-loop-k
+invariant-loop-k l =
+    record {
+      written : (whole : ImageValue) (line : ℕ) → AreRowsOf l.image l.rows whole line → IsRowAbove whole line (option_copied l.fn.above)
+          → map pos (take (l.k * l.width) l.samples) ≡ band l.width line l.k (within whole.valid (sum_to whole));
+    }
