@@ -1,6 +1,5 @@
 -- What is seen along rows.
-use Rattle.std.proofs.Common.{◌≡◌, ℕ, ℤ, pos, ◌+◌, ◌-◌, ◌<◌, ◌≤◌, ◌-ℤ◌, ◌<ℤ◌, ◌≤ℤ◌, ◌&&◌, Bool, true, false, cond, List, ◌++◌, length, map, replicate, min, max, take, get_or, refl, ap, ◌∙◌, sym, arith, zero-add}
-use Rattle.std.specs.Prelude.{Option, Some, None, int_lt, int_le, unsigned_abs}
+use Rattle.std.proofs.Common.{◌≡◌, ℕ, ℤ, pos, ◌+◌, ◌-◌, ◌<◌, ◌≤◌, ◌-ℤ◌, ◌<ℤ◌, ◌≤ℤ◌, ◌&&◌, Bool, true, false, cond, List, ◌++◌, length, map, replicate, min, max, take, get_or, refl, ap, ◌∙◌, sym, arith, zero-add, Option, Some, None, int_lt, int_le, unsigned_abs}
 use Rattle.std.proofs.lemmas.Int.{ints, by_lt_z}
 use Rattle.std.proofs.lemmas.List.{take-map, take-replicate}
 use Rattle.std.proofs.Math.ListN.{get_or-map}

@@ -1,7 +1,7 @@
 -- What holds of each of a list.
 use Rattle.std.proofs.Common.{inl, inr, List, [], ◌∷◌, ◌++◌, refl, sym, subst}
+use Rattle.buffer_plan.proofs.Common.{In}
 use Rattle.std.specs.List.{AllByRecursion}
-use Rattle.graph_verify.specs.Members.{In}
 
 pub by_recursion-from_In : {X : Type 0} (P : X → Type 0) (xs : List X) → ((x : X) → In x xs → P x) → AllByRecursion P xs
 by_recursion-from_In P [] h = tt

@@ -1,22 +1,11 @@
 -- That no plan has fewer slots of a format than the peak.
-use Rattle.std.proofs.Common.{◌≡◌, ℕ, ◌≤◌, ◌⊎◌, inl, inr, false, List, [], ◌∷◌, length, map, eqb, refl, ◌∙◌, ap, arith}
-use Rattle.std.specs.Prelude.{Option, Some, None}
+use Rattle.std.proofs.Common.{◌≡◌, ℕ, ◌≤◌, ◌⊎◌, inl, inr, false, List, [], ◌∷◌, length, map, eqb, refl, ◌∙◌, ap, arith, Option, Some, None, ne_eqb, eqb-true, eq-eqb}
+use Rattle.buffer_plan.proofs.Common.{list_any, or_parts, Format, Node, Cell, same_cell, same_format, VirtualOutput, has_twice, In, In-from_map, In-from_any, any-from_In, In-from_filter, is_live, PlanValue, IsPlan, of_format, live_images, IsValid}
 use Rattle.std.specs.Cmp.{nat_eq_equiv}
-use Rattle.std.specs.List.{list_any, IsDistinct}
-use Rattle.std.proofs.lemmas.Bool.{ne_eqb, or_parts, eqb-true, eq-eqb}
+use Rattle.std.specs.List.{IsDistinct}
 use Rattle.std.proofs.lemmas.List.{length-map}
 use Rattle.std.proofs.lemmas.Map.Made.{length-le_from_is_member}
-use Rattle.vx_base.specs.declared.format.Format.{Format}
-use Rattle.vx_base.specs.declared.node.Node.{Node}
-use Rattle.vx_base.specs.Cell.{Cell, same_cell}
-use Rattle.vx_base.specs.Sample.{same_format}
-use Rattle.graph_verify.specs.declared.known.VirtualOutput.{VirtualOutput}
-use Rattle.graph_verify.specs.Links.{has_twice}
-use Rattle.graph_verify.specs.Members.{In}
-use Rattle.graph_verify.proofs.MemberLemmas.{In-from_map, In-from_any, any-from_In, In-from_filter}
-use Rattle.buffer_plan.specs.Lives.{is_live}
-use Rattle.buffer_plan.specs.Plan.{PlanValue, IsPlan}
-use Rattle.buffer_plan.specs.Slots.{of_format, live_images, IsValid, AreSlotsOf}
+use Rattle.buffer_plan.specs.Slots.{AreSlotsOf}
 use Rattle.buffer_plan.proofs.OnceLemmas.{once-filter, not_again}
 use Rattle.buffer_plan.proofs.EachLemmas.{by_recursion-from_In}
 

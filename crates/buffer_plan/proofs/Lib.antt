@@ -1,3 +1,4 @@
+mod Common
 pub mod EachLemmas
 pub mod LiveLemmas
 pub mod PlacingLemmas

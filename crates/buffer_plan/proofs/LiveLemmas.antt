@@ -1,20 +1,7 @@
 -- When images are live, by the first step that writes them and the last that uses them.
-use Rattle.std.proofs.Common.{◌≡◌, ℕ, ◌+◌, ◌-◌, ◌<◌, ◌≤◌, inl, inr, suc, zero, Bool, true, false, cond, List, [], ◌∷◌, ◌++◌, length, take, drop, get_or, ltb, refl, sym, ap, ◌∙◌, arith, append-nil}
-use Rattle.std.specs.Prelude.{◌||◌, Some, None, position}
-use Rattle.std.specs.List.{position_or_len}
-use Rattle.std.proofs.lemmas.Bool.{cases_Bool, or_right, cases_lt, ltb-false}
-use Rattle.std.proofs.lemmas.Bool.Decides.{nat_tests}
-use Rattle.std.proofs.lemmas.List.{map-append, take_more}
-use Rattle.std.proofs.lemmas.List.Elements.{filter-append}
-use Rattle.vx_base.specs.declared.format.Format.{Format}
-use Rattle.vx_base.specs.declared.node.Node.{Node}
-use Rattle.vx_base.specs.Cell.{Cell}
-use Rattle.vx_base.specs.Sample.{same_format}
-use Rattle.graph_verify.specs.declared.known.VirtualOutput.{VirtualOutput}
-use Rattle.graph_verify.specs.Links.{reads, writes, is_written}
-use Rattle.buffer_plan.specs.declared.lives.Life.{Life}
-use Rattle.buffer_plan.specs.Lives.{is_used, is_live, is_in, IsLife, AreLives}
-use Rattle.buffer_plan.specs.Slots.{of_format}
+use Rattle.std.proofs.Common.{◌≡◌, ℕ, ◌+◌, ◌-◌, ◌<◌, ◌≤◌, inl, inr, suc, zero, Bool, true, false, cond, List, [], ◌∷◌, ◌++◌, length, take, drop, get_or, ltb, refl, sym, ap, ◌∙◌, arith, append-nil, ◌||◌, Some, None, position, ltb-false}
+use Rattle.buffer_plan.proofs.Common.{position_or_len, cases_Bool, or_right, nat_tests, map-append, take_more, filter-append, Format, Node, Cell, same_format, VirtualOutput, reads, writes, is_written, Life, is_used, is_live, is_in, IsLife, AreLives, of_format}
+use Rattle.std.proofs.lemmas.Bool.{cases_lt}
 use Rattle.buffer_plan.proofs.EachLemmas.{each-push}
 
 -- ---- the last use

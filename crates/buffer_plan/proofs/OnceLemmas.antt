@@ -1,12 +1,7 @@
 -- Things whose cells stand in a list once.
 use Rattle.std.proofs.Common.{◌≡◌, inl, inr, Bool, false, List, [], ◌∷◌, map, refl, sym, ◌∙◌, ap}
-use Rattle.std.specs.List.{filter, list_any}
-use Rattle.std.proofs.lemmas.Bool.{cases_Bool, false_from_ne_true, or_parts, or_from}
-use Rattle.vx_base.specs.Cell.{Cell, same_cell}
-use Rattle.graph_verify.specs.Links.{has_twice}
-use Rattle.graph_verify.specs.Members.{In}
-use Rattle.graph_verify.proofs.LinkLemmas.{same_cell-is, same_cell-true}
-use Rattle.graph_verify.proofs.MemberLemmas.{In-map, In-from_map, In-from_any, any-from_In, In-from_filter}
+use Rattle.buffer_plan.proofs.Common.{filter, list_any, cases_Bool, false_from_ne_true, or_parts, Cell, same_cell, has_twice, In, same_cell-is, same_cell-true, In-map, In-from_map, In-from_any, any-from_In, In-from_filter}
+use Rattle.std.proofs.lemmas.Bool.{or_from}
 
 module _ {X : Type 0} (f : X → Cell) where
   pub not_again : (x y : X) (xs : List X) → list_any (same_cell (f x)) (map f xs) ≡ false → In y xs → f x ≡ f y → ⊥

@@ -1,20 +1,12 @@
 -- Images that get slots one after the other.
-use Rattle.std.proofs.Common.{◌≡◌, ◌≢◌, ℕ, ◌+◌, ◌<◌, ◌≤◌, inl, inr, suc, zero, true, false, List, [], ◌∷◌, ◌++◌, length, take, get_or, set, map, eqb, leb, refl, sym, ◌∙◌, ap, subst, arith, length-append, get_or-set_other, get_or-set_same, length-set}
-use Rattle.std.specs.Prelude.{Option, Some, None, if◌then◌else◌, ◌==◌}
-use Rattle.std.specs.List.{filter, IsDistinct}
+use Rattle.std.proofs.Common.{◌≡◌, ◌≢◌, ℕ, ◌+◌, ◌<◌, ◌≤◌, inl, inr, suc, zero, true, false, List, [], ◌∷◌, ◌++◌, length, take, get_or, set, map, eqb, leb, refl, sym, ◌∙◌, ap, subst, arith, length-append, get_or-set_other, get_or-set_same, length-set, Option, Some, None, if◌then◌else◌, ◌==◌, take_all, leb-true, le-leb, eq-eqb, eqb-true, ne_eqb}
+use Rattle.buffer_plan.proofs.Common.{filter, map-append, take_more, filter-append, nat_tests, cases_Bool, cases_eq, and_parts, and_from, In, In-from_any, any-from_In, In-filter, In-from_filter, In-map, In-from_map, In-at, Life, Placed, is_in, Rising, count_in, AllApart, IsReached}
+use Rattle.std.specs.List.{IsDistinct}
 use Rattle.std.proofs.Math.Seq.{get_or-append_seam}
 use Rattle.std.proofs.Math.ListN.{get_or-append}
-use Rattle.std.proofs.lemmas.List.{map-append, take_more, take_all}
-use Rattle.std.proofs.lemmas.List.Elements.{filter-append}
 use Rattle.std.proofs.lemmas.Map.Steps.{le-length_from_below, length-le_from_distinct_below}
-use Rattle.std.proofs.lemmas.Bool.Decides.{nat_tests}
-use Rattle.std.proofs.lemmas.Bool.{cases_Bool, cases_eq, leb-true, le-leb, eq-eqb, eqb-true, ne_eqb, and_parts, and_from}
-use Rattle.graph_verify.specs.Members.{In}
-use Rattle.graph_verify.proofs.MemberLemmas.{In-left, In-right, In-from_any, any-from_In, In-filter, In-from_filter, In-map, In-from_map, In-at}
-use Rattle.buffer_plan.specs.declared.lives.Life.{Life}
-use Rattle.buffer_plan.specs.declared.slots.Placed.{Placed}
-use Rattle.buffer_plan.specs.Lives.{is_in}
-use Rattle.buffer_plan.specs.Placed.{Rising, count_in, TakesSlot, AllApart, IsReached}
+use Rattle.graph_verify.proofs.MemberLemmas.{In-left, In-right}
+use Rattle.buffer_plan.specs.Placed.{TakesSlot}
 use Rattle.buffer_plan.proofs.EachLemmas.{by_recursion-from_In, each-push}
 
 -- ---- steps of a life

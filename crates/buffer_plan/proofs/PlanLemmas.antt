@@ -1,30 +1,11 @@
 -- What the places of the three formats tell together.
-use Rattle.std.proofs.Common.{◌≡◌, ℕ, ◌<◌, ◌≤◌, ◌⊎◌, inl, inr, Bool, true, false, List, [], ◌∷◌, length, map, refl, sym, ◌∙◌, ap, subst, arith}
-use Rattle.std.specs.Prelude.{Option, Some, None, IfSome, is_some, ◌||◌, ◌==◌}
-use Rattle.std.specs.List.{filter, list_any}
+use Rattle.std.proofs.Common.{◌≡◌, ℕ, ◌<◌, ◌≤◌, ◌⊎◌, inl, inr, Bool, true, false, List, [], ◌∷◌, length, map, refl, sym, ◌∙◌, ap, subst, arith, Option, Some, None, IfSome, is_some, ◌||◌, ◌==◌}
+use Rattle.buffer_plan.proofs.Common.{filter, list_any, cases_Bool, Format, U8, S16, U32, Node, Cell, same_cell, sample_count, same_format, VirtualOutput, has_twice, In, same_cell-is, same_cell-true, In-map, In-from_map, In-filter, In-from_filter, Life, Plan, Placed, is_live, is_in, AreLives, Rising, count_in, AllApart, places_in, told, IsPlan, of_format, live_images, IsValid, greatest}
 use Rattle.std.specs.Option.{option_map, option_or}
-use Rattle.std.proofs.lemmas.Bool.{cases_Bool}
 use Rattle.std.proofs.lemmas.Simd.{map-map}
-use Rattle.vx_base.specs.declared.format.Format.{Format}
-use Rattle.vx_base.specs.declared.format.Format.TheVariants.{U8, S16, U32}
-use Rattle.vx_base.specs.declared.node.Node.{Node}
-use Rattle.vx_base.specs.Cell.{Cell, same_cell}
-use Rattle.vx_base.specs.Description.{sample_count}
-use Rattle.vx_base.specs.Sample.{same_format}
-use Rattle.graph_verify.specs.declared.known.VirtualOutput.{VirtualOutput}
-use Rattle.graph_verify.specs.Links.{has_twice}
-use Rattle.graph_verify.specs.Members.{In}
 use Rattle.graph_verify.proofs.KnownLemmas.{find_cases}
-use Rattle.graph_verify.proofs.LinkLemmas.{same_cell-is, same_cell-true}
-use Rattle.graph_verify.proofs.MemberLemmas.{In-map, In-from_map, In-filter, In-from_filter}
-use Rattle.buffer_plan.specs.declared.lives.Life.{Life}
-use Rattle.buffer_plan.specs.declared.plan.Plan.{Plan}
-use Rattle.buffer_plan.specs.declared.slots.Placed.{Placed}
-use Rattle.buffer_plan.specs.Lives.{is_live, is_in, AreLives}
-use Rattle.buffer_plan.specs.Placed.{Rising, count_in, slot_among, AllApart, ArePlaced}
-use Rattle.buffer_plan.specs.Places.{places_in, told}
-use Rattle.buffer_plan.specs.Plan.{IsPlan}
-use Rattle.buffer_plan.specs.Slots.{of_format, live_images, IsValid, IsPeak, greatest, is_slot}
+use Rattle.buffer_plan.specs.Placed.{slot_among, ArePlaced}
+use Rattle.buffer_plan.specs.Slots.{IsPeak, is_slot}
 use Rattle.buffer_plan.proofs.OnceLemmas.{one_of_cell, once-filter}
 use Rattle.buffer_plan.proofs.PlacingLemmas.{count-within}
 

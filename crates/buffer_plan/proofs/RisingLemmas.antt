@@ -1,24 +1,8 @@
 -- The lives of images that stand in the order of writing.
-use Rattle.std.proofs.Common.{◌≡◌, ℕ, ◌+◌, ◌-◌, ◌<◌, ◌≤◌, inl, inr, suc, Bool, true, false, List, [], ◌∷◌, ◌++◌, length, take, drop, map, refl, sym, ◌∙◌, ap, subst, arith}
-use Rattle.std.specs.Prelude.{◌||◌}
-use Rattle.std.specs.List.{filter, flat_map, position_or_len}
-use Rattle.std.proofs.lemmas.List.{take_all}
-use Rattle.std.proofs.lemmas.List.Elements.{filter-append}
-use Rattle.std.proofs.lemmas.Bool.{cases_Bool, or_left, or_right, and_from, ltb-true, lt-ltb}
-use Rattle.vx_base.specs.declared.format.Format.{Format}
-use Rattle.vx_base.specs.declared.node.Node.{Node}
-use Rattle.vx_base.specs.Cell.{Cell}
-use Rattle.vx_base.specs.Node.{outputs}
-use Rattle.vx_base.specs.Sample.{same_format}
-use Rattle.graph_verify.specs.declared.known.VirtualOutput.{VirtualOutput}
-use Rattle.graph_verify.specs.Links.{reads, writes, is_written, has_twice}
-use Rattle.graph_verify.specs.Members.{In}
-use Rattle.graph_verify.proofs.LinkLemmas.{In-from_same, same-from_In, once_across, once_after}
-use Rattle.graph_verify.proofs.MemberLemmas.{In-append, In-filter, In-from_filter, In-map, In-from_map, In-from_flat_map, any-from_In}
-use Rattle.buffer_plan.specs.declared.lives.Life.{Life}
-use Rattle.buffer_plan.specs.Lives.{is_used, IsLife, AreLives}
-use Rattle.buffer_plan.specs.Placed.{Rising}
-use Rattle.buffer_plan.specs.Slots.{of_format}
+use Rattle.std.proofs.Common.{◌≡◌, ℕ, ◌+◌, ◌-◌, ◌<◌, ◌≤◌, inl, inr, suc, Bool, true, false, List, [], ◌∷◌, ◌++◌, length, take, drop, map, refl, sym, ◌∙◌, ap, subst, arith, ◌||◌, take_all, ltb-true, lt-ltb}
+use Rattle.buffer_plan.proofs.Common.{filter, flat_map, position_or_len, filter-append, cases_Bool, or_left, or_right, and_from, Format, Node, Cell, outputs, same_format, VirtualOutput, reads, writes, is_written, has_twice, In, same-from_In, In-filter, In-from_filter, In-map, In-from_map, In-from_flat_map, any-from_In, Life, is_used, IsLife, AreLives, Rising, of_format}
+use Rattle.graph_verify.proofs.LinkLemmas.{In-from_same, once_across, once_after}
+use Rattle.graph_verify.proofs.MemberLemmas.{In-append}
 use Rattle.buffer_plan.proofs.LiveLemmas.{written_by}
 use Rattle.buffer_plan.proofs.PlacingLemmas.{in_life}
 

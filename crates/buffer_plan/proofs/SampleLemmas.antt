@@ -1,17 +1,6 @@
 -- The greatest sample counts of slots.
-use Rattle.std.proofs.Common.{◌≡◌, ℕ, ◌+◌, ◌<◌, ◌≤◌, inl, inr, cond, List, [], ◌∷◌, ◌++◌, length, take, get_or, set, map, sym, ◌∙◌, ap, subst, arith, get_or-set_other, get_or-set_same, append-nil}
-use Rattle.std.specs.Prelude.{nat_le, ◌==◌}
-use Rattle.std.specs.List.{filter}
-use Rattle.std.proofs.lemmas.List.{map-append, take_more}
-use Rattle.std.proofs.lemmas.List.Elements.{filter-append}
-use Rattle.std.proofs.lemmas.Bool.{cases_Bool, cases_eq}
-use Rattle.std.proofs.lemmas.Bool.Decides.{nat_tests}
-use Rattle.vx_base.specs.Description.{sample_count}
-use Rattle.graph_verify.specs.Members.{In}
-use Rattle.graph_verify.proofs.MemberLemmas.{In-at}
-use Rattle.buffer_plan.specs.declared.slots.Placed.{Placed}
-use Rattle.buffer_plan.specs.Placed.{samples_in}
-use Rattle.buffer_plan.specs.Slots.{greatest}
+use Rattle.std.proofs.Common.{◌≡◌, ℕ, ◌+◌, ◌<◌, ◌≤◌, inl, inr, cond, List, [], ◌∷◌, ◌++◌, length, take, get_or, set, map, sym, ◌∙◌, ap, subst, arith, get_or-set_other, get_or-set_same, append-nil, nat_le, ◌==◌}
+use Rattle.buffer_plan.proofs.Common.{filter, map-append, take_more, filter-append, cases_Bool, cases_eq, nat_tests, sample_count, In, In-at, Placed, samples_in, greatest}
 
 greatest-push : (ns : List ℕ) (n : ℕ) → greatest (ns ++ n ∷ []) ≡ cond (nat_le n (greatest ns)) (greatest ns) n
 greatest-push [] n = grind (arith, nat_tests)

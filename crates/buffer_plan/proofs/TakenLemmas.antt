@@ -1,19 +1,9 @@
 -- What stands in a slot as another image takes it.
-use Rattle.std.proofs.Common.{◌≡◌, ◌≢◌, ℕ, ◌+◌, ◌-◌, suc, true, false, List, [], ◌∷◌, ◌++◌, length, take, drop, Option, refl, ◌∙◌, ap, arith}
-use Rattle.std.specs.Prelude.{◌||◌}
+use Rattle.std.proofs.Common.{◌≡◌, ◌≢◌, ℕ, ◌+◌, ◌-◌, suc, true, false, List, [], ◌∷◌, ◌++◌, length, take, drop, Option, refl, ◌∙◌, ap, arith, ◌||◌}
+use Rattle.buffer_plan.proofs.Common.{false_from_ne_true, or_left, or_right, and_from, Node, Cell, VirtualOutput, reads, writes, is_written, In, In-filter, is_used, is_live, IsPlan, PlanValue, of_format, IsValid}
 use Rattle.std.proofs.Math.Bool.{or-false}
 use Rattle.std.proofs.Math.Seq.{drop-append_seam}
-use Rattle.std.proofs.lemmas.Bool.{false_from_ne_true, or_left, or_right, and_from}
 use Rattle.std.proofs.lemmas.List.Folds.{list_any-append}
-use Rattle.vx_base.specs.declared.node.Node.{Node}
-use Rattle.vx_base.specs.Cell.{Cell}
-use Rattle.graph_verify.specs.declared.known.VirtualOutput.{VirtualOutput}
-use Rattle.graph_verify.specs.Links.{reads, writes, is_written}
-use Rattle.graph_verify.specs.Members.{In}
-use Rattle.graph_verify.proofs.MemberLemmas.{In-filter}
-use Rattle.buffer_plan.specs.Lives.{is_used, is_live}
-use Rattle.buffer_plan.specs.Plan.{IsPlan, PlanValue}
-use Rattle.buffer_plan.specs.Slots.{of_format, IsValid}
 use Rattle.buffer_plan.proofs.PlanLemmas.{In-format}
 
 take_one : (before after : List Node) (n : Node) → take (length before + 1) (before ++ n ∷ after) ≡ before ++ n ∷ []

@@ -1,28 +1,15 @@
 -- The plan of a verified graph.
-use Rattle.std.proofs.Common.{◌≡◌, ℕ, Bool, false, List, refl, sym, ◌∙◌, ap, subst}
-use Rattle.std.specs.Prelude.{None, is_some, ◌&&◌}
-use Rattle.std.specs.List.{filter, flat_map, list_any}
-use Rattle.std.proofs.lemmas.Bool.{and_parts, and_from}
-use Rattle.std.proofs.lemmas.List.{map-id}
-use Rattle.vx_base.specs.declared.format.Format.{Format}
-use Rattle.vx_base.specs.declared.format.Format.TheVariants.{U8, S16, U32}
-use Rattle.vx_base.specs.declared.node.Node.{Node}
-use Rattle.vx_base.specs.Cell.{Cell, same_cell}
-use Rattle.vx_base.specs.Node.{outputs}
-use Rattle.graph_verify.specs.declared.known.VirtualOutput.{VirtualOutput}
+use Rattle.std.proofs.Common.{◌≡◌, ℕ, Bool, false, List, refl, sym, ◌∙◌, ap, subst, None, is_some, ◌&&◌, map-id}
+use Rattle.buffer_plan.proofs.Common.{filter, flat_map, list_any, and_parts, and_from, Format, U8, S16, U32, Node, Cell, same_cell, outputs, VirtualOutput, writes, is_written, has_twice, In, same-from_In, same_cell-true, same_cell-is, In-filter, In-from_filter, In-from_flat_map, In-from_any, any-from_In, Plan, places_in, told, IsPlan}
 use Rattle.graph_verify.specs.declared.operand.Operand.{Operand}
 use Rattle.graph_verify.specs.declared.verified.Verified.{Verified}
-use Rattle.graph_verify.specs.Links.{writes, is_written, has_twice}
-use Rattle.graph_verify.specs.Members.{In}
 use Rattle.graph_verify.specs.Operand.{is_virtual}
 use Rattle.graph_verify.specs.Verdict.{verdict, virtual_outputs}
 use Rattle.graph_verify.specs.Verified.{IsVerified}
-use Rattle.graph_verify.proofs.LinkLemmas.{same_tests, two_writers-permutation, In-outputs, same-from_In, same_cell-true, same_cell-is}
-use Rattle.graph_verify.proofs.MemberLemmas.{In-filter, In-from_filter, In-from_flat_map, In-from_any, any-from_In, any-map, AllIn-permutation, AllIn-permutation_back}
+use Rattle.graph_verify.proofs.LinkLemmas.{same_tests, two_writers-permutation, In-outputs}
+use Rattle.graph_verify.proofs.MemberLemmas.{any-map, AllIn-permutation, AllIn-permutation_back}
 use Rattle.graph_verify.proofs.VerdictLemmas.{can_run}
-use Rattle.buffer_plan.specs.declared.plan.Plan.{Plan}
-use Rattle.buffer_plan.specs.Places.{IsPlacedFor, places_in, told}
-use Rattle.buffer_plan.specs.Plan.{IsPlan}
+use Rattle.buffer_plan.specs.Places.{IsPlacedFor}
 use Rattle.buffer_plan.proofs.OnceLemmas.{once-filter}
 use Rattle.buffer_plan.proofs.PlanLemmas.{is_plan, slots_given}
 use Rattle.buffer_plan.proofs.RisingLemmas.{rising-lives}

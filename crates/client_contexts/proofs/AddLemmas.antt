@@ -1,37 +1,19 @@
 -- Nodes that are added to a graph.
-use Rattle.std.proofs.Common.{◌≡◌, ℕ, Bool, true, false, IsTrue, List, [], ◌∷◌, ◌++◌, Option, Some, None, Ok, Err, IfSome, refl, sym, ap, subst, ◌∙◌}
-use Rattle.std.specs.Prelude.{All, is_some, is_none, unwrap_or, if◌then◌else◌}
-use Rattle.std.specs.Option.{option_map, option_and_then}
-use Rattle.std.proofs.lemmas.List.Elements.{All-nil, All-cons, All-append, All-map}
-use Rattle.vx_base.specs.declared.format.Format.TheVariants.{U8}
-use Rattle.vx_base.specs.declared.kind.Kind.{Kind}
+use Rattle.std.proofs.Common.{◌≡◌, ℕ, Bool, true, false, IsTrue, List, [], ◌∷◌, ◌++◌, Option, Some, None, Ok, Err, IfSome, refl, sym, ap, subst, ◌∙◌, All, is_some, is_none, unwrap_or, if◌then◌else◌}
+use Rattle.client_contexts.proofs.Common.{option_map, option_and_then, All-nil, All-cons, All-append, All-map, U8, Kind, Node, Cell, cell_of, GraphValue, with_node, new_image, operands, ObjectValue, ImageObject, GraphObject, object_kind, OfOperands, of_operands, Context, object_named, with_objects, with_graph, in_slot, Named, object_held, held, graph_value, IsUnder, graph_under, graph_of_kind, Allowance, as_graph, graph_named, add_node, Outcome, operands_refusal, KeepsLimits, stands, OperandsStand, MayComeTo, SaysWhy}
 use Rattle.vx_base.specs.declared.kind.Kind.TheVariants as kind
-use Rattle.vx_base.specs.declared.node.Node.{Node}
-use Rattle.vx_base.specs.Cell.{Cell, cell_of}
-use Rattle.vx_base.specs.Graph.{GraphValue, can_add, with_node}
-use Rattle.vx_base.specs.Image.{new_image}
-use Rattle.vx_base.specs.Node.{operands, given, inputs, outputs}
-use Rattle.vx_base.specs.Object.{ObjectValue, ImageObject, GraphObject, object_kind}
+use Rattle.vx_base.specs.Graph.{can_add}
+use Rattle.vx_base.specs.Node.{given, inputs, outputs}
 use Rattle.graph_verify.specs.declared.fault.GraphFault.{GraphFault}
 use Rattle.graph_verify.specs.declared.fault.GraphFault.TheVariants as graph_fault
-use Rattle.graph_run.proofs.FoundLemmas.{OfOperands, of_operands}
-use Rattle.object_table.specs.Context.{Context, object_named, with_objects, with_graph}
-use Rattle.object_table.specs.Delay.{in_slot}
-use Rattle.object_table.specs.Named.{Named, object_held, held}
-use Rattle.object_table.specs.Object.{graph_value}
-use Rattle.object_table.specs.Table.{IsUnder, graph_under}
 use Rattle.object_table.specs.Uses.{used_names}
-use Rattle.object_table.proofs.SlotLemmas.{graph_of_kind}
 use Rattle.client_model.specs.declared.refusal.Refusal.TheVariants.{NoResources}
 use Rattle.client_model.specs.declared.reply.Reply.TheVariants as reply
-use Rattle.client_model.specs.Allowance.{Allowance}
-use Rattle.client_model.specs.Graphs.{as_graph, graph_named, add_to, add_node}
-use Rattle.client_model.specs.Refusal.{Outcome, refused_or}
-use Rattle.client_model.specs.Operands.{operands_refusal}
-use Rattle.client_model.specs.States.{KeepsLimits, stands}
-use Rattle.client_model.proofs.HoldLaws.{OperandsStand, stands_parts}
+use Rattle.client_model.specs.Graphs.{add_to}
+use Rattle.client_model.specs.Refusal.{refused_or}
+use Rattle.client_model.proofs.HoldLaws.{stands_parts}
 use Rattle.client_model.proofs.NamedLaws.{held_if_live}
-use Rattle.client_contexts.specs.Steps.{MayComeTo, SaysWhy, graph_fault as fault_of}
+use Rattle.client_contexts.specs.Steps.{graph_fault as fault_of}
 
 -- the name of each operand that stands is held
 pub names_held : (objects : List Named) (graph : ℕ) (n : Node) → OperandsStand objects graph n → All (λ name. IsTrue (is_some (object_held objects name))) (used_names n)

@@ -1,29 +1,15 @@
 -- In how many blocks a context has its samples: as one object more is held, and as objects are written.
-use Rattle.std.proofs.Common.{◌≡◌, ◌∙◌, ℕ, ◌+◌, ◌-◌, true, List, [], Option, Some, None, length, take, drop, refl, sym, ap, subst, arith}
-use Rattle.std.specs.Prelude.{sum, sum_by, unwrap_or}
-use Rattle.std.specs.List.Sorted.{IsStrictlyIncreasing}
-use Rattle.std.specs.Option.{option_map, option_and_then}
-use Rattle.std.proofs.lemmas.List.{take-append-drop}
-use Rattle.std.proofs.lemmas.List.Elements.{All-weaker}
-use Rattle.std.proofs.lemmas.List.Sums.{sum-map, sum_by-append}
-use Rattle.vx_base.specs.declared.format.Format.{Format}
-use Rattle.vx_base.specs.declared.format.Format.TheVariants.{U8}
+use Rattle.std.proofs.Common.{◌≡◌, ◌∙◌, ℕ, ◌+◌, ◌-◌, true, List, [], Option, Some, None, length, take, drop, refl, sym, ap, subst, arith, sum, sum_by, unwrap_or, take-append-drop}
+use Rattle.client_contexts.proofs.Common.{IsStrictlyIncreasing, option_map, option_and_then, All-weaker, sum-map, Format, U8, Cell, cell_of, Description, GraphValue, ImageValue, new_image, image_over, description_of, ObjectValue, ImageObject, DelayObject, GraphObject, object_kind, blocks_in, KeepsBlocks, Context, with_graph, in_slot, Named, object_held, held, with_object, image_value, aged_object, IsUnder, HoldsImage, object_under, image_held, names_of}
+use Rattle.std.proofs.lemmas.List.Sums.{sum_by-append}
 use Rattle.vx_base.specs.declared.kind.Kind.TheVariants as kind
-use Rattle.vx_base.specs.Cell.{Cell, cell_of}
-use Rattle.vx_base.specs.Description.{Description}
-use Rattle.vx_base.specs.Graph.{GraphValue}
-use Rattle.vx_base.specs.Image.{ImageValue, new_image, image_over, description_of}
-use Rattle.vx_base.specs.Object.{ObjectValue, ImageObject, DelayObject, GraphObject, object_kind}
 use Rattle.vx_base.specs.Rectangle.{empty}
-use Rattle.object_table.specs.Blocks.{image_blocks, object_blocks, blocks_in, KeepsBlocks}
-use Rattle.object_table.specs.Context.{Context, with_new, with_graph}
-use Rattle.object_table.specs.Delay.{in_slot, with_slot}
-use Rattle.object_table.specs.Named.{Named, object_held, held, with_object}
-use Rattle.object_table.specs.Object.{image_value, aged_object}
+use Rattle.object_table.specs.Blocks.{image_blocks, object_blocks}
+use Rattle.object_table.specs.Context.{with_new}
+use Rattle.object_table.specs.Delay.{with_slot}
 use Rattle.object_table.specs.Skeleton.{skeleton}
-use Rattle.object_table.specs.Table.{IsUnder, HoldsImage, object_under, image_held}
 use Rattle.object_table.proofs.BlockLaws.{blocks-with_new, same_blocks, keeps_blocks}
-use Rattle.object_table.proofs.HeldLemmas.{names_of, HasObject, map-with_object}
+use Rattle.object_table.proofs.HeldLemmas.{HasObject, map-with_object}
 use Rattle.object_table.proofs.SkeletonLaws.{map-told, skeleton-with_slot}
 use Rattle.object_table.proofs.SlotLemmas.{image_of_kind}
 use Rattle.graph_run.specs.Lasting.{lasting_named, Lasts}

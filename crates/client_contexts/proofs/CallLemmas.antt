@@ -1,16 +1,10 @@
 -- What is kept of a graph, from call to call.
-use Rattle.std.proofs.Common.{◌≡◌, ℕ, Bool, true, false, List, [], ◌∷◌, Result, Ok, Err, inl, refl, sym, subst}
-use Rattle.std.specs.Prelude.{All, OnErr, ◌==◌}
-use Rattle.std.proofs.lemmas.Bool.{eqb-true, eqb-false}
-use Rattle.std.proofs.lemmas.List.Elements.{All-head, All-tail}
-use Rattle.client_model.specs.declared.reply.Reply.{Reply}
-use Rattle.client_model.specs.declared.reply.Reply.TheVariants.{Empty}
-use Rattle.client_model.specs.declared.request.Request.TheVariants.{VerifyGraph}
-use Rattle.client_model.specs.Allowance.{Allowance}
+use Rattle.std.proofs.Common.{◌≡◌, ℕ, Bool, true, false, List, [], ◌∷◌, Result, Ok, Err, inl, refl, sym, subst, All, OnErr, ◌==◌, eqb-true}
+use Rattle.client_contexts.proofs.Common.{All-head, All-tail, Reply, Empty, VerifyGraph, Allowance, IsKeptWithin, ends_verification, World}
+use Rattle.std.proofs.lemmas.Bool.{eqb-false}
 use Rattle.client_contexts.specs.declared.memory.NoMemory.{NoMemory}
 use Rattle.client_contexts.specs.Calls.{Call, Does, Lead}
-use Rattle.client_contexts.specs.Kept.{IsKeptWithin, ends_verification}
-use Rattle.client_contexts.specs.World.{World, verified_of}
+use Rattle.client_contexts.specs.World.{verified_of}
 
 module _ (client graph : ℕ) where
   -- the client keeps the graph as verified

@@ -1,21 +1,10 @@
 -- Delays that age.
-use Rattle.std.proofs.Common.{◌≡◌, ℕ, Option, ap, sym, subst}
-use Rattle.std.specs.Prelude.{unwrap_or}
-use Rattle.vx_base.specs.declared.format.Format.TheVariants.{U8}
+use Rattle.std.proofs.Common.{◌≡◌, ℕ, Option, ap, sym, subst, unwrap_or}
+use Rattle.client_contexts.proofs.Common.{U8, new_image, ObjectValue, ImageObject, DelayObject, cell_of, Context, with_objects, with_object, aged_object, object_under, Allowance, KeepsLimits, IsNamed}
 use Rattle.vx_base.specs.declared.kind.Kind.TheVariants as kind
-use Rattle.vx_base.specs.Image.{new_image}
-use Rattle.vx_base.specs.Object.{ObjectValue, ImageObject, DelayObject}
-use Rattle.vx_base.specs.Cell.{cell_of}
-use Rattle.object_table.specs.Context.{Context, with_objects}
-use Rattle.object_table.specs.Named.{with_object}
-use Rattle.object_table.specs.Object.{aged_object}
-use Rattle.object_table.specs.Table.{object_under}
-use Rattle.client_model.specs.Allowance.{Allowance}
 use Rattle.client_model.specs.Delays.{age_named}
-use Rattle.client_model.specs.States.{KeepsLimits}
 use Rattle.client_model.proofs.OutcomeLaws.{Keeps}
 use Rattle.client_model.proofs.DelayStepLaws.{age_delay_keeps}
-use Rattle.client_contexts.specs.Lookup.{IsNamed}
 
 -- the context, where the delay of a name is one step later
 abbrev aged_in : Context → ℕ → ObjectValue → Context

@@ -1,19 +1,11 @@
 -- What is left of what is kept, once a request is done.
-use Rattle.std.proofs.Common.{◌≡◌, ℕ, Bool, true, false, cond, List, [], ◌∷◌, None, Ordering, Less, Equal, Greater, refl, sym, ap, ◌∙◌}
-use Rattle.std.specs.Prelude.{All, ◌==◌}
-use Rattle.std.specs.BTreeMap.{is_at}
+use Rattle.std.proofs.Common.{◌≡◌, ℕ, Bool, true, false, cond, List, [], ◌∷◌, None, Ordering, Less, Equal, Greater, refl, sym, ap, ◌∙◌, All, ◌==◌, eq-eqb, ne_eqb}
+use Rattle.client_contexts.proofs.Common.{is_at, lookup, remove_entry, nat_cmp, nat_cmp_total, All-nil, All-cons, All-head, All-tail, exact_unsigned, Request, Kept, forgotten_by}
 use Rattle.std.specs.List.{AllByRecursion}
-use Rattle.std.specs.Map.{lookup, remove_entry}
-use Rattle.std.specs.Ordering.{is_eq, nat_cmp}
-use Rattle.std.proofs.lemmas.Bool.{eq-eqb, ne_eqb}
-use Rattle.std.proofs.lemmas.Cmp.{nat_cmp_total, tied_itself}
-use Rattle.std.proofs.lemmas.List.Elements.{All-nil, All-cons, All-head, All-tail}
+use Rattle.std.specs.Ordering.{is_eq}
+use Rattle.std.proofs.lemmas.Cmp.{tied_itself}
 use Rattle.std.proofs.lemmas.Map.{none_passes_from_lookup}
-use Rattle.std.proofs.lemmas.Map.Lookups.{exact_unsigned}
-use Rattle.client_model.specs.declared.request.Request.{Request}
 use Rattle.client_model.specs.declared.request.Request.TheVariants.{AddNode, RemoveNode, Release}
-use Rattle.client_contexts.specs.declared.kept.Kept.{Kept}
-use Rattle.client_contexts.specs.Kept.{forgotten_by}
 
 -- a name that is found at no other
 differs : (name other : ℕ) → is_at (nat_cmp name) other ≡ false → (name == other) ≡ false

@@ -1,38 +1,20 @@
 -- A node that runs at once, or is refused.
-use Rattle.std.proofs.Common.{◌≡◌, Bool, true, false, List, ◌++◌, IfSome, Option, Some, None, refl, sym, ap, ◌∙◌}
-use Rattle.std.specs.Prelude.{All, unwrap_or, ◌||◌, if◌then◌else◌, option_to_list, Err, Ok}
-use Rattle.std.specs.List.{list_any}
-use Rattle.std.specs.Option.{option_map, option_and_then, option_or}
+use Rattle.std.proofs.Common.{◌≡◌, Bool, true, false, List, ◌++◌, IfSome, Option, Some, None, refl, sym, ap, ◌∙◌, All, unwrap_or, ◌||◌, if◌then◌else◌, option_to_list, Err, Ok}
+use Rattle.client_contexts.proofs.Common.{list_any, option_map, option_and_then, list_any-append, Kind, Node, Cell, parameters, operands, with_kind, second_kind, ObjectValue, object_kind, Operands, Verdict, is_virtual, verdict_on, Named, held, Refusal, Rejected, Empty, Context, with_objects, unless, operands_refusal, immediate, operand_held, OfOperands, of_operands, IsFound, all_operands}
+use Rattle.std.specs.Option.{option_or}
 use Rattle.std.proofs.lemmas.Bool.{or_parts}
-use Rattle.std.proofs.lemmas.List.Folds.{list_any-append}
-use Rattle.vx_base.specs.declared.kind.Kind.{Kind}
 use Rattle.vx_base.specs.declared.kind.Kind.TheVariants as kind
-use Rattle.vx_base.specs.declared.node.Node.{Node}
-use Rattle.vx_base.specs.Cell.{Cell}
-use Rattle.vx_base.specs.Function.{parameters}
-use Rattle.vx_base.specs.Node.{operands, with_kind, second_kind}
-use Rattle.vx_base.specs.Object.{ObjectValue, VirtualObject, object_kind}
+use Rattle.vx_base.specs.Object.{VirtualObject}
 use Rattle.vx_base.specs.Outputs.{written_by}
 use Rattle.vx_base.proofs.NodeLaws.{same_kind_equal}
-use Rattle.graph_verify.specs.declared.operand.Operands.{Operands}
-use Rattle.graph_verify.specs.declared.verdict.Verdict.{Verdict}
-use Rattle.graph_verify.specs.Operand.{operand_of, operands_of, is_virtual, written_operands, other_operands}
-use Rattle.graph_verify.specs.Verdict.{verdict_on}
+use Rattle.graph_verify.specs.Operand.{operand_of, operands_of, written_operands, other_operands}
 use Rattle.graph_run.specs.Graph.{is_virtual_object}
-use Rattle.object_table.specs.Named.{Named, held, with_written}
-use Rattle.client_model.specs.declared.refusal.Refusal.{Refusal}
-use Rattle.client_model.specs.declared.refusal.Refusal.TheVariants.{OptimizedAway, Rejected}
-use Rattle.client_model.specs.declared.reply.Reply.TheVariants.{Empty}
-use Rattle.object_table.specs.Context.{Context, with_objects}
-use Rattle.client_model.specs.Refusal.{unless}
-use Rattle.client_model.specs.Operands.{stands_for, operands_refusal}
-use Rattle.client_model.specs.Immediate.{operand_in, operand_if, operands_in, is_some_virtual, away_refusal, node_refusal, immediate}
+use Rattle.object_table.specs.Named.{with_written}
+use Rattle.client_model.specs.declared.refusal.Refusal.TheVariants.{OptimizedAway}
+use Rattle.client_model.specs.Operands.{stands_for}
+use Rattle.client_model.specs.Immediate.{operand_in, operand_if, operands_in, is_some_virtual, away_refusal, node_refusal}
 use Rattle.graph_verify.specs.declared.operand.Operand.TheVariants.{Delay}
-use Rattle.graph_run.specs.Operands.{operand_held}
 use Rattle.graph_run.specs.Turns.{HoldsKind}
-use Rattle.graph_run.proofs.FoundLemmas.{OfOperands, of_operands}
-use Rattle.client_contexts.specs.Lookup.{IsFound}
-use Rattle.client_contexts.specs.Steps.{all_operands}
 use Rattle.client_contexts.proofs.ScopeLemmas.{to_operands}
 
 -- an operand is a virtual image where the object is

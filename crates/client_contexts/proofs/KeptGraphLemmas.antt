@@ -1,33 +1,14 @@
 -- How a graph runs is kept, and stays right through the requests that leave its nodes.
-use Rattle.std.proofs.Common.{◌≡◌, ◌≢◌, ℕ, ◌<◌, false, List, [], ◌∷◌, Option, Some, None, IfSome, Result, Ok, Err, get_or, refl, sym, ap, subst, ◌∙◌, arith}
-use Rattle.std.specs.Prelude.{All, MatchOption, is_some}
-use Rattle.std.specs.Option.{option_map}
-use Rattle.std.proofs.lemmas.List.Elements.{All-nil, All-cons}
-use Rattle.vx_base.specs.declared.node.Node.{Node}
-use Rattle.vx_base.specs.Cell.{Cell, IsCell}
-use Rattle.vx_base.specs.Object.{ObjectValue}
-use Rattle.vx_base.specs.Picture.{PictureValue, IsPicture}
-use Rattle.object_table.specs.Context.{Context}
-use Rattle.object_table.specs.Named.{object_held}
-use Rattle.object_table.specs.Uses.{nodes_in}
-use Rattle.graph_verify.specs.Verdict.{verdict}
-use Rattle.graph_run.specs.Operands.{operand_held, IsReady}
-use Rattle.client_model.specs.declared.request.Request.{Request}
-use Rattle.client_model.specs.declared.request.Request.TheVariants.{ReleaseContext, WriteImage}
-use Rattle.client_model.specs.declared.refusal.Refusal.{Refusal}
-use Rattle.client_model.specs.declared.reply.Reply.{Reply}
-use Rattle.client_model.specs.Allowance.{Allowance}
+use Rattle.std.proofs.Common.{◌≡◌, ◌≢◌, ℕ, ◌<◌, false, List, [], ◌∷◌, Option, Some, None, IfSome, Result, Ok, Err, get_or, refl, sym, ap, subst, ◌∙◌, arith, All, MatchOption, is_some}
+use Rattle.client_contexts.proofs.Common.{option_map, All-nil, All-cons, Node, Cell, IsCell, ObjectValue, PictureValue, IsPicture, Context, object_held, nodes_in, verdict, operand_held, IsReady, Request, WriteImage, Refusal, Reply, Allowance, answered, write_image, KeepsLimits, changes_nodes, Kept, IsKept, AreKept, forgotten_by, ComesTo}
+use Rattle.client_model.specs.declared.request.Request.TheVariants.{ReleaseContext}
 use Rattle.client_model.specs.Context.{State}
 use Rattle.client_model.specs.Request.{IsRequest}
-use Rattle.client_model.specs.Answer.{answered, answer_to}
-use Rattle.client_model.specs.Images.{write_image}
-use Rattle.client_model.specs.States.{KeepsLimits, Stays, changes_nodes}
+use Rattle.client_model.specs.Answer.{answer_to}
+use Rattle.client_model.specs.States.{Stays}
 use Rattle.client_model.proofs.StateLaws.{Leaves}
 use Rattle.client_laws.proofs.StayLaws.{after_one, nodes_stay, ready_after_one, verdict_stays_held}
 use Rattle.client_laws.proofs.StepLaws.{answer_leaves}
-use Rattle.client_contexts.specs.declared.kept.Kept.{Kept}
-use Rattle.client_contexts.specs.Kept.{IsKept, AreKept, forgotten_by}
-use Rattle.client_contexts.specs.Steps.{ComesTo}
 use Rattle.client_contexts.proofs.ForgetLemmas.{left_by}
 
 -- what follows of an object that is held from what is said of it

@@ -1,15 +1,7 @@
 -- What a request comes to keeps what its outcome keeps.
-use Rattle.std.proofs.Common.{ℕ, Bool, sym, subst}
-use Rattle.std.specs.Prelude.{Ok, Err, Result}
-use Rattle.object_table.specs.Context.{Context}
-use Rattle.client_model.specs.declared.refusal.Refusal.{Refusal}
-use Rattle.client_model.specs.declared.reply.Reply.{Reply}
-use Rattle.client_model.specs.Allowance.{Allowance}
-use Rattle.client_model.specs.Refusal.{Outcome}
-use Rattle.client_model.specs.States.{KeepsLimits}
+use Rattle.std.proofs.Common.{ℕ, Bool, sym, subst, Ok, Err, Result}
+use Rattle.client_contexts.proofs.Common.{Context, Refusal, Reply, Allowance, Outcome, KeepsLimits, RequestFault, ComesTo, MayComeTo}
 use Rattle.client_model.proofs.OutcomeLaws.{KeepsBut}
-use Rattle.client_contexts.specs.declared.fault.RequestFault.{RequestFault}
-use Rattle.client_contexts.specs.Steps.{ComesTo, MayComeTo}
 
 module _ (changes : ℕ → Bool) (limits : Allowance) (outcome : Outcome) (old new : Context) where
   -- of a request that takes no memory

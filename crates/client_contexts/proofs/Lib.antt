@@ -1,3 +1,4 @@
+mod Common
 mod LookupLemmas
 mod ScopeLemmas
 mod StandLemmas

@@ -1,22 +1,9 @@
 -- Why the operands of a node aren't found: the refusal of several is that of each, joined.
-use Rattle.std.proofs.Common.{◌≡◌, ℕ, Bool, true, false, List, [], ◌∷◌, ◌++◌, Option, Some, None, refl, sym, ap, ◌∙◌}
-use Rattle.std.specs.Prelude.{◌||◌, is_none, unwrap_or, if◌then◌else◌}
-use Rattle.std.specs.List.{list_any}
-use Rattle.std.proofs.lemmas.List.Folds.{list_any-append}
-use Rattle.vx_base.specs.declared.kind.Kind.{Kind}
+use Rattle.std.proofs.Common.{◌≡◌, ℕ, Bool, true, false, List, [], ◌∷◌, ◌++◌, Option, Some, None, refl, sym, ap, ◌∙◌, ◌||◌, is_none, unwrap_or, if◌then◌else◌}
+use Rattle.client_contexts.proofs.Common.{list_any, list_any-append, Kind, Parameters, Node, Cell, parameters, operands, with_kind, ObjectValue, object_named, Named, Refusal, operands_refusal, first_class}
 use Rattle.vx_base.specs.declared.kind.Kind.TheVariants as kind
-use Rattle.vx_base.specs.declared.function.Parameters.{Parameters}
-use Rattle.vx_base.specs.declared.node.Node.{Node}
-use Rattle.vx_base.specs.Cell.{Cell}
-use Rattle.vx_base.specs.Function.{parameters}
-use Rattle.vx_base.specs.Node.{operands, with_kind}
-use Rattle.vx_base.specs.Object.{ObjectValue}
-use Rattle.object_table.specs.Context.{object_named}
-use Rattle.object_table.specs.Named.{Named}
-use Rattle.client_model.specs.declared.refusal.Refusal.{Refusal}
 use Rattle.client_model.specs.declared.refusal.Refusal.TheVariants.{InvalidReference, InvalidType, InvalidScope, InvalidValue}
-use Rattle.client_model.specs.Operands.{is_unknown, holds_nothing, is_beyond, is_of_other_kind, operands_refusal}
-use Rattle.client_contexts.specs.Steps.{first_class}
+use Rattle.client_model.specs.Operands.{is_unknown, holds_nothing, is_beyond, is_of_other_kind}
 
 -- the refusal of operands is that of its parts: names before kinds, these before scopes, and these before slots
 abbrev classed : Bool → Bool → Bool → Bool → Option Refusal

@@ -1,27 +1,13 @@
 -- Images that are found and changed, and what that keeps of the limits.
-use Rattle.std.proofs.Common.{◌≡◌, ℕ, Option, Some, None, IfOk, IfSome, subst}
-use Rattle.std.specs.Prelude.{unwrap_or}
-use Rattle.std.specs.Option.{option_map, option_and_then}
-use Rattle.vx_base.specs.declared.format.Format.TheVariants.{U8}
-use Rattle.vx_base.specs.declared.kind.Kind.{Kind}
+use Rattle.std.proofs.Common.{◌≡◌, ℕ, Option, Some, None, IfOk, IfSome, subst, unwrap_or}
+use Rattle.client_contexts.proofs.Common.{option_map, option_and_then, U8, Kind, Cell, Rectangle, ImageValue, new_image, description_of, with_valid, ObjectValue, ImageObject, IsObject, object_kind, Context, with_objects, in_slot, object_held, with_object, object_under, HoldsImage, Empty, Allowance, unless, valid_refusal, KeepsLimits, IsImageOf}
 use Rattle.vx_base.specs.declared.kind.Kind.TheVariants as kind
-use Rattle.vx_base.specs.Cell.{Cell}
-use Rattle.vx_base.specs.Rectangle.{Rectangle, IsRectangle}
-use Rattle.vx_base.specs.Image.{ImageValue, IsImage, new_image, description_of, with_valid}
-use Rattle.vx_base.specs.Object.{ObjectValue, ImageObject, IsObject, object_kind}
-use Rattle.object_table.specs.Context.{Context, with_objects}
-use Rattle.object_table.specs.Delay.{in_slot}
-use Rattle.object_table.specs.Named.{object_held, with_object}
-use Rattle.object_table.specs.Table.{object_under, HoldsImage}
+use Rattle.vx_base.specs.Rectangle.{IsRectangle}
+use Rattle.vx_base.specs.Image.{IsImage}
 use Rattle.object_table.proofs.HeldLemmas.{object_held_has}
-use Rattle.client_model.specs.declared.reply.Reply.TheVariants.{Empty}
-use Rattle.client_model.specs.Allowance.{Allowance}
-use Rattle.client_model.specs.Refusal.{unless}
-use Rattle.client_model.specs.Images.{valid_refusal, set_valid_of}
-use Rattle.client_model.specs.States.{KeepsLimits}
+use Rattle.client_model.specs.Images.{set_valid_of}
 use Rattle.client_model.proofs.OutcomeLaws.{Keeps}
 use Rattle.client_model.proofs.ImageStepLaws.{image_of_is, set_valid_keeps}
-use Rattle.client_contexts.specs.Lookup.{IsImageOf}
 
 -- ---- what is found
 

@@ -1,52 +1,20 @@
 -- What is kept of a graph: what it says of the graph's verdict and run, and that it is so once the graph is verified.
+use Rattle.std.proofs.Common.{◌≡◌, ℕ, ◌<◌, ◌^◌, List, [], ◌∷◌, Option, Some, None, Result, Ok, Err, Ordering, Less, Equal, Greater, IfSome, refl, sym, ap, subst, ◌∙◌, All, unwrap_or}
+use Rattle.client_contexts.proofs.Common.{graph_under, U8, new_image, insert_entry, is_at, lookup, option_map, nat_cmp, All-nil, All-cons, All-head, All-tail, All-weaker, exact_unsigned, GraphValue, nodes_of, ObjectValue, GraphObject, ImageObject, Context, with_objects, object_held, graph_value, nodes_in, graph_of_kind, Verdict, verdict, IsVerified, IsReady, operand_held, Refusal, Rejected, Reply, Empty, ProcessGraph, Allowance, answered, graph_named, graph_verdict, Outcome, unless, KeepsLimits, RequestFault, Kept, IsKept, AreKept, IsNamed, MayComeTo, SaysWhy}
 use Rattle.client_laws.proofs.RunLaws.{graph_stays}
-use Rattle.object_table.specs.Table.{graph_under}
 use Rattle.object_table.specs.Ageing.{aged_under}
-use Rattle.vx_base.specs.declared.format.Format.TheVariants.{U8}
-use Rattle.vx_base.specs.Image.{new_image}
-use Rattle.std.proofs.Common.{◌≡◌, ℕ, ◌<◌, ◌^◌, List, [], ◌∷◌, Option, Some, None, Result, Ok, Err, Ordering, Less, Equal, Greater, IfSome, refl, sym, ap, subst, ◌∙◌}
-use Rattle.std.specs.Prelude.{All, unwrap_or}
-use Rattle.std.specs.BTreeMap.{insert_entry, is_at}
-use Rattle.std.specs.Map.{lookup}
-use Rattle.std.specs.Option.{option_map}
-use Rattle.std.specs.Ordering.{match_ordering, nat_cmp, eq_by_cmp}
-use Rattle.std.proofs.lemmas.List.Elements.{All-nil, All-cons, All-head, All-tail, All-contains, All-weaker}
-use Rattle.std.proofs.lemmas.Map.Lookups.{exact_unsigned}
+use Rattle.std.specs.Ordering.{match_ordering, eq_by_cmp}
+use Rattle.std.proofs.lemmas.List.Elements.{All-contains}
 use Rattle.std.proofs.lemmas.Map.Views.{Contains-from_lookup, tells_apart}
 use Rattle.vx_base.specs.declared.kind.Kind.TheVariants as kind
-use Rattle.vx_base.specs.Graph.{GraphValue, nodes_of}
-use Rattle.vx_base.specs.Object.{ObjectValue, GraphObject, ImageObject}
-use Rattle.object_table.specs.Context.{Context, with_objects}
-use Rattle.object_table.specs.Named.{object_held}
-use Rattle.object_table.specs.Object.{graph_value}
-use Rattle.object_table.specs.Uses.{nodes_in}
 use Rattle.object_table.proofs.HeldLemmas.{named_has}
-use Rattle.object_table.proofs.SlotLemmas.{graph_of_kind}
-use Rattle.graph_verify.specs.declared.verdict.Verdict.{Verdict}
 use Rattle.graph_verify.specs.Outlines.{resolved}
-use Rattle.graph_verify.specs.Verdict.{verdict}
-use Rattle.graph_verify.specs.Verified.{IsVerified}
 use Rattle.buffer_plan.specs.Places.{told}
 use Rattle.buffer_plan.specs.Plan.{IsPlan}
 use Rattle.graph_run.specs.Graph.{run_of_graph}
-use Rattle.graph_run.specs.Operands.{IsReady, operand_held}
-use Rattle.client_model.specs.declared.refusal.Refusal.{Refusal}
-use Rattle.client_model.specs.declared.refusal.Refusal.TheVariants.{Rejected}
-use Rattle.client_model.specs.declared.reply.Reply.{Reply}
-use Rattle.client_model.specs.declared.reply.Reply.TheVariants.{Empty}
-use Rattle.client_model.specs.declared.request.Request.TheVariants.{ProcessGraph}
-use Rattle.client_model.specs.Allowance.{Allowance}
-use Rattle.client_model.specs.Answer.{answered}
-use Rattle.client_model.specs.Graphs.{graph_named, graph_verdict, verify_found, verify_graph, process_found, process_graph}
-use Rattle.client_model.specs.Refusal.{Outcome, unless}
-use Rattle.client_model.specs.States.{KeepsLimits}
+use Rattle.client_model.specs.Graphs.{verify_found, verify_graph, process_found, process_graph}
 use Rattle.client_laws.proofs.StayLaws.{graph_held}
-use Rattle.client_contexts.specs.declared.fault.RequestFault.{RequestFault}
 use Rattle.client_contexts.specs.declared.fault.RequestFault.TheVariants.{Refused, NoMemory}
-use Rattle.client_contexts.specs.declared.kept.Kept.{Kept}
-use Rattle.client_contexts.specs.Kept.{IsKept, AreKept}
-use Rattle.client_contexts.specs.Lookup.{IsNamed}
-use Rattle.client_contexts.specs.Steps.{MayComeTo, SaysWhy}
 use Rattle.client_contexts.proofs.KeptGraphLemmas.{kept_after_one}
 use Rattle.client_contexts.proofs.StandLemmas.{graph_ready, graph_is_named}
 

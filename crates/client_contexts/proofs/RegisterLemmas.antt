@@ -1,22 +1,10 @@
 -- Delays that are registered with graphs.
-use Rattle.std.proofs.Common.{◌≡◌, ℕ, Bool, true, false, List, Option, Some, Ok, refl, sym, ap, ◌∙◌}
-use Rattle.std.specs.Prelude.{if◌then◌else◌, unwrap_or}
-use Rattle.std.specs.List.Sorted.{IsStrictlyIncreasing}
-use Rattle.vx_base.specs.declared.format.Format.TheVariants.{U8}
+use Rattle.std.proofs.Common.{◌≡◌, ℕ, Bool, true, false, List, Option, Some, Ok, refl, sym, ap, ◌∙◌, if◌then◌else◌, unwrap_or}
+use Rattle.client_contexts.proofs.Common.{IsStrictlyIncreasing, U8, new_image, ObjectValue, ImageObject, DelayObject, GraphObject, object_kind, KeepsBlocks, Context, object_named, with_objects, with_graph, Named, object_held, graph_value, IsUnder, graph_under, names_of, Empty, Outcome}
 use Rattle.vx_base.specs.declared.kind.Kind.TheVariants as kind
 use Rattle.vx_base.specs.Graph.{is_registered}
-use Rattle.vx_base.specs.Image.{new_image}
-use Rattle.vx_base.specs.Object.{ObjectValue, ImageObject, DelayObject, GraphObject, object_kind}
 use Rattle.object_table.specs.Ageing.{one_more, registered}
-use Rattle.object_table.specs.Blocks.{KeepsBlocks}
-use Rattle.object_table.specs.Context.{Context, object_named, with_objects, with_graph}
-use Rattle.object_table.specs.Named.{Named, object_held}
-use Rattle.object_table.specs.Object.{graph_value}
-use Rattle.object_table.specs.Table.{IsUnder, graph_under}
-use Rattle.object_table.proofs.HeldLemmas.{names_of}
-use Rattle.client_model.specs.declared.reply.Reply.TheVariants.{Empty}
 use Rattle.client_model.specs.Delays.{register_named, register_auto_aging}
-use Rattle.client_model.specs.Refusal.{Outcome}
 use Rattle.client_contexts.specs.Lookup.{NameGraphAndDelay}
 use Rattle.client_contexts.proofs.BlockLemmas.{graph_keeps_blocks}
 

@@ -1,31 +1,17 @@
 -- What a runtime keeps, as the contexts of its clients come, change and go.
-use Rattle.std.proofs.Common.{◌≡◌, ◌∙◌, ℕ, false, List, [], Result, Option, Some, None, IfSome, refl, sym, ap, subst, arith}
-use Rattle.std.specs.Prelude.{sum, sum_by, unwrap_or}
-use Rattle.std.specs.BTreeMap.{insert_entry, is_at}
+use Rattle.std.proofs.Common.{◌≡◌, ◌∙◌, ℕ, false, List, [], Result, Option, Some, None, IfSome, refl, sym, ap, subst, arith, sum, sum_by, unwrap_or, ne_eqb}
+use Rattle.client_contexts.proofs.Common.{insert_entry, is_at, lookup, remove_entry, option_map, nat_cmp, nat_cmp_total, sum-map, Format, blocks_in, Request, Reply, Allowance, KeepsLimits, AppliesToKept, IsRuntime, KeepsVerified, Opened}
 use Rattle.std.specs.List.Sorted.{IsStrictlySortedBy}
-use Rattle.std.specs.Map.{keys_of, values_of, lookup, remove_entry, set_value}
-use Rattle.std.specs.Option.{option_map}
-use Rattle.std.specs.Ordering.{nat_cmp}
-use Rattle.std.proofs.lemmas.Bool.{ne_eqb}
-use Rattle.std.proofs.lemmas.Cmp.{nat_cmp_total}
-use Rattle.std.proofs.lemmas.List.Sums.{sum-map}
+use Rattle.std.specs.Map.{keys_of, values_of, set_value}
 use Rattle.std.proofs.lemmas.Map.Entries.{sum_by-set_value, sum_by-remove_entry, sum_by-insert_entry}
 use Rattle.std.proofs.lemmas.Map.Views.{All-map-remove_entry, All-values-insert_entry, All-values-set_value, IfSome-lookup_from_All}
 use Rattle.std.proofs.lemmas.Simd.{map-map}
-use Rattle.vx_base.specs.declared.format.Format.{Format}
 use Rattle.pixel_pool.specs.declared.pool.Pool.{Pool}
-use Rattle.object_table.specs.Blocks.{blocks_in, LendsAtLeast, LendsLess, Balances}
+use Rattle.object_table.specs.Blocks.{LendsAtLeast, LendsLess, Balances}
 use Rattle.object_table.specs.Context.{new_context}
-use Rattle.client_model.specs.declared.request.Request.{Request}
-use Rattle.client_model.specs.declared.reply.Reply.{Reply}
-use Rattle.client_model.specs.Allowance.{Allowance}
-use Rattle.client_model.specs.States.{KeepsLimits}
 use Rattle.client_model.proofs.StateLaws.{new_context_keeps}
 use Rattle.client_contexts.specs.declared.memory.NoMemory.{NoMemory}
-use Rattle.client_contexts.specs.Applies.{AppliesToKept}
-use Rattle.client_contexts.specs.Blocks.{clients_blocks, IsRuntime}
-use Rattle.client_contexts.specs.Kept.{KeepsVerified}
-use Rattle.client_contexts.specs.World.{Opened}
+use Rattle.client_contexts.specs.Blocks.{clients_blocks}
 use Rattle.client_contexts.proofs.ForgetLemmas.{apart}
 
 -- in how many blocks a client's images have their samples

@@ -1,26 +1,13 @@
 -- Operands that are found, in the scope of a graph or of none.
-use Rattle.std.proofs.Common.{◌≡◌, ℕ, IsTrue, List, [], ◌∷◌, Option, Some, None, IfSome, sym, ap, subst, ◌∙◌}
-use Rattle.std.specs.Prelude.{All, Result, Ok, OnOk}
-use Rattle.std.proofs.lemmas.List.Elements.{All-nil, All-cons, All-append}
-use Rattle.vx_base.specs.declared.kind.Kind.{Kind}
+use Rattle.std.proofs.Common.{◌≡◌, ℕ, IsTrue, List, [], ◌∷◌, Option, Some, None, IfSome, sym, ap, subst, ◌∙◌, All, Result, Ok, OnOk}
+use Rattle.client_contexts.proofs.Common.{All-nil, All-cons, All-append, Kind, Parameters, Node, Cell, cell_of, parameters, operands, second_kind, with_kind, ObjectValue, object_kind, Named, Operands, OfOperands, Refusal, operands_refusal, stands, OperandsStand, IsFound, first_class}
 use Rattle.vx_base.specs.declared.kind.Kind.TheVariants as kind
-use Rattle.vx_base.specs.declared.function.Parameters.{Parameters}
-use Rattle.vx_base.specs.declared.node.Node.{Node}
-use Rattle.vx_base.specs.Cell.{Cell, cell_of}
-use Rattle.vx_base.specs.Function.{parameters}
-use Rattle.vx_base.specs.Node.{operands, second_kind, with_kind}
-use Rattle.vx_base.specs.Object.{ObjectValue, object_kind}
-use Rattle.object_table.specs.Named.{Named}
-use Rattle.graph_verify.specs.declared.operand.Operands.{Operands}
-use Rattle.graph_run.proofs.FoundLemmas.{OfOperands}
-use Rattle.client_model.specs.declared.refusal.Refusal.{Refusal}
-use Rattle.client_model.specs.Operands.{is_kind, operands_refusal}
-use Rattle.client_model.specs.States.{kind_held, stands}
-use Rattle.client_model.proofs.HoldLaws.{OperandsStand, stands_from}
+use Rattle.client_model.specs.Operands.{is_kind}
+use Rattle.client_model.specs.States.{kind_held}
+use Rattle.client_model.proofs.HoldLaws.{stands_from}
 use Rattle.client_model.proofs.NamedLaws.{held_kind}
 use Rattle.client_model.proofs.NodeStepLaws.{Passes, operands_pass}
-use Rattle.client_contexts.specs.Lookup.{IsFound}
-use Rattle.client_contexts.specs.Steps.{refusal_in, first_class}
+use Rattle.client_contexts.specs.Steps.{refusal_in}
 use Rattle.client_contexts.proofs.LookupLemmas.{refusal-append}
 
 -- what holds of each operand of a node holds of all

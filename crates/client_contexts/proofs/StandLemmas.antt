@@ -1,29 +1,13 @@
 -- A graph of a context that keeps the limits: what the cells of its nodes hold.
-use Rattle.std.proofs.Common.{◌≡◌, ℕ, IsTrue, List, Option, Some, None, Ok, IfSome, ap, subst, ◌∙◌}
-use Rattle.std.specs.Prelude.{All}
-use Rattle.std.proofs.lemmas.List.Elements.{All-map, All-weaker}
+use Rattle.std.proofs.Common.{◌≡◌, ℕ, IsTrue, List, Option, Some, None, Ok, IfSome, ap, subst, ◌∙◌, All}
+use Rattle.client_contexts.proofs.Common.{All-map, All-weaker, Node, nodes_of, IsNode, operands, ObjectValue, IsObject, Context, graph_value, nodes_in, graph_of_kind, is_image, verdict, IsVerified, IsReady, operand_held, Allowance, graph_named, as_graph, KeepsLimits, OperandsStand, IsNamed}
 use Rattle.vx_base.specs.declared.kind.Kind.TheVariants as kind
-use Rattle.vx_base.specs.declared.node.Node.{Node}
 use Rattle.vx_base.specs.declared.numbered.Numbered.{Numbered}
-use Rattle.vx_base.specs.Graph.{IsGraph, nodes_of}
-use Rattle.vx_base.specs.Node.{IsNode, operands}
-use Rattle.vx_base.specs.Object.{ObjectValue, IsObject}
-use Rattle.object_table.specs.Context.{Context}
-use Rattle.object_table.specs.Object.{graph_value}
-use Rattle.object_table.specs.Uses.{nodes_in}
-use Rattle.object_table.proofs.SlotLemmas.{graph_of_kind}
+use Rattle.vx_base.specs.Graph.{IsGraph}
 use Rattle.graph_verify.specs.declared.verified.Verified.{Verified}
-use Rattle.graph_verify.specs.Operand.{is_image}
-use Rattle.graph_verify.specs.Verdict.{verdict}
-use Rattle.graph_verify.specs.Verified.{IsVerified}
-use Rattle.graph_run.specs.Operands.{IsReady, StandsFor, operand_held}
-use Rattle.client_model.specs.Allowance.{Allowance}
-use Rattle.client_model.specs.Graphs.{graph_named, as_graph}
-use Rattle.client_model.specs.States.{KeepsLimits}
+use Rattle.graph_run.specs.Operands.{StandsFor}
 use Rattle.client_model.proofs.GraphStepLaws.{graph_is, graph_stands}
-use Rattle.client_model.proofs.HoldLaws.{OperandsStand}
 use Rattle.client_laws.proofs.StandLaws.{cells_stand, operands_stand, firsts_are_images}
-use Rattle.client_contexts.specs.Lookup.{IsNamed}
 
 module _ (limits : Allowance) (c : Context) (name : ℕ) (x : ObjectValue) (h : KeepsLimits limits c) (named : IsNamed c.objects name kind.Graph x) where
   abbrev graph_nodes : List Node

@@ -1,18 +1,8 @@
 -- What is kept of graphs when a text is written to an image.
-use Rattle.std.proofs.Common.{◌<◌, ◌^◌, ℕ, List, Ok, Err, Result, refl, sym, subst, ap}
-use Rattle.std.specs.Prelude.{All}
-use Rattle.vx_base.specs.Cell.{Cell, IsCell}
-use Rattle.object_table.specs.Context.{Context}
-use Rattle.client_model.specs.declared.reply.Reply.{Reply}
+use Rattle.std.proofs.Common.{◌<◌, ◌^◌, ℕ, List, Ok, Err, Result, refl, sym, subst, ap, All}
+use Rattle.client_contexts.proofs.Common.{Cell, IsCell, Context, Reply, Allowance, answered, KeepsLimits, RequestFault, Kept, AreKept, MayComeTo}
 use Rattle.client_model.specs.declared.request.Request.TheVariants.{WriteImagePgm}
-use Rattle.client_model.specs.Allowance.{Allowance}
-use Rattle.client_model.specs.Answer.{answered}
 use Rattle.client_model.specs.Images.{write_text}
-use Rattle.client_model.specs.States.{KeepsLimits}
-use Rattle.client_contexts.specs.declared.fault.RequestFault.{RequestFault}
-use Rattle.client_contexts.specs.declared.kept.Kept.{Kept}
-use Rattle.client_contexts.specs.Kept.{AreKept}
-use Rattle.client_contexts.specs.Steps.{MayComeTo}
 use Rattle.client_contexts.proofs.KeptGraphLemmas.{left_are_kept}
 
 -- it stays, since a text that is written leaves the nodes of all graphs

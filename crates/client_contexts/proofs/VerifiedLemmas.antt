@@ -1,22 +1,13 @@
 -- What shows of the graphs that are kept as verified, as a client's requests are answered.
-use Rattle.std.proofs.Common.{◌≡◌, ◌≢◌, ◌∙◌, ℕ, Bool, true, false, cond, List, Option, Some, Result, Ok, Err, ◌⊎◌, inl, inr, sym, ap, subst}
-use Rattle.std.specs.Prelude.{IfErr, OnOk, OnErr}
-use Rattle.std.specs.BTreeMap.{is_at}
-use Rattle.std.specs.Map.{lookup}
-use Rattle.std.specs.Option.{option_map}
-use Rattle.std.specs.Ordering.{nat_cmp}
+use Rattle.std.proofs.Common.{◌≡◌, ◌≢◌, ◌∙◌, ℕ, Bool, true, false, cond, List, Option, Some, Result, Ok, Err, ◌⊎◌, inl, inr, sym, ap, subst, IfErr, OnOk, OnErr}
+use Rattle.client_contexts.proofs.Common.{is_at, lookup, option_map, nat_cmp, Reply, Request, VerifyGraph, ProcessGraph, RequestFault, Kept, verified_in, IsKeptWithin, KeepsVerified, ends_verification, told_of}
 use Rattle.std.proofs.lemmas.Map.Made.{lookup-map_values}
 use Rattle.vx_base.specs.declared.code.Code.{Code}
-use Rattle.client_model.specs.declared.reply.Reply.{Reply}
 use Rattle.client_model.specs.declared.reply.Reply.TheVariants as reply
-use Rattle.client_model.specs.declared.request.Request.{Request}
-use Rattle.client_model.specs.declared.request.Request.TheVariants.{VerifyGraph, ProcessGraph}
-use Rattle.client_contexts.specs.declared.fault.RequestFault.{RequestFault}
 use Rattle.client_contexts.specs.declared.fault.RequestFault.TheVariants as fault
-use Rattle.client_contexts.specs.declared.kept.Kept.{Kept}
 use Rattle.client_contexts.specs.declared.memory.NoMemory.{NoMemory}
-use Rattle.client_contexts.specs.Kept.{kept_within, verified_in, runs_graph, IsKeptWithin, StayKept, KeepsVerified, ends_verification}
-use Rattle.client_contexts.specs.Steps.{told_of, WantsMemory}
+use Rattle.client_contexts.specs.Kept.{kept_within, runs_graph, StayKept}
+use Rattle.client_contexts.specs.Steps.{WantsMemory}
 
 -- ---- entries
 

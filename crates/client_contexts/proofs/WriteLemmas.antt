@@ -1,30 +1,14 @@
 -- Pictures that are written to images: whether they may be, what becomes of the context, and what that keeps.
-use Rattle.std.proofs.Common.{◌≡◌, ◌∙◌, List, [], Option, Some, None, ℤ, Result, Ok, Err, refl, sym, ap, subst, arith}
-use Rattle.std.specs.List.Sorted.{IsStrictlyIncreasing}
-use Rattle.std.proofs.lemmas.Bool.{eq-eqb}
-use Rattle.vx_base.specs.Cell.{Cell}
-use Rattle.vx_base.specs.Description.{Description}
-use Rattle.vx_base.specs.Image.{ImageValue, image_over, description_of}
-use Rattle.vx_base.specs.Object.{ObjectValue, ImageObject}
-use Rattle.vx_base.specs.Picture.{PictureValue, IsPicture, pictured}
-use Rattle.vx_base.specs.Rectangle.{Rectangle, whole}
-use Rattle.object_table.specs.Blocks.{KeepsBlocks}
-use Rattle.object_table.specs.Context.{Context, with_objects}
-use Rattle.object_table.specs.Named.{with_object}
-use Rattle.object_table.specs.Object.{image_value, with_samples}
-use Rattle.object_table.specs.Table.{HoldsImage, cell_object, image_held}
-use Rattle.object_table.proofs.HeldLemmas.{names_of}
+use Rattle.std.proofs.Common.{◌≡◌, ◌∙◌, List, [], Option, Some, None, ℤ, Result, Ok, Err, refl, sym, ap, subst, arith, eq-eqb}
+use Rattle.client_contexts.proofs.Common.{IsStrictlyIncreasing, Cell, Description, ImageValue, image_over, description_of, ObjectValue, ImageObject, PictureValue, IsPicture, Rectangle, whole, KeepsBlocks, Context, with_objects, with_object, image_value, HoldsImage, image_held, names_of, Refusal, Empty, Allowance, write_image, unless, KeepsLimits, IsImageOf, IsImageFor, refusal_for}
+use Rattle.vx_base.specs.Picture.{pictured}
+use Rattle.object_table.specs.Object.{with_samples}
+use Rattle.object_table.specs.Table.{cell_object}
 use Rattle.buffer_plan.proofs.PlanLemmas.{same_format-refl}
 use Rattle.graph_run.proofs.CellLemmas.{object_after, image_after, with_object_twice}
-use Rattle.client_model.specs.declared.refusal.Refusal.{Refusal}
-use Rattle.client_model.specs.declared.reply.Reply.TheVariants.{Empty}
-use Rattle.client_model.specs.Allowance.{Allowance}
-use Rattle.client_model.specs.Images.{picture_refusal, write_to, write_image}
-use Rattle.client_model.specs.Refusal.{unless}
-use Rattle.client_model.specs.States.{KeepsLimits}
+use Rattle.client_model.specs.Images.{picture_refusal, write_to}
 use Rattle.client_model.proofs.ImageStepLaws.{write_image_keeps}
 use Rattle.client_model.proofs.OutcomeLaws.{Keeps}
-use Rattle.client_contexts.specs.Lookup.{IsImageOf, IsImageFor, refusal_for}
 use Rattle.client_contexts.proofs.BlockLemmas.{image_blocks_kept}
 
 -- ---- whether a picture may be written

@@ -1,18 +1,13 @@
 -- A graph without a cycle has an order in which its nodes can run.
-use Rattle.std.proofs.Common.{◌≡◌, ℕ, zero, suc, ◌≤◌, Bool, false, List, [], ◌∷◌, ◌++◌, length, get_or, Option, Some, None, refl, arith}
-use Rattle.std.specs.Prelude.{not, position}
+use Rattle.std.proofs.Common.{◌≡◌, ℕ, zero, suc, ◌≤◌, Bool, false, List, [], ◌∷◌, ◌++◌, length, get_or, Option, Some, None, refl, arith, not, position}
+use Rattle.client_laws.proofs.Common.{IsPermutation, not-false, Node, has_cycle, feeds, has_cycle-from_cycle}
 use Rattle.std.specs.List.{remove}
-use Rattle.std.specs.List.Sorted.{IsPermutation}
-use Rattle.std.proofs.lemmas.Bool.{not-false, not-true}
+use Rattle.std.proofs.lemmas.Bool.{not-true}
 use Rattle.std.proofs.lemmas.List.{get_or_default}
 use Rattle.std.proofs.lemmas.List.Edits.{length-remove}
 use Rattle.std.proofs.lemmas.List.Quantifiers.{position-Some}
 use Rattle.std.proofs.lemmas.List.Sorted.{IsPermutation-refl, IsPermutation-more}
-use Rattle.vx_base.specs.declared.node.Node.{Node}
-use Rattle.graph_verify.specs.Cycle.{has_cycle}
-use Rattle.graph_verify.specs.Links.{feeds}
 use Rattle.graph_verify.specs.Order.{IsOrder}
-use Rattle.graph_verify.proofs.CycleLemmas.{has_cycle-from_cycle}
 use Rattle.graph_verify.proofs.MemberLemmas.{position-None}
 use Rattle.graph_verify.proofs.OrderLemmas.{is_fed, InTurnThen, InTurnThen-next, IsOrder-from_then, cycle_from_stuck}
 

@@ -1,3 +1,4 @@
+mod Common
 pub mod RefusalLaws
 mod StatisticStepLaws
 mod RoundLaws

@@ -1,48 +1,14 @@
 -- The order in which the nodes of a graph were added makes no difference to whether it runs, nor to what it leaves.
-use Rattle.std.proofs.Common.{◌≡◌, ℕ, ◌≤◌, Bool, false, List, [], ◌∷◌, length, Option, Some, None, Ok, inl, inr, refl, sym, ap, ◌∙◌, arith}
-use Rattle.std.specs.Prelude.{◌&&◌, ◌||◌, not, sum_by}
-use Rattle.std.specs.List.{list_any, filter}
-use Rattle.std.specs.List.Sorted.{IsPermutation}
-use Rattle.std.specs.Option.{option_map, option_or}
-use Rattle.std.proofs.Math.Path.{fun_ext}
-use Rattle.std.proofs.lemmas.Bool.{false_from_ne_true}
+use Rattle.std.proofs.Common.{◌≡◌, ℕ, ◌≤◌, Bool, false, List, [], ◌∷◌, length, Option, Some, None, Ok, inl, inr, refl, sym, ap, ◌∙◌, arith, ◌&&◌, ◌||◌, not, sum_by}
+use Rattle.client_laws.proofs.Common.{list_any, filter, IsPermutation, option_map, option_or, fun_ext, false_from_ne_true, Node, Cell, GraphValue, nodes_of, inputs, outputs, aged_under, Context, with_objects, Named, Operand, Verdict, has_cycle, writes, feeds, In, AllIn, is_virtual, operands_of, virtual_bytes, operand_outline, written_outline, as_known, resolved, rounds, node_fault, reads_loose, adds_to_virtual, has_loose_end, first_fault, virtual_outputs, work_bytes, verdict, has_cycle-from_cycle, AllIn-permutation_back, CanRun, can_run, run_of_graph, operand_held, no_delay, no_fault, each_alone, Rejected, Empty, ProcessGraph, Allowance, answered, answer_to, graph_named, graph_verdict, process_found, Outcome, unless, KeepsLimits, pairs_of}
 use Rattle.std.proofs.lemmas.List.Sorted.{length_permutation, list_any-IsPermutation, sum_by-IsPermutation}
-use Rattle.vx_base.specs.declared.node.Node.{Node}
-use Rattle.vx_base.specs.Cell.{Cell}
-use Rattle.vx_base.specs.Graph.{GraphValue, nodes_of}
-use Rattle.vx_base.specs.Node.{inputs, outputs}
-use Rattle.object_table.specs.Ageing.{aged_under}
-use Rattle.object_table.specs.Context.{Context, with_objects}
-use Rattle.object_table.specs.Named.{Named}
-use Rattle.graph_verify.specs.declared.operand.Operand.{Operand}
-use Rattle.graph_verify.specs.declared.verdict.Verdict.{Verdict}
-use Rattle.graph_verify.specs.Cycle.{has_cycle}
-use Rattle.graph_verify.specs.Links.{writes, feeds}
-use Rattle.graph_verify.specs.Members.{In, AllIn}
-use Rattle.graph_verify.specs.Operand.{is_virtual, operands_of, virtual_bytes}
-use Rattle.graph_verify.specs.Outlines.{operand_outline, written_outline, as_known, resolved}
-use Rattle.graph_verify.specs.Rounds.{rounds}
-use Rattle.graph_verify.specs.Verdict.{node_fault, reads_loose, adds_to_virtual, has_loose_end, first_fault, virtual_outputs, work_bytes, verdict}
-use Rattle.graph_verify.proofs.CycleLemmas.{has_cycle-from_cycle, cycle_from-has_cycle}
+use Rattle.graph_verify.proofs.CycleLemmas.{cycle_from-has_cycle}
 use Rattle.graph_verify.proofs.LinkLemmas.{one_writer, two_writers-permutation}
-use Rattle.graph_verify.proofs.MemberLemmas.{AllIn-permutation, AllIn-permutation_back}
-use Rattle.graph_verify.proofs.VerdictLemmas.{CanRun, can_run, by_fault, there_is_room}
-use Rattle.graph_run.specs.Graph.{run_of_graph}
-use Rattle.graph_run.specs.Operands.{operand_held}
+use Rattle.graph_verify.proofs.MemberLemmas.{AllIn-permutation}
+use Rattle.graph_verify.proofs.VerdictLemmas.{by_fault, there_is_room}
 use Rattle.graph_run.proofs.AddingLaws.{cell_rounds, same_graph}
-use Rattle.graph_run.proofs.OperandLaws.{no_delay, no_fault}
-use Rattle.graph_run.proofs.TurnLaws.{each_alone}
-use Rattle.client_model.specs.declared.refusal.Refusal.TheVariants.{Rejected}
-use Rattle.client_model.specs.declared.reply.Reply.TheVariants.{Empty}
-use Rattle.client_model.specs.declared.request.Request.TheVariants.{ProcessGraph}
-use Rattle.client_model.specs.Allowance.{Allowance}
-use Rattle.client_model.specs.Answer.{answered, answer_to}
-use Rattle.client_model.specs.Graphs.{graph_named, graph_verdict, process_found}
-use Rattle.client_model.specs.Refusal.{Outcome, unless}
-use Rattle.client_model.specs.States.{KeepsLimits}
 use Rattle.graph_verify.proofs.VerifyLemmas.{sum_of_outputs}
 use Rattle.client_laws.proofs.RunLaws.{graph_stood, outcome_is}
-use Rattle.graph_run.proofs.VerifiedLemmas.{pairs_of}
 use Rattle.client_laws.proofs.StandLaws.{cells_stand}
 
 -- ---- what a verdict asks of the nodes, one by one

@@ -1,44 +1,31 @@
 -- A reply that is a refusal: what it says, and that it leaves the state.
-use Rattle.std.proofs.Common.{◌≡◌, ◌≢◌, Bool, true, false, if◌then◌else◌, ℕ, ◌∷◌, Option, Some, None, Result, Ok, Err, IfOk, refl}
-use Rattle.std.specs.Prelude.{is_none}
-use Rattle.std.specs.Option.{option_map}
+use Rattle.std.proofs.Common.{◌≡◌, ◌≢◌, Bool, true, false, if◌then◌else◌, ℕ, ◌∷◌, Option, Some, None, Result, Ok, Err, IfOk, refl, is_none}
+use Rattle.client_laws.proofs.Common.{option_map, Node, Cell, cell_of, GraphValue, new_graph, ImageValue, new_image, operands, ObjectValue, ImageObject, LutObject, ThresholdObject, DelayObject, ConvolutionObject, DistributionObject, ExtremesObject, GraphObject, VirtualObject, new_distribution, no_extremes, Outline, Context, object_named, with_objects, MultipleWriters, Request, OpenContext, ReleaseContext, CreateImage, QueryImage, WriteImage, WriteImagePgm, ReadImage, ReadImagePgm, SetValid, Release, CreateLut, CreateThreshold, CreateConvolution, CreateDistribution, ReadDistribution, CreateMinMax, ReadMinMax, CreateGraph, CreateVirtualImage, AddNode, RemoveNode, VerifyGraph, ProcessGraph, Immediate, CreateDelay, AgeDelay, RegisterAutoAging, Refusal, Rejected, Reply, Refused, Empty, Allowance, State, Outcome, refusal_code, unless, counts_of, extremes_of, graph_named, graph_verdict, verify_found, process_found, outcome_of, answered, answer_to}
 use Rattle.vx_base.specs.declared.code.Code.{Code}
 use Rattle.vx_base.specs.declared.code.Code.TheVariants.{Success, NoMemory}
 use Rattle.vx_base.specs.declared.kind.Kind.TheVariants as kind
-use Rattle.vx_base.specs.declared.node.Node.{Node}
-use Rattle.vx_base.specs.Cell.{Cell, cell_of}
-use Rattle.vx_base.specs.Graph.{GraphValue, new_graph, can_add, with_node, has_node, without_node}
-use Rattle.vx_base.specs.Image.{ImageValue, description_of, new_image}
-use Rattle.vx_base.specs.Node.{operands}
-use Rattle.vx_base.specs.Object.{ObjectValue, ImageObject, LutObject, ThresholdObject, DelayObject, ConvolutionObject, DistributionObject, ExtremesObject, GraphObject, VirtualObject, new_distribution, no_extremes, object_bytes}
-use Rattle.vx_base.specs.Outline.{Outline}
+use Rattle.vx_base.specs.Graph.{can_add, with_node, has_node, without_node}
+use Rattle.vx_base.specs.Image.{description_of}
+use Rattle.vx_base.specs.Object.{object_bytes}
 use Rattle.vx_base.specs.Picture.{PictureValue}
 use Rattle.object_table.specs.Delay.{new_delay}
-use Rattle.object_table.specs.Context.{Context, object_named, with_objects, with_new, with_graph}
+use Rattle.object_table.specs.Context.{with_new, with_graph}
 use Rattle.object_table.specs.Holds.{still_held, unnamed}
-use Rattle.graph_verify.specs.declared.verdict.Verdict.TheVariants.{MultipleWriters}
-use Rattle.client_model.specs.declared.request.Request.{Request}
-use Rattle.client_model.specs.declared.request.Request.TheVariants.{OpenContext, ReleaseContext, CreateImage, QueryImage, WriteImage, WriteImagePgm, ReadImage, ReadImagePgm, SetValid, Release, CreateLut, CreateThreshold, CreateConvolution, CreateDistribution, ReadDistribution, CreateMinMax, ReadMinMax, CreateGraph, CreateVirtualImage, AddNode, RemoveNode, VerifyGraph, ProcessGraph, Immediate, CreateDelay, AgeDelay, RegisterAutoAging}
-use Rattle.client_model.specs.declared.refusal.Refusal.{Refusal}
-use Rattle.client_model.specs.declared.refusal.Refusal.TheVariants.{InvalidReference, NoResources, Rejected}
+use Rattle.client_model.specs.declared.refusal.Refusal.TheVariants.{InvalidReference, NoResources}
 use Rattle.client_model.specs.declared.reply.Described.{Described}
-use Rattle.client_model.specs.declared.reply.Reply.{Reply}
-use Rattle.client_model.specs.declared.reply.Reply.TheVariants.{Refused, Empty, Name}
+use Rattle.client_model.specs.declared.reply.Reply.TheVariants.{Name}
 use Rattle.client_model.specs.declared.reply.Reply.TheVariants as reply
-use Rattle.client_model.specs.Allowance.{Allowance}
-use Rattle.client_model.specs.Context.{State, has_room}
-use Rattle.client_model.specs.Refusal.{Outcome, refusal_code, refused_or, unless}
+use Rattle.client_model.specs.Context.{has_room}
+use Rattle.client_model.specs.Refusal.{refused_or}
 use Rattle.client_model.specs.Operands.{operands_refusal, image_of}
 use Rattle.client_model.specs.Images.{create, write_to, picture_refusal, write_text_to, read_from, read_text_from, described_in, query_of, valid_refusal, set_valid_of}
 use Rattle.vx_base.specs.Rectangle.{Rectangle}
 use Rattle.client_model.specs.Objects.{release}
 use Rattle.pgm_images.specs.declared.fault.PgmFault.{PgmFault}
 use Rattle.pgm_images.specs.Reading.{reading}
-use Rattle.client_model.specs.Statistics.{counts_of, extremes_of}
-use Rattle.client_model.specs.Graphs.{graph_named, create_virtual_in, add_to, remove_from, graph_verdict, verify_found, process_found}
+use Rattle.client_model.specs.Graphs.{create_virtual_in, add_to, remove_from}
 use Rattle.client_model.specs.Immediate.{node_refusal}
 use Rattle.client_model.specs.Delays.{create_like, age_named, register_named}
-use Rattle.client_model.specs.Answer.{outcome_of, answered, answer_to}
 
 -- ---- what is done is no refusal
 

@@ -1,22 +1,12 @@
 -- Rounds of a graph's nodes: each writes to outputs what they may become.
-use Rattle.std.proofs.Common.{ℕ, zero, suc, List, refl, sym, subst}
-use Rattle.std.specs.Prelude.{All}
-use Rattle.std.specs.List.{flat_map}
-use Rattle.std.specs.List.Sorted.{IsStrictlyIncreasing}
-use Rattle.std.proofs.Math.Path.{fun_ext}
-use Rattle.std.proofs.lemmas.List.Elements.{All-weaker}
-use Rattle.vx_base.specs.declared.node.Node.{Node}
-use Rattle.vx_base.specs.Object.{IsObject}
-use Rattle.vx_base.specs.Outputs.{written_from}
-use Rattle.object_table.specs.Named.{Named, held, with_written}
+use Rattle.std.proofs.Common.{ℕ, zero, suc, List, refl, sym, subst, All}
+use Rattle.client_laws.proofs.Common.{flat_map, IsStrictlyIncreasing, fun_ext, All-weaker, Node, IsObject, written_from, Named, held, names_of, rounds_of_nodes, operand_in, CanRunOn}
+use Rattle.object_table.specs.Named.{with_written}
 use Rattle.object_table.proofs.GraphLemmas.{All-flat_map}
-use Rattle.object_table.proofs.HeldLemmas.{names_of}
-use Rattle.graph_run.specs.Graph.{rounds_of_nodes}
 use Rattle.graph_run.specs.Lasting.{Lasts}
 use Rattle.graph_run.proofs.CellLemmas.{IsReplacement, Lasts-with_written}
 use Rattle.graph_run.proofs.LastingLemmas.{Lasts-trans, Lasts-names}
-use Rattle.client_model.specs.Immediate.{operand_in}
-use Rattle.client_model.proofs.NodeStepLaws.{CanRunOn, operand_alike, written_from_fits}
+use Rattle.client_model.proofs.NodeStepLaws.{operand_alike, written_from_fits}
 
 -- rounds of nodes that can run leave objects of which as much lasts
 pub rounds_last : (nodes : List Node) (k : ℕ) (objects : List Named) → All (λ o. IsObject o.object) objects → IsStrictlyIncreasing (names_of objects) → All (CanRunOn (operand_in objects)) nodes

@@ -1,61 +1,22 @@
 -- What a graph leaves that runs: its only solution.
+use Rattle.std.proofs.Common.{◌≡◌, ◌≢◌, ℕ, Bool, true, false, eqb, List, [], ◌∷◌, length, map, Option, Some, None, Result, Ok, Err, IsTrue, IfSome, refl, sym, ap, subst, ◌∙◌, arith, All, slice_get, unwrap_or, ◌==◌, if◌then◌else◌}
+use Rattle.client_laws.proofs.Common.{aged_under, list_any, option_map, option_and_then, false_from_ne_true, or_left, or_right, Kind, Node, Cell, cell_of, GraphValue, nodes_of, ImageValue, ObjectValue, ImageObject, DelayObject, GraphObject, VirtualObject, object_kind, Outline, written_from, Context, with_objects, in_slot, Named, object_held, held, nodes_in, named_has, Operand, Image, Virtual, Verdict, reads, writes, is_written, In, operand_of, operand_kind, operand_format, operands_of, is_image, outlines, as_known, resolved, In-left, In-right, CanRun, can_run, rounds_of_nodes, is_virtual_object, forgotten, run_of_graph, CellsStand, names_cell, operand_held, All-from_In, In-from_All, kind-operand, no_delay, no_fault, each_alone, pairs_of, named_by_input, named_by_output, Refusal, Rejected, Reply, Refused, Empty, ProcessGraph, VerifyGraph, Allowance, answered, answer_to, State, graph_named, graph_verdict, verify_found, process_found, Outcome, refusal_code, unless, KeepsLimits, OperandsStand}
 use Rattle.object_table.proofs.AgeLemmas.{held_aged}
 use Rattle.object_table.specs.Object.{aged_object}
-use Rattle.object_table.specs.Ageing.{aged_under}
-use Rattle.std.proofs.Common.{◌≡◌, ◌≢◌, ℕ, Bool, true, false, eqb, List, [], ◌∷◌, length, map, Option, Some, None, Result, Ok, Err, IsTrue, IfSome, refl, sym, ap, subst, ◌∙◌, arith}
-use Rattle.std.specs.Prelude.{All, slice_get, unwrap_or, ◌==◌, if◌then◌else◌}
-use Rattle.std.specs.List.{list_any}
-use Rattle.std.specs.Option.{option_map, option_and_then}
-use Rattle.std.proofs.lemmas.Bool.{cases_Bool, false_from_ne_true, or_left, or_right}
+use Rattle.std.proofs.lemmas.Bool.{cases_Bool}
 use Rattle.vx_base.specs.declared.format.Format.{Format}
-use Rattle.vx_base.specs.declared.kind.Kind.{Kind}
 use Rattle.vx_base.specs.declared.kind.Kind.TheVariants as kind
-use Rattle.vx_base.specs.declared.node.Node.{Node}
-use Rattle.vx_base.specs.Cell.{Cell, cell_of}
-use Rattle.vx_base.specs.Graph.{GraphValue, nodes_of, is_registered}
-use Rattle.vx_base.specs.Image.{ImageValue}
-use Rattle.vx_base.specs.Object.{ObjectValue, ImageObject, DelayObject, GraphObject, VirtualObject, object_kind}
-use Rattle.vx_base.specs.Outline.{Outline}
-use Rattle.vx_base.specs.Outputs.{written_from}
-use Rattle.object_table.specs.Context.{Context, with_objects}
-use Rattle.object_table.specs.Delay.{in_slot}
-use Rattle.object_table.specs.Named.{Named, object_held, held}
-use Rattle.object_table.specs.Uses.{nodes_in}
-use Rattle.object_table.proofs.HeldLemmas.{named_has}
-use Rattle.graph_verify.specs.declared.operand.Operand.{Operand}
-use Rattle.graph_verify.specs.declared.operand.Operand.TheVariants.{Image, Virtual}
-use Rattle.graph_verify.specs.declared.verdict.Verdict.{Verdict}
-use Rattle.graph_verify.specs.Links.{reads, writes, is_written}
-use Rattle.graph_verify.specs.Members.{In}
-use Rattle.graph_verify.specs.Operand.{operand_of, operand_kind, operand_format, operands_of, is_image}
-use Rattle.graph_verify.specs.Outlines.{outlines, as_known, resolved}
-use Rattle.graph_verify.proofs.MemberLemmas.{In-left, In-right}
-use Rattle.graph_verify.proofs.VerdictLemmas.{CanRun, can_run}
+use Rattle.vx_base.specs.Graph.{is_registered}
 use Rattle.graph_verify.proofs.VerifyLemmas.{first_format}
-use Rattle.graph_run.specs.Graph.{rounds_of_nodes, is_virtual_object, forgotten, run_of_graph}
-use Rattle.graph_run.specs.Operands.{CellsStand, names_cell, operand_held}
 use Rattle.graph_run.specs.Solution.{WritesNo, ReadImages, form_of, kind_in, label_of}
 use Rattle.graph_run.proofs.BegunLaws.{begun_under, object_held-begun, labels-begun, begun_stays}
-use Rattle.graph_run.proofs.LinkLaws.{All-from_In, In-from_All, reads_first}
+use Rattle.graph_run.proofs.LinkLaws.{reads_first}
 use Rattle.graph_run.proofs.NameLaws.{Rising, rising}
-use Rattle.graph_run.proofs.OperandLaws.{begun_stands, kind-operand, no_delay, no_fault}
+use Rattle.graph_run.proofs.OperandLaws.{begun_stands}
 use Rattle.graph_run.proofs.OrderLaws.{rounds_in_order}
 use Rattle.graph_run.proofs.SolutionLaws.{rounds_are_solution, only_rising}
-use Rattle.graph_run.proofs.TurnLaws.{each_alone}
 use Rattle.graph_run.proofs.NodeLaws.{written_held}
-use Rattle.graph_run.proofs.VerifiedLemmas.{pairs_of, whole, named_by_input, named_by_output}
-use Rattle.client_model.specs.declared.refusal.Refusal.{Refusal}
-use Rattle.client_model.specs.declared.refusal.Refusal.TheVariants.{Rejected}
-use Rattle.client_model.specs.declared.reply.Reply.{Reply}
-use Rattle.client_model.specs.declared.reply.Reply.TheVariants.{Refused, Empty}
-use Rattle.client_model.specs.declared.request.Request.TheVariants.{ProcessGraph, VerifyGraph}
-use Rattle.client_model.specs.Allowance.{Allowance}
-use Rattle.client_model.specs.Answer.{answered, answer_to}
-use Rattle.client_model.specs.Context.{State}
-use Rattle.client_model.specs.Graphs.{graph_named, graph_verdict, verify_found, process_found}
-use Rattle.client_model.specs.Refusal.{Outcome, refusal_code, unless}
-use Rattle.client_model.specs.States.{KeepsLimits}
-use Rattle.client_model.proofs.HoldLaws.{OperandsStand}
+use Rattle.graph_run.proofs.VerifiedLemmas.{whole}
 use Rattle.client_laws.specs.Run.{at_begin, IsTheRun, IsRunOf}
 use Rattle.client_laws.proofs.InTurnLaws.{an_order}
 use Rattle.client_laws.proofs.StandLaws.{cells_stand, firsts_are_images}

@@ -1,52 +1,24 @@
 -- A graph that runs keeps the limits, and what is held: as it begins, virtual images become images; its rounds write to outputs what they may become;
 -- and as it ends, virtual images are forgotten.
-use Rattle.std.proofs.Common.{◌≡◌, inl, inr, ℕ, Bool, true, false, cond, IsTrue, List, [], ◌∷◌, ◌++◌, length, map, get_or, Option, Some, None, IfSome, if◌then◌else◌, refl, sym, ap, subst, ◌∙◌}
-use Rattle.std.specs.Prelude.{All, not, ◌||◌, is_some, is_none, unwrap_or}
-use Rattle.std.specs.List.{list_any}
-use Rattle.std.specs.List.Sorted.{IsStrictlyIncreasing}
-use Rattle.std.specs.Option.{option_map, option_and_then}
-use Rattle.std.proofs.lemmas.Bool.{and_cases, both_ways, cond_both, not-false, or_left, or_parts, or_right}
-use Rattle.std.proofs.lemmas.List.Elements.{All-nil, All-cons, All-head, All-tail, All-map}
+use Rattle.std.proofs.Common.{◌≡◌, inl, inr, ℕ, Bool, true, false, cond, IsTrue, List, [], ◌∷◌, ◌++◌, length, map, get_or, Option, Some, None, IfSome, if◌then◌else◌, refl, sym, ap, subst, ◌∙◌, All, not, ◌||◌, is_some, is_none, unwrap_or}
+use Rattle.client_laws.proofs.Common.{list_any, IsStrictlyIncreasing, option_map, option_and_then, not-false, or_left, or_right, All-nil, All-cons, All-head, All-tail, Kind, Node, Cell, parameters, nodes_of, given, inputs, operands, ObjectValue, GraphObject, IsObject, object_kind, in_slot, aged_under, Named, object_held, held, Context, object_named, with_objects, nodes_in, Operand, Delay, writes, is_written, operand_of, operand_kind, operand_format, operands_of, outlines, as_known, resolved, node_fault, is_loose, reads_loose, adds_to_virtual, first_fault, can_run, rounds_of_nodes, is_virtual_object, forgotten, run_of_graph, Rejected, Empty, Allowance, as_graph, graph_verdict, process_found, operand_held, operand_in, is_kind, stands_for, KeepsLimits, kind_held, stands, names_of, held_kind, is_taken, kinds_taken, OperandsStand, stands_parts, CanRunOn, of_operands, Keeps}
+use Rattle.std.proofs.lemmas.Bool.{and_cases, both_ways, cond_both, or_parts}
+use Rattle.std.proofs.lemmas.List.Elements.{All-map}
 use Rattle.std.proofs.lemmas.List.Folds.{list_any_at}
-use Rattle.vx_base.specs.declared.kind.Kind.{Kind}
 use Rattle.vx_base.specs.declared.kind.Kind.TheVariants as kind
-use Rattle.vx_base.specs.declared.node.Node.{Node}
 use Rattle.vx_base.specs.declared.numbered.Numbered.{Numbered}
-use Rattle.vx_base.specs.Cell.{Cell, same_cell}
-use Rattle.vx_base.specs.Function.{parameters}
-use Rattle.vx_base.specs.Graph.{nodes_of}
-use Rattle.vx_base.specs.Node.{IsNode, given, inputs, operands, second_kind}
-use Rattle.vx_base.specs.Object.{ObjectValue, GraphObject, IsObject, object_kind}
-use Rattle.object_table.specs.Delay.{in_slot}
-use Rattle.object_table.specs.Ageing.{aged_under}
-use Rattle.object_table.specs.Named.{Named, object_held, held}
-use Rattle.object_table.specs.Context.{Context, object_named, with_objects}
-use Rattle.object_table.specs.Uses.{nodes_in}
-use Rattle.graph_verify.specs.declared.operand.Operand.{Operand}
-use Rattle.graph_verify.specs.declared.operand.Operand.TheVariants.{Delay}
-use Rattle.graph_verify.specs.Links.{writes, is_written}
-use Rattle.graph_verify.specs.Operand.{operand_of, operand_kind, operand_format, operands_of, is_virtual as is_virtual_operand}
-use Rattle.graph_verify.specs.Outlines.{outlines, as_known, resolved}
-use Rattle.graph_verify.specs.Verdict.{node_fault, is_loose, reads_loose, adds_to_virtual, first_fault}
+use Rattle.vx_base.specs.Cell.{same_cell}
+use Rattle.vx_base.specs.Node.{IsNode, second_kind}
+use Rattle.graph_verify.specs.Operand.{is_virtual as is_virtual_operand}
 use Rattle.graph_verify.proofs.LinkLemmas.{same_cell-refl}
-use Rattle.graph_verify.proofs.VerdictLemmas.{can_run}
-use Rattle.graph_run.specs.Graph.{rounds_of_nodes, begun_as, begun, is_virtual_object, forgotten, run_of_graph}
-use Rattle.client_model.specs.declared.refusal.Refusal.TheVariants.{Rejected}
-use Rattle.client_model.specs.declared.reply.Reply.TheVariants.{Empty}
-use Rattle.client_model.specs.Allowance.{Allowance}
-use Rattle.client_model.specs.Graphs.{as_graph, graph_verdict, process_found, process_graph}
-use Rattle.graph_run.specs.Operands.{operand_held}
-use Rattle.client_model.specs.Immediate.{operand_in}
-use Rattle.client_model.specs.Operands.{is_kind, stands_for}
-use Rattle.client_model.specs.States.{KeepsLimits, kind_held, stands}
-use Rattle.object_table.proofs.HeldLemmas.{names_of, held_by_name, held_is, object_held-map}
-use Rattle.client_model.proofs.NamedLaws.{held_kind}
-use Rattle.client_model.proofs.HoldLaws.{each_fails, is_taken, kinds_taken, OperandsStand, stands_parts}
+use Rattle.graph_run.specs.Graph.{begun_as, begun}
+use Rattle.client_model.specs.Graphs.{process_graph}
+use Rattle.object_table.proofs.HeldLemmas.{held_by_name, held_is, object_held-map}
+use Rattle.client_model.proofs.HoldLaws.{each_fails}
 use Rattle.client_model.proofs.StateLaws.{alike_leaves}
 use Rattle.graph_verify.proofs.SuitLemmas.{Suits, no_fault_suits}
-use Rattle.client_model.proofs.NodeStepLaws.{CanGive, CanGiveTo, CanRunOn, neither, second_there, not_rejected}
-use Rattle.graph_run.proofs.FoundLemmas.{of_operands}
-use Rattle.client_model.proofs.OutcomeLaws.{Keeps, unless_keeps}
+use Rattle.client_model.proofs.NodeStepLaws.{CanGive, CanGiveTo, neither, second_there, not_rejected}
+use Rattle.client_model.proofs.OutcomeLaws.{unless_keeps}
 use Rattle.client_model.proofs.DelayStepLaws.{aged_under_last}
 use Rattle.client_model.proofs.GraphStepLaws.{graph_is, graph_stands}
 use Rattle.client_laws.proofs.RoundLaws.{rounds_last}

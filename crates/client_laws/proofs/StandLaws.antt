@@ -1,32 +1,10 @@
 -- What the cells of a graph's nodes hold, where the nodes find what they name.
-use Rattle.std.proofs.Common.{◌≡◌, ℕ, true, false, IsTrue, List, get_or, Option, Some, None, IfSome, inl, inr, refl, sym, ap, subst, ◌∙◌}
-use Rattle.std.specs.Prelude.{All, is_none, unwrap_or}
-use Rattle.std.specs.Option.{option_map}
+use Rattle.std.proofs.Common.{◌≡◌, ℕ, true, false, IsTrue, List, get_or, Option, Some, None, IfSome, inl, inr, refl, sym, ap, subst, ◌∙◌, All, is_none, unwrap_or}
+use Rattle.client_laws.proofs.Common.{option_map, All-weaker, Kind, Node, Cell, parameters, given, inputs, outputs, operands, ObjectValue, VirtualObject, object_kind, Named, held, Operand, Image, Delay, Virtual, reads, writes, In, operand_of, is_image, In-append, names_cell, StandsFor, CellsStand, operand_held, of_operands, In-from_All, kind-operand, is_kind, stands_for, kind_held, stands, OperandsStand, stands_parts, is_taken, kinds_taken, held_kind}
 use Rattle.std.proofs.lemmas.Bool.{or_cases}
-use Rattle.std.proofs.lemmas.List.Elements.{All-weaker}
-use Rattle.vx_base.specs.declared.kind.Kind.{Kind}
 use Rattle.vx_base.specs.declared.kind.Kind.TheVariants as kind
-use Rattle.vx_base.specs.declared.node.Node.{Node}
-use Rattle.vx_base.specs.Cell.{Cell}
-use Rattle.vx_base.specs.Function.{parameters}
-use Rattle.vx_base.specs.Node.{given, inputs, outputs, operands}
-use Rattle.vx_base.specs.Object.{ObjectValue, VirtualObject, object_kind}
-use Rattle.object_table.specs.Named.{Named, held}
-use Rattle.graph_verify.specs.declared.operand.Operand.{Operand}
-use Rattle.graph_verify.specs.declared.operand.Operand.TheVariants.{Image, Delay, Virtual}
-use Rattle.graph_verify.specs.Links.{reads, writes}
-use Rattle.graph_verify.specs.Members.{In}
-use Rattle.graph_verify.specs.Operand.{operand_of, is_image}
 use Rattle.graph_verify.proofs.LinkLemmas.{In-from_same}
-use Rattle.graph_verify.proofs.MemberLemmas.{In-append}
-use Rattle.graph_run.specs.Operands.{names_cell, StandsFor, CellsStand, operand_held}
-use Rattle.graph_run.proofs.FoundLemmas.{OfOperands, of_operands}
-use Rattle.graph_run.proofs.LinkLaws.{In-from_All}
-use Rattle.graph_run.proofs.OperandLaws.{kind-operand}
-use Rattle.client_model.specs.Operands.{is_kind, stands_for}
-use Rattle.client_model.specs.States.{kind_held, stands}
-use Rattle.client_model.proofs.HoldLaws.{OperandsStand, stands_parts, is_taken, kinds_taken}
-use Rattle.client_model.proofs.NamedLaws.{held_kind}
+use Rattle.graph_run.proofs.FoundLemmas.{OfOperands}
 use Rattle.client_model.proofs.NodeStepLaws.{stands_for_equal}
 
 -- ---- the operand of a cell that a node names

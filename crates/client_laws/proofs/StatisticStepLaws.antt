@@ -1,14 +1,10 @@
 -- Requests on distributions and extremes keep the limits, and what is held.
 use Rattle.std.proofs.Common.{ℕ, false, IsTrue, Option, Some, None}
+use Rattle.client_laws.proofs.Common.{ObjectValue, DistributionObject, ExtremesObject, new_distribution, Allowance, Context, object_named, counts_of, extremes_of, KeepsLimits, same_leaves, Keeps}
 use Rattle.std.proofs.lemmas.List.{length-replicate}
-use Rattle.vx_base.specs.Object.{ObjectValue, DistributionObject, ExtremesObject, IsDistribution, new_distribution}
+use Rattle.vx_base.specs.Object.{IsDistribution}
 use Rattle.vx_base.specs.Statistics.{BinsValue, are_bins}
-use Rattle.client_model.specs.Allowance.{Allowance}
-use Rattle.object_table.specs.Context.{Context, object_named}
-use Rattle.client_model.specs.Statistics.{counts_of, read_distribution, extremes_of, read_min_max}
-use Rattle.client_model.specs.States.{KeepsLimits}
-use Rattle.client_model.proofs.StateLaws.{same_leaves}
-use Rattle.client_model.proofs.OutcomeLaws.{Keeps}
+use Rattle.client_model.specs.Statistics.{read_distribution, read_min_max}
 
 -- a new distribution is one
 pub new_distribution_is : (bins : BinsValue) → IsTrue (are_bins bins.bins bins.offset bins.range) → IsDistribution (new_distribution bins)

@@ -1,35 +1,12 @@
 -- What stays of the objects that are held, as requests are answered.
-use Rattle.std.proofs.Common.{◌≡◌, ◌≢◌, ℕ, ◌<◌, false, List, [], ◌∷◌, Option, Some, None, IfSome, refl, sym, ap, subst, ◌∙◌, arith}
-use Rattle.std.specs.Prelude.{All, IsSome, MatchOption, Ok}
-use Rattle.std.specs.Option.{option_map, option_and_then}
-use Rattle.std.proofs.lemmas.List.Elements.{All-nil, All-cons, All-head, All-tail}
+use Rattle.std.proofs.Common.{◌≡◌, ◌≢◌, ℕ, ◌<◌, false, List, [], ◌∷◌, Option, Some, None, IfSome, refl, sym, ap, subst, ◌∙◌, arith, All, IsSome, MatchOption, Ok}
+use Rattle.client_laws.proofs.Common.{option_map, option_and_then, All-nil, All-cons, All-head, All-tail, Node, Cell, GraphValue, nodes_of, ObjectValue, GraphObject, Context, object_named, in_slot, Named, object_held, held, nodes_in, named_has, Verified, operand_of, verdict, operand_held, IsReady, Request, ReleaseContext, Allowance, State, IsRequest, answer_to, as_graph, graph_named, graph_verdict, KeepsLimits, state_after, changes_nodes, Leaves, OperandsStand}
 use Rattle.std.proofs.lemmas.Option.{IfSome_then}
-use Rattle.vx_base.specs.declared.node.Node.{Node}
-use Rattle.vx_base.specs.Cell.{Cell}
-use Rattle.vx_base.specs.Graph.{GraphValue, nodes_of}
-use Rattle.vx_base.specs.Object.{ObjectValue, GraphObject}
-use Rattle.object_table.specs.Context.{Context, object_named}
-use Rattle.object_table.specs.Delay.{in_slot}
-use Rattle.object_table.specs.Named.{Named, object_held, held}
 use Rattle.object_table.specs.Skeleton.{skeleton}
-use Rattle.object_table.specs.Uses.{nodes_in}
-use Rattle.object_table.proofs.HeldLemmas.{named_has}
 use Rattle.object_table.proofs.SkeletonLaws.{option_map-told, slots_alike}
-use Rattle.graph_verify.specs.declared.verified.Verified.{Verified}
-use Rattle.graph_verify.specs.Operand.{operand_of}
-use Rattle.graph_verify.specs.Verdict.{verdict}
-use Rattle.graph_run.specs.Operands.{operand_held, IsReady}
 use Rattle.graph_run.proofs.OperandLaws.{operand-skeleton}
-use Rattle.client_model.specs.declared.request.Request.{Request}
-use Rattle.client_model.specs.declared.request.Request.TheVariants.{ReleaseContext}
-use Rattle.client_model.specs.Allowance.{Allowance}
-use Rattle.client_model.specs.Context.{State}
-use Rattle.client_model.specs.Request.{IsRequest}
-use Rattle.client_model.specs.Answer.{answer_to}
-use Rattle.client_model.specs.Graphs.{as_graph, graph_named, graph_verdict}
-use Rattle.client_model.specs.States.{KeepsLimits, IsLater, Stays, state_after, changes_nodes}
-use Rattle.client_model.proofs.StateLaws.{Leaves, stays_alike}
-use Rattle.client_model.proofs.HoldLaws.{OperandsStand}
+use Rattle.client_model.specs.States.{IsLater, Stays}
+use Rattle.client_model.proofs.StateLaws.{stays_alike}
 use Rattle.client_model.proofs.NamedLaws.{held_if_live}
 use Rattle.client_laws.proofs.StandLaws.{cells_stand}
 use Rattle.client_laws.proofs.StepLaws.{answer_leaves, state_after_keeps}

@@ -1,22 +1,9 @@
 -- What each request does with the limits and with what is held, and the states after requests.
-use Rattle.std.proofs.Common.{◌≢◌, ℕ, Bool, List, [], ◌∷◌, Some, None, Ok, Err, refl}
-use Rattle.std.specs.Prelude.{All, MatchOption}
-use Rattle.std.proofs.lemmas.List.Elements.{All-head, All-tail}
-use Rattle.vx_base.specs.Image.{new_image}
-use Rattle.vx_base.specs.Graph.{new_graph}
-use Rattle.vx_base.specs.Object.{GraphObject, ImageObject, LutObject, ThresholdObject, ConvolutionObject, DistributionObject, ExtremesObject, new_distribution, no_extremes}
+use Rattle.std.proofs.Common.{◌≢◌, ℕ, Bool, List, [], ◌∷◌, Some, None, Ok, Err, refl, All, MatchOption}
+use Rattle.client_laws.proofs.Common.{All-head, All-tail, new_image, new_graph, GraphObject, ImageObject, LutObject, ThresholdObject, ConvolutionObject, DistributionObject, ExtremesObject, new_distribution, no_extremes, Request, OpenContext, ReleaseContext, CreateImage, QueryImage, WriteImage, WriteImagePgm, ReadImage, ReadImagePgm, SetValid, Release, CreateLut, CreateThreshold, CreateConvolution, CreateDistribution, ReadDistribution, CreateMinMax, ReadMinMax, CreateGraph, CreateVirtualImage, AddNode, RemoveNode, VerifyGraph, ProcessGraph, Immediate, CreateDelay, AgeDelay, RegisterAutoAging, Allowance, Context, State, IsRequest, Outcome, outcome_of, answered, answer_to, KeepsLimits, state_after, changes_nodes, Leaves, same_leaves}
 use Rattle.vx_base.proofs.ImageLaws.{new_image_is}
 use Rattle.vx_base.proofs.PictureLaws.{side}
-use Rattle.client_model.specs.declared.request.Request.{Request}
-use Rattle.client_model.specs.declared.request.Request.TheVariants.{OpenContext, ReleaseContext, CreateImage, QueryImage, WriteImage, WriteImagePgm, ReadImage, ReadImagePgm, SetValid, Release, CreateLut, CreateThreshold, CreateConvolution, CreateDistribution, ReadDistribution, CreateMinMax, ReadMinMax, CreateGraph, CreateVirtualImage, AddNode, RemoveNode, VerifyGraph, ProcessGraph, Immediate, CreateDelay, AgeDelay, RegisterAutoAging}
-use Rattle.client_model.specs.Allowance.{Allowance}
-use Rattle.object_table.specs.Context.{Context}
-use Rattle.client_model.specs.Context.{State}
-use Rattle.client_model.specs.Request.{IsRequest}
-use Rattle.client_model.specs.Refusal.{Outcome}
-use Rattle.client_model.specs.Answer.{outcome_of, answered, answer_to}
-use Rattle.client_model.specs.States.{KeepsLimits, state_after, changes_nodes}
-use Rattle.client_model.proofs.StateLaws.{Leaves, new_context_keeps, same_leaves}
+use Rattle.client_model.proofs.StateLaws.{new_context_keeps}
 use Rattle.client_model.proofs.OutcomeLaws.{StateKeeps, KeepsBut, create_keeps}
 use Rattle.client_model.proofs.ImageStepLaws.{query_image_keeps, write_image_keeps, write_text_keeps, read_image_keeps, read_text_keeps, set_valid_keeps}
 use Rattle.client_laws.proofs.StatisticStepLaws.{new_distribution_is, read_distribution_keeps, read_min_max_keeps}

@@ -1,37 +1,19 @@
 -- A verdict, and how a graph runs, depend on what the cells that its nodes name are, and on nothing else.
-use Rattle.std.proofs.Common.{◌≡◌, ℕ, zero, suc, inl, inr, true, cond, List, [], ◌∷◌, length, Option, Some, None, refl, sym, ap, subst, ◌∙◌, arith}
-use Rattle.std.specs.Prelude.{All, Bool, not, ◌&&◌, ◌||◌, nat_le, sum_by, if◌then◌else◌, unwrap_or}
-use Rattle.std.specs.List.{filter, flat_map}
-use Rattle.std.specs.Option.{option_or, option_map}
-use Rattle.std.proofs.lemmas.Bool.{or_right}
-use Rattle.std.proofs.lemmas.List.Elements.{All-head, All-tail, All-weaker, All-filter}
+use Rattle.std.proofs.Common.{◌≡◌, ℕ, zero, suc, inl, inr, true, cond, List, [], ◌∷◌, length, Option, Some, None, refl, sym, ap, subst, ◌∙◌, arith, All, Bool, not, ◌&&◌, ◌||◌, nat_le, sum_by, if◌then◌else◌, unwrap_or}
+use Rattle.client_laws.proofs.Common.{filter, flat_map, option_or, option_map, or_right, All-head, All-tail, All-weaker, Kind, Node, Cell, parameters, inputs, outputs, operands, Outline, Named, held, Operand, Image, Delay, Verified, Verdict, MultipleWriters, has_cycle, reads, writes, feeds, is_written, In, AllIn, operand_of, operands_of, is_virtual, virtual_bytes, operand_outline, written_outline, outlines, as_known, resolved, rounds, node_fault, is_loose, reads_loose, adds_to_virtual, has_loose_end, first_fault, virtual_outputs, work_bytes, verdict, In-left, In-right, In-append, AllIn-permutation_back, names_cell, StandsFor, operand_held, IsReady, All-from_In, In-from_All, named_by_input, named_by_output}
+use Rattle.std.proofs.lemmas.List.Elements.{All-filter}
 use Rattle.std.proofs.lemmas.List.Sums.{sum_by-cons}
-use Rattle.vx_base.specs.declared.kind.Kind.{Kind}
-use Rattle.vx_base.specs.declared.node.Node.{Node}
-use Rattle.vx_base.specs.Cell.{Cell}
-use Rattle.vx_base.specs.Function.{parameters, accumulates}
-use Rattle.vx_base.specs.Node.{inputs, outputs, operands}
-use Rattle.vx_base.specs.Outline.{Outline, filled}
-use Rattle.object_table.specs.Named.{Named, held}
+use Rattle.vx_base.specs.Function.{accumulates}
+use Rattle.vx_base.specs.Outline.{filled}
 use Rattle.object_table.proofs.GraphLemmas.{any_alike}
 use Rattle.graph_verify.specs.declared.known.VirtualOutput.{VirtualOutput}
-use Rattle.graph_verify.specs.declared.operand.Operand.{Operand}
-use Rattle.graph_verify.specs.declared.operand.Operand.TheVariants.{Image, Delay}
-use Rattle.graph_verify.specs.declared.verified.Verified.{Verified}
-use Rattle.graph_verify.specs.declared.verdict.Verdict.{Verdict}
-use Rattle.graph_verify.specs.declared.verdict.Verdict.TheVariants.{MultipleWriters, InvalidGraph, InvalidLink, NoResources}
-use Rattle.graph_verify.specs.Cycle.{has_cycle}
-use Rattle.graph_verify.specs.Links.{reads, writes, feeds, is_written}
-use Rattle.graph_verify.specs.Members.{In, AllIn}
-use Rattle.graph_verify.specs.Operand.{operand_of, operands_of, is_virtual, virtual_bytes}
-use Rattle.graph_verify.specs.Outlines.{operand_outline, given_outline, written_outline, outlines, as_known, resolved}
-use Rattle.graph_verify.specs.Rounds.{round, rounds}
-use Rattle.graph_verify.specs.Verdict.{two_writers, node_fault, is_loose, reads_loose, adds_to_virtual, has_loose_end, first_fault, virtual_outputs, work_bytes, verdict}
+use Rattle.graph_verify.specs.declared.verdict.Verdict.TheVariants.{InvalidGraph, InvalidLink, NoResources}
+use Rattle.graph_verify.specs.Outlines.{given_outline}
+use Rattle.graph_verify.specs.Rounds.{round}
+use Rattle.graph_verify.specs.Verdict.{two_writers}
 use Rattle.graph_verify.specs.Verified.{IsVerified}
-use Rattle.graph_verify.proofs.MemberLemmas.{In-left, In-right, In-append, In-from_filter, In-map, In-from_flat_map, AllIn-permutation_back}
-use Rattle.graph_run.specs.Operands.{names_cell, StandsFor, operand_held, IsReady}
-use Rattle.graph_run.proofs.LinkLaws.{All-from_In, In-from_All}
-use Rattle.graph_run.proofs.VerifiedLemmas.{named_by_input, named_by_output, same_operands}
+use Rattle.graph_verify.proofs.MemberLemmas.{In-from_filter, In-map, In-from_flat_map}
+use Rattle.graph_run.proofs.VerifiedLemmas.{same_operands}
 
 -- ---- lists of elements of which something is the same
 

@@ -1,29 +1,15 @@
 -- What an object is as a run begins, and what the verdict took it for.
-use Rattle.std.proofs.Common.{◌≡◌, ◌⊎◌, inl, inr, ℕ, zero, suc, ◌≤◌, Bool, true, false, List, [], ◌∷◌, Option, Some, None, IfSome, refl, sym, subst, arith}
-use Rattle.std.specs.Prelude.{is_some, unwrap_or}
-use Rattle.std.specs.Option.{option_map, option_and_then}
-use Rattle.std.proofs.lemmas.Bool.{cond_both}
-use Rattle.vx_base.specs.declared.kind.Kind.{Kind}
-use Rattle.vx_base.specs.declared.node.Node.{Node}
-use Rattle.vx_base.specs.Cell.{Cell}
-use Rattle.vx_base.specs.Description.{Description}
-use Rattle.vx_base.specs.Function.{parameters}
-use Rattle.vx_base.specs.Node.{IsNode, second_kind}
-use Rattle.vx_base.specs.Object.{ObjectValue, ImageObject, DelayObject, VirtualObject, IsObject, object_kind}
-use Rattle.vx_base.specs.Outline.{Outline, closed, filled}
+use Rattle.std.proofs.Common.{◌≡◌, ◌⊎◌, inl, inr, ℕ, zero, suc, ◌≤◌, Bool, true, false, List, [], ◌∷◌, Option, Some, None, IfSome, refl, sym, subst, arith, is_some, unwrap_or}
+use Rattle.client_model.proofs.Common.{option_map, option_and_then, cond_both, Kind, Node, Cell, Description, parameters, IsNode, second_kind, ObjectValue, ImageObject, DelayObject, VirtualObject, IsObject, object_kind, Outline, in_slot, Operand, Image, operand_of, operand_kind, operand_format, stands_for, Suits, kind-operand}
+use Rattle.vx_base.specs.Outline.{closed, filled}
 use Rattle.vx_base.proofs.ImageLaws.{new_image_is}
-use Rattle.object_table.specs.Delay.{in_slot}
-use Rattle.graph_verify.specs.declared.operand.Operand.{Operand}
-use Rattle.graph_verify.specs.declared.operand.Operand.TheVariants.{Image, Delay}
+use Rattle.graph_verify.specs.declared.operand.Operand.TheVariants.{Delay}
 use Rattle.graph_verify.specs.Links.{writes}
-use Rattle.graph_verify.specs.Operand.{operand_of, operand_kind, operand_format, is_virtual as is_virtual_operand}
+use Rattle.graph_verify.specs.Operand.{is_virtual as is_virtual_operand}
 use Rattle.graph_verify.specs.Outlines.{operand_outline, given_outline, written_outline, virtual_or_image, as_known}
 use Rattle.graph_verify.specs.Rounds.{round as round_of, rounds as rounds_of}
 use Rattle.graph_run.specs.Graph.{begun_as, is_virtual_object}
-use Rattle.client_model.specs.Operands.{stands_for}
 use Rattle.client_model.proofs.HoldLaws.{is_taken}
-use Rattle.graph_verify.proofs.SuitLemmas.{Suits}
-use Rattle.graph_run.proofs.OperandLaws.{kind-operand}
 use Rattle.client_model.proofs.NodeStepLaws.{CanGive}
 use Rattle.graph_run.proofs.BegunLaws.{begun_if}
 use Rattle.vx_base.specs.declared.desc.TheConstants.{GREATEST_SIDE}

@@ -1,37 +1,23 @@
 -- A new delay, one whose images come one step later, and one that ages with a graph, keep the limits, and what is held.
-use Rattle.std.proofs.Common.{◌≡◌, ◌⊎◌, inl, inr, ℕ, ◌<◌, ◌≤◌, false, IfOk, IsTrue, List, [], ◌∷◌, length, map, get_or, replicate, refl, sym, ap, ◌∙◌, arith, Option, Some, None, IfSome, Result, Ok, Err, rules}
-use Rattle.std.specs.Prelude.{All, ◌==◌, Bool, true, if◌then◌else◌}
-use Rattle.std.specs.List.{list_any}
-use Rattle.std.specs.Option.{option_map, option_and_then}
+use Rattle.std.proofs.Common.{◌≡◌, ◌⊎◌, inl, inr, ℕ, ◌<◌, ◌≤◌, false, IfOk, IsTrue, List, [], ◌∷◌, length, map, get_or, replicate, refl, sym, ap, ◌∙◌, arith, Option, Some, None, IfSome, Result, Ok, Err, rules, All, ◌==◌, Bool, true, if◌then◌else◌, length-take, length-drop, length-append}
+use Rattle.client_model.proofs.Common.{list_any, option_map, option_and_then, length-map, All-head, All-tail, All-cons, All-append, U8, Node, Cell, cell_of, Description, ImageValue, IsImage, description_of, ObjectValue, DelayObject, GraphObject, IsObject, in_slot, Named, object_held, Context, object_named, with_objects, with_graph, Refusal, Allowance, image_of, KeepsLimits, lasting, lasting_named, Lasts, object_held_has}
 use Rattle.std.proofs.lemmas.Bool.{cases_lt}
-use Rattle.std.proofs.lemmas.List.{length-map, length-take, length-drop, length-append, get_or-map}
-use Rattle.std.proofs.lemmas.List.Elements.{All-head, All-tail, All-cons, All-append, All-take, All-drop}
-use Rattle.vx_base.specs.declared.format.Format.TheVariants.{U8}
-use Rattle.vx_base.specs.declared.node.Node.{Node}
-use Rattle.vx_base.specs.Cell.{Cell, cell_of}
-use Rattle.vx_base.specs.Description.{Description}
-use Rattle.vx_base.specs.Image.{ImageValue, IsImage, new_image, image_over, description_of}
+use Rattle.std.proofs.lemmas.List.{get_or-map}
+use Rattle.std.proofs.lemmas.List.Elements.{All-take, All-drop}
+use Rattle.vx_base.specs.Image.{new_image, image_over}
 use Rattle.vx_base.specs.Graph.{is_registered}
-use Rattle.vx_base.specs.Object.{ObjectValue, DelayObject, GraphObject, IsObject, IsDelay}
+use Rattle.vx_base.specs.Object.{IsDelay}
 use Rattle.vx_base.specs.Rectangle.{empty}
 use Rattle.vx_base.specs.Slots.{is_slot_count}
-use Rattle.object_table.specs.Delay.{in_slot, new_delay, aged}
+use Rattle.object_table.specs.Delay.{new_delay, aged}
 use Rattle.object_table.specs.Ageing.{is_there, one_more, aged_if, aged_under}
-use Rattle.object_table.specs.Named.{Named, object_held}
 use Rattle.object_table.specs.Object.{aged_object}
-use Rattle.object_table.specs.Context.{Context, object_named, with_objects, with_graph}
 use Rattle.object_table.proofs.AgeLemmas.{apart_and}
 use Rattle.object_table.proofs.DelayLemmas.{alike, count_is, new_delay_is}
 use Rattle.graph_verify.proofs.GraphLemmas.{IsGraph-with_delays}
-use Rattle.client_model.specs.declared.refusal.Refusal.{Refusal}
-use Rattle.client_model.specs.Allowance.{Allowance}
-use Rattle.client_model.specs.Operands.{image_of}
 use Rattle.client_model.specs.Delays.{create_like, create_delay, age_named, age_delay, register_named, register_auto_aging}
-use Rattle.client_model.specs.States.{KeepsLimits}
 use Rattle.object_table.specs.Skeleton.{image_skeleton}
-use Rattle.graph_run.specs.Lasting.{lasting, lasting_named, Lasts}
 use Rattle.client_model.proofs.NamedLaws.{held_if_live, live_has}
-use Rattle.object_table.proofs.HeldLemmas.{object_held_has}
 use Rattle.client_model.proofs.StateLaws.{Leaves, same_leaves, with_object_leaves}
 use Rattle.client_model.proofs.OutcomeLaws.{Keeps, create_keeps}
 use Rattle.client_model.proofs.ImageStepLaws.{image_of_is}

@@ -1,39 +1,18 @@
 -- Graphs that change, and names that are released, keep the limits, and what is held.
-use Rattle.std.proofs.Common.{◌≡◌, ◌⊎◌, inl, inr, ℕ, ◌<◌, ◌^◌, Bool, true, false, cond, IsTrue, List, [], ◌∷◌, length, map, Option, Some, None, Ok, Err, IfSome, refl, sym, ap, subst, ◌∙◌, arith}
-use Rattle.std.specs.Prelude.{All, ◌==◌, ◌&&◌, ◌||◌, not, is_none, if◌then◌else◌}
-use Rattle.std.specs.List.{list_any}
-use Rattle.std.specs.List.Sorted.{IsStrictlyIncreasing}
-use Rattle.std.specs.Option.{option_map}
-use Rattle.std.proofs.lemmas.Bool.{and_parts, cond_both, eqb-true, eqb-false, ne_eqb, not-false, or_cases, or_left, or_right}
+use Rattle.std.proofs.Common.{◌≡◌, ◌⊎◌, inl, inr, ℕ, ◌<◌, ◌^◌, Bool, true, false, cond, IsTrue, List, [], ◌∷◌, length, map, Option, Some, None, Ok, Err, IfSome, refl, sym, ap, subst, ◌∙◌, arith, All, ◌==◌, ◌&&◌, ◌||◌, not, is_none, if◌then◌else◌, eqb-true, ne_eqb}
+use Rattle.client_model.proofs.Common.{list_any, IsStrictlyIncreasing, option_map, and_parts, cond_both, not-false, or_cases, or_right, length-map, All-nil, All-tail, All-filter, All-map, All-push, All-weaker, list_any-append, Kind, Node, Numbered, Cell, cell_of, IsNode, operands, ObjectValue, GraphObject, IsObject, object_bytes, Outline, Named, object_held, held, with_object, Context, object_named, with_objects, with_graph, names_it, uses, is_used, is_held, still_held, skeleton, nodes_in, InvalidReference, NoResources, Rejected, Empty, Allowance, operands_refusal, stands, NodesStand, KeepsLimits, names_of, All-from_map, named_has, object_held_has}
+use Rattle.std.proofs.lemmas.Bool.{eqb-false, or_left}
 use Rattle.std.proofs.lemmas.Iterator.Adapters.{option_map_id}
-use Rattle.std.proofs.lemmas.List.{length-map}
-use Rattle.std.proofs.lemmas.List.Elements.{All-nil, All-tail, All-filter, All-map, All-push, All-weaker}
-use Rattle.std.proofs.lemmas.List.Folds.{list_any-append}
-use Rattle.vx_base.specs.declared.kind.Kind.{Kind}
 use Rattle.vx_base.specs.declared.kind.Kind.TheVariants as kind
-use Rattle.vx_base.specs.declared.node.Node.{Node}
-use Rattle.vx_base.specs.declared.numbered.Numbered.{Numbered}
-use Rattle.vx_base.specs.Cell.{Cell, cell_of}
 use Rattle.vx_base.specs.Graph.{GraphValue, IsGraph, new_graph, nodes_of, can_add, with_node, has_node, without_node}
-use Rattle.vx_base.specs.Node.{IsNode, operands}
-use Rattle.vx_base.specs.Object.{ObjectValue, GraphObject, IsObject, object_bytes}
-use Rattle.vx_base.specs.Outline.{Outline, IsOutline}
+use Rattle.vx_base.specs.Outline.{IsOutline}
 use Rattle.object_table.specs.Delay.{with_slot}
-use Rattle.object_table.specs.Named.{Named, object_held, held, with_object}
-use Rattle.object_table.specs.Context.{Context, object_named, with_objects, with_graph}
-use Rattle.object_table.specs.Holds.{names_it, uses, is_used, is_held, still_held, unnamed}
-use Rattle.object_table.specs.Skeleton.{skeleton}
-use Rattle.object_table.specs.Uses.{nodes_in}
+use Rattle.object_table.specs.Holds.{unnamed}
 use Rattle.graph_verify.proofs.GraphLemmas.{IsGraph-with_node, IsGraph-without_node}
-use Rattle.client_model.specs.declared.refusal.Refusal.TheVariants.{InvalidReference, NoResources, Rejected}
 use Rattle.client_model.specs.declared.reply.Reply.TheVariants as reply
-use Rattle.client_model.specs.declared.reply.Reply.TheVariants.{Empty}
-use Rattle.client_model.specs.Allowance.{Allowance}
 use Rattle.client_model.specs.Graphs.{as_graph, graph_named, create_virtual_in, create_virtual_image, add_to, add_node, remove_from, remove_node, graph_verdict, verify_found, verify_graph}
 use Rattle.client_model.specs.Objects.{release}
-use Rattle.client_model.specs.Operands.{operands_refusal}
-use Rattle.client_model.specs.States.{stands, NodesStand, KeepsLimits}
-use Rattle.object_table.proofs.HeldLemmas.{names_of, All-from_map, named_has, HasObject, held_alone, object_held-map, object_held_has, All-with_object, map-with_object, names-with_object}
+use Rattle.object_table.proofs.HeldLemmas.{HasObject, held_alone, object_held-map, All-with_object, map-with_object, names-with_object}
 use Rattle.graph_run.proofs.HeldLaws.{object_held-with_object}
 use Rattle.client_model.proofs.NamedLaws.{held_if_live, live_has, kind_if_live}
 use Rattle.client_model.proofs.HoldLaws.{OperandsStand, stands_from, nodes_stand, stands-alike, stands_still}

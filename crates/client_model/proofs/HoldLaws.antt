@@ -1,30 +1,12 @@
 -- What is held: what nodes of graphs use, and what they still find once the rest is gone.
-use Rattle.std.proofs.Common.{◌≡◌, ◌⊎◌, inl, inr, ℕ, suc, arith, Bool, true, false, cond, IsTrue, List, [], ◌∷◌, ◌++◌, get_or, Option, Some, None, refl, sym, ap, subst, ◌∙◌, rules}
-use Rattle.std.specs.Prelude.{All, is_none, ◌==◌, ◌&&◌, not, find, filter, unwrap_or}
-use Rattle.std.specs.List.{list_any}
-use Rattle.std.specs.List.Sorted.{IsStrictlyIncreasing}
-use Rattle.std.specs.Option.{option_map, option_and_then, option_or}
-use Rattle.std.proofs.lemmas.Bool.{and_parts, and_from, and_right, both_ways, eq-eqb, eqb-true, not_from_false, or_cases, or_parts, or_right}
-use Rattle.std.proofs.lemmas.List.Elements.{All-nil, All-cons, All-append, All-filter, All-map, All-weaker, filter_passes}
-use Rattle.std.proofs.lemmas.List.Folds.{find-append, list_any_at, list_any_none}
-use Rattle.vx_base.specs.declared.function.Function.{Function}
+use Rattle.std.proofs.Common.{◌≡◌, ◌⊎◌, inl, inr, ℕ, suc, arith, Bool, true, false, cond, IsTrue, List, [], ◌∷◌, ◌++◌, get_or, Option, Some, None, refl, sym, ap, subst, ◌∙◌, rules, All, is_none, ◌==◌, ◌&&◌, not, find, filter, unwrap_or, eq-eqb, eqb-true}
+use Rattle.client_model.proofs.Common.{list_any, IsStrictlyIncreasing, option_map, option_and_then, option_or, and_parts, or_cases, or_right, All-nil, All-cons, All-append, All-filter, All-map, All-weaker, find-append, Function, Kind, Node, Numbered, Cell, parameters, operands, ObjectValue, GraphObject, VirtualObject, object_kind, in_slot, slot_kind, Named, object_held, held, skeleton, names_it, uses, is_used, is_held, still_held, nodes_in, is_kind, holds_nothing, kind_held, stands, NodesStand, names_of, All-from_map, held_by_name}
+use Rattle.std.proofs.lemmas.Bool.{and_from, and_right, both_ways, not_from_false, or_parts}
+use Rattle.std.proofs.lemmas.List.Elements.{filter_passes}
+use Rattle.std.proofs.lemmas.List.Folds.{list_any_at, list_any_none}
 use Rattle.vx_base.specs.declared.function.Function.TheVariants.{AndBits}
-use Rattle.vx_base.specs.declared.kind.Kind.{Kind}
 use Rattle.vx_base.specs.declared.kind.Kind.TheVariants as kind
-use Rattle.vx_base.specs.declared.node.Node.{Node}
-use Rattle.vx_base.specs.declared.numbered.Numbered.{Numbered}
-use Rattle.vx_base.specs.Cell.{Cell}
-use Rattle.vx_base.specs.Function.{parameters}
-use Rattle.vx_base.specs.Node.{operands}
-use Rattle.vx_base.specs.Object.{ObjectValue, GraphObject, VirtualObject, object_kind}
-use Rattle.object_table.specs.Delay.{in_slot, slot_kind}
-use Rattle.object_table.specs.Named.{Named, object_held, held}
-use Rattle.object_table.specs.Skeleton.{skeleton}
-use Rattle.object_table.specs.Holds.{names_it, uses, is_used, is_held, still_held}
-use Rattle.object_table.specs.Uses.{nodes_in}
-use Rattle.client_model.specs.Operands.{is_kind, holds_nothing, is_of_other_graph}
-use Rattle.client_model.specs.States.{kind_held, stands, NodesStand}
-use Rattle.object_table.proofs.HeldLemmas.{names_of, All-from_map, held_by_name}
+use Rattle.client_model.specs.Operands.{is_of_other_graph}
 use Rattle.object_table.proofs.SkeletonLaws.{slot_kind-skeleton, in_slot-skeleton}
 
 -- ---- lists of which some elements are kept

@@ -1,40 +1,26 @@
 -- Writes and reads of images keep the limits, and what is held.
-use Rattle.std.proofs.Common.{ℕ, ◌≡◌, false, if◌then◌else◌, List, Option, Some, None, Result, Ok, Err, IfOk, refl, ap, ◌∙◌, arith}
-use Rattle.std.specs.Prelude.{not, IsTrue}
-use Rattle.std.specs.Option.{option_map}
-use Rattle.std.proofs.lemmas.Bool.{cond_both, and_parts}
-use Rattle.vx_base.specs.declared.format.Format.TheVariants.{U8}
+use Rattle.std.proofs.Common.{ℕ, ◌≡◌, false, if◌then◌else◌, List, Option, Some, None, Result, Ok, Err, IfOk, refl, ap, ◌∙◌, arith, not, IsTrue}
+use Rattle.client_model.proofs.Common.{option_map, cond_both, and_parts, U8, Cell, Description, ImageValue, IsImage, description_of, ObjectValue, ImageObject, Named, held, with_object, Context, with_objects, Refusal, InvalidReference, InvalidType, Empty, Allowance, is_unknown, is_of_other_kind, image_of, KeepsLimits, lasting, images-last, held_is, passed}
 use Rattle.vx_base.specs.declared.kind.Kind.TheVariants as kind
-use Rattle.vx_base.specs.Cell.{Cell}
 use Rattle.vx_base.specs.Sample.{same_format}
-use Rattle.vx_base.specs.Description.{Description}
 use Rattle.vx_base.specs.Rectangle.{Rectangle, is_rectangle, IsOrdered, IsWithin}
-use Rattle.vx_base.specs.Image.{ImageValue, IsImage, description_of, with_valid}
+use Rattle.vx_base.specs.Image.{with_valid}
 use Rattle.vx_base.specs.Picture.{PictureValue, IsPicture, picture_of, pictured}
-use Rattle.vx_base.specs.Object.{ObjectValue, ImageObject}
 use Rattle.vx_base.proofs.ImageLaws.{with_valid_is}
 use Rattle.vx_base.proofs.PictureLaws.{pictured_image}
 use Rattle.vx_base.proofs.RectangleLaws.{rectangle_ordered}
-use Rattle.object_table.specs.Named.{Named, held, with_object}
-use Rattle.object_table.specs.Context.{Context, with_objects}
-use Rattle.client_model.specs.declared.refusal.Refusal.{Refusal}
-use Rattle.client_model.specs.declared.refusal.Refusal.TheVariants.{InvalidReference, InvalidType, InvalidFormat}
+use Rattle.client_model.specs.declared.refusal.Refusal.TheVariants.{InvalidFormat}
 use Rattle.client_model.specs.declared.reply.Described.{Described}
-use Rattle.client_model.specs.declared.reply.Reply.TheVariants.{Empty, Text}
-use Rattle.client_model.specs.Allowance.{Allowance}
-use Rattle.client_model.specs.Operands.{is_unknown, is_of_other_kind, as_image, image_of}
+use Rattle.client_model.specs.declared.reply.Reply.TheVariants.{Text}
+use Rattle.client_model.specs.Operands.{as_image}
 use Rattle.pgm_images.specs.declared.fault.PgmFault.{PgmFault}
 use Rattle.pgm_images.specs.Reading.{reading}
 use Rattle.pgm_images.specs.Writing.{pgm_text}
 use Rattle.pgm_images.proofs.PictureLaws.{read_picture}
 use Rattle.client_model.specs.Images.{described_in, query_of, query_image, picture_refusal, write_to, write_image, write_text_to, write_text, read_from, read_image, read_text_from, read_text, valid_refusal, set_valid_of, set_valid}
-use Rattle.client_model.specs.States.{KeepsLimits}
-use Rattle.graph_run.specs.Lasting.{lasting}
-use Rattle.graph_run.proofs.LastingLemmas.{images-last}
-use Rattle.object_table.proofs.HeldLemmas.{held_is}
 use Rattle.client_model.proofs.StateLaws.{same_leaves, with_object_leaves}
 use Rattle.client_model.proofs.OutcomeLaws.{Keeps, unless_keeps}
-use Rattle.graph_verify.proofs.SuitLemmas.{passed, met}
+use Rattle.graph_verify.proofs.SuitLemmas.{met}
 
 -- a picture that isn't refused is described as the image is
 picture_description : (image picture : Description) → picture_refusal image picture ≡ None → image ≡ picture

@@ -1,3 +1,4 @@
+mod Common
 pub mod NamedLaws
 pub mod HoldLaws
 pub mod StateLaws

@@ -1,25 +1,12 @@
 -- Objects under their names, of which one is added or some are no longer held, and what cells of live names hold.
-use Rattle.std.proofs.Common.{◌≡◌, ℕ, ◌+◌, ◌<◌, Bool, true, false, cond, List, [], ◌∷◌, ◌++◌, refl, ap, subst, ◌∙◌, arith, Option, Some, None, IfSome}
-use Rattle.std.specs.Prelude.{All, ◌==◌, ◌&&◌, find, filter}
+use Rattle.std.proofs.Common.{◌≡◌, ℕ, ◌+◌, ◌<◌, Bool, true, false, cond, List, [], ◌∷◌, ◌++◌, refl, ap, subst, ◌∙◌, arith, Option, Some, None, IfSome, All, ◌==◌, ◌&&◌, find, filter, eqb-true}
+use Rattle.client_model.proofs.Common.{IsStrictlyIncreasing, option_map, option_and_then, length-map, All-head, All-tail, IfSome_then, Cell, Kind, ObjectValue, ExtremesObject, object_kind, slot_kind, Named, object_held, held, object_named, is_kind, kind_of, kind_held, names_of}
 use Rattle.std.specs.List.{AllPairs}
-use Rattle.std.specs.List.Sorted.{IsStrictlyIncreasing}
-use Rattle.std.specs.Option.{option_map, option_and_then}
 use Rattle.std.proofs.Math.ListN.{get_or-map as get_or-map_default}
-use Rattle.std.proofs.lemmas.Bool.{eqb-true}
-use Rattle.std.proofs.lemmas.List.{length-map}
-use Rattle.std.proofs.lemmas.List.Elements.{All-head, All-tail}
 use Rattle.std.proofs.lemmas.List.Kept.{AllPairs-filter}
 use Rattle.std.proofs.lemmas.List.Quantifiers.{all_pairs_push}
-use Rattle.std.proofs.lemmas.Option.{IfSome_then}
-use Rattle.vx_base.specs.Cell.{Cell}
-use Rattle.vx_base.specs.declared.kind.Kind.{Kind}
-use Rattle.vx_base.specs.Object.{ObjectValue, ExtremesObject, no_extremes, object_kind}
-use Rattle.object_table.specs.Delay.{slot_kind}
-use Rattle.object_table.specs.Named.{Named, object_held, held}
-use Rattle.object_table.specs.Context.{object_named}
-use Rattle.client_model.specs.Operands.{is_kind, kind_of}
-use Rattle.client_model.specs.States.{kind_held}
-use Rattle.object_table.proofs.HeldLemmas.{names_of, above_first, later_increase}
+use Rattle.vx_base.specs.Object.{no_extremes}
+use Rattle.object_table.proofs.HeldLemmas.{above_first, later_increase}
 use Rattle.graph_run.proofs.VerifiedLemmas.{pairs_of}
 
 -- ---- names that increase

@@ -1,52 +1,32 @@
 -- A node that runs at once keeps the limits, and what is held: each output becomes an object of the kind, the size and the format that it
 -- had.
-use Rattle.std.proofs.Common.{◌≡◌, ℕ, Bool, true, false, IsTrue, List, get_or, [], map, Option, Some, None, IfSome, if◌then◌else◌, refl, sym, ap, subst, ◌∙◌, arith}
-use Rattle.std.specs.Prelude.{All, ◌&&◌, is_some, is_none}
-use Rattle.std.specs.List.{list_any}
-use Rattle.std.specs.Option.{option_map, option_and_then, option_or}
-use Rattle.std.proofs.lemmas.Bool.{and_parts, not-false}
-use Rattle.std.proofs.lemmas.Option.{IfSome_then}
-use Rattle.std.proofs.lemmas.List.Elements.{All-nil, All-cons, All-append}
+use Rattle.std.proofs.Common.{◌≡◌, ℕ, Bool, true, false, IsTrue, List, get_or, [], map, Option, Some, None, IfSome, if◌then◌else◌, refl, sym, ap, subst, ◌∙◌, arith, All, ◌&&◌, is_some, is_none}
+use Rattle.client_model.proofs.Common.{list_any, option_map, option_and_then, option_or, and_parts, not-false, IfSome_then, All-nil, All-cons, All-append, Function, Kind, Node, Cell, Description, parameters, IsImage, description_of, IsNode, operands, second_kind, ObjectValue, ImageObject, ExtremesObject, IsObject, object_kind, Named, held, skeleton, Context, with_objects, Operand, Image, operand_of, operand_format, operand_kind, InvalidReference, InvalidType, Rejected, Empty, Allowance, is_unknown, holds_nothing, is_kind, kind_of, is_of_other_kind, stands_for, operands_refusal, KeepsLimits, kind_held, held_is, lasting, lasting_named, IsReplacement, images-last, skeletons-last, Suits, passed, kind-operand}
 use Rattle.vx_base.specs.declared.format.Format.{Format}
-use Rattle.vx_base.specs.declared.function.Function.{Function}
-use Rattle.vx_base.specs.declared.kind.Kind.{Kind}
 use Rattle.vx_base.specs.declared.kind.Kind.TheVariants as kind
-use Rattle.vx_base.specs.declared.node.Node.{Node}
-use Rattle.vx_base.specs.Cell.{Cell}
-use Rattle.vx_base.specs.Description.{Description, same_size}
+use Rattle.vx_base.specs.Description.{same_size}
 use Rattle.vx_base.specs.Formats.{takes_formats}
-use Rattle.vx_base.specs.Function.{parameters, accumulates}
-use Rattle.vx_base.specs.Image.{IsImage, description_of}
-use Rattle.vx_base.specs.Node.{IsNode, is_node, has_amount, has_operands, all_named, operands, second_kind}
-use Rattle.vx_base.specs.Object.{ObjectValue, ImageObject, DistributionObject, ExtremesObject, IsObject, object_kind}
+use Rattle.vx_base.specs.Function.{accumulates}
+use Rattle.vx_base.specs.Node.{is_node, has_amount, has_operands, all_named}
+use Rattle.vx_base.specs.Object.{DistributionObject}
 use Rattle.vx_base.specs.declared.output.Output.{Output}
 use Rattle.vx_base.specs.declared.output.Output.TheVariants.{First, Second}
 use Rattle.vx_base.specs.Outputs.{node_image, beside_first, node_output, written_to, written_in, written_from, written_by}
 use Rattle.vx_base.proofs.NodeLaws.{node_image_is, accumulated_image_is, same_kind_equal}
-use Rattle.object_table.specs.Named.{Named, held, with_written}
-use Rattle.object_table.specs.Skeleton.{skeleton}
+use Rattle.object_table.specs.Named.{with_written}
 use Rattle.object_table.proofs.SkeletonLaws.{option_map-told}
-use Rattle.object_table.specs.Context.{Context, with_objects}
-use Rattle.graph_verify.specs.declared.operand.Operand.{Operand}
-use Rattle.graph_verify.specs.declared.operand.Operand.TheVariants.{Image}
 use Rattle.graph_verify.specs.declared.verdict.Verdict.{Verdict}
-use Rattle.graph_verify.specs.Operand.{operand_of, operand_format, operand_kind}
 use Rattle.graph_verify.specs.Verdict.{verdict_on}
-use Rattle.client_model.specs.declared.refusal.Refusal.TheVariants.{InvalidReference, InvalidType, InvalidScope, InvalidValue, OptimizedAway, Rejected}
-use Rattle.client_model.specs.declared.reply.Reply.TheVariants.{Empty}
-use Rattle.client_model.specs.Allowance.{Allowance}
-use Rattle.client_model.specs.Operands.{is_unknown, holds_nothing, is_beyond, is_kind, kind_of, is_of_other_kind, stands_for, operands_refusal}
+use Rattle.client_model.specs.declared.refusal.Refusal.TheVariants.{InvalidScope, InvalidValue, OptimizedAway}
+use Rattle.client_model.specs.Operands.{is_beyond}
 use Rattle.client_model.specs.Immediate.{operand_in, operand_if, operands_in, is_some_virtual, away_refusal, node_refusal, immediate}
-use Rattle.client_model.specs.States.{KeepsLimits, kind_held}
-use Rattle.object_table.proofs.HeldLemmas.{held_is}
-use Rattle.graph_run.specs.Lasting.{lasting, lasting_named}
-use Rattle.graph_run.proofs.CellLemmas.{IsReplacement, Lasts-with_written}
-use Rattle.graph_run.proofs.LastingLemmas.{images-last, skeletons-last, cell-lasts}
+use Rattle.graph_run.proofs.CellLemmas.{Lasts-with_written}
+use Rattle.graph_run.proofs.LastingLemmas.{cell-lasts}
 use Rattle.client_model.proofs.NamedLaws.{held_kind, kind_if_live}
 use Rattle.client_model.proofs.HoldLaws.{each_fails}
 use Rattle.client_model.proofs.StateLaws.{alike_leaves}
-use Rattle.graph_verify.proofs.SuitLemmas.{Suits, BothSuit, verdict_suits, passed}
-use Rattle.graph_run.proofs.OperandLaws.{described_node, kind-operand, operand-skeleton}
+use Rattle.graph_verify.proofs.SuitLemmas.{BothSuit, verdict_suits}
+use Rattle.graph_run.proofs.OperandLaws.{described_node, operand-skeleton}
 use Rattle.graph_run.proofs.FoundLemmas.{of_operands}
 use Rattle.graph_run.proofs.OutputLemmas.{same_description, length-histogram}
 use Rattle.graph_run.proofs.RunLemmas.{same_formats}

@@ -1,19 +1,11 @@
 -- Outcomes that keep the limits, and what is held.
-use Rattle.std.proofs.Common.{◌≡◌, ℕ, Bool, false, [], Option, Some, None, Ok, Err, IfOk, IfSome, refl}
-use Rattle.std.specs.Prelude.{MatchOption}
-use Rattle.std.proofs.lemmas.Bool.{cond_both}
-use Rattle.vx_base.specs.Object.{ObjectValue, IsObject, object_bytes}
-use Rattle.client_model.specs.declared.refusal.Refusal.{Refusal}
-use Rattle.client_model.specs.declared.refusal.Refusal.TheVariants.{NoResources}
+use Rattle.std.proofs.Common.{◌≡◌, ℕ, Bool, false, [], Option, Some, None, Ok, Err, IfOk, IfSome, refl, MatchOption}
+use Rattle.client_model.proofs.Common.{cond_both, ObjectValue, IsObject, object_bytes, Refusal, NoResources, Allowance, Context, with_new, has_room, KeepsLimits, nodes_in}
 use Rattle.client_model.specs.declared.reply.Reply.{Reply}
 use Rattle.client_model.specs.declared.reply.Reply.TheVariants.{Name}
-use Rattle.client_model.specs.Allowance.{Allowance}
-use Rattle.object_table.specs.Context.{Context, with_new}
-use Rattle.client_model.specs.Context.{State, has_room}
+use Rattle.client_model.specs.Context.{State}
 use Rattle.client_model.specs.Refusal.{Outcome, refused_or, unless}
 use Rattle.client_model.specs.Images.{create}
-use Rattle.client_model.specs.States.{KeepsLimits}
-use Rattle.object_table.specs.Uses.{nodes_in}
 use Rattle.client_model.proofs.StateLaws.{Leaves, with_new_leaves}
 
 -- the state of a client, where a context keeps the limits

@@ -1,33 +1,19 @@
 -- What the state of a client keeps, when an object is added, when some are no longer held and when others are written.
-use Rattle.std.proofs.Common.{◌≡◌, ℕ, ◌+◌, ◌<◌, ◌≤◌, Bool, true, false, cond, IsTrue, List, [], ◌∷◌, ◌++◌, length, map, get_or, Option, Some, None, IfSome, if◌then◌else◌, refl, sym, ap, subst, ◌∙◌, arith}
-use Rattle.std.specs.Prelude.{All, ◌==◌, ◌&&◌, ◌||◌, not, nat_lt, nat_le, find, sum}
+use Rattle.std.proofs.Common.{◌≡◌, ℕ, ◌+◌, ◌<◌, ◌≤◌, Bool, true, false, cond, IsTrue, List, [], ◌∷◌, ◌++◌, length, map, get_or, Option, Some, None, IfSome, if◌then◌else◌, refl, sym, ap, subst, ◌∙◌, arith, All, ◌==◌, ◌&&◌, ◌||◌, not, nat_lt, nat_le, find, sum, ne_eqb}
+use Rattle.client_model.proofs.Common.{IsStrictlyIncreasing, option_map, option_or, and_parts, or_cases, length-map, All-nil, All-push, All-filter, All-weaker, find-append, list_any-append, IfSome_then, Cell, ObjectValue, IsObject, object_bytes, Named, object_held, with_object, Context, with_new, with_objects, uses, is_used, is_held, still_held, skeleton, nodes_in, names_of, named_has, held_by_name, lasting, lasting_named, Lasts, IsReplacement, skeletons-last, Allowance, has_room, NodesStand, KeepsLimits}
 use Rattle.std.specs.List.{flat_map}
-use Rattle.std.specs.List.Sorted.{IsStrictlyIncreasing}
-use Rattle.std.specs.Option.{option_map, option_or}
 use Rattle.std.proofs.Math.ListN.{get_or-map as get_or-map_default}
-use Rattle.std.proofs.lemmas.Bool.{and_parts, ne_eqb, or_cases}
-use Rattle.std.proofs.lemmas.List.{length-map, length_push}
-use Rattle.std.proofs.lemmas.List.Elements.{All-nil, All-push, All-filter, All-weaker}
+use Rattle.std.proofs.lemmas.List.{length_push}
 use Rattle.std.proofs.lemmas.List.Filters.{length-filter_both, sum_by-filter_both}
-use Rattle.std.proofs.lemmas.List.Folds.{find-append, flat_map-map, list_any-append}
+use Rattle.std.proofs.lemmas.List.Folds.{flat_map-map}
 use Rattle.std.proofs.lemmas.List.Sums.{sum-map, sum_by_push}
-use Rattle.std.proofs.lemmas.Option.{IfSome_then}
-use Rattle.vx_base.specs.Cell.{Cell}
-use Rattle.vx_base.specs.Object.{ObjectValue, IsObject, object_bytes}
-use Rattle.object_table.specs.Named.{Named, object_held, with_object}
-use Rattle.object_table.specs.Context.{Context, new_context, charge_of, can_insert, with_new, with_objects}
-use Rattle.object_table.specs.Holds.{uses, is_used, is_held, still_held}
-use Rattle.object_table.specs.Skeleton.{skeleton}
-use Rattle.object_table.specs.Uses.{nodes_in, used_names, times}
+use Rattle.object_table.specs.Context.{new_context, charge_of, can_insert}
+use Rattle.object_table.specs.Uses.{used_names, times}
 use Rattle.object_table.proofs.GraphLemmas.{is_used_there}
-use Rattle.object_table.proofs.HeldLemmas.{names_of, named_has, held_by_name}
 use Rattle.object_table.proofs.SkeletonLaws.{map-told, bytes-skeleton}
-use Rattle.graph_run.specs.Lasting.{lasting, lasting_named, Lasts}
-use Rattle.graph_run.proofs.CellLemmas.{IsReplacement, Lasts-with_object}
-use Rattle.graph_run.proofs.LastingLemmas.{Lasting, skeletons-last, nodes-last, held-lasts, Lasts-names}
-use Rattle.client_model.specs.Allowance.{Allowance}
-use Rattle.client_model.specs.Context.{has_room}
-use Rattle.client_model.specs.States.{NodesStand, KeepsLimits, Stays}
+use Rattle.graph_run.proofs.CellLemmas.{Lasts-with_object}
+use Rattle.graph_run.proofs.LastingLemmas.{Lasting, nodes-last, held-lasts, Lasts-names}
+use Rattle.client_model.specs.States.{Stays}
 use Rattle.client_model.proofs.NamedLaws.{increasing-filter, increasing-push}
 use Rattle.client_model.proofs.HoldLaws.{OperandsStand, nodes_stand, stands-alike, stands_more, held_still, nodes_still}
 

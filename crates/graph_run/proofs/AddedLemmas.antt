@@ -1,17 +1,12 @@
 -- Images of the client's to which bands are added.
-use Rattle.std.proofs.Common.{◌≡◌, ℕ, ℤ, pos, ◌+◌, ◌-◌, ◌*◌, ◌<◌, ◌≤◌, Bool, true, false, List, ◌++◌, length, take, drop, get_or, ◌⊎◌, inl, inr, Option, Some, None, refl, sym, ap, subst, ◌∙◌, arith, ◌&&◌, ◌==◌, option_map}
-use Rattle.graph_run.proofs.Common.{nat_tests, length-append, length-take-le, mul-le-mul_right, take_all, and_parts, eqb-true, S16, Node, IsNode, First, Description, sample_count, Rectangle, Stage, scene, seen, image_value, accumulates, ImageValue, IsImage, image_over, description_of, band, at, ObjectValue, ImageObject, formula_of_two, length-band, IsInRows, Named, Cell, image_held, HoldsImage, part_of, part_is, stands_fewer, first_right, end_right, reach, Strip, IsWithinRows, with_band, lasting, added_to}
+use Rattle.std.proofs.Common.{◌≡◌, ℕ, ℤ, pos, ◌+◌, ◌-◌, ◌*◌, ◌<◌, ◌≤◌, Bool, true, false, List, ◌++◌, length, take, drop, get_or, ◌⊎◌, inl, inr, Option, Some, None, refl, sym, ap, subst, ◌∙◌, arith, ◌&&◌, ◌==◌, option_map, length-append, length-take-le, take_all, eqb-true, drop-drop, drop_at, get_or-drop, get_or-take}
+use Rattle.graph_run.proofs.Common.{nat_tests, mul-le-mul_right, and_parts, S16, Node, IsNode, First, Description, sample_count, Rectangle, Stage, scene, IsWithinRows, with_band, image_value, accumulates, ImageValue, IsImage, image_over, description_of, band, at, ObjectValue, ImageObject, formula_of_two, length-band, IsInRows, Named, Cell, image_held, HoldsImage, part_of, first_right, end_right, part_is, stands_fewer, reach, Strip, lasting, added_to, cases_lt, inside, meet_of, above, whole_band, accumulated_image_is, at-part, band_moved, part_stands, node_right, rows_in, CanAdd, band_seen, rows_from, sum_made, with_sums}
+use Rattle.graph_run.specs.Bands.{seen}
 use Rattle.std.proofs.Math.ListN.{get_or-append}
-use Rattle.std.proofs.lemmas.Bool.{cases_lt}
-use Rattle.std.proofs.lemmas.List.{drop-drop, drop_at, get_or-append_right, get_or-drop, get_or-take}
-use Rattle.vx_base.specs.Rectangle.{inside, meet_of}
-use Rattle.vx_base.proofs.ImageLaws.{above, at-made_outside, whole_band}
-use Rattle.vx_base.proofs.NodeLaws.{accumulated_image_is}
+use Rattle.std.proofs.lemmas.List.{get_or-append_right}
+use Rattle.vx_base.proofs.ImageLaws.{at-made_outside}
 use Rattle.node_rows.specs.Parts.{StandsFor, rows_of}
-use Rattle.node_rows.proofs.PartLaws.{at-part, band_moved, meet_inside, part_stands}
-use Rattle.node_rows.proofs.PartRowLaws.{node_right}
-use Rattle.image_core.specs.Bands.{rows_in}
-use Rattle.graph_run.specs.Bands.{CanAdd, band_seen, rows_from, sum_made, with_sums}
+use Rattle.node_rows.proofs.PartLaws.{meet_inside}
 use Rattle.graph_run.proofs.CellLemmas.{IsReplacement, held_image}
 use Rattle.graph_run.proofs.LastingLemmas.{images-last}
 use Rattle.graph_run.proofs.PartSeenLemmas.{band_part}

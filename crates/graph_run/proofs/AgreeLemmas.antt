@@ -1,6 +1,8 @@
 -- What nodes find on a stage, beside what they would find if each virtual image were an image of its own from the beginning.
-use Rattle.std.proofs.Common.{◌≡◌, ℕ, true, false, eqb, List, [], ◌∷◌, ◌++◌, map, Option, Some, None, ◌⊎◌, inl, inr, refl, sym, ap, subst, ◌∙◌, arith, ◌==◌, ◌||◌, All, if◌then◌else◌, option_map, option_and_then}
-use Rattle.graph_run.proofs.Common.{flat_map, cases_Bool, eqb-true, eq-eqb, or_left, or_right, or_cases, false_from_ne_true, list_any-append, Node, Output, First, Second, VirtualImage, Cell, Description, accumulates, ImageValue, description_of, IsNode, operands, outputs, ObjectValue, ImageObject, VirtualObject, object_kind, node_output, written_in, written_by, in_slot, with_slot, Named, object_held, held, with_object, with_written, VirtualOutput, Operand, Image, Verified, reads, writes, feeds, is_written, has_twice, In, AllIn, operand_of, is_virtual, resolved, two_writers, same_cell-refl, In-outputs, two_writers-permutation, In-left, In-right, In-append, In-from_any, any-from_In, AllIn-permutation, AllIn-permutation_back, is_used, begun, one_by_one, HoldsOperand, IsReady, names_cell, StandsFor, CellsStand, operand_held, label_of, HoldsKind, CanRunNow}
+use Rattle.std.proofs.Common.{◌≡◌, ℕ, true, false, eqb, List, [], ◌∷◌, ◌++◌, map, Option, Some, None, ◌⊎◌, inl, inr, refl, sym, ap, subst, ◌∙◌, arith, ◌==◌, ◌||◌, All, if◌then◌else◌, option_map, option_and_then, eqb-true, eq-eqb}
+use Rattle.graph_run.proofs.Common.{flat_map, cases_Bool, or_left, or_right, or_cases, false_from_ne_true, list_any-append, Node, Output, First, Second, VirtualImage, Cell, Description, accumulates, ImageValue, description_of, IsNode, operands, outputs, ObjectValue, ImageObject, VirtualObject, object_kind, node_output, written_in, written_by, in_slot, with_slot, Named, object_held, held, with_object, with_written, VirtualOutput, Operand, Image, Verified, writes, feeds, is_written, has_twice, In, AllIn, operand_of, is_virtual, resolved, two_writers, same_cell-refl, In-outputs, two_writers-permutation, In-left, In-right, In-append, In-from_any, any-from_In, AllIn-permutation, AllIn-permutation_back, is_used, begun, one_by_one, HoldsOperand, IsReady, names_cell, CellsStand, operand_held, label_of, HoldsKind, CanRunNow}
+use Rattle.graph_verify.specs.Links.{reads}
+use Rattle.graph_run.specs.Operands.{StandsFor}
 use Rattle.std.proofs.lemmas.Grind.{flat_map-append}
 use Rattle.vx_base.specs.declared.kind.Kind.TheVariants as kind
 use Rattle.graph_verify.specs.Order.{InTurn}

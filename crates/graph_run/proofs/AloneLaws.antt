@@ -1,6 +1,6 @@
 -- A graph of one node runs as the node does at once.
-use Rattle.std.proofs.Common.{◌≡◌, ℕ, ◌<◌, true, List, [], ◌∷◌, append-nil, Some, arith}
-use Rattle.graph_run.proofs.Common.{AllPairs, cases_Bool, eqb-true, or_left, Node, Cell, ObjectValue, written_by, Named, object_held, held, with_written, Operand, is_virtual_object, run_of_graph, WritesNo}
+use Rattle.std.proofs.Common.{◌≡◌, ℕ, ◌<◌, true, List, [], ◌∷◌, append-nil, Some, arith, eqb-true}
+use Rattle.graph_run.proofs.Common.{AllPairs, cases_Bool, or_left, Node, Cell, ObjectValue, written_by, Named, object_held, held, with_written, Operand, is_virtual_object, run_of_graph, WritesNo}
 use Rattle.vx_base.specs.declared.kind.Kind.TheVariants as kind
 use Rattle.graph_run.proofs.HeldLaws.{labels-with_written}
 use Rattle.graph_run.proofs.NameLaws.{rising}

@@ -1,9 +1,7 @@
 -- Bands of what nodes make of parts, as values.
-use Rattle.std.proofs.Common.{◌≡◌, ◌≤◌, ◌+◌, ◌-◌, ◌*◌, ℕ, ◌++◌, take, drop, length, Option, Some, refl, sym, ap, ◌∙◌, arith}
-use Rattle.graph_run.proofs.Common.{take-append-le, take_all, length-append, length-take-le, Description, ImageValue, IsImage, description_of, band, at, ObjectValue, ImageObject, band-append, length-band, first_right, end_right, Strip, IsWithinRows, with_band, RowsAreAs}
-use Rattle.vx_base.proofs.ImageLaws.{whole_band}
+use Rattle.std.proofs.Common.{◌≡◌, ◌≤◌, ◌+◌, ◌-◌, ◌*◌, ℕ, ◌++◌, take, drop, length, Option, Some, refl, sym, ap, ◌∙◌, arith, take_all, length-append, length-take-le}
+use Rattle.graph_run.proofs.Common.{take-append-le, Description, ImageValue, IsImage, description_of, band, at, ObjectValue, ImageObject, band-append, length-band, first_right, end_right, Strip, IsWithinRows, with_band, RowsAreAs, whole_band, band_moved}
 use Rattle.node_rows.specs.Parts.{StandsFor}
-use Rattle.node_rows.proofs.PartLaws.{band_moved}
 
 -- ---- how far rows are right
 

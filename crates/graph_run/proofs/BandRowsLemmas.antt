@@ -1,7 +1,6 @@
 -- Rows that are written, among the samples of the image to which they belong.
-use Rattle.std.proofs.Common.{◌≡◌, ℕ, ℤ, List, ◌++◌, ◌+◌, ◌*◌, ◌≤◌, length, map, take, drop, Option, sym, ap, ◌∙◌, arith, length-append}
-use Rattle.graph_run.proofs.Common.{append_assoc, length-take, length-drop, take_all, drop_all, map-append, take-map, drop-map, Node, Output, Description, ImageValue, band, at, description_of, ObjectValue, node_image, ImageMut, HaveSameSize, written, Writes}
-use Rattle.std.proofs.lemmas.List.{drop-drop, append-nil}
+use Rattle.std.proofs.Common.{◌≡◌, ℕ, ℤ, List, ◌++◌, ◌+◌, ◌*◌, ◌≤◌, length, map, take, drop, Option, sym, ap, ◌∙◌, arith, length-append, append_assoc, length-take, length-drop, take_all, drop-drop, append-nil}
+use Rattle.graph_run.proofs.Common.{drop_all, map-append, take-map, drop-map, Node, Output, Description, ImageValue, band, at, description_of, ObjectValue, node_image, ImageMut, HaveSameSize, written, Writes}
 use Rattle.graph_run.proofs.OutputLemmas.{description_kept}
 
 -- rows of what a node makes

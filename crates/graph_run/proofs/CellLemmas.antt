@@ -1,6 +1,6 @@
 -- What cells hold where one of them is written.
-use Rattle.std.proofs.Common.{◌≡◌, ℕ, IsTrue, List, [], ◌∷◌, Option, Some, None, refl, sym, ap, subst, ◌∙◌, arith, All, is_some, unwrap_or, IfSome, option_map, option_and_then}
-use Rattle.graph_run.proofs.Common.{IsStrictlyIncreasing, eq-eqb, eqb-true, All-head, All-tail, All-weaker, U8, Kind, Node, Cell, ImageValue, new_image, ObjectValue, ImageObject, IsObject, object_kind, in_slot, with_slot, Named, object_held, held, with_object, with_written, cell_object, image_held, HoldsImage, names_of, HasObject, map-with_object, with_slot_there, with_slot_beside, Delay, operand_of, operand_held, lasting, lasting_named, Lasts, Holds, TwoSlots, AreApart, HoldsKind}
+use Rattle.std.proofs.Common.{◌≡◌, ℕ, IsTrue, List, [], ◌∷◌, Option, Some, None, refl, sym, ap, subst, ◌∙◌, arith, All, is_some, unwrap_or, IfSome, option_map, option_and_then, eq-eqb, eqb-true}
+use Rattle.graph_run.proofs.Common.{IsStrictlyIncreasing, All-head, All-tail, All-weaker, U8, Kind, Node, Cell, ImageValue, new_image, ObjectValue, ImageObject, IsObject, object_kind, in_slot, with_slot, Named, object_held, held, with_object, with_written, cell_object, image_held, HoldsImage, names_of, HasObject, map-with_object, with_slot_there, with_slot_beside, Delay, operand_of, operand_held, lasting, lasting_named, Lasts, Holds, TwoSlots, AreApart, HoldsKind}
 use Rattle.vx_base.specs.declared.kind.Kind.TheVariants as kind
 use Rattle.object_table.proofs.HeldLemmas.{held_alone, All-with_object}
 use Rattle.object_table.proofs.SkeletonLaws.{IsObject-with_slot}

@@ -1,6 +1,7 @@
 -- A slot that another image claims.
-use Rattle.std.proofs.Common.{◌≡◌, ◌≢◌, ℕ, zero, suc, ◌⊎◌, true, List, [], ◌∷◌, get_or, set, Option, Some, None, IfSome, refl, sym, ap, subst, ◌∙◌, arith, All, ◌==◌, if◌then◌else◌, slice_get, take, option_map, option_and_then}
-use Rattle.graph_run.proofs.Common.{with_item, cases_Bool, eqb-true, eqb-false, eq-eqb, nat_tests, All-nil, All-cons, All-head, All-tail, All-set, All-take, length-take-le, slice_get-get_or, VirtualImage, IsDescription, sample_count, IsImage, ObjectValue, ImageObject, VirtualObject, IsObject, values, samples_format, IsSample, Named, object_held, object_held_has, VirtualOutput, Slot, Stage, is_named, standing_image, standing, shown_as, shown, slot_of, holder_at, HoldsVirtual, HasRoomFor, IsStage, claimed}
+use Rattle.std.proofs.Common.{◌≡◌, ◌≢◌, ℕ, zero, suc, ◌⊎◌, true, List, [], ◌∷◌, get_or, set, Option, Some, None, IfSome, refl, sym, ap, subst, ◌∙◌, arith, All, ◌==◌, if◌then◌else◌, slice_get, take, option_map, option_and_then, eqb-true, eq-eqb, length-take-le}
+use Rattle.graph_run.proofs.Common.{with_item, cases_Bool, eqb-false, nat_tests, All-nil, All-cons, All-head, All-tail, All-set, All-take, slice_get-get_or, VirtualImage, IsDescription, sample_count, IsImage, ObjectValue, ImageObject, VirtualObject, IsObject, values, samples_format, IsSample, Named, object_held, object_held_has, VirtualOutput, Slot, Stage, is_named, standing_image, standing, shown_as, slot_of, holder_at, HoldsVirtual, HasRoomFor, IsStage, claimed}
+use Rattle.graph_run.specs.Stage.{shown}
 use Rattle.vx_base.specs.Picture.{PictureValue, IsPicture}
 use Rattle.vx_base.proofs.PictureLaws.{pictured_image}
 use Rattle.graph_run.proofs.StageLemmas.{held-shown, alone_at, alone_found}

@@ -1,23 +1,17 @@
 -- Nodes that count bands of rows, and what they count.
-use Rattle.std.proofs.Common.{◌≢◌, ◌≡◌, ℕ, ℤ, ◌+◌, ◌-◌, ◌^◌, ◌<◌, ◌≤◌, Bool, true, false, List, [], ◌∷◌, length, replicate, slice_index, Option, Some, None, inl, inr, refl, sym, ap, ◌∙◌, arith, ◌==◌, ◌&&◌, if◌then◌else◌, nat_le, nat_lt, IsTrue, is_some, is_none, ◌||◌, option_map, option_and_then, subst}
-use Rattle.graph_run.proofs.Common.{cases_Bool, eqb-true, nat_tests, and_parts, BinsValue, histogram, Format, U8, takes_formats, Function, Node, IsNode, parameters, In, Rectangle, ImageValue, IsImage, at, all_rows, ObjectValue, object_kind, Cell, cell_of, Named, object_held, in_slot, lasting, skeleton, length-map-range_with_len, Strip, IsWithinRows, counts, counts_rows, U32}
-use Rattle.std.specs.Prelude.{find}
+use Rattle.std.proofs.Common.{◌≢◌, ◌≡◌, ℕ, ℤ, ◌+◌, ◌-◌, ◌^◌, ◌<◌, ◌≤◌, Bool, true, false, List, [], ◌∷◌, length, replicate, slice_index, Option, Some, None, inl, inr, refl, sym, ap, ◌∙◌, arith, ◌==◌, ◌&&◌, if◌then◌else◌, nat_le, nat_lt, IsTrue, is_some, is_none, ◌||◌, option_map, option_and_then, subst, eqb-true, find}
+use Rattle.graph_run.proofs.Common.{cases_Bool, and_parts, nat_tests, BinsValue, histogram, Format, U8, U32, takes_formats, Function, Node, IsNode, parameters, In, Rectangle, ImageValue, IsImage, at, all_rows, ObjectValue, object_kind, Cell, cell_of, Named, object_held, in_slot, lasting, skeleton, length-map-range_with_len, Strip, IsWithinRows, counts, counts_rows, DistributionObject, DistributionValue, ExtremesObject, Extremes, added_extremes, inside, extremes, valid_samples, added, valid_in, band_seen, counted_above, counted_before, extremes_value, located_before, located_too, tallied_too, tallies, tallies_rows}
 use Rattle.vx_base.specs.declared.function.Function.TheVariants.{Histogram}
 use Rattle.vx_base.specs.declared.kind.Kind.TheVariants as kind
-use Rattle.vx_base.specs.Object.{DistributionObject, DistributionValue, ExtremesObject, IsDistribution, no_extremes}
-use Rattle.vx_base.specs.declared.extremes.Extremes.{Extremes}
-use Rattle.stat_kernels.specs.Located.{added_extremes}
+use Rattle.vx_base.specs.Object.{IsDistribution, no_extremes}
 use Rattle.stat_kernels.proofs.LocatedLaws.{AreLowered, lowered_none, lowered_row}
-use Rattle.vx_base.specs.Rectangle.{inside}
-use Rattle.vx_base.specs.Statistics.{extremes, places, row_places, tallies as tallies_of, valid_samples}
+use Rattle.vx_base.specs.Statistics.{places, row_places, tallies as tallies_of}
 use Rattle.node_rows.specs.Parts.{StandsFor}
-use Rattle.stat_kernels.specs.Counts.{added}
-use Rattle.stat_kernels.specs.Part.{band_of, valid_in}
+use Rattle.stat_kernels.specs.Part.{band_of}
 use Rattle.stat_kernels.proofs.BandLaws.{bands_counted, bands_fit, bands_located, extremes_few, none_counted, none_located, places_lowered, row_of, rows_at, tally_few}
 use Rattle.std.proofs.lemmas.List.{length-replicate}
 use Rattle.graph_run.proofs.CellLemmas.{IsReplacement}
 use Rattle.graph_run.proofs.RunLemmas.{has_of_node}
-use Rattle.graph_run.specs.Bands.{band_seen, counted_above, counted_before, extremes_value, located_before, located_too, tallied_too, tallies, tallies_rows}
 
 -- ---- who counts
 

@@ -1,6 +1,8 @@
 -- What a graph that runs in bands leaves in the end, cell by cell.
-use Rattle.std.proofs.Common.{◌≡◌, ℕ, Bool, true, false, eqb, List, [], ◌∷◌, ◌++◌, map, length, Option, Some, None, inl, inr, refl, sym, ap, subst, ◌∙◌, arith, ◌==◌, ◌&&◌, ◌||◌, not, if◌then◌else◌, IsTrue, is_some, is_none, All, IfSome, unwrap_or, option_map, option_and_then}
-use Rattle.graph_run.proofs.Common.{IsStrictlyIncreasing, cases_Bool, eqb-true, eq-eqb, and_parts, or_left, or_right, false_from_ne_true, Format, S16, U8, Kind, Node, Output, First, Second, VirtualImage, Cell, cell_of, Description, IsDescription, parameters, accumulates, ImageValue, IsImage, new_image, description_of, from_two, formula_of_two, added_to, object_held_has, IsNode, is_node, given, outputs, operands, second_kind, ObjectValue, ImageObject, VirtualObject, IsObject, object_kind, beside_first, image_of_one, object_format, takes_formats, node_image, node_output, written_to, written_in, written_from, written_by, SecondHasSize, in_slot, Named, object_held, held, with_written, image_value, cell_object, image_held, HoldsImage, names_of, held_by_name, map-told, VirtualOutput, Operand, Image, Delay, Verified, reads, writes, is_written, In, AllIn, operand_of, resolved, In-from_same, same-from_In, In-left, In-right, In-append, In-from_any, any-from_In, In-from_map, AllIn-permutation, AllIn-permutation_back, CanRun, HasInputs, reach, matrix_in, RunsInBands, HasHeight, final_of, is_target, is_virtual_name, banded, counts, counter_of, one_writer, and_from, reach_of, rows_beside, begun_as, begun, forgotten, is_virtual_object, one_by_one, rounds_of_nodes, run_of_graph, Lasts, HoldsOperand, names_cell, StandsFor, CellsStand, operand_held, Solves, label_of, HoldsVirtual, AreApart, RunsTo, HoldsKind, CanRunNow}
+use Rattle.std.proofs.Common.{◌≡◌, ℕ, Bool, true, false, eqb, List, [], ◌∷◌, ◌++◌, map, length, Option, Some, None, inl, inr, refl, sym, ap, subst, ◌∙◌, arith, ◌==◌, ◌&&◌, ◌||◌, not, if◌then◌else◌, IsTrue, is_some, is_none, All, IfSome, unwrap_or, option_map, option_and_then, eqb-true, eq-eqb}
+use Rattle.graph_run.proofs.Common.{IsStrictlyIncreasing, cases_Bool, and_parts, or_left, or_right, false_from_ne_true, and_from, Format, S16, U8, Kind, Node, Output, First, Second, VirtualImage, Cell, cell_of, Description, IsDescription, parameters, accumulates, ImageValue, IsImage, new_image, description_of, from_two, formula_of_two, added_to, AreApart, RunsTo, object_held_has, names_of, held_by_name, IsNode, is_node, given, outputs, operands, second_kind, ObjectValue, ImageObject, VirtualObject, IsObject, object_kind, object_format, beside_first, image_of_one, node_image, node_output, written_to, written_in, written_from, written_by, takes_formats, SecondHasSize, in_slot, Named, object_held, held, with_written, image_value, cell_object, image_held, HoldsImage, map-told, VirtualOutput, Operand, Image, Delay, Verified, writes, is_written, In, AllIn, operand_of, resolved, In-from_same, same-from_In, one_writer, In-left, In-right, In-append, In-from_any, any-from_In, In-from_map, AllIn-permutation, AllIn-permutation_back, CanRun, HasInputs, reach, matrix_in, RunsInBands, HasHeight, final_of, is_target, is_virtual_name, banded, counts, counter_of, reach_of, rows_beside, begun_as, begun, forgotten, is_virtual_object, one_by_one, rounds_of_nodes, run_of_graph, Lasts, HoldsOperand, names_cell, CellsStand, operand_held, Solves, label_of, HoldsVirtual, HoldsKind, CanRunNow, DistributionObject, ExtremesObject, integral, integrates, is_sum, tallies}
+use Rattle.graph_verify.specs.Links.{reads}
+use Rattle.graph_run.specs.Operands.{StandsFor}
 use Rattle.vx_base.specs.declared.kind.Kind.TheVariants as kind
 use Rattle.vx_base.proofs.ImageLaws.{new_image_is}
 use Rattle.vx_base.proofs.PictureLaws.{side}
@@ -8,9 +10,7 @@ use Rattle.graph_verify.specs.Operand.{is_virtual as is_virtual_operand}
 use Rattle.graph_run.proofs.CellLemmas.{held_whole, kind_there, there_is, holds_there, one_cell}
 use Rattle.graph_run.proofs.AgreeLemmas.{begin, begins, written_before}
 use Rattle.graph_run.proofs.BegunLaws.{both_held, kept_virtual, labels-begun, labels-forgotten, object_held-forgotten, object_held-unwritten, virtual_as_operand}
-use Rattle.vx_base.specs.Object.{DistributionObject, ExtremesObject}
-use Rattle.vx_base.specs.Statistics.{integral, sums_in}
-use Rattle.graph_run.specs.Bands.{integrates, is_sum, tallies}
+use Rattle.vx_base.specs.Statistics.{sums_in}
 use Rattle.graph_run.proofs.CountLemmas.{counts_other, distribution_of_kind, extremes_of_kind, locates_output, tallies_output, find_none, find_some}
 use Rattle.graph_run.proofs.FoundLemmas.{OfOperands, of_operands}
 use Rattle.graph_run.proofs.LastingLemmas.{Lasts-trans, Lasts-names}

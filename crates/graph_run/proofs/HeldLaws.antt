@@ -1,7 +1,6 @@
 -- What cells hold after objects are written to some of them.
-use Rattle.std.proofs.Common.{◌≡◌, ℕ, Bool, true, false, ◌&&◌, if◌then◌else◌, eqb, List, [], ◌∷◌, ◌++◌, map, refl, sym, ap, subst, ◌∙◌, inl, inr, Option, Some, None, arith, rules, option_map, option_and_then}
-use Rattle.graph_run.proofs.Common.{cases_Bool, eqb-true, eqb-false, Cell, same_slot, same_cell, ObjectValue, ImageObject, object_kind, in_slot, with_slot, image_value, Named, object_held, held, with_object, with_written, image_of_kind, with_slot_there, with_slot_beside, In, form_of, form_held, label_of, same_cell-true}
-use Rattle.std.specs.Option.{option_or}
+use Rattle.std.proofs.Common.{◌≡◌, ℕ, Bool, true, false, ◌&&◌, if◌then◌else◌, eqb, List, [], ◌∷◌, ◌++◌, map, refl, sym, ap, subst, ◌∙◌, inl, inr, Option, Some, None, arith, rules, option_map, option_and_then, eqb-true}
+use Rattle.graph_run.proofs.Common.{cases_Bool, eqb-false, Cell, same_slot, same_cell, ObjectValue, ImageObject, object_kind, in_slot, with_slot, image_value, Named, object_held, held, with_object, with_written, image_of_kind, with_slot_there, with_slot_beside, In, form_of, form_held, label_of, same_cell-true, option_or}
 use Rattle.vx_base.specs.declared.kind.Kind.TheVariants as kind
 use Rattle.object_table.proofs.SlotLemmas.{slot_has_image}
 use Rattle.graph_run.proofs.ObjectLaws.{is_delay, shown, is_delay-form, kind-form, form-shown, no_slot}

@@ -1,6 +1,7 @@
 -- The cells that nodes read and write, and lists of them.
 use Rattle.std.proofs.Common.{◌≡◌, true, false, List, get_or, subst, Some, arith}
-use Rattle.graph_run.proofs.Common.{list_any, or_left, or_right, false_from_ne_true, Node, Cell, same_cell, given, In, reads, writes, is_written, same_cell-refl, In-from_any, any-from_In, In-at, Contains-from_In}
+use Rattle.graph_run.proofs.Common.{list_any, or_left, or_right, false_from_ne_true, Node, Cell, same_cell, given, In, writes, is_written, same_cell-refl, In-from_any, any-from_In, In-at, Contains-from_In}
+use Rattle.graph_verify.specs.Links.{reads}
 use Rattle.std.specs.List.{All}
 
 -- ---- members of lists

@@ -1,6 +1,6 @@
 -- Objects under the same names and labels, of which the same is seen at each cell, are the same.
-use Rattle.std.proofs.Common.{◌≡◌, ℕ, suc, ◌<◌, Bool, true, false, eqb, List, [], ◌∷◌, length, map, get_or, refl, sym, ap, subst, ◌∙◌, inl, inr, Option, Some, None, arith, slice_get, option_map, option_and_then}
-use Rattle.graph_run.proofs.Common.{AllPairs, cases_Bool, eqb-true, eq-eqb, ne_eqb, Cell, ImageValue, ObjectValue, ImageObject, DelayObject, in_slot, Named, object_held, label_of}
+use Rattle.std.proofs.Common.{◌≡◌, ℕ, suc, ◌<◌, Bool, true, false, eqb, List, [], ◌∷◌, length, map, get_or, refl, sym, ap, subst, ◌∙◌, inl, inr, Option, Some, None, arith, slice_get, option_map, option_and_then, eqb-true, eq-eqb, ne_eqb}
+use Rattle.graph_run.proofs.Common.{AllPairs, cases_Bool, Cell, ImageValue, ObjectValue, ImageObject, DelayObject, in_slot, Named, object_held, label_of}
 use Rattle.graph_run.proofs.ObjectLaws.{is_delay, shown, shown_whole, is_delay-shown}
 use Rattle.graph_run.proofs.HeldLaws.{seen}
 

@@ -1,7 +1,6 @@
 -- What a node writes, cell by cell.
 use Rattle.std.proofs.Common.{◌≡◌, ◌≢◌, Bool, true, false, ◌||◌, if◌then◌else◌, List, [], ◌∷◌, refl, sym, ap, ◌∙◌, inl, inr, Option, Some, None, arith, option_map, option_and_then, ◌⊎◌}
-use Rattle.graph_run.proofs.Common.{cases_Bool, or_left, or_right, or_parts, Node, Output, First, Second, Cell, same_cell, outputs, ObjectValue, object_kind, node_output, written_to, written_in, written_from, Named, held, In, writes, has_twice, kind_in, form_of, form_held, In-append, same_cell-true}
-use Rattle.std.specs.Option.{option_or}
+use Rattle.graph_run.proofs.Common.{cases_Bool, or_left, or_right, or_parts, Node, Output, First, Second, Cell, same_cell, outputs, ObjectValue, object_kind, node_output, written_to, written_in, written_from, Named, held, In, writes, has_twice, kind_in, form_of, form_held, In-append, same_cell-true, option_or}
 use Rattle.vx_base.specs.declared.kind.Kind.TheVariants as kind
 use Rattle.graph_run.proofs.ObjectLaws.{is_delay, shown, is_delay-form, not_delay, form-node_output, shown-node_output}
 use Rattle.graph_run.proofs.HeldLaws.{IsWrite, AreWrites, last_to, last_to-append, or_assoc}

@@ -1,7 +1,7 @@
 -- What of objects is kept as nodes write: kinds, formats and bins.
 use Rattle.std.proofs.Common.{◌≡◌, ◌≢◌, ℕ, Bool, true, false, [], refl, ap, Option, Some, None, if◌then◌else◌, option_map}
-use Rattle.graph_run.proofs.Common.{Format, Function, NotBits, Node, Output, accumulates, ImageValue, new_image, ObjectValue, ImageObject, DelayObject, object_kind, image_of_one, node_image, beside_first, node_output, in_slot, form_of}
-use Rattle.vx_base.specs.declared.function.Function.TheVariants.{ConvertDepth, Integral}
+use Rattle.graph_run.proofs.Common.{Format, Function, NotBits, Node, Output, accumulates, ImageValue, new_image, ObjectValue, ImageObject, DelayObject, object_kind, image_of_one, node_image, beside_first, node_output, in_slot, form_of, Integral}
+use Rattle.vx_base.specs.declared.function.Function.TheVariants.{ConvertDepth}
 use Rattle.vx_base.specs.declared.kind.Kind.TheVariants as kind
 
 -- ---- a delay as a whole

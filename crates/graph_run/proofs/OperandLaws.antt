@@ -1,6 +1,8 @@
 -- What cells hold, as operands: as a graph begins to run, and as its nodes write.
 use Rattle.std.proofs.Common.{◌≡◌, ◌≢◌, ℕ, Bool, true, false, List, map, refl, sym, ap, subst, ◌∙◌, inl, inr, Option, Some, None, arith, ◌==◌, ◌||◌, not, if◌then◌else◌, option_to_list, slice_get, option_map, option_and_then}
-use Rattle.graph_run.proofs.Common.{list_all, list_any, cases_Bool, and_parts, or_cases, or_left, or_parts, or_right, Format, Function, Node, Output, VirtualImage, Cell, Description, same_size, parameters, accumulates, ImageValue, description_of, inputs, outputs, ObjectValue, ImageObject, DelayObject, VirtualObject, object_kind, image_of_one, node_image, beside_first, node_output, written_by, in_slot, Named, object_held, held, with_written, skeleton, Operand, Image, Operands, reads, writes, is_written, In, operand_of, operand_kind, operand_format, are_of_one_size, is_virtual, operands_of, outlines, resolved, writes_twice, reads_own_output, node_fault, verdict_on, In-from_same, In-from_any, any-from_In, fails-from_In, In-map, In-right, runs_alone, CanRun, begun_as, begun, HoldsOperand, names_cell, StandsFor, CellsStand, WritesNo}
+use Rattle.graph_run.proofs.Common.{list_all, list_any, cases_Bool, and_parts, or_cases, or_left, or_parts, or_right, Format, Function, Node, Output, VirtualImage, Cell, Description, same_size, parameters, accumulates, ImageValue, description_of, inputs, outputs, ObjectValue, ImageObject, DelayObject, VirtualObject, object_kind, image_of_one, node_image, beside_first, node_output, written_by, in_slot, Named, object_held, held, with_written, skeleton, Operand, Image, Operands, writes, is_written, In, operand_of, operand_kind, operand_format, are_of_one_size, is_virtual, operands_of, outlines, resolved, writes_twice, reads_own_output, node_fault, verdict_on, In-from_same, In-from_any, any-from_In, fails-from_In, In-map, In-right, runs_alone, CanRun, begun_as, begun, HoldsOperand, names_cell, CellsStand, WritesNo}
+use Rattle.graph_verify.specs.Links.{reads}
+use Rattle.graph_run.specs.Operands.{StandsFor}
 use Rattle.std.proofs.lemmas.List.Sums.{AllPass-from_list_all}
 use Rattle.vx_base.specs.declared.kind.Kind.TheVariants as kind
 use Rattle.vx_base.specs.Outline.{Outline, closed}

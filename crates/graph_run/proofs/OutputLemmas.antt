@@ -1,8 +1,9 @@
 -- What nodes write to an output, whose samples are taken out, and put back once they are written.
 use Rattle.std.proofs.Common.{◌≡◌, ◌*◌, length, true, false, ℤ, List, Option, refl, ap, ◌∙◌, sym, [], Some, None, subst, arith, unsigned_abs, ◌==◌, IfSome, option_map}
-use Rattle.graph_run.proofs.Common.{length-map-range_with_len, ImageValue, IsImage, image_over, description_of, BinsValue, histogram, and_parts, Node, Format, Rectangle, empty, Description, same_size, ObjectValue, ImageObject, IsObject, object_kind, Output, image_of_one, node_image, beside_first, node_output, length-table, ImageMut, all_rows, HaveSameSize, written, Writes, all_written, CanRunTo, Holds, IsRead, RunsOn, RunsTo, output_of, image_value, with_samples, Kind, parameters, accumulates, Function, NotBits, Cell, Context, with_objects, Named, with_object, cell_object, image_held, HoldsImage}
+use Rattle.graph_run.proofs.Common.{length-map-range_with_len, ImageValue, IsImage, image_over, description_of, BinsValue, histogram, and_parts, Node, Format, Rectangle, empty, Description, same_size, ObjectValue, ImageObject, IsObject, object_kind, Output, image_of_one, node_image, beside_first, node_output, length-table, ImageMut, all_rows, HaveSameSize, written, Writes, all_written, CanRunTo, Holds, IsRead, RunsOn, RunsTo, image_value, with_samples, Kind, parameters, accumulates, Function, NotBits, Cell, Context, with_objects, Named, with_object, cell_object, image_held, HoldsImage, valid_samples}
+use Rattle.graph_run.specs.Steps.{output_of}
 use Rattle.std.specs.List.{count_by}
-use Rattle.vx_base.specs.Statistics.{bin_of, is_bin, valid_samples}
+use Rattle.vx_base.specs.Statistics.{bin_of, is_bin}
 use Rattle.vx_base.proofs.ImageLaws.{same_parts}
 use Rattle.graph_run.proofs.OperandLaws.{described_node}
 use Rattle.vx_base.specs.declared.kind.Kind.TheVariants as kind

@@ -1,6 +1,7 @@
 -- Nodes that write two outputs at once: the samples of both are taken out, and put back once they are written.
-use Rattle.std.proofs.Common.{◌≡◌, ℕ, true, false, ℤ, List, [], ◌∷◌, Option, Some, None, refl, sym, ap, subst, ◌∙◌, arith, ◌==◌, option_map}
-use Rattle.graph_run.proofs.Common.{and_parts, eqb-true, cases_Bool, Format, S16, Function, Sobel, Node, Output, First, Second, Cell, Description, takes_formats, parameters, accumulates, ImageValue, IsImage, description_of, image_over, IsNode, ObjectValue, ImageObject, DelayObject, node_image, beside_first, Rectangle, empty, from_nine, formula_of_nine, ImageMut, all_rows, HaveSameSize, written, Writes, Context, with_objects, with_slot, Named, with_object, image_value, with_samples, cell_object, image_held, HoldsImage, AreApart, TwoSlots, CanRunTo, RunsTo, output_of, with_output}
+use Rattle.std.proofs.Common.{◌≡◌, ℕ, true, false, ℤ, List, [], ◌∷◌, Option, Some, None, refl, sym, ap, subst, ◌∙◌, arith, ◌==◌, option_map, eqb-true}
+use Rattle.graph_run.proofs.Common.{and_parts, cases_Bool, Format, S16, Function, Sobel, Node, Output, First, Second, Cell, Description, takes_formats, parameters, accumulates, ImageValue, IsImage, description_of, image_over, IsNode, ObjectValue, ImageObject, DelayObject, node_image, beside_first, Rectangle, empty, from_nine, formula_of_nine, ImageMut, all_rows, HaveSameSize, written, Writes, Context, with_objects, with_slot, Named, with_object, image_value, with_samples, cell_object, image_held, HoldsImage, AreApart, TwoSlots, CanRunTo, RunsTo, with_output}
+use Rattle.graph_run.specs.Steps.{output_of}
 use Rattle.std.proofs.lemmas.List.{set_comm}
 use Rattle.vx_base.specs.declared.kind.Kind.TheVariants as kind
 use Rattle.graph_run.proofs.KernelLemmas.{gradient_written}

@@ -1,6 +1,7 @@
 -- Nodes that write two outputs at once by the rows that they see: the samples of both are taken out, and put back once they are written.
 use Rattle.std.proofs.Common.{◌≡◌, ℕ, ℤ, List, [], take, None, refl, sym, ap, ◌∙◌, option_map}
-use Rattle.graph_run.proofs.Common.{Sobel, Node, First, Second, Cell, Description, sample_count, ImageValue, IsImage, image_over, description_of, ObjectValue, ImageObject, node_image, Rectangle, empty, Band, Context, with_objects, Named, with_object, image_value, with_samples, cell_object, image_held, HoldsImage, Stage, HasRows, SeesParts, part_made, seen, scene, slot_of, Resized, AreApart, CanRunTo}
+use Rattle.graph_run.proofs.Common.{Sobel, Node, First, Second, Cell, Description, sample_count, ImageValue, IsImage, image_over, description_of, ObjectValue, ImageObject, node_image, Rectangle, empty, Band, Context, with_objects, Named, with_object, image_value, with_samples, cell_object, image_held, HoldsImage, Stage, HasRows, SeesParts, scene, slot_of, Resized, AreApart, CanRunTo}
+use Rattle.graph_run.specs.Bands.{part_made, seen}
 use Rattle.graph_run.proofs.CellLemmas.{image_after, image_beside, object_after, object_beside, with_object_twice}
 use Rattle.graph_run.proofs.PairLemmas.{in_any_order, reads_one}
 use Rattle.graph_run.proofs.RunLemmas.{apart_back}

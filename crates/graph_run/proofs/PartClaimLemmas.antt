@@ -1,6 +1,8 @@
 -- Parts of virtual images that claim their slots: what stands there then.
 use Rattle.std.proofs.Common.{◌≡◌, ◌≢◌, ℕ, zero, suc, ◌+◌, ◌*◌, ◌/◌, ◌<◌, ◌≤◌, true, false, List, [], ◌∷◌, ◌++◌, map, take, length, get_or, set, Some, None, inr, refl, sym, ap, subst, ◌∙◌, arith, mul_comm, le-div_iff_mul-le, ◌==◌, ◌&&◌, IsTrue, slice_get, IfSome}
-use Rattle.graph_run.proofs.Common.{AllPairs, nat_tests, length-map, get_or-map, All-map, All-push, mul-le-mul_right, IfSome_then, Node, Cell, same_cell, Description, IsDescription, is_side, sample_count, same_format, Format, Named, object_held, VirtualOutput, writes, is_written, In, In-filter, In-from_filter, In-map, In-from_map, is_used, PlanValue, of_format, Slot, output_part, place_of, strip_plan, plan_in, most_rows, room_of, AreEmpty, AreShared, claimed_at, shown, holder_at, HoldsVirtual, slot_of, AreVirtual}
+use Rattle.graph_run.proofs.Common.{AllPairs, nat_tests, length-map, get_or-map, All-map, All-push, mul-le-mul_right, IfSome_then, Node, Cell, same_cell, Description, IsDescription, is_side, sample_count, same_format, Format, Named, object_held, VirtualOutput, writes, is_written, In, In-filter, In-from_filter, In-map, In-from_map, is_used, PlanValue, Slot, output_part, place_of, strip_plan, plan_in, most_rows, room_of, AreEmpty, AreShared, claimed_at, holder_at, HoldsVirtual, slot_of, AreVirtual}
+use Rattle.buffer_plan.specs.Slots.{of_format}
+use Rattle.graph_run.specs.Stage.{shown}
 use Rattle.std.proofs.lemmas.List.{take_more_set}
 use Rattle.graph_verify.proofs.MemberLemmas.{any-map}
 use Rattle.buffer_plan.specs.Lives.{is_live}

@@ -1,7 +1,6 @@
 -- The first elements of a list, which are written.
-use Rattle.std.proofs.Common.{◌≡◌, ◌≤◌, ◌++◌, ◌∙◌, ℕ, List, length, map, pos, take, drop, ap, arith}
-use Rattle.graph_run.proofs.Common.{take-map, take-append-le, take_all, append_assoc}
-use Rattle.std.proofs.lemmas.List.{take-take}
+use Rattle.std.proofs.Common.{◌≡◌, ◌≤◌, ◌++◌, ◌∙◌, ℕ, List, length, map, pos, take, drop, ap, arith, take_all, append_assoc, take-take}
+use Rattle.graph_run.proofs.Common.{take-map, take-append-le}
 
 -- they stand there
 pub first_written : {X : Type 0} (n len : ℕ) (first others items : List X) → length first ≡ n → n ≤ len → take n (take len ((first ++ others) ++ drop (length (first ++ others)) items)) ≡ first

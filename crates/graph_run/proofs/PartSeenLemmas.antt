@@ -1,7 +1,6 @@
 -- Rows of images that nodes see, as images of their own.
-use Rattle.std.proofs.Common.{◌≡◌, ℕ, ℤ, ◌+◌, ◌-◌, ◌*◌, ◌≤◌, false, List, map, length, take, drop, Option, Some, None, sym, ap, subst, ◌∙◌, arith, zero-add, IsSome, position}
+use Rattle.std.proofs.Common.{◌≡◌, ℕ, ℤ, ◌+◌, ◌-◌, ◌*◌, ◌≤◌, false, List, map, length, take, drop, Option, Some, None, sym, ap, subst, ◌∙◌, arith, zero-add, IsSome, position, drop_at, take_at}
 use Rattle.graph_run.proofs.Common.{length-map, take-map, drop-map, Format, Description, Rectangle, ImageValue, IsImage, image_over, description_of, band, at, ObjectValue, ImageObject, object_kind, band-append, length-band, Band, IsInRows, Cell, Named, object_held, image_value, cell_object, HoldsImage, image_of_kind, part_of, part_is, Slot, Stage, HasRowsIn, part_seen, seen_in, is_virtual_object, is_named, slot_of, IsArranged}
-use Rattle.std.proofs.lemmas.List.{drop_at, take_at}
 use Rattle.vx_base.specs.declared.kind.Kind.TheVariants as kind
 use Rattle.vx_base.proofs.ImageLaws.{samples_are_band}
 use Rattle.node_rows.specs.Parts.{rows_of}

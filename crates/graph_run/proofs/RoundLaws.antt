@@ -1,7 +1,6 @@
 -- Rounds and runs of objects, as rounds and runs of what is seen at each cell.
 use Rattle.std.proofs.Common.{◌≡◌, ℕ, zero, suc, Bool, true, false, List, [], ◌∷◌, map, refl, sym, ap, ◌∙◌, inl, inr, Option, None, arith, option_map}
-use Rattle.graph_run.proofs.Common.{list_any, flat_map, cases_Bool, or_parts, fun_ext, Node, Cell, ObjectValue, written_from, written_by, Named, held, with_written, In, AllIn, writes, OneWriter, rounds_of_nodes, one_by_one, WritesNo, form_held, label_of, In-from_any, any-from_In, In-from_flat_map}
-use Rattle.std.specs.Option.{option_or}
+use Rattle.graph_run.proofs.Common.{list_any, flat_map, cases_Bool, or_parts, fun_ext, Node, Cell, ObjectValue, written_from, written_by, Named, held, with_written, In, AllIn, writes, OneWriter, rounds_of_nodes, one_by_one, WritesNo, form_held, label_of, In-from_any, any-from_In, In-from_flat_map, option_or}
 use Rattle.vx_base.specs.declared.kind.Kind.TheVariants as kind
 use Rattle.graph_verify.specs.Rounds as cells
 use Rattle.graph_run.specs.Graph.{round_of_nodes}

@@ -1,17 +1,16 @@
 -- Nodes on what their cells hold, and what they write.
-use Rattle.std.proofs.Common.{◌≡◌, ◌≢◌, ℕ, Bool, true, false, List, [], ◌∷◌, ◌++◌, Option, Some, None, refl, sym, ap, subst, ◌∙◌, arith, rules, All, ◌==◌, ◌&&◌, is_some, is_none, unwrap_or, if◌then◌else◌, IfSome, option_to_list, option_map, option_and_then}
-use Rattle.graph_run.proofs.Common.{list_any, list_all, IsStrictlyIncreasing, list_any-append, eq-eqb, and_parts, or_parts, Function, Output, First, Second, Kind, Node, Cell, same_cell, cell_of, Description, same_size, parameters, accumulates, ImageValue, IsImage, description_of, extremes, IsNode, is_node, given, outputs, second_kind, ObjectValue, ImageObject, ExtremesObject, IsObject, object_kind, object_format, node_image, beside_first, node_output, written_in, written_by, SecondHasSize, Operands, Operand, has_twice, operand_of, operands_of, operand_format, are_of_one_size, writes_twice, reads_own_output, node_fault, Named, held, with_object, with_written, image_value, object_under, IsUnder, cell_object, image_held, names_of, held_is, lasting, Lasts, operand_held, Holds, AreApart, RunsOn, RunsTo, counted_in, output_of, with_output, HoldsKind, CanRunNow, node_image_is}
+use Rattle.std.proofs.Common.{◌≡◌, ◌≢◌, ℕ, Bool, true, false, List, [], ◌∷◌, ◌++◌, Option, Some, None, refl, sym, ap, subst, ◌∙◌, arith, rules, All, ◌==◌, ◌&&◌, is_some, is_none, unwrap_or, if◌then◌else◌, IfSome, option_to_list, option_map, option_and_then, eq-eqb}
+use Rattle.graph_run.proofs.Common.{list_any, list_all, IsStrictlyIncreasing, list_any-append, and_parts, or_parts, Function, Output, First, Second, Kind, Node, Cell, same_cell, cell_of, Description, same_size, parameters, accumulates, ImageValue, IsImage, description_of, extremes, IsNode, is_node, given, outputs, second_kind, ObjectValue, ImageObject, ExtremesObject, IsObject, object_kind, object_format, node_image, beside_first, node_output, written_in, written_by, SecondHasSize, Operands, Operand, has_twice, operand_of, operands_of, operand_format, are_of_one_size, writes_twice, reads_own_output, node_fault, Named, held, with_object, with_written, image_value, object_under, IsUnder, cell_object, image_held, names_of, held_is, lasting, Lasts, operand_held, Holds, AreApart, RunsOn, RunsTo, counted_in, with_output, HoldsKind, CanRunNow, node_image_is, DistributionObject, accumulated_image_is}
+use Rattle.graph_run.specs.Steps.{output_of}
 use Rattle.std.proofs.lemmas.List.Folds.{list_all-append}
 use Rattle.vx_base.specs.declared.kind.Kind.TheVariants as kind
 use Rattle.vx_base.specs.Node.{has_amount, has_operands, all_named}
-use Rattle.vx_base.specs.Object.{DistributionObject}
 use Rattle.graph_verify.proofs.SuitLemmas.{passed, met, Suits, no_fault_suits}
 use Rattle.graph_run.proofs.FoundLemmas.{OfOperands, of_operands}
 use Rattle.graph_run.proofs.CellLemmas.{object_beside, object_if_beside, holds_beside, hold_beside, image_beside, there_is, kind_there, holds_there, operand_there, Lasts-with_object}
 use Rattle.graph_run.proofs.LastingLemmas.{images-last, Lasts-trans, Lasts-names}
 use Rattle.graph_run.proofs.OutputLemmas.{image_of_object, description_kept, length-histogram}
 use Rattle.graph_run.proofs.OperandLaws.{no_delay_written}
-use Rattle.vx_base.proofs.NodeLaws.{accumulated_image_is}
 
 -- ---- cells
 

@@ -1,6 +1,7 @@
 -- What nodes find on a stage: as outputs claim their slots, as nodes run, and at the end.
-use Rattle.std.proofs.Common.{◌≡◌, ◌≢◌, ◌<◌, ℕ, Bool, true, false, List, [], ◌∷◌, ◌++◌, map, length, get_or, Option, Some, None, ◌⊎◌, inl, inr, refl, sym, ap, subst, ◌∙◌, arith, ◌+◌, ◌≤◌, take, drop, ◌==◌, slice_get, option_map, option_and_then}
-use Rattle.graph_run.proofs.Common.{IsStrictlyIncreasing, cases_Bool, eqb-true, eq-eqb, or_left, list_any-append, take-append-drop, take_more, take_all, drop_more, drop_all, slice_get-map, Node, VirtualImage, Cell, written_by, ObjectValue, ImageObject, VirtualObject, object_kind, Named, object_held, held, with_written, names_of, held_by_name, map-told, VirtualOutput, Verified, writes, is_written, In, resolved, In-from_any, is_used, IsPlan, PlanValue, Slot, forgotten, is_virtual_object, one_by_one, run_of_graph, lasting_named, IsReady, operand_held, place_of, room_of, AreEmpty, AreShared, claimed_at, planned_rooms, label_of, is_named, standing_image, shown_as, shown, holder_at, HoldsVirtual, slot_of, fixed, AreVirtual, CanRunNow}
+use Rattle.std.proofs.Common.{◌≡◌, ◌≢◌, ◌<◌, ℕ, Bool, true, false, List, [], ◌∷◌, ◌++◌, map, length, get_or, Option, Some, None, ◌⊎◌, inl, inr, refl, sym, ap, subst, ◌∙◌, arith, ◌+◌, ◌≤◌, take, drop, ◌==◌, slice_get, option_map, option_and_then, eqb-true, eq-eqb, take-append-drop, take_all}
+use Rattle.graph_run.proofs.Common.{IsStrictlyIncreasing, cases_Bool, or_left, list_any-append, take_more, drop_more, drop_all, slice_get-map, Node, VirtualImage, Cell, written_by, ObjectValue, ImageObject, VirtualObject, object_kind, Named, object_held, held, with_written, names_of, held_by_name, map-told, VirtualOutput, Verified, writes, is_written, In, resolved, In-from_any, is_used, IsPlan, PlanValue, Slot, forgotten, is_virtual_object, one_by_one, run_of_graph, lasting_named, IsReady, operand_held, place_of, room_of, AreEmpty, AreShared, claimed_at, planned_rooms, label_of, is_named, standing_image, shown_as, holder_at, HoldsVirtual, slot_of, fixed, AreVirtual, CanRunNow}
+use Rattle.graph_run.specs.Stage.{shown}
 use Rattle.vx_base.specs.declared.kind.Kind.TheVariants as kind
 use Rattle.graph_run.proofs.AgreeLemmas.{written_once, Keeps, Agrees, StandsAs, first_output, second_output, output_cases, begin, begins, can_run_here, next_agrees}
 use Rattle.graph_run.proofs.BegunLaws.{both_held, kept_virtual, object_held-forgotten, labels-forgotten}

@@ -1,10 +1,13 @@
 -- What nodes that see parts of images write: parts to slots, and bands to images of the client's.
-use Rattle.std.proofs.Common.{◌≡◌, ℕ, ℤ, ◌+◌, ◌-◌, ◌*◌, ◌≤◌, ◌<◌, pos, Bool, List, [], ◌∷◌, ◌++◌, length, take, drop, get_or, Option, Some, None, IfSome, refl, sym, ap, subst, ◌∙◌, arith, All, IsSome, position, option_map}
-use Rattle.graph_run.proofs.Common.{IsStrictlyIncreasing, mul-le-mul_right, length-append, length-take, length-drop, take_all, All-take, All-cons, All-nil, All-from_get_or, Format, Node, Output, First, Second, Cell, Description, sample_count, ImageValue, IsImage, image_over, description_of, band, at, ObjectValue, ImageObject, IsObject, object_kind, node_image, Rectangle, whole, empty, IsSample, node_image_is, length-band, Band, IsInRows, Context, with_objects, Named, with_object, with_written, image_value, with_samples, cell_object, image_held, HoldsImage, part_of, part_is, Strip, Slot, Stage, seen_in, seen, HasRowsIn, HasRows, part_made, SeesParts, IsWithinRows, with_band, made_in, made_seen, HasPlaceIn, IsSeen, lasting, Lasts, is_named, scene, slot_of, IsStage, IsArranged, Keeps, Holds, IsRead, AreApart, CanRunTo}
+use Rattle.std.proofs.Common.{◌≡◌, ℕ, ℤ, ◌+◌, ◌-◌, ◌*◌, ◌≤◌, ◌<◌, pos, Bool, List, [], ◌∷◌, ◌++◌, length, take, drop, get_or, Option, Some, None, IfSome, refl, sym, ap, subst, ◌∙◌, arith, All, IsSome, position, option_map, length-append, length-take, length-drop, take_all}
+use Rattle.graph_run.proofs.Common.{IsStrictlyIncreasing, mul-le-mul_right, All-take, All-cons, All-nil, All-from_get_or, Format, Node, Output, First, Second, Cell, Description, sample_count, ImageValue, IsImage, image_over, description_of, band, at, ObjectValue, ImageObject, IsObject, object_kind, node_image, Rectangle, empty, IsSample, node_image_is, length-band, Band, IsInRows, Context, with_objects, Named, with_object, with_written, image_value, with_samples, cell_object, image_held, HoldsImage, part_of, part_is, Strip, Slot, Stage, seen_in, HasRowsIn, HasRows, SeesParts, IsWithinRows, with_band, made_in, made_seen, HasPlaceIn, IsSeen, lasting, Lasts, is_named, scene, slot_of, IsStage, IsArranged, Holds, IsRead, AreApart, CanRunTo, above}
+use Rattle.vx_base.specs.Rectangle.{whole}
+use Rattle.graph_run.specs.Bands.{seen, part_made}
+use Rattle.graph_run.specs.Stage.{Keeps}
 use Rattle.std.proofs.lemmas.List.Elements.{All-append, All-drop, All-get_or}
 use Rattle.vx_base.specs.declared.desc.TheConstants.{GREATEST_SIDE}
 use Rattle.vx_base.specs.declared.kind.Kind.TheVariants as kind
-use Rattle.vx_base.proofs.ImageLaws.{above, index_of_place, inside_whole}
+use Rattle.vx_base.proofs.ImageLaws.{index_of_place, inside_whole}
 use Rattle.graph_run.specs.Bands.{ReadsParts}
 use Rattle.graph_run.proofs.CellLemmas.{IsReplacement, held_image, object_beside, object_if_beside, hold_beside, image_beside, object_after, image_after, with_object_twice, Lasts-with_written}
 use Rattle.graph_run.proofs.LastingLemmas.{images-last}

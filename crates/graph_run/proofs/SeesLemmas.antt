@@ -1,9 +1,8 @@
 -- What nodes see of cells in a strip, beside what the cells hold in the end.
-use Rattle.std.proofs.Common.{◌≡◌, ◌≢◌, ℕ, ◌+◌, ◌≤◌, true, List, [], Option, Some, None, ◌⊎◌, inl, inr, IfSome, refl, sym, ap, ◌∙◌, arith, ◌==◌, unwrap_or, option_map, option_and_then}
-use Rattle.graph_run.proofs.Common.{and_parts, and_from, eqb-true, eq-eqb, Node, Cell, Description, same_size, parameters, ImageValue, IsImage, description_of, image_over, ObjectValue, ImageObject, IsObject, object_kind, object_format, empty, Band, SecondHasSize, Named, held, image_value, cell_object, image_held, HoldsImage, StandsBeside, part_of, part_is, stands_fewer, Slot, Stage, seen_in, HasRowsIn, right_from, right_to, scene, slot_of, CanRunTo, Holds, IsRead}
+use Rattle.std.proofs.Common.{◌≡◌, ◌≢◌, ℕ, ◌+◌, ◌≤◌, true, List, [], Option, Some, None, ◌⊎◌, inl, inr, IfSome, refl, sym, ap, ◌∙◌, arith, ◌==◌, unwrap_or, option_map, option_and_then, eqb-true, eq-eqb}
+use Rattle.graph_run.proofs.Common.{and_parts, and_from, Node, Cell, Description, same_size, parameters, ImageValue, IsImage, description_of, image_over, ObjectValue, ImageObject, IsObject, object_kind, object_format, empty, Band, SecondHasSize, Named, held, image_value, cell_object, image_held, HoldsImage, StandsBeside, part_of, part_is, stands_fewer, Slot, Stage, seen_in, HasRowsIn, right_from, right_to, scene, slot_of, CanRunTo, Holds, IsRead, part_stands}
 use Rattle.vx_base.specs.declared.kind.Kind.TheVariants as kind
 use Rattle.node_rows.specs.Parts.{StandsFor}
-use Rattle.node_rows.proofs.PartLaws.{part_stands}
 use Rattle.graph_run.proofs.OutputLemmas.{is_read}
 use Rattle.graph_run.proofs.StepLemmas.{nothing}
 

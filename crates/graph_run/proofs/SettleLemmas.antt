@@ -1,13 +1,12 @@
 -- Whether a graph runs in bands, and where its images are valid.
-use Rattle.std.proofs.Common.{◌≡◌, ◌≢◌, ℕ, zero, suc, ◌<◌, ◌+◌, ◌/◌, take, drop, Bool, true, false, List, ◌∷◌, ◌++◌, [], map, length, get_or, Option, Some, None, inl, inr, refl, sym, ap, subst, ◌∙◌, arith, ◌==◌, not, if◌then◌else◌, IsTrue, is_some, is_none, All, IfSome, slice_get, position, sum_by, unwrap_or, option_map, option_and_then}
-use Rattle.graph_run.proofs.Common.{list_any, IsStrictlyIncreasing, cases_Bool, eqb-true, eq-eqb, and_parts, take_more, take-append-drop, append_assoc, length-append, All-more, slice_get-get_or, Format, U8, Function, Kind, Node, Output, First, Second, Cell, same_slot, same_cell, ConvolutionValue, IsDescription, parameters, accumulates, ImageValue, new_image, given, inputs, outputs, second_kind, ObjectValue, ImageObject, IsObject, object_kind, image_of_one, node_image, Rectangle, window_valid, in_slot, Named, held, image_value, cell_object, image_held, Verified, reads, writes, In, resolved, In-from_same, In-append, In-right, In-from_any, any-from_In, fails-from_In, reach, matrix_in, RunsInBands, AreAreas, HasHeight, HoldsImage, In-at, In-left, banded, counts, final_of, is_virtual_name, reach_of, rows_beside, operand_held, IsReady, SuitsBands, IsArea, HoldsKind}
+use Rattle.std.proofs.Common.{◌≡◌, ◌≢◌, ℕ, zero, suc, ◌<◌, ◌+◌, ◌/◌, take, drop, Bool, true, false, List, ◌∷◌, ◌++◌, [], map, length, get_or, Option, Some, None, inl, inr, refl, sym, ap, subst, ◌∙◌, arith, ◌==◌, not, if◌then◌else◌, IsTrue, is_some, is_none, All, IfSome, slice_get, position, sum_by, unwrap_or, option_map, option_and_then, eqb-true, eq-eqb, take-append-drop, append_assoc, length-append}
+use Rattle.graph_run.proofs.Common.{list_any, IsStrictlyIncreasing, cases_Bool, and_parts, take_more, All-more, slice_get-get_or, Format, U8, Function, Kind, Node, Output, First, Second, Cell, same_slot, same_cell, ConvolutionValue, IsDescription, parameters, accumulates, ImageValue, new_image, given, inputs, outputs, second_kind, ObjectValue, ImageObject, IsObject, object_kind, image_of_one, node_image, Rectangle, window_valid, in_slot, Named, held, image_value, cell_object, image_held, HoldsImage, Verified, writes, In, resolved, In-from_same, In-append, In-right, In-from_any, any-from_In, fails-from_In, In-at, In-left, reach, matrix_in, RunsInBands, AreAreas, HasHeight, banded, counts, final_of, is_virtual_name, reach_of, rows_beside, operand_held, IsReady, SuitsBands, IsArea, HoldsKind, meet_of, integrates}
+use Rattle.graph_verify.specs.Links.{reads}
 use Rattle.std.proofs.lemmas.List.{get_or_default}
 use Rattle.std.proofs.lemmas.List.Sums.{sum_by_more}
 use Rattle.vx_base.specs.declared.kind.Kind.TheVariants as kind
 use Rattle.vx_base.specs.Object.{ConvolutionObject}
-use Rattle.vx_base.specs.Rectangle.{meet_of}
 use Rattle.graph_verify.proofs.MemberLemmas.{position-None}
-use Rattle.graph_run.specs.Bands.{integrates}
 use Rattle.graph_run.specs.Settle.{IsBandOutput, IsHigh, area_alone_of, area_alone}
 use Rattle.graph_run.proofs.FinalLemmas as final_lemmas
 use Rattle.graph_run.proofs.LinkLaws.{All-from_In, In-from_All, reads_first, reads_second, is_unwritten}

@@ -1,10 +1,9 @@
 -- Areas that are set at the end of a run in bands, and what the run leaves then.
-use Rattle.std.proofs.Common.{◌≢◌, ◌≡◌, ℕ, ℤ, ◌+◌, ◌*◌, ◌≤◌, ◌<◌, Bool, true, false, eqb, List, [], ◌∷◌, ◌++◌, map, length, take, drop, get_or, Option, Some, None, ◌⊎◌, inl, inr, refl, sym, ap, subst, ◌∙◌, arith, ◌&&◌, not, if◌then◌else◌, All, IfSome, unwrap_or, option_map, option_and_then}
-use Rattle.graph_run.proofs.Common.{skeleton, node_output, First, false_from_ne_true, cases_Bool, eqb-true, eq-eqb, and_parts, and_from, take_all, take_more, slice_get-get_or, U8, Node, Cell, cell_of, Description, ImageValue, IsImage, image_over, new_image, description_of, outputs, given, ObjectValue, ImageObject, VirtualObject, IsObject, object_kind, Rectangle, Context, with_objects, in_slot, Named, object_held, held, with_object, image_value, with_samples, cell_object, image_held, HoldsImage, object_held_has, Operand, Verified, writes, is_written, In, resolved, In-from_same, same-from_In, In-left, In-right, In-append, In-from_any, any-from_In, In-at, RunsInBands, final_of, is_target, is_virtual_name, IsFinished, RowsAreAs, IsAsFar, IsCounted, counter_of, counts, AreAreas, is_image_held, begun, forgotten, is_virtual_object, run_of_graph, lasting, lasting_named, Lasts, operand_held, label_of}
+use Rattle.std.proofs.Common.{◌≢◌, ◌≡◌, ℕ, ℤ, ◌+◌, ◌*◌, ◌≤◌, ◌<◌, Bool, true, false, eqb, List, [], ◌∷◌, ◌++◌, map, length, take, drop, get_or, Option, Some, None, ◌⊎◌, inl, inr, refl, sym, ap, subst, ◌∙◌, arith, ◌&&◌, not, if◌then◌else◌, All, IfSome, unwrap_or, option_map, option_and_then, eqb-true, eq-eqb, take_all}
+use Rattle.graph_run.proofs.Common.{skeleton, node_output, First, false_from_ne_true, cases_Bool, and_parts, and_from, take_more, slice_get-get_or, U8, Node, Cell, cell_of, Description, ImageValue, IsImage, image_over, new_image, description_of, outputs, given, ObjectValue, ImageObject, VirtualObject, IsObject, object_kind, Rectangle, Context, with_objects, in_slot, Named, object_held, held, with_object, image_value, with_samples, cell_object, image_held, HoldsImage, object_held_has, Operand, Verified, writes, is_written, In, resolved, In-from_same, same-from_In, In-left, In-right, In-append, In-from_any, any-from_In, In-at, RunsInBands, final_of, is_target, is_virtual_name, IsFinished, RowsAreAs, IsAsFar, IsCounted, counter_of, counts, AreAreas, is_image_held, begun, forgotten, is_virtual_object, run_of_graph, lasting, lasting_named, Lasts, operand_held, label_of, valid_in}
 use Rattle.vx_base.specs.declared.kind.Kind.TheVariants as kind
 use Rattle.graph_run.specs.Bands.{with_area_in, with_area}
 use Rattle.image_core.specs.Bands.{all_rows as rows_high}
-use Rattle.stat_kernels.specs.Part.{valid_in}
 use Rattle.stat_kernels.proofs.BandLaws.{all_valid}
 use Rattle.graph_run.proofs.AgreeLemmas.{begin, begins}
 use Rattle.graph_run.proofs.BegunLaws.{begun_stays}

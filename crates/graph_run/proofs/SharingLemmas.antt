@@ -1,6 +1,7 @@
 -- Virtual images that claim their slots: what stands in slots before and after.
-use Rattle.std.proofs.Common.{◌≡◌, ◌≢◌, ℕ, true, false, List, [], ◌∷◌, ◌++◌, map, suc, Option, Some, None, ◌⊎◌, inl, inr, refl, sym, ap, subst, ◌∙◌, arith, ◌==◌, ◌||◌, find, slice_get, if◌then◌else◌, unwrap_or, option_map, option_and_then}
-use Rattle.graph_run.proofs.Common.{AllPairs, cases_Bool, eqb-true, eq-eqb, ne_eqb, or_left, or_right, false_from_ne_true, list_any-append, slice_get-map, Node, Cell, same_cell, Description, VirtualOutput, Operand, Verified, IsVerified, written_description, reads, writes, is_written, In, same_cell-refl, same_cell-true, any-from_In, Contains-from_In, is_used, PlanValue, Slot, slot_place, place_of, room_of, planned_rooms, AreShared, claimed_at, is_named, holder_at, claimed}
+use Rattle.std.proofs.Common.{◌≡◌, ◌≢◌, ℕ, true, false, List, [], ◌∷◌, ◌++◌, map, suc, Option, Some, None, ◌⊎◌, inl, inr, refl, sym, ap, subst, ◌∙◌, arith, ◌==◌, ◌||◌, find, slice_get, if◌then◌else◌, unwrap_or, option_map, option_and_then, eqb-true, eq-eqb, ne_eqb}
+use Rattle.graph_run.proofs.Common.{AllPairs, cases_Bool, or_left, or_right, false_from_ne_true, list_any-append, slice_get-map, Node, Cell, same_cell, Description, VirtualOutput, Operand, Verified, IsVerified, written_description, writes, is_written, In, same_cell-refl, same_cell-true, any-from_In, Contains-from_In, is_used, PlanValue, Slot, slot_place, place_of, room_of, planned_rooms, AreShared, claimed_at, is_named, holder_at, claimed}
+use Rattle.graph_verify.specs.Links.{reads}
 use Rattle.graph_verify.proofs.KnownLemmas.{find_cases}
 use Rattle.buffer_plan.proofs.TakenLemmas.{one_when_taken}
 use Rattle.graph_run.specs.Slots.{claimed_if}

@@ -1,6 +1,8 @@
 -- Slots of a plan: where they stand, what they have room for, and what is found in them.
-use Rattle.std.proofs.Common.{◌≡◌, ℕ, ◌+◌, ◌<◌, ◌≤◌, Bool, true, false, cond, List, [], ◌∷◌, ◌++◌, map, length, suc, Option, Some, None, ◌⊎◌, inl, inr, refl, sym, ap, subst, ◌∙◌, arith, IfSome, find, slice_get, is_some, unwrap_or, option_map}
-use Rattle.graph_run.proofs.Common.{range_with_len, filter, list_any, eq-eqb, nat_tests, length-map-range_with_len, length-append, slice_get-map, slice_get-get_or, Format, U8, S16, U32, Cell, same_cell, sample_count, same_format, VirtualOutput, Node, In, same_cell-refl, any-from_In, In-filter, In-map, IsPlan, PlanValue, of_format, Slot, slot_place, place_of, room_of, planned_rooms, HasRoomFor}
+use Rattle.std.proofs.Common.{◌≡◌, ℕ, ◌+◌, ◌<◌, ◌≤◌, Bool, true, false, cond, List, [], ◌∷◌, ◌++◌, map, length, suc, Option, Some, None, ◌⊎◌, inl, inr, refl, sym, ap, subst, ◌∙◌, arith, IfSome, find, slice_get, is_some, unwrap_or, option_map, eq-eqb, length-append}
+use Rattle.graph_run.proofs.Common.{range_with_len, list_any, nat_tests, length-map-range_with_len, slice_get-map, slice_get-get_or, Format, U8, S16, U32, Cell, same_cell, sample_count, same_format, VirtualOutput, Node, In, same_cell-refl, any-from_In, In-filter, In-map, IsPlan, PlanValue, Slot, slot_place, place_of, room_of, planned_rooms, HasRoomFor}
+use Rattle.std.specs.List.{filter}
+use Rattle.buffer_plan.specs.Slots.{of_format}
 use Rattle.std.proofs.lemmas.List.FromFn.{get_or-map-range_with_len}
 use Rattle.buffer_plan.specs.Slots.{is_slot, greatest, IsValid}
 use Rattle.buffer_plan.proofs.PlanLemmas.{same_format-refl}

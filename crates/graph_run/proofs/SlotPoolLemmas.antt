@@ -1,6 +1,6 @@
 -- Blocks of a pool that slots take and give back.
-use Rattle.std.proofs.Common.{◌≡◌, ◌≢◌, ℕ, ◌+◌, ◌≤◌, ◌⊎◌, List, [], ◌∷◌, ◌++◌, length, map, max, refl, sym, ap, ◌∙◌, arith, if◌then◌else◌, sum_by}
-use Rattle.graph_run.proofs.Common.{range_with_len, map-append, append_assoc, Format, values, samples_format, same_format, lent_of, blocks_of, Slot, room_of, slot_blocks}
+use Rattle.std.proofs.Common.{◌≡◌, ◌≢◌, ℕ, ◌+◌, ◌≤◌, ◌⊎◌, List, [], ◌∷◌, ◌++◌, length, map, max, refl, sym, ap, ◌∙◌, arith, if◌then◌else◌, sum_by, append_assoc}
+use Rattle.graph_run.proofs.Common.{range_with_len, map-append, Format, values, samples_format, same_format, lent_of, blocks_of, Slot, room_of, slot_blocks}
 use Rattle.std.proofs.lemmas.List.FromFn.{map-range_with_len_more}
 use Rattle.std.proofs.lemmas.List.Sums.{sum_by_push, sum_by-cons}
 use Rattle.pixel_pool.specs.declared.pool.Pool.{Pool}

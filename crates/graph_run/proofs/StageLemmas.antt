@@ -1,8 +1,8 @@
 -- What nodes find of objects, where images stand in slots.
-use Rattle.std.proofs.Common.{◌≡◌, ◌≢◌, ℕ, zero, suc, ◌<◌, Bool, true, false, List, [], ◌∷◌, map, length, get_or, set, Option, Some, None, inl, inr, refl, sym, ap, ◌∙◌, arith, All, IsSome, ◌==◌, if◌then◌else◌, find, slice_get, position, option_map, option_and_then}
-use Rattle.graph_run.proofs.Common.{cases_Bool, eqb-true, eqb-false, ne_eqb, false_from_ne_true, nat_tests, All-head, All-tail, VirtualImage, Cell, cell_of, ObjectValue, ImageObject, VirtualObject, values, samples_format, in_slot, with_slot, Named, object_held, held, with_object, names_of, HasObject, object_held-map, VirtualOutput, Slot, is_virtual_object, is_named, standing_image, standing, shown_as, shown, slot_of, holder_at, fixed, resized}
+use Rattle.std.proofs.Common.{◌≡◌, ◌≢◌, ℕ, zero, suc, ◌<◌, Bool, true, false, List, [], ◌∷◌, map, length, get_or, set, Option, Some, None, inl, inr, refl, sym, ap, ◌∙◌, arith, All, IsSome, ◌==◌, if◌then◌else◌, find, slice_get, position, option_map, option_and_then, eqb-true, ne_eqb}
+use Rattle.graph_run.proofs.Common.{cases_Bool, eqb-false, false_from_ne_true, nat_tests, All-head, All-tail, VirtualImage, Cell, cell_of, ObjectValue, ImageObject, VirtualObject, values, samples_format, in_slot, with_slot, Named, object_held, held, with_object, names_of, HasObject, object_held-map, VirtualOutput, Slot, is_virtual_object, is_named, standing_image, standing, shown_as, slot_of, holder_at, fixed, resized, cases_lt}
+use Rattle.graph_run.specs.Stage.{shown}
 use Rattle.std.specs.List.{position_or_len}
-use Rattle.std.proofs.lemmas.Bool.{cases_lt}
 use Rattle.std.proofs.lemmas.List.Folds.{find_at}
 use Rattle.std.proofs.lemmas.List.Sums.{passes_at_first}
 use Rattle.std.proofs.lemmas.Option.{slice_get_cases, slice_get_past}

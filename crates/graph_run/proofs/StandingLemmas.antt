@@ -1,6 +1,7 @@
 -- The image that a cell holds on a stage, and stages where it changes.
-use Rattle.std.proofs.Common.{◌≡◌, ◌≢◌, ℕ, ◌<◌, Bool, true, false, ℤ, List, map, length, get_or, Option, Some, None, IfSome, refl, sym, ap, subst, ◌∙◌, arith, IsSome, slice_get, position, take, unwrap_or, option_map}
-use Rattle.graph_run.proofs.Common.{with_item, All-set, All-weaker, length-take, take_all, slice_get_read, Format, U8, Samples, VirtualImage, Cell, Description, sample_count, ImageValue, IsImage, new_image, description_of, ObjectValue, ImageObject, VirtualObject, object_kind, values, samples_format, Rectangle, Context, with_objects, with_slot, Named, object_held, held, with_object, image_value, with_samples, cell_object, image_held, HoldsImage, HasObject, map-with_object, VirtualOutput, Slot, Stage, is_virtual_object, is_named, standing_image, shown, scene, slot_of, holder_at, HoldsVirtual, IsArranged, AreFor, HasCount, Resized, Keeps, virtual_named}
+use Rattle.std.proofs.Common.{◌≡◌, ◌≢◌, ℕ, ◌<◌, Bool, true, false, ℤ, List, map, length, get_or, Option, Some, None, IfSome, refl, sym, ap, subst, ◌∙◌, arith, IsSome, slice_get, position, take, unwrap_or, option_map, length-take, take_all}
+use Rattle.graph_run.proofs.Common.{with_item, All-set, All-weaker, slice_get_read, Format, U8, Samples, VirtualImage, Cell, Description, sample_count, ImageValue, IsImage, new_image, description_of, ObjectValue, ImageObject, VirtualObject, object_kind, values, samples_format, Rectangle, Context, with_objects, with_slot, Named, object_held, held, with_object, image_value, with_samples, cell_object, image_held, HoldsImage, HasObject, map-with_object, VirtualOutput, Slot, Stage, is_virtual_object, is_named, standing_image, scene, slot_of, holder_at, HoldsVirtual, IsArranged, AreFor, HasCount, Resized, virtual_named}
+use Rattle.graph_run.specs.Stage.{shown, Keeps}
 use Rattle.object_table.proofs.HeldLemmas.{names-with_object}
 use Rattle.graph_run.proofs.CellLemmas.{held_once}
 use Rattle.graph_run.proofs.ClaimLemmas.{virtual_there, holder_of}

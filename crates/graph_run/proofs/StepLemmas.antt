@@ -1,6 +1,7 @@
 -- Nodes on a stage: what they read beside an image, what they write to objects that aren't images, and what stays.
 use Rattle.std.proofs.Common.{◌≡◌, ◌⊎◌, ℕ, ◌≤◌, Bool, true, false, cond, List, [], ◌∷◌, map, length, get_or, drop, Option, Some, None, IfSome, refl, sym, ap, subst, ◌∙◌, arith, All, is_some, unwrap_or, slice_get, option_map, option_and_then}
-use Rattle.graph_run.proofs.Common.{list_any, IsStrictlyIncreasing, cases_Bool, All-nil, All-cons, All-head, All-tail, All-map, All-weaker, slice_get_within, IfSome_then, Format, U8, Kind, Samples, VirtualImage, Cell, cell_of, Description, sample_count, ImageValue, new_image, ObjectValue, ImageObject, VirtualObject, IsObject, object_kind, values, samples_format, in_slot, Context, with_objects, Named, object_held, held, with_object, cell_object, object_under, HoldsImage, IsUnder, All-from_map, VirtualOutput, Slot, Stage, is_virtual_object, forgotten, Lasts, AreEmpty, is_named, standing, shown_as, shown, scene, slot_of, holder_at, HasRoomFor, IsArranged, IsStage, AreFor, HasCount, Resized, Keeps, Stays, fixed, resized, virtual_named, Holds, IsRead}
+use Rattle.graph_run.proofs.Common.{list_any, IsStrictlyIncreasing, cases_Bool, All-nil, All-cons, All-head, All-tail, All-map, All-weaker, slice_get_within, IfSome_then, Format, U8, Kind, Samples, VirtualImage, Cell, cell_of, Description, sample_count, ImageValue, new_image, ObjectValue, ImageObject, VirtualObject, IsObject, object_kind, values, samples_format, in_slot, Context, with_objects, Named, object_held, held, with_object, cell_object, object_under, HoldsImage, IsUnder, All-from_map, VirtualOutput, Slot, Stage, is_virtual_object, forgotten, Lasts, AreEmpty, is_named, standing, shown_as, scene, slot_of, holder_at, HasRoomFor, IsArranged, IsStage, AreFor, HasCount, Resized, Stays, fixed, resized, virtual_named, Holds, IsRead}
+use Rattle.graph_run.specs.Stage.{shown, Keeps}
 use Rattle.std.specs.Prelude.{⊤}
 use Rattle.std.proofs.lemmas.Option.{get_or_from_slice_get}
 use Rattle.vx_base.specs.declared.kind.Kind.TheVariants as kind

@@ -1,9 +1,9 @@
 -- A node that runs on the rows of a strip: what it sees, and what it makes.
 use Rattle.std.proofs.Common.{◌≡◌, ℕ, ◌+◌, ◌≤◌, List, [], ◌∷◌, ◌++◌, Option, Some, IfSome, sym, ap, subst, ◌∙◌, arith, IsTrue, is_some, sum_by, unwrap_or, option_map}
-use Rattle.graph_run.proofs.Common.{nat_tests, sum_by-append, Node, Output, Cell, Description, parameters, ImageValue, IsImage, ObjectValue, IsObject, node_image, Named, image_value, cell_object, image_held, HoldsImage, StandsBeside, HasInputs, first_right, end_right, reach, matrix_in, Strip, Stage, seen, part_made, SeesParts, HasPlaceIn, IsSeen, IsStrip, rows_beside, right_from, right_to, scene, slot_of, RunsTo}
+use Rattle.graph_run.proofs.Common.{nat_tests, sum_by-append, Node, Output, Cell, Description, parameters, ImageValue, IsImage, ObjectValue, IsObject, node_image, Named, image_value, cell_object, image_held, HoldsImage, StandsBeside, HasInputs, first_right, end_right, reach, matrix_in, Strip, Stage, SeesParts, HasPlaceIn, IsSeen, IsStrip, rows_beside, right_from, right_to, scene, slot_of, RunsTo, node_right}
+use Rattle.graph_run.specs.Bands.{seen, part_made}
 use Rattle.vx_base.specs.declared.kind.Kind.TheVariants as kind
 use Rattle.node_rows.specs.Parts.{StandsFor}
-use Rattle.node_rows.proofs.PartRowLaws.{node_right}
 use Rattle.graph_run.proofs.FinalLemmas.{IsMade}
 use Rattle.graph_run.proofs.OutputLemmas.{can_run}
 use Rattle.graph_run.proofs.StepLemmas.{nothing}

@@ -1,8 +1,11 @@
 -- The nodes of a graph on the rows of a strip, one after the other.
-use Rattle.std.proofs.Common.{◌≡◌, ◌≢◌, ℕ, ◌+◌, ◌≤◌, ◌<◌, Bool, true, false, List, [], ◌∷◌, ◌++◌, map, length, take, drop, get_or, Option, Some, None, ◌⊎◌, inl, inr, IfSome, refl, sym, ap, subst, ◌∙◌, arith, unwrap_or, ◌==◌, ◌||◌, ◌&&◌, not, sum_by, slice_get, if◌then◌else◌, option_map, option_and_then}
-use Rattle.graph_run.proofs.Common.{take-append-drop, take_more, take_all, drop_more, list_any-append, sum_by-append, cases_Bool, eqb-true, or_left, or_right, and_parts, and_from, false_from_ne_true, Node, First, Second, Cell, cell_of, Description, ImageValue, IsImage, description_of, outputs, ObjectValue, ImageObject, VirtualObject, IsObject, object_kind, with_objects, in_slot, Named, held, object_held, image_value, image_held, HoldsImage, VirtualOutput, Verified, accumulates, reads, writes, is_written, In, is_used, PlanValue, Strip, Slot, Stage, AreSeen, RunsInBands, final_of, IsStrip, is_virtual_name, is_target, IsFinished, IsAsFar, CanCount, counter_of, counts, after_node, with_counted, RowsAreAs, IsPartOf, output_part, with_seen, AreShared, strip_plan, room_of, planned_rooms, AreEmpty, label_of, scene, shown, slot_of, standing_image, IsStage, HoldsVirtual, Keeps, virtual_named, AreVirtual, map-told, same_cell-refl, same_cell-true, In-right, In-from_any, any-from_In, same_cell, second_kind, held_is, stands_fewer, rows_beside, HoldsKind, IsPlan, claimed_at}
+use Rattle.std.proofs.Common.{◌≡◌, ◌≢◌, ℕ, ◌+◌, ◌≤◌, ◌<◌, Bool, true, false, List, [], ◌∷◌, ◌++◌, map, length, take, drop, get_or, Option, Some, None, ◌⊎◌, inl, inr, IfSome, refl, sym, ap, subst, ◌∙◌, arith, unwrap_or, ◌==◌, ◌||◌, ◌&&◌, not, sum_by, slice_get, if◌then◌else◌, option_map, option_and_then, take-append-drop, take_all, eqb-true}
+use Rattle.graph_run.proofs.Common.{take_more, drop_more, list_any-append, sum_by-append, cases_Bool, or_left, or_right, and_parts, and_from, false_from_ne_true, Node, First, Second, Cell, cell_of, same_cell, Description, ImageValue, IsImage, description_of, outputs, second_kind, ObjectValue, ImageObject, VirtualObject, IsObject, object_kind, with_objects, in_slot, Named, held, object_held, image_value, image_held, HoldsImage, VirtualOutput, Verified, accumulates, writes, is_written, In, is_used, PlanValue, IsPlan, Strip, Slot, Stage, AreSeen, RunsInBands, final_of, IsStrip, is_virtual_name, is_target, IsFinished, IsAsFar, CanCount, counter_of, counts, with_counted, RowsAreAs, IsPartOf, output_part, with_seen, rows_beside, AreShared, strip_plan, room_of, planned_rooms, AreEmpty, claimed_at, label_of, scene, slot_of, standing_image, IsStage, HoldsVirtual, virtual_named, AreVirtual, HoldsKind, map-told, same_cell-refl, same_cell-true, In-right, In-from_any, any-from_In, held_is, stands_fewer, CanAdd, CanSum, integrates, with_integral, is_sum, rows_from, with_added}
+use Rattle.graph_verify.specs.Links.{reads}
+use Rattle.graph_run.specs.Bands.{after_node}
+use Rattle.graph_run.specs.Stage.{shown, Keeps}
 use Rattle.vx_base.specs.declared.kind.Kind.TheVariants as kind
-use Rattle.graph_run.specs.Bands.{CanAdd, CanSum, integrates, with_integral, is_sum, rows_by_now, rows_from, with_added}
+use Rattle.graph_run.specs.Bands.{rows_by_now}
 use Rattle.node_rows.proofs.PartLookLaws.{first_within, end_within}
 use Rattle.graph_run.proofs.BandLemmas.{right_above, right_below, rows_of}
 use Rattle.graph_run.proofs.AgreeLemmas.{written_once}

@@ -1,17 +1,9 @@
 -- How a stage is after so many nodes of a strip, and after one more.
-use Rattle.std.proofs.Common.{◌≡◌, ◌≢◌, ℕ, ◌+◌, ◌-◌, ◌*◌, ◌^◌, ◌<◌, ◌≤◌, slice_index, take, length, true, false, List, [], ◌∷◌, ◌++◌, map, Option, Some, None, inl, inr, IfSome, refl, sym, ap, subst, ◌∙◌, arith, sum_by, option_map, option_and_then, unwrap_or, Bool, if◌then◌else◌, ◌==◌}
-use Rattle.graph_run.proofs.Common.{eq-eqb, object_under, skeleton, append_assoc, sum_by-append, Node, Output, First, Second, Cell, same_cell, ImageValue, IsImage, outputs, given, ObjectValue, ImageObject, object_kind, Context, with_objects, Named, object_held, with_object, image_value, cell_object, image_held, HoldsImage, VirtualOutput, Verified, writes, In, Strip, Slot, Stage, AreSeen, part_made, made_in, made_seen, with_seen, IsSeen, IsStrip, rows_beside, RunsInBands, final_of, is_virtual_name, RowsAreAs, IsPartOf, right_from, right_to, scene, slot_of, fixed, RunsTo, node_image_is, parameters, accumulates, same_cell-refl, In-left, In-right, any-from_In, in_slot, seen, AreApart, IsAsFar, IsCounted, CanCount, counter_of, counts, with_counted, cell_of, cases_Bool, Kind, and_parts, eqb-true, added_to, at, description_of, Description, part_of, with_band, HasPlaceIn, IsInRows, stands_fewer, first_right, end_right}
+use Rattle.std.proofs.Common.{◌≡◌, ◌≢◌, ℕ, ◌+◌, ◌-◌, ◌*◌, ◌^◌, ◌<◌, ◌≤◌, slice_index, take, length, true, false, List, [], ◌∷◌, ◌++◌, map, Option, Some, None, inl, inr, IfSome, refl, sym, ap, subst, ◌∙◌, arith, sum_by, option_map, option_and_then, unwrap_or, Bool, if◌then◌else◌, ◌==◌, eq-eqb, eqb-true, append_assoc}
+use Rattle.graph_run.proofs.Common.{cases_Bool, and_parts, object_under, cell_object, image_held, HoldsImage, skeleton, sum_by-append, Node, Output, First, Second, Cell, same_cell, cell_of, ImageValue, IsImage, at, description_of, outputs, given, ObjectValue, ImageObject, object_kind, Context, with_objects, Named, object_held, with_object, image_value, VirtualOutput, Verified, writes, In, Strip, Slot, Stage, AreSeen, made_in, made_seen, with_seen, IsSeen, IsStrip, rows_beside, RunsInBands, final_of, is_virtual_name, RowsAreAs, IsPartOf, right_from, right_to, IsAsFar, IsCounted, CanCount, counter_of, counts, with_counted, with_band, HasPlaceIn, scene, slot_of, fixed, RunsTo, AreApart, added_to, node_image_is, parameters, accumulates, same_cell-refl, In-left, In-right, any-from_In, in_slot, Kind, Description, part_of, first_right, end_right, IsInRows, stands_fewer, DistributionObject, DistributionValue, ExtremesObject, Extremes, distribution_value, inside, integral, AreRowsOf, part_stands, CanAdd, CanLocate, CanSum, CanTally, integrates, with_integral, band_seen, counted_above, counted_before, extremes_value, located_before, located_too, rows_from, sum_made, tallied_too, tallies, with_added, with_sums, extremes, valid_samples, valid_in}
+use Rattle.graph_run.specs.Bands.{part_made, seen}
 use Rattle.vx_base.specs.declared.kind.Kind.TheVariants as kind
-use Rattle.vx_base.specs.Object.{DistributionObject, DistributionValue, ExtremesObject}
-use Rattle.vx_base.specs.declared.extremes.Extremes.{Extremes}
-use Rattle.object_table.specs.Object.{distribution_value}
-use Rattle.vx_base.specs.Rectangle.{inside}
-use Rattle.vx_base.specs.Statistics.{integral}
-use Rattle.stat_kernels.specs.Sums.{AreRowsOf}
-use Rattle.node_rows.proofs.PartLaws.{part_stands}
-use Rattle.graph_run.specs.Bands.{CanAdd, CanLocate, CanSum, CanTally, integrates, with_integral, SeesBand, band_seen, counted_above, counted_before, counted_too, extremes_value, located_before, located_too, rows_from, sum_made, tallied_too, tallies, with_added, with_sums}
-use Rattle.vx_base.specs.Statistics.{extremes, valid_samples}
-use Rattle.stat_kernels.specs.Part.{valid_in}
+use Rattle.graph_run.specs.Bands.{SeesBand, counted_too}
 use Rattle.graph_run.proofs.CountLemmas.{counts_fit, counts_once, distribution_lasts, distribution_of_kind, extremes_last, extremes_of_kind, found_too, locates_output, locates_short, places_fit, tallies_bytes, tallies_output, too_is}
 use Rattle.graph_run.proofs.BandLemmas.{right_above, right_below, rows_right}
 use Rattle.graph_run.proofs.SeesLemmas.{IsRightFor, SeesRight, SeesRightBeside, seen_is_object}

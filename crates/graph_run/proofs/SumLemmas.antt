@@ -1,12 +1,11 @@
 -- Nodes that add to the image that they write: its samples are taken out, and put back once they are added to.
-use Rattle.std.proofs.Common.{◌≡◌, ◌*◌, true, false, ℤ, List, Option, Some, None, is_some, is_none, if◌then◌else◌, ◌&&◌, ◌||◌, refl, sym, ap, ◌∙◌, arith, ◌==◌, option_map}
-use Rattle.graph_run.proofs.Common.{Format, S16, U8, U32, Function, Node, Cell, Description, takes_formats, parameters, accumulates, ImageValue, description_of, image_over, IsNode, from_two, length-table, Band, ImageMut, all_rows, HaveSameSize, written, Writes, all_written, ObjectValue, ImageObject, object_kind, object_format, Rectangle, image_of_kind, Named, image_value, cell_object, image_held, RunsTo, and_parts, eqb-true, reach, counts, counts_rows}
-use Rattle.vx_base.specs.declared.function.Function.TheVariants.{Accumulate, AccumulateSquare, Integral}
+use Rattle.std.proofs.Common.{◌≡◌, ◌*◌, true, false, ℤ, List, Option, Some, None, is_some, is_none, if◌then◌else◌, ◌&&◌, ◌||◌, refl, sym, ap, ◌∙◌, arith, ◌==◌, option_map, eqb-true}
+use Rattle.graph_run.proofs.Common.{Format, S16, U8, U32, Function, Node, Cell, Description, takes_formats, parameters, accumulates, ImageValue, description_of, image_over, IsNode, from_two, length-table, Band, ImageMut, all_rows, HaveSameSize, written, Writes, all_written, ObjectValue, ImageObject, object_kind, object_format, Rectangle, image_of_kind, Named, image_value, cell_object, image_held, RunsTo, and_parts, reach, counts, counts_rows, Integral, rows_in, SameSlices, integrates}
+use Rattle.vx_base.specs.declared.function.Function.TheVariants.{Accumulate, AccumulateSquare}
 use Rattle.vx_base.specs.declared.kind.Kind.TheVariants as kind
-use Rattle.image_core.specs.Bands.{rows_in}
-use Rattle.image_core.specs.Target.{IsTarget, SameSlices}
+use Rattle.image_core.specs.Target.{IsTarget}
 use Rattle.image_core.proofs.BandLaws.{all_rows_are}
-use Rattle.graph_run.specs.Bands.{integrates, integrates_rows}
+use Rattle.graph_run.specs.Bands.{integrates_rows}
 use Rattle.graph_run.proofs.RunLemmas.{has_of_node}
 
 -- ---- functions that accumulate

@@ -1,15 +1,9 @@
 -- Integral images of which bands are written, each from the row above it.
-use Rattle.std.proofs.Common.{◌≡◌, ◌⊎◌, inl, inr, ℕ, ℤ, pos, ◌+◌, ◌-◌, ◌*◌, ◌<◌, ◌≤◌, Bool, true, false, List, ◌++◌, length, map, take, drop, Option, Some, None, IfSome, refl, sym, ap, subst, ◌∙◌, arith, ◌==◌, if◌then◌else◌, Bor, option_copied, option_map, is_some, is_none}
-use Rattle.graph_run.proofs.Common.{cases_Bool, eqb-true, eq-eqb, and_parts, length-drop, take_all, U8, U32, Node, IsNode, Format, takes_formats, parameters, Description, sample_count, ImageValue, IsImage, image_over, description_of, band, at, ObjectValue, ImageObject, length-band, band-append, Band, IsInRows, part_of, part_is, Named, Cell, image_held, HoldsImage, Strip, IsWithinRows, with_band, Stage, scene, seen, image_value, lasting, Function}
-use Rattle.std.proofs.lemmas.List.{take_at}
-use Rattle.vx_base.specs.Image.{within}
-use Rattle.vx_base.specs.Statistics.{integral, sum_to}
+use Rattle.std.proofs.Common.{◌≡◌, ◌⊎◌, inl, inr, ℕ, ℤ, pos, ◌+◌, ◌-◌, ◌*◌, ◌<◌, ◌≤◌, Bool, true, false, List, ◌++◌, length, map, take, drop, Option, Some, None, IfSome, refl, sym, ap, subst, ◌∙◌, arith, ◌==◌, if◌then◌else◌, Bor, option_copied, option_map, is_some, is_none, eqb-true, eq-eqb, length-drop, take_all, take_at}
+use Rattle.graph_run.proofs.Common.{cases_Bool, and_parts, U8, U32, Node, IsNode, Format, takes_formats, parameters, Description, sample_count, ImageValue, IsImage, image_over, description_of, band, at, ObjectValue, ImageObject, length-band, band-append, Band, IsInRows, part_of, part_is, Named, Cell, image_held, HoldsImage, Strip, IsWithinRows, with_band, Stage, scene, image_value, lasting, Function, within, integral, sum_to, at-part, band_moved, IsRowAbove, last_row, row_above, CanSum, integrates}
+use Rattle.graph_run.specs.Bands.{seen}
 use Rattle.vx_base.proofs.ImageLaws.{get_or-table}
 use Rattle.vx_base.proofs.TableLaws.{band-same}
-use Rattle.node_rows.proofs.PartLaws.{at-part, band_moved}
-use Rattle.stat_kernels.specs.Sums.{IsRowAbove, last_row}
-use Rattle.stat_kernels.proofs.NextRowLaws.{row_above}
-use Rattle.graph_run.specs.Bands.{CanSum, integrates}
 use Rattle.graph_run.proofs.CellLemmas.{IsReplacement, held_image}
 use Rattle.graph_run.proofs.LastingLemmas.{images-last}
 use Rattle.graph_run.proofs.SeenLemmas.{with_band_is}

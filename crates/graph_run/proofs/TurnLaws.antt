@@ -1,6 +1,7 @@
 -- Each node of a graph that can run finds, at its turn, what its cells were found to be.
 use Rattle.std.proofs.Common.{◌≡◌, ◌<◌, ℕ, List, [], ◌∷◌, map, sym, ap, subst, inl, inr, refl, None, rules}
-use Rattle.graph_run.proofs.Common.{AllPairs, Node, Cell, written_by, Named, held, with_written, Operand, feeds, In, AllIn, operands_of, IsOrder, resolved, verdict, verdict_on, node_fault, runs_alone, can_run, begun, forgotten, one_by_one, run_of_graph, CellsStand}
+use Rattle.graph_run.proofs.Common.{AllPairs, Node, Cell, written_by, Named, held, with_written, Operand, feeds, In, AllIn, operands_of, IsOrder, resolved, verdict, verdict_on, node_fault, runs_alone, begun, forgotten, one_by_one, run_of_graph, CellsStand}
+use Rattle.graph_verify.proofs.VerdictLemmas.{can_run}
 use Rattle.graph_run.proofs.BegunLaws.{labels-begun}
 use Rattle.graph_run.proofs.NameLaws.{Rising, rising}
 use Rattle.graph_run.proofs.OperandLaws.{no_fault, begun_stands, no_delay, stands_after}

@@ -1,6 +1,7 @@
 -- What a node gives, over and over, is what it gives to its outputs as they were at first.
 use Rattle.std.proofs.Common.{◌≡◌, ℕ, zero, suc, true, false, List, [], ◌∷◌, refl, sym, ap, ◌∙◌, inl, inr, Option, arith, ◌⊎◌, option_map, option_and_then}
-use Rattle.graph_run.proofs.Common.{cases_Bool, Node, Cell, ObjectValue, object_kind, In, AllIn, fun_ext, reads, writes, is_written, two_writers, OneWriter, form_of, In-from_any}
+use Rattle.graph_run.proofs.Common.{cases_Bool, Node, Cell, ObjectValue, object_kind, In, AllIn, fun_ext, writes, is_written, two_writers, OneWriter, form_of, In-from_any}
+use Rattle.graph_verify.specs.Links.{reads}
 use Rattle.graph_verify.specs.Rounds.{round, rounds, step, once, ReadsAlone}
 use Rattle.graph_verify.proofs.LinkLemmas.{two_writers-after, written_once}
 use Rattle.graph_run.proofs.LinkLaws.{reads_first, reads_second}

@@ -1,6 +1,9 @@
 -- A graph that is found able to run: how it runs.
-use Rattle.std.proofs.Common.{◌≡◌, ◌≢◌, ℕ, ◌<◌, Bool, true, false, List, ◌∷◌, map, get_or, zero, suc, Option, Some, None, inl, inr, sym, ap, subst, ◌∙◌, arith, All, ◌==◌, ◌&&◌, unwrap_or, option_map, option_and_then}
-use Rattle.graph_run.proofs.Common.{AllPairs, list_any, flat_map, IsStrictlyIncreasing, cases_Bool, eq-eqb, or_parts, or_left, or_right, and_parts, and_from, length-map, get_or-map, Kind, Node, VirtualImage, Cell, same_cell, Description, IsNode, inputs, outputs, operands, ObjectValue, VirtualObject, object_kind, in_slot, Named, object_held, held, VirtualOutput, Operand, Image, Delay, Operands, Verified, reads, writes, has_twice, is_written, In, operand_of, operand_kind, operands_of, resolved, outlines, verdict, verdict_on, IsVerified, written_description, same-from_In, In-outputs, two_writers-permutation, In-left, In-right, In-append, In-from_any, any-from_In, In-filter, In-from_filter, In-map, In-from_map, In-from_flat_map, In-at, AllIn-permutation, AllIn-permutation_back, CanRun, can_run, HoldsOperand, names_cell, StandsFor, CellsStand, operand_held, HoldsKind, CanRunNow, AreVirtual, names_of}
+use Rattle.std.proofs.Common.{◌≡◌, ◌≢◌, ℕ, ◌<◌, Bool, true, false, List, ◌∷◌, map, get_or, zero, suc, Option, Some, None, inl, inr, sym, ap, subst, ◌∙◌, arith, All, ◌==◌, ◌&&◌, unwrap_or, option_map, option_and_then, eq-eqb}
+use Rattle.graph_run.proofs.Common.{AllPairs, list_any, flat_map, IsStrictlyIncreasing, cases_Bool, or_parts, or_left, or_right, and_parts, and_from, length-map, get_or-map, Kind, Node, VirtualImage, Cell, same_cell, Description, IsNode, inputs, outputs, operands, ObjectValue, VirtualObject, object_kind, in_slot, Named, object_held, held, VirtualOutput, Operand, Image, Delay, Operands, Verified, writes, has_twice, is_written, In, operand_of, operand_kind, operands_of, resolved, outlines, verdict, verdict_on, IsVerified, written_description, same-from_In, In-outputs, two_writers-permutation, In-left, In-right, In-append, In-from_any, any-from_In, In-filter, In-from_filter, In-map, In-from_map, In-from_flat_map, In-at, AllIn-permutation, AllIn-permutation_back, CanRun, HoldsOperand, names_cell, CellsStand, operand_held, HoldsKind, CanRunNow, AreVirtual, names_of}
+use Rattle.graph_verify.specs.Links.{reads}
+use Rattle.graph_verify.proofs.VerdictLemmas.{can_run}
+use Rattle.graph_run.specs.Operands.{StandsFor}
 use Rattle.std.proofs.lemmas.List.Kept.{AllPairs-from_increasing}
 use Rattle.std.proofs.Math.ListN.{get_or-map as get_or-map_default}
 use Rattle.vx_base.specs.declared.kind.Kind.TheVariants as kind

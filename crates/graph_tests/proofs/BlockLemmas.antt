@@ -1,6 +1,5 @@
 -- In how many blocks what is held has its samples, once a graph has changed.
-use Rattle.std.proofs.Common.{◌≡◌, ℕ, ◌==◌, ◌≤◌, Bool, true, false, if◌then◌else◌, List, [], ◌∷◌, Result, Ok, Err, sym, subst, arith}
-use Rattle.std.specs.Prelude.{OnOk, OnErr}
+use Rattle.std.proofs.Common.{◌≡◌, ℕ, ◌==◌, ◌≤◌, Bool, true, false, if◌then◌else◌, List, [], ◌∷◌, Result, Ok, Err, sym, subst, arith, OnOk, OnErr}
 use Rattle.std.proofs.lemmas.List.Sums.{sum_by-cons}
 use Rattle.vx_base.specs.declared.format.Format.{Format}
 use Rattle.vx_base.specs.Graph.{GraphValue}

@@ -1,6 +1,5 @@
 -- Small contexts in which nodes of Not run.
-use Rattle.std.proofs.Common.{◌≡◌, ◌∙◌, ℕ, zero, suc, ◌+◌, ◌<◌, ◌^◌, true, IsTrue, List, [], ◌∷◌, map, Some, None, inl, inr, refl, sym, ap, subst, arith, rules}
-use Rattle.std.specs.Prelude.{All, slice_index, ◌⊎◌}
+use Rattle.std.proofs.Common.{◌≡◌, ◌∙◌, ℕ, zero, suc, ◌+◌, ◌<◌, ◌^◌, true, IsTrue, List, [], ◌∷◌, map, Some, None, inl, inr, refl, sym, ap, subst, arith, rules, All, slice_index, ◌⊎◌}
 use Rattle.std.specs.List.Sorted.{IsStrictlyIncreasing}
 use Rattle.std.proofs.lemmas.Bool.{or_cases}
 use Rattle.std.proofs.lemmas.List.Elements.{All-nil, All-cons}

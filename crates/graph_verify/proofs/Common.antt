@@ -30,7 +30,6 @@ pub use Rattle.std.proofs.lemmas.List.Sorted.{IsPermutation-map, IsPermutation-r
 pub use Rattle.std.specs.List.{filter, filter_map, flat_map, list_all, list_any, remove}
 pub use Rattle.std.specs.List.Sorted.{IsPermutation}
 pub use Rattle.std.specs.Option.{option_and_then, option_map, option_or}
-pub use Rattle.std.specs.Prelude.{All, find, if◌then◌else◌, nat_le, position, sum_by, unwrap_or, ◌&&◌, ◌==◌}
 pub use Rattle.vx_base.specs.Cell.{Cell, same_cell}
 pub use Rattle.vx_base.specs.Description.{Description, byte_count}
 pub use Rattle.vx_base.specs.Formats.{takes_formats}

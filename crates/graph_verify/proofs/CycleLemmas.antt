@@ -1,7 +1,6 @@
 -- Cycles, and the test that finds them.
-use Rattle.std.proofs.Common.{◌≡◌, ℕ, ◌≤◌, ◌⊎◌, suc, zero, Bool, true, false, List, [], ◌∷◌, ◌++◌, length, refl, sym, ◌∙◌, ap, subst, inl, inr, arith, rules}
+use Rattle.std.proofs.Common.{◌≡◌, ℕ, ◌≤◌, ◌⊎◌, suc, zero, Bool, true, false, List, [], ◌∷◌, ◌++◌, length, refl, sym, ◌∙◌, ap, subst, inl, inr, arith, rules, ◌↔◌}
 use Rattle.graph_verify.proofs.Common.{filter, list_any, cases_Bool, not-true, In, AllIn, HasCycle, waiting, left_after, is_empty, has_cycle, InTurn}
-use Rattle.std.specs.Prelude.{◌↔◌}
 use Rattle.std.proofs.lemmas.Bool.{cases_lt}
 use Rattle.graph_verify.specs.Cycle.{Chain, IsCycle}
 use Rattle.graph_verify.proofs.MemberLemmas.{In-append, In-from_any, any-from_In, In-filter, In-from_filter}

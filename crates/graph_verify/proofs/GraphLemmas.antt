@@ -1,11 +1,9 @@
 -- Graphs with one more node, with one less, and with other delays.
-use Rattle.std.proofs.Common.{◌≡◌, ◌≢◌, ℕ, ◌+◌, ◌<◌, Bool, true, List, [], ◌∷◌, length, IsTrue, refl, ◌∙◌, arith}
-use Rattle.graph_verify.proofs.Common.{◌==◌, find, filter, list_any, cases_Bool, nat_tests, length-filter_both, Node, Numbered, can_add}
-use Rattle.std.specs.Prelude.{Some, not}
+use Rattle.std.proofs.Common.{◌≡◌, ◌≢◌, ℕ, ◌+◌, ◌<◌, Bool, true, List, [], ◌∷◌, length, IsTrue, refl, ◌∙◌, arith, ◌==◌, find, Some, not, eqb-true}
+use Rattle.graph_verify.proofs.Common.{filter, list_any, cases_Bool, nat_tests, length-filter_both, Node, Numbered, can_add}
 use Rattle.std.specs.List.{items_where_true, AllPairs}
 use Rattle.std.specs.List.Retain.{IsFiltered, ReturnsInTurn}
 use Rattle.std.specs.Option.{is_none}
-use Rattle.std.proofs.lemmas.Bool.{eqb-true}
 use Rattle.std.proofs.lemmas.List.{length_push}
 use Rattle.std.proofs.lemmas.List.Elements.{All-push, All-filter, All-weaker}
 use Rattle.std.proofs.lemmas.List.Kept.{AllPairs-filter}

@@ -1,8 +1,7 @@
 -- What is known of the virtual images that nodes write, node by node.
-use Rattle.std.proofs.Common.{◌≡◌, ℕ, ◌+◌, ◌<◌, ◌≤◌, Bool, true, false, List, [], ◌∷◌, ◌++◌, length, map, take, drop, get_or, IsTrue, refl, sym, ◌∙◌, ap, subst, inl, inr, arith}
-use Rattle.graph_verify.proofs.Common.{find, unwrap_or, All, option_map, filter, flat_map, cases_Bool, false_from_ne_true, map-append, filter-append, flat_map-append, Node, Cell, same_cell, given, inputs, outputs, Outline, filled, Known, Linked, Operand, Image, Virtual, Operands, In, known_operands, AreKnown, linked_nodes, AreOperands, writes, feeds, is_virtual, is_image, operands_of, InTurn, operand_outline, given_outline, written_outline, outlines, resolved, IsSolution, two_writers, virtual_outputs}
-use Rattle.std.specs.Prelude.{◌⊎◌, Option, Some, None}
-use Rattle.std.proofs.lemmas.List.{append-nil, drop_more, take_more, take_all, take-append-drop}
+use Rattle.std.proofs.Common.{◌≡◌, ℕ, ◌+◌, ◌<◌, ◌≤◌, Bool, true, false, List, [], ◌∷◌, ◌++◌, length, map, take, drop, get_or, IsTrue, refl, sym, ◌∙◌, ap, subst, inl, inr, arith, find, unwrap_or, All, ◌⊎◌, Option, Some, None, append-nil, take_all, take-append-drop}
+use Rattle.graph_verify.proofs.Common.{option_map, filter, flat_map, cases_Bool, false_from_ne_true, map-append, filter-append, flat_map-append, Node, Cell, same_cell, given, inputs, outputs, Outline, filled, Known, Linked, Operand, Image, Virtual, Operands, In, known_operands, AreKnown, linked_nodes, AreOperands, writes, feeds, is_virtual, is_image, operands_of, InTurn, operand_outline, given_outline, written_outline, outlines, resolved, IsSolution, two_writers, virtual_outputs}
+use Rattle.std.proofs.lemmas.List.{drop_more, take_more}
 use Rattle.graph_verify.specs.Known.{known_of, known_outline, learnt, learnt_from, known_operand}
 use Rattle.graph_verify.proofs.LinkLemmas.{same_cell-true, same_cell-is, In-outputs, feeds_is, same-from_In}
 use Rattle.graph_verify.proofs.MemberLemmas.{In-left, In-right, In-append, In-from_map, In-filter, In-at, Contains-from_In}

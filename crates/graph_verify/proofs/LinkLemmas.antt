@@ -1,8 +1,6 @@
 -- How nodes are linked by cells, where no cell has two writers.
-use Rattle.std.proofs.Common.{◌≡◌, ℕ, ◌+◌, ◌≤◌, Bool, true, false, cond, List, [], ◌∷◌, ◌++◌, refl, sym, ◌∙◌, ap, subst, inl, inr, arith}
-use Rattle.graph_verify.proofs.Common.{◌==◌, list_any, flat_map, IsPermutation, cases_Bool, or_parts, or_from, and_parts, and_from, flat_map-append, list_any-append, sum_by-IsPermutation, Node, Cell, same_cell, inputs, outputs, In, reads, writes, feeds, has_twice, is_written, OneWriter, two_writers, writes_twice}
-use Rattle.std.specs.Prelude.{Option, Some, None, ◌||◌}
-use Rattle.std.proofs.lemmas.Bool.{eq-eqb}
+use Rattle.std.proofs.Common.{◌≡◌, ℕ, ◌+◌, ◌≤◌, Bool, true, false, cond, List, [], ◌∷◌, ◌++◌, refl, sym, ◌∙◌, ap, subst, inl, inr, arith, ◌==◌, Option, Some, None, ◌||◌, eq-eqb}
+use Rattle.graph_verify.proofs.Common.{list_any, flat_map, IsPermutation, cases_Bool, or_parts, or_from, and_parts, and_from, flat_map-append, list_any-append, sum_by-IsPermutation, Node, Cell, same_cell, inputs, outputs, In, reads, writes, feeds, has_twice, is_written, OneWriter, two_writers, writes_twice}
 use Rattle.std.proofs.lemmas.List.Recursion.{is_sum_by}
 use Rattle.vx_base.specs.Cell.{same_slot}
 use Rattle.graph_verify.proofs.MemberLemmas.{In-right, In-from_any, any-from_In, In-flat_map}

@@ -1,7 +1,6 @@
 -- Virtual images that are read and not written, or added to.
-use Rattle.std.proofs.Common.{◌≡◌, zero, suc, List, [], ◌∷◌, refl, arith}
+use Rattle.std.proofs.Common.{◌≡◌, zero, suc, List, [], ◌∷◌, refl, arith, Option, Some, None, ◌||◌}
 use Rattle.graph_verify.proofs.Common.{option_map, list_any, list_any-append, Node, Cell, given, inputs, Linked, Operand, linked_nodes, AreOperands, has_loose_input, has_virtual_sum, operands_of, is_virtual, is_loose}
-use Rattle.std.specs.Prelude.{Option, Some, None, ◌||◌}
 use Rattle.graph_verify.specs.Linked.{is_given_loose, is_given_virtual}
 use Rattle.graph_verify.specs.Verdict.{reads_loose, adds_to_virtual}
 

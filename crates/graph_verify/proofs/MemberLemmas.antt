@@ -1,9 +1,8 @@
 -- Members of lists.
-use Rattle.std.proofs.Common.{◌≡◌, ℕ, ◌<◌, ◌≤◌, ◌⊎◌, inl, inr, suc, zero, Bool, true, false, List, [], ◌∷◌, ◌++◌, length, get_or, map, refl, sym, ap, subst, ◌∙◌, arith}
-use Rattle.graph_verify.proofs.Common.{position, filter, flat_map, list_any, remove, IsPermutation, cases_Bool, or_left, In, AllIn}
-use Rattle.std.specs.Prelude.{◌||◌, None}
+use Rattle.std.proofs.Common.{◌≡◌, ℕ, ◌<◌, ◌≤◌, ◌⊎◌, inl, inr, suc, zero, Bool, true, false, List, [], ◌∷◌, ◌++◌, length, get_or, map, refl, sym, ap, subst, ◌∙◌, arith, position, ◌||◌, None, ltb-false}
+use Rattle.graph_verify.proofs.Common.{filter, flat_map, list_any, remove, IsPermutation, cases_Bool, or_left, In, AllIn}
 use Rattle.std.specs.List.{Contains, position_or_len}
-use Rattle.std.proofs.lemmas.Bool.{or_right, ltb-false}
+use Rattle.std.proofs.lemmas.Bool.{or_right}
 use Rattle.std.proofs.lemmas.List.Sorted.{Contains-permutation, IsPermutation-sym}
 
 module _ {X : Type 0} where

@@ -1,7 +1,6 @@
 -- The nodes of a graph that can run, one by one.
-use Rattle.std.proofs.Common.{◌≡◌, ◌≢◌, ℕ, Bool, true, false, List, [], ◌∷◌, ◌++◌, Option, Some, None, refl, sym, ap, ◌∙◌, inl, inr, arith}
-use Rattle.graph_verify.proofs.Common.{if◌then◌else◌, list_any, list_all, flat_map, option_and_then, cases_Bool, or_parts, or_from, and_parts, list_any-append, Format, Function, Node, takes_formats, Cell, same_cell, inputs, outputs, Operand, Operands, InvalidFormat, InvalidDimension, In, feeds, has_twice, has_cycle, operand_format, are_of_one_size, written_operands, other_operands, operands_of, resolved, two_writers, node_fault, writes_twice, reads_own_output, verdict_on, takes_first, takes_operands}
-use Rattle.std.specs.Prelude.{not}
+use Rattle.std.proofs.Common.{◌≡◌, ◌≢◌, ℕ, Bool, true, false, List, [], ◌∷◌, ◌++◌, Option, Some, None, refl, sym, ap, ◌∙◌, inl, inr, arith, if◌then◌else◌, not}
+use Rattle.graph_verify.proofs.Common.{list_any, list_all, flat_map, option_and_then, cases_Bool, or_parts, or_from, and_parts, list_any-append, Format, Function, Node, takes_formats, Cell, same_cell, inputs, outputs, Operand, Operands, InvalidFormat, InvalidDimension, In, feeds, has_twice, has_cycle, operand_format, are_of_one_size, written_operands, other_operands, operands_of, resolved, two_writers, node_fault, writes_twice, reads_own_output, verdict_on, takes_first, takes_operands}
 use Rattle.vx_base.specs.declared.format.Format.TheVariants.{U8, S16, U32}
 use Rattle.vx_base.specs.declared.function.Function.TheVariants.{AndBits, Histogram, MinMaxLoc}
 use Rattle.vx_base.specs.declared.kind.Kind.TheVariants as kind

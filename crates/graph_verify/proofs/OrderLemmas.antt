@@ -1,7 +1,6 @@
 -- Orders of nodes: that there is one where there is no cycle, and how one is made node by node.
-use Rattle.std.proofs.Common.{◌≡◌, ℕ, ◌<◌, suc, zero, Bool, true, false, List, [], ◌∷◌, ◌++◌, length, get_or, map, append-nil, length-append, refl, ◌∙◌, ap, inl, inr, arith, rules}
+use Rattle.std.proofs.Common.{◌≡◌, ℕ, ◌<◌, suc, zero, Bool, true, false, List, [], ◌∷◌, ◌++◌, length, get_or, map, append-nil, length-append, refl, ◌∙◌, ap, inl, inr, arith, rules, not}
 use Rattle.graph_verify.proofs.Common.{filter, list_any, remove, IsPermutation, cases_Bool, not-true, not-false, length-map, length-filter_both, IsPermutation-remove, IsPermutation-map, length_permutation, In, AllIn, HasCycle, waiting, left_after, is_empty, has_cycle, InTurn, IsOrder}
-use Rattle.std.specs.Prelude.{not}
 use Rattle.graph_verify.proofs.MemberLemmas.{In-left, In-right, In-append, In-from_any, fails-from_In, In-filter, In-from_filter, In-from_map, any-map, filter-map, AllIn-permutation, AllIn-permutation_back}
 use Rattle.graph_verify.proofs.CycleLemmas.{cycle_or_empty, no_cycle_in_turn, cycle_from-has_cycle}
 

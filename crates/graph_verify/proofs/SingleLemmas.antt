@@ -1,7 +1,6 @@
 -- The graph of one node.
-use Rattle.std.proofs.Common.{◌≡◌, ℕ, false, cond, List, [], ◌∷◌, ◌++◌, append-nil, refl, ◌∙◌, ap, arith}
-use Rattle.graph_verify.proofs.Common.{◌&&◌, nat_le, if◌then◌else◌, option_map, option_or, list_any, filter, or_parts, nat_tests, list_any-append, Node, Cell, given, inputs, outputs, Outline, Operand, Virtual, Verdict, NoResources, has_cycle, writes, feeds, is_written, is_virtual, operands_of, outlines, as_known, resolved, reads_own_output, verdict_on, is_loose, verdict}
-use Rattle.std.specs.Prelude.{Option, Some, None, ◌||◌, not}
+use Rattle.std.proofs.Common.{◌≡◌, ℕ, false, cond, List, [], ◌∷◌, ◌++◌, append-nil, refl, ◌∙◌, ap, arith, ◌&&◌, nat_le, if◌then◌else◌, Option, Some, None, ◌||◌, not}
+use Rattle.graph_verify.proofs.Common.{option_map, option_or, list_any, filter, or_parts, nat_tests, list_any-append, Node, Cell, given, inputs, outputs, Outline, Operand, Virtual, Verdict, NoResources, has_cycle, writes, feeds, is_written, is_virtual, operands_of, outlines, as_known, resolved, reads_own_output, verdict_on, is_loose, verdict}
 use Rattle.std.proofs.Math.Bool.{or-false}
 use Rattle.graph_verify.proofs.LinkLemmas.{is_fed-written, any_agree}
 

@@ -1,7 +1,6 @@
 -- What a verdict of none says of each output of a node: the function takes its format, and it is of the first input's size.
-use Rattle.std.proofs.Common.{◌≡◌, Bool, true, false, IsTrue, ◌++◌, Option, Some, None, IfSome, sym, ◌∙◌, cond, refl, arith}
+use Rattle.std.proofs.Common.{◌≡◌, Bool, true, false, IsTrue, ◌++◌, Option, Some, None, IfSome, sym, ◌∙◌, cond, refl, arith, not, option_to_list}
 use Rattle.graph_verify.proofs.Common.{list_all, option_map, option_and_then, and_parts, not-false, Format, Function, Node, takes_formats, Operand, Operands, InvalidFormat, InvalidDimension, operand_format, are_of_one_size, written_operands, other_operands, takes_first, takes_operands, node_fault, verdict_on, writes_twice, reads_own_output}
-use Rattle.std.specs.Prelude.{not, option_to_list}
 use Rattle.std.proofs.lemmas.List.Folds.{list_all-append}
 use Rattle.vx_base.specs.Object.{ObjectValue}
 use Rattle.graph_verify.specs.declared.verdict.Verdict.TheVariants.{MultipleWriters, InvalidGraph}

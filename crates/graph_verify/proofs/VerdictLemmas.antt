@@ -1,8 +1,7 @@
 -- What a verdict says of a graph.
-use Rattle.std.proofs.Common.{◌≡◌, ℕ, ◌<◌, ◌≤◌, Bool, true, false, List, sym, ap, ◌∙◌, arith}
-use Rattle.graph_verify.proofs.Common.{nat_le, if◌then◌else◌, option_or, Node, Cell, Operand, Verdict, InvalidLink, NoResources, feeds, has_cycle, resolved, two_writers, has_loose_end, first_fault, work_bytes, verdict}
-use Rattle.std.specs.Prelude.{Option, Some, None}
-use Rattle.std.proofs.lemmas.Bool.{lt-leb, le-leb}
+use Rattle.std.proofs.Common.{◌≡◌, ℕ, ◌<◌, ◌≤◌, Bool, true, false, List, sym, ap, ◌∙◌, arith, nat_le, if◌then◌else◌, Option, Some, None, le-leb}
+use Rattle.graph_verify.proofs.Common.{option_or, Node, Cell, Operand, Verdict, InvalidLink, NoResources, feeds, has_cycle, resolved, two_writers, has_loose_end, first_fault, work_bytes, verdict}
+use Rattle.std.proofs.lemmas.Bool.{lt-leb}
 
 -- what is known of a graph that can run
 pub record CanRun (work : ℕ) (is : Cell → Operand) (nodes : List Node) : Type 0 where

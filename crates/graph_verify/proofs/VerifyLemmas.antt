@@ -1,7 +1,6 @@
 -- Why a graph is found to run, or not, by what is known of its virtual images.
-use Rattle.std.proofs.Common.{◌≡◌, ℕ, ◌+◌, ◌*◌, ◌≤◌, Bool, true, false, List, [], ◌∷◌, length, map, get_or, IsTrue, refl, sym, ◌∙◌, ap, subst, inl, inr, arith, rules}
-use Rattle.graph_verify.proofs.Common.{unwrap_or, All, find, sum_by, ◌&&◌, if◌then◌else◌, option_map, option_or, filter, flat_map, filter_map, IsPermutation, and_from, and_parts, false_from_ne_true, filter-append, sum_by-IsPermutation, length_permutation, Format, Function, Node, Cell, same_cell, Description, byte_count, outputs, Outline, outline_of, filled, Known, Linked, Operand, Image, Virtual, Operands, Verdict, InvalidLink, In, has_cycle, closed_output, known_operands, AreKnown, linked_nodes, AreOperands, writes, feeds, is_written, is_virtual, is_image, operand_format, operands_of, IsOrder, operand_outline, given_outline, written_outline, outlines, as_known, resolved, IsSolution, two_writers, has_loose_end, node_fault, first_fault, virtual_outputs, work_bytes, verdict}
-use Rattle.std.specs.Prelude.{Option, Some, None}
+use Rattle.std.proofs.Common.{◌≡◌, ℕ, ◌+◌, ◌*◌, ◌≤◌, Bool, true, false, List, [], ◌∷◌, length, map, get_or, IsTrue, refl, sym, ◌∙◌, ap, subst, inl, inr, arith, rules, unwrap_or, All, find, sum_by, ◌&&◌, if◌then◌else◌, Option, Some, None}
+use Rattle.graph_verify.proofs.Common.{option_map, option_or, filter, flat_map, filter_map, IsPermutation, and_from, and_parts, false_from_ne_true, filter-append, sum_by-IsPermutation, length_permutation, Format, Function, Node, Cell, same_cell, Description, byte_count, outputs, Outline, outline_of, filled, Known, Linked, Operand, Image, Virtual, Operands, Verdict, InvalidLink, In, has_cycle, closed_output, known_operands, AreKnown, linked_nodes, AreOperands, writes, feeds, is_written, is_virtual, is_image, operand_format, operands_of, IsOrder, operand_outline, given_outline, written_outline, outlines, as_known, resolved, IsSolution, two_writers, has_loose_end, node_fault, first_fault, virtual_outputs, work_bytes, verdict}
 use Rattle.std.specs.List.{cons_option}
 use Rattle.std.proofs.lemmas.List.Sorted.{All-permutation}
 use Rattle.std.proofs.lemmas.List.Sums.{sum_by-cons, sum_by-append}

@@ -1,8 +1,7 @@
 -- Nodes that are put in order one by one.
-use Rattle.std.proofs.Common.{◌≡◌, ℕ, ◌<◌, Bool, true, false, List, [], ◌∷◌, ◌++◌, length, get_or, map, refl, sym, ◌∙◌, ap, subst, arith}
-use Rattle.graph_verify.proofs.Common.{◌&&◌, position, remove, IsPermutation, not-true, not-false, map-append, length-map, IsPermutation-refl, IsPermutation-map, IsPermutation-remove, Node, Cell, Linked, In, has_cycle, is_empty, linked_nodes, writes, feeds, is_written, IsOrder, two_writers, once_ordered}
-use Rattle.std.specs.Prelude.{Some, None, not, ◌||◌}
-use Rattle.std.proofs.lemmas.List.{map-id, get_or-map}
+use Rattle.std.proofs.Common.{◌≡◌, ℕ, ◌<◌, Bool, true, false, List, [], ◌∷◌, ◌++◌, length, get_or, map, refl, sym, ◌∙◌, ap, subst, arith, ◌&&◌, position, Some, None, not, ◌||◌, map-id}
+use Rattle.graph_verify.proofs.Common.{remove, IsPermutation, not-true, not-false, map-append, length-map, IsPermutation-refl, IsPermutation-map, IsPermutation-remove, Node, Cell, Linked, In, has_cycle, is_empty, linked_nodes, writes, feeds, is_written, IsOrder, two_writers, once_ordered}
+use Rattle.std.proofs.lemmas.List.{get_or-map}
 use Rattle.std.proofs.lemmas.List.Quantifiers.{position-Some}
 use Rattle.std.proofs.lemmas.List.Sorted.{IsPermutation-more, IsPermutation-trans, IsPermutation-append_right, list_any-IsPermutation}
 use Rattle.std.proofs.lemmas.Simd.{map-map}

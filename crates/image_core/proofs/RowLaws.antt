@@ -1,6 +1,6 @@
 -- Rows of images over slices.
-use Rattle.std.proofs.Common.{◌≡◌, ℕ, ℤ, pos, ◌+◌, ◌-◌, ◌*◌, ◌<◌, ◌≤◌, List, ◌++◌, length, map, replicate, take, drop, get_or, ap, ◌∙◌, sym, refl, arith}
-use Rattle.std.proofs.lemmas.List.{length-map, map-append, take-take}
+use Rattle.std.proofs.Common.{◌≡◌, ℕ, ℤ, pos, ◌+◌, ◌-◌, ◌*◌, ◌<◌, ◌≤◌, List, ◌++◌, length, map, replicate, take, drop, get_or, ap, ◌∙◌, sym, refl, arith, take-take}
+use Rattle.std.proofs.lemmas.List.{length-map, map-append}
 use borrow.Rule.Slice.PartMut.{put_mid}
 use Rattle.vx_base.specs.Rectangle.{Rectangle}
 use Rattle.vx_base.specs.Image.{ImageValue, IsImage, run, band, within}

@@ -1,11 +1,6 @@
 -- Rows that are written block by block.
-use Rattle.std.proofs.Common.{◌≡◌, ℕ, ℤ, ◌+◌, ◌-◌, ◌*◌, ◌≤◌, List, [], ◌∷◌, ◌++◌, length, map, take, drop, ap, ◌∙◌, sym, refl, arith}
-use Rattle.std.proofs.Math.Seq.{take-add}
-use Rattle.std.proofs.lemmas.List.{map-append, length-map, length-take-le, take-append-drop}
-use Rattle.std.proofs.lemmas.Simd.{length-chunk, length-zip2}
-use Rattle.std.proofs.lemmas.Slice.{take-put_mid}
-use Rattle.std.specs.Simd.Lanes.{zip2}
-use borrow.Rule.Slice.PartMut.{put_mid}
+use Rattle.std.proofs.Common.{◌≡◌, ℕ, ℤ, ◌+◌, ◌-◌, ◌*◌, ◌≤◌, List, [], ◌∷◌, ◌++◌, length, map, take, drop, ap, ◌∙◌, sym, refl, arith, length-take-le, take-append-drop}
+use Rattle.lane_rows.proofs.Common.{take-add, map-append, length-map, length-chunk, length-zip2, take-put_mid, zip2, put_mid}
 
 pub zip2-append : (f : ℤ → ℤ → ℤ) (xs ys us vs : List ℤ) → length xs ≡ length ys → zip2 f (xs ++ us) (ys ++ vs) ≡ zip2 f xs ys ++ zip2 f us vs
 zip2-append f [] [] us vs same = refl

@@ -1,7 +1,6 @@
 -- Samples times a power of two.
 use Rattle.std.proofs.Common.{◌≡◌, ℕ, pos, ◌*◌, ◌%◌, ◌^◌, ◌<◌, ◌≤◌, w16, to_z, ap, ◌∙◌, arith}
-use Rattle.std.proofs.Math.Nat.{pow-le-pow_right, mod-eq_of_lt}
-use Rattle.std.proofs.lemmas.Int.{to_z_pos}
+use Rattle.lane_rows.proofs.Common.{pow-le-pow_right, mod-eq_of_lt, to_z_pos}
 
 product_below : (p a : ℕ) → p ≤ 128 → a < 256 → a * p < 32768
 product_below p a small byte = grind arith

@@ -1,7 +1,7 @@
 -- Lanes of one width from those of another, by way of their bytes.
 use Rattle.std.proofs.Common.{◌≡◌, ℕ, zero, suc, ◌+◌, ◌*◌, ◌/◌, ◌%◌, ◌<◌, List, [], ◌∷◌, length, refl, ap, ◌∙◌, subst, arith}
-use Rattle.std.specs.Simd.Lanes.{Each1, number_l, digits_l}
-use Rattle.std.proofs.Math.Nat.{add-mul-mod_self_left, add-mul-div_left, mod-eq_of_lt, div-eq_of_lt, mod-add-div, div-lt_iff_lt-mul}
+use Rattle.lane_rows.proofs.Common.{Each1, number_l, digits_l, mod-eq_of_lt, div-eq_of_lt}
+use Rattle.std.proofs.Math.Nat.{add-mul-mod_self_left, add-mul-div_left, mod-add-div, div-lt_iff_lt-mul}
 use Rattle.std.proofs.Math.Arith.{digits_lt}
 
 -- how many numbers n digits of a base tell apart

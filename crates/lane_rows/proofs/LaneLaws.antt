@@ -1,15 +1,8 @@
 -- What is computed in lanes, lane by lane.
-use Rattle.std.proofs.Common.{◌≡◌, ℕ, ℤ, pos, zero, suc, ◌*◌, ◌/◌, ◌%◌, ◌^◌, ◌<◌, List, [], ◌∷◌, length, map, Bool, true, false, cond, min, ltb, w8, Fits, replicate, refl, ap, ◌∙◌, sym, subst, arith}
-use Rattle.std.specs.Prelude.{bit_and}
-use Rattle.std.specs.Simd.Lanes.{zip2, Each1, sel_l, chunk, put_chunk}
-use Rattle.std.proofs.lemmas.Int.{ints, clamps}
+use Rattle.std.proofs.Common.{◌≡◌, ℕ, ℤ, pos, zero, suc, ◌*◌, ◌/◌, ◌%◌, ◌^◌, ◌<◌, List, [], ◌∷◌, length, map, Bool, true, false, cond, min, ltb, w8, Fits, replicate, refl, ap, ◌∙◌, sym, subst, arith, bit_and, take_all}
+use Rattle.lane_rows.proofs.Common.{zip2, Each1, sel_l, chunk, ints, clamps, length-map, length-zip2, put_chunk_whole, U8, Wrap, Saturate, narrow, top}
+use Rattle.std.specs.Simd.Lanes.{put_chunk}
 use Rattle.std.proofs.lemmas.Nat.{and_mask}
-use Rattle.std.proofs.lemmas.List.{length-map, take_all}
-use Rattle.std.proofs.lemmas.Simd.{length-zip2, put_chunk_whole}
-use Rattle.vx_base.specs.declared.format.Format.TheVariants.{U8}
-use Rattle.vx_base.specs.declared.policy.Policy.TheVariants.{Wrap, Saturate}
-use Rattle.vx_base.specs.Sample.{narrow}
-use lib.Lanes.{top}
 
 -- ---- one operation after another
 

@@ -1,22 +1,11 @@
 -- Numbers of 32 bits in lanes, scaled and narrowed.
-use Rattle.std.proofs.Common.{rules, ◌≡◌, Bool, true, false, cond, inl, inr, ℕ, ℤ, pos, negsuc, zero, suc, ◌+◌, ◌-◌, ◌*◌, ◌/◌, ◌%◌, ◌^◌, ◌<◌, ◌≤◌, ◌+ℤ◌, ◌-ℤ◌, int_lt, int_div, unsigned_abs, List, [], ◌∷◌, map, length, replicate, refl, ap, ◌∙◌, sym, subst, arith, w16, w32, FitsSigned, to_z, of_z}
-use Rattle.std.specs.Prelude.{◌*ℤ◌}
-use Rattle.std.specs.Int.Signed.{shr_z}
+use Rattle.std.proofs.Common.{rules, ◌≡◌, Bool, true, false, cond, inl, inr, ℕ, ℤ, pos, negsuc, zero, suc, ◌+◌, ◌-◌, ◌*◌, ◌/◌, ◌%◌, ◌^◌, ◌<◌, ◌≤◌, ◌+ℤ◌, ◌-ℤ◌, int_lt, int_div, unsigned_abs, List, [], ◌∷◌, map, length, replicate, refl, ap, ◌∙◌, sym, subst, arith, w16, w32, FitsSigned, to_z, of_z, ◌*ℤ◌, pow_pos}
+use Rattle.lane_rows.proofs.Common.{shr_z, zip2, Each1, sel_l, cases_lt, nat_tests, ints, clamps, to_z-of_z, to_z_pos, int_wrap_fits, fits_signed_from_abs, pow-le-pow_right, S16, Policy, Wrap, Saturate, narrow, product, top}
 use Rattle.std.specs.Int.{int_rem_euclid}
-use Rattle.std.specs.Simd.Lanes.{zip2, Each1, sel_l}
-use Rattle.std.proofs.lemmas.Bool.{cases_lt}
-use Rattle.std.proofs.lemmas.Bool.Decides.{nat_tests}
-use Rattle.std.proofs.lemmas.Int.{ints, clamps, to_z-of_z, to_z_pos, wrapping_add_is, int_wrap_fits, fits_signed_from_abs, quot_fits}
-use Rattle.std.proofs.lemmas.Nat.{pow_pos}
-use Rattle.std.proofs.Math.Nat.{pow-le-pow_right}
-use Rattle.vx_base.specs.declared.format.Format.TheVariants.{S16}
-use Rattle.vx_base.specs.declared.policy.Policy.{Policy}
-use Rattle.vx_base.specs.declared.policy.Policy.TheVariants.{Wrap, Saturate}
-use Rattle.vx_base.specs.Sample.{narrow, signed_of}
+use Rattle.std.proofs.lemmas.Int.{wrapping_add_is, quot_fits}
+use Rattle.vx_base.specs.Sample.{signed_of}
 use Rattle.lane_rows.proofs.ScaleLaws.{shift_fits, sum_fits, below_zero, from_zero, ones_below}
-use Rattle.vx_base.specs.Pixelwise.{product}
 use Rattle.lane_rows.proofs.ShortLaws.{of_bits, told, products_fit}
-use lib.Lanes.{top}
 
 -- ---- over a power of two
 

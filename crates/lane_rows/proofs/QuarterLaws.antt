@@ -1,9 +1,7 @@
 -- Sixteen lanes of 16 bits, two quarters of which are exchanged as lanes of 64 bits.
 use Rattle.std.proofs.Common.{◌≡◌, ℕ, ◌+◌, ◌<◌, ◌≤◌, List, [], ◌∷◌, ◌++◌, map, length, refl, ap, ◌∙◌, sym, subst, arith}
-use Rattle.std.specs.Simd.Lanes.{zip2, Each1, pick_l, chunk, number_l, digits_l}
-use Rattle.std.specs.List.{range_with_len}
-use Rattle.std.proofs.lemmas.Simd.{pick_l_whole, length-chunk, Each1-chunk}
-use Rattle.lane_rows.specs.Quarters.{exchanged}
+use Rattle.lane_rows.proofs.Common.{zip2, Each1, pick_l, chunk, number_l, digits_l, range_with_len, length-chunk, exchanged}
+use Rattle.std.proofs.lemmas.Simd.{pick_l_whole, Each1-chunk}
 use Rattle.lane_rows.proofs.DigitLaws.{places, number_below, recast}
 
 -- what holds of sixteen items that are written out holds of each list of sixteen

@@ -1,7 +1,7 @@
 -- Rows that are written sample by sample.
-use Rattle.std.proofs.Common.{◌≡◌, ℕ, ℤ, ◌+◌, ◌<◌, List, [], ◌∷◌, ◌++◌, length, map, take, drop, get_or, set, ap, ◌∙◌, sym, refl, arith}
-use Rattle.std.proofs.lemmas.List.{take_more_set, map_push, map_more, length-map, length-take-le, get_or-drop, drop-drop, drop-set-lt}
-use Rattle.std.specs.Simd.Lanes.{zip2}
+use Rattle.std.proofs.Common.{◌≡◌, ℕ, ℤ, ◌+◌, ◌<◌, List, [], ◌∷◌, ◌++◌, length, map, take, drop, get_or, set, ap, ◌∙◌, sym, refl, arith, length-take-le, get_or-drop, drop-drop, drop-set-lt}
+use Rattle.lane_rows.proofs.Common.{length-map, zip2}
+use Rattle.std.proofs.lemmas.List.{take_more_set, map_push, map_more}
 
 zip2-push : (f : ℤ → ℤ → ℤ) (xs ys : List ℤ) (x y : ℤ) → length xs ≡ length ys → zip2 f (xs ++ x ∷ []) (ys ++ y ∷ []) ≡ zip2 f xs ys ++ f x y ∷ []
 zip2-push f [] [] x y same = refl

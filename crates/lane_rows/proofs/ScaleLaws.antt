@@ -1,12 +1,9 @@
 -- Numbers over a power of two, rounded to zero.
-use Rattle.std.proofs.Common.{◌≡◌, Bool, true, false, inl, inr, ℕ, ℤ, pos, negsuc, suc, ◌+◌, ◌-◌, ◌*◌, ◌/◌, ◌%◌, ◌^◌, ◌<◌, ◌≤◌, ◌+ℤ◌, ◌-ℤ◌, int_lt, int_div, unsigned_abs, FitsSigned, w32, to_z, of_z, ap, ◌∙◌, sym, subst, arith}
-use Rattle.std.specs.Int.Signed.{shr_z, mag_shr}
-use Rattle.std.proofs.lemmas.Bool.{cases_lt}
-use Rattle.std.proofs.lemmas.Bool.Decides.{nat_tests}
-use Rattle.std.proofs.lemmas.Int.{ints, to_z-of_z, to_z_pos}
-use Rattle.std.proofs.lemmas.Nat.{pow_pos}
+use Rattle.std.proofs.Common.{◌≡◌, Bool, true, false, inl, inr, ℕ, ℤ, pos, negsuc, suc, ◌+◌, ◌-◌, ◌*◌, ◌/◌, ◌%◌, ◌^◌, ◌<◌, ◌≤◌, ◌+ℤ◌, ◌-ℤ◌, int_lt, int_div, unsigned_abs, FitsSigned, w32, to_z, of_z, ap, ◌∙◌, sym, subst, arith, pow_pos}
+use Rattle.lane_rows.proofs.Common.{shr_z, cases_lt, nat_tests, ints, to_z-of_z, to_z_pos, div-eq_of_lt, mod-eq_of_lt, pow-le-pow_right}
+use Rattle.std.specs.Int.Signed.{mag_shr}
 use Rattle.std.proofs.Math.IntN.{neg_ℤ}
-use Rattle.std.proofs.Math.Nat.{div-eq_of_lt, div-eq-sub-div, mod-eq_of_lt, pow-le-pow_right}
+use Rattle.std.proofs.Math.Nat.{div-eq-sub-div}
 
 -- ---- rounded down after p - 1 is added
 

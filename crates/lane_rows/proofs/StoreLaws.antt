@@ -1,10 +1,6 @@
 -- Rows that are stored sixteen items at a time.
-use Rattle.std.proofs.Common.{◌≡◌, ℕ, ℤ, ◌+◌, ◌-◌, ◌*◌, ◌≤◌, List, ◌++◌, length, map, take, drop, ap, ◌∙◌, sym, arith}
-use Rattle.std.proofs.Math.Seq.{take-add}
-use Rattle.std.proofs.lemmas.List.{map-append, length-map, take-append-drop}
-use Rattle.std.proofs.lemmas.Simd.{length-chunk}
-use Rattle.std.proofs.lemmas.Slice.{take-put_mid}
-use borrow.Rule.Slice.PartMut.{put_mid}
+use Rattle.std.proofs.Common.{◌≡◌, ℕ, ℤ, ◌+◌, ◌-◌, ◌*◌, ◌≤◌, List, ◌++◌, length, map, take, drop, ap, ◌∙◌, sym, arith, take-append-drop}
+use Rattle.lane_rows.proofs.Common.{take-add, map-append, length-map, length-chunk, take-put_mid, put_mid}
 
 -- sixteen more items
 pub sixteen_written : {A T : Type 0} (of : A → ℤ) (value : T → ℤ) (f : ℤ → ℤ) (xs : List A) (out ws : List T) (k m : ℕ)

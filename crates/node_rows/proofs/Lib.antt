@@ -1,3 +1,4 @@
+mod Common
 pub mod LookLaws
 pub mod RowLaws
 pub mod PartLaws

@@ -1,17 +1,9 @@
 -- What windows see in rows around a place.
-use Rattle.std.proofs.Common.{◌≡◌, ℕ, ℤ, pos, ◌+◌, ◌-◌, ◌/◌, ◌<◌, ◌≤◌, ◌+ℤ◌, ◌-ℤ◌, ◌*ℤ◌, ◌≤ℤ◌, true, false, cond, map, refl, sym, ◌∙◌, ap, inl, inr, ◌⊎◌, arith, zero, suc}
-use Rattle.std.specs.Prelude.{unsigned_abs}
+use Rattle.std.proofs.Common.{◌≡◌, ℕ, ℤ, pos, ◌+◌, ◌-◌, ◌/◌, ◌<◌, ◌≤◌, ◌+ℤ◌, ◌-ℤ◌, ◌*ℤ◌, ◌≤ℤ◌, true, false, cond, map, refl, sym, ◌∙◌, ap, inl, inr, ◌⊎◌, arith, zero, suc, unsigned_abs}
+use Rattle.node_rows.proofs.Common.{ints, cases_Bool, nat_tests, Border, Undefined, Constant, Replicate, Rectangle, inside, shrunk, ImageValue, IsImage, at, ConvolutionValue, holds, nearest, look, nine_around, row_product, matrix_product, window_valid, AgreeInRows}
 use Rattle.std.specs.List.{range_with_len}
-use Rattle.std.proofs.lemmas.Int.{ints}
-use Rattle.std.proofs.lemmas.Bool.{cases_Bool}
-use Rattle.std.proofs.lemmas.Bool.Decides.{nat_tests}
-use Rattle.vx_base.specs.declared.border.Border.{Border}
-use Rattle.vx_base.specs.declared.border.Border.TheVariants.{Undefined, Constant, Replicate}
-use Rattle.vx_base.specs.Rectangle.{Rectangle, inside, shrunk}
-use Rattle.vx_base.specs.Image.{ImageValue, IsImage, at}
-use Rattle.vx_base.specs.Convolution.{ConvolutionValue, coefficient}
-use Rattle.vx_base.specs.Window.{holds, nearest, beside, look, nine_around, total, row_product, matrix_product, window_valid}
-use Rattle.node_rows.specs.Rows.{AgreeInRows}
+use Rattle.vx_base.specs.Convolution.{coefficient}
+use Rattle.vx_base.specs.Window.{beside, total}
 
 -- ---- what is seen, said of a rectangle and a function of places
 

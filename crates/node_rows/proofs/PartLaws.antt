@@ -1,16 +1,11 @@
 -- The rows of an image as an image.
-use Rattle.std.proofs.Common.{◌≡◌, ℕ, ℤ, pos, ◌+◌, ◌-◌, ◌*◌, ◌<◌, ◌≤◌, Bool, true, false, ◌&&◌, IsTrue, inl, inr, ◌⊎◌, nat_lt, refl, sym, ◌∙◌, ap, subst, arith, zero, suc, add-zero, get_or}
-use Rattle.std.specs.Prelude.{min}
-use Rattle.std.proofs.lemmas.Bool.{cases_lt}
-use Rattle.std.proofs.lemmas.Bool.Decides.{nat_tests}
+use Rattle.std.proofs.Common.{◌≡◌, ℕ, ℤ, pos, ◌+◌, ◌-◌, ◌*◌, ◌<◌, ◌≤◌, Bool, true, false, ◌&&◌, IsTrue, inl, inr, ◌⊎◌, nat_lt, refl, sym, ◌∙◌, ap, subst, arith, zero, suc, add-zero, get_or, min}
+use Rattle.node_rows.proofs.Common.{cases_lt, nat_tests, Rectangle, inside, bounded, meet_of, Description, ImageValue, IsImage, at, get_or-table, same_parts, rows_of, part_of, StandsFor}
 use Rattle.vx_base.specs.Sample.{IsSample}
-use Rattle.vx_base.specs.Rectangle.{Rectangle, inside, is_rectangle, bounded, meet_of}
-use Rattle.vx_base.specs.Description.{Description}
-use Rattle.vx_base.specs.Image.{ImageValue, IsImage, at, band}
+use Rattle.vx_base.specs.Rectangle.{is_rectangle}
+use Rattle.vx_base.specs.Image.{band}
 use Rattle.vx_base.proofs.TableLaws.{run-same, length-band}
-use Rattle.vx_base.proofs.ImageLaws.{get_or-table, same_parts}
 use Rattle.vx_base.proofs.RectangleLaws.{places_decide, bounded_ordered, bounded_within}
-use Rattle.node_rows.specs.Parts.{rows_of, part_of, StandsFor}
 
 -- ---- rectangles
 

@@ -1,15 +1,6 @@
 -- What windows see of parts of images.
-use Rattle.std.proofs.Common.{◌≡◌, ℕ, ℤ, pos, ◌+◌, ◌-◌, ◌/◌, ◌<◌, ◌≤◌, ◌+ℤ◌, ◌-ℤ◌, ◌≤ℤ◌, true, false, cond, refl, sym, ◌∙◌, ap, inl, inr, ◌⊎◌, arith}
-use Rattle.std.specs.Prelude.{unsigned_abs, int_le, int_lt, ◌==◌}
-use Rattle.std.proofs.lemmas.Int.{ints}
-use Rattle.std.proofs.lemmas.Bool.{cases_Bool, cases_lt}
-use Rattle.std.proofs.lemmas.Bool.Decides.{nat_tests}
-use Rattle.vx_base.specs.declared.border.Border.{Border}
-use Rattle.vx_base.specs.declared.border.Border.TheVariants.{Undefined, Constant, Replicate}
-use Rattle.vx_base.specs.Rectangle.{Rectangle, inside}
-use Rattle.vx_base.specs.Convolution.{ConvolutionValue}
-use Rattle.vx_base.specs.Window.{holds, nearest, nine_around, row_product, matrix_product}
-use Rattle.node_rows.specs.Parts.{first_right, end_right}
+use Rattle.std.proofs.Common.{◌≡◌, ℕ, ℤ, pos, ◌+◌, ◌-◌, ◌/◌, ◌<◌, ◌≤◌, ◌+ℤ◌, ◌-ℤ◌, ◌≤ℤ◌, true, false, cond, refl, sym, ◌∙◌, ap, inl, inr, ◌⊎◌, arith, unsigned_abs, int_le, int_lt, ◌==◌}
+use Rattle.node_rows.proofs.Common.{ints, cases_Bool, cases_lt, nat_tests, Border, Undefined, Constant, Replicate, Rectangle, inside, ConvolutionValue, holds, nearest, nine_around, row_product, matrix_product, first_right, end_right}
 use Rattle.node_rows.proofs.LookLaws.{IsNear, HasRow, beside_of, look_of, nearest_within, nearest_above, nearest_below, held_column, held_row, held_above, held_below, sums_same, row_same}
 
 -- ---- which rows are right

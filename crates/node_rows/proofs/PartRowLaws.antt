@@ -1,28 +1,7 @@
 -- What a node makes of parts that stand for rows.
-use Rattle.std.proofs.Common.{◌≡◌, ℕ, ℤ, pos, ◌+◌, ◌-◌, ◌/◌, ◌<◌, ◌≤◌, ◌-ℤ◌, true, false, ◌&&◌, List, refl, sym, ◌∙◌, ap, subst, inl, inr, ◌⊎◌, arith, Option, Some, None, IfSome}
-use Rattle.std.specs.Prelude.{int_div, ◌^◌, nat_le, nat_lt}
-use Rattle.std.proofs.lemmas.Bool.{cases_Bool}
-use Rattle.std.proofs.lemmas.Bool.Decides.{nat_tests}
-use Rattle.vx_base.specs.declared.border.Border.{Border}
-use Rattle.vx_base.specs.declared.border.Border.TheVariants.{Undefined, Constant, Replicate}
-use Rattle.vx_base.specs.declared.format.Format.{Format}
-use Rattle.vx_base.specs.declared.function.Function.{Function}
-use Rattle.vx_base.specs.declared.function.Function.TheVariants.{NotBits, ConvertDepth, Box, Gaussian, Median, Erode, Dilate, Sobel}
-use Rattle.vx_base.specs.declared.node.Node.{Node}
-use Rattle.vx_base.specs.declared.output.Output.{Output}
-use Rattle.vx_base.specs.Rectangle.{Rectangle, inside, meet_of, shrunk, bounded}
-use Rattle.vx_base.specs.Sample.{clamp}
-use Rattle.vx_base.specs.Description.{Description}
-use Rattle.vx_base.specs.Image.{ImageValue, IsImage, at, made}
-use Rattle.vx_base.specs.Convolution.{ConvolutionValue}
-use Rattle.vx_base.specs.Object.{ObjectValue, ImageObject, LutObject, ThresholdObject, ConvolutionObject, IsObject}
-use Rattle.vx_base.specs.Pixelwise.{from_one, from_two, formula_of_one, formula_of_two, looked_up, thresholded}
-use Rattle.vx_base.specs.Window.{look, nine_around, convolved, window_valid, from_nine, from_matrix, formula_of_nine}
-use Rattle.vx_base.specs.Outputs.{image_of_one, node_image}
-use Rattle.vx_base.proofs.ImageLaws.{at-made, at-made_outside, column_inside}
-use Rattle.vx_base.proofs.RectangleLaws.{both_inside}
-use Rattle.node_rows.specs.Reach.{matrix_in, reach}
-use Rattle.node_rows.specs.Parts.{StandsFor, StandsBeside, first_right, end_right, HasInputs}
+use Rattle.std.proofs.Common.{◌≡◌, ℕ, ℤ, pos, ◌+◌, ◌-◌, ◌/◌, ◌<◌, ◌≤◌, ◌-ℤ◌, true, false, ◌&&◌, List, refl, sym, ◌∙◌, ap, subst, inl, inr, ◌⊎◌, arith, Option, Some, None, IfSome, int_div, ◌^◌, nat_le, nat_lt}
+use Rattle.node_rows.proofs.Common.{cases_Bool, nat_tests, Border, Undefined, Constant, Replicate, Format, Function, NotBits, ConvertDepth, Box, Gaussian, Median, Erode, Dilate, Sobel, Node, Output, Rectangle, inside, meet_of, shrunk, bounded, clamp, Description, ImageValue, IsImage, at, made, ConvolutionValue, ObjectValue, ImageObject, LutObject, ThresholdObject, ConvolutionObject, IsObject, from_one, from_two, formula_of_one, formula_of_two, looked_up, thresholded, look, nine_around, convolved, window_valid, from_nine, from_matrix, formula_of_nine, image_of_one, node_image, at-made, at-made_outside, column_inside, both_inside, matrix_in, reach, StandsFor, first_right, end_right, HasInputs}
+use Rattle.node_rows.specs.Parts.{StandsBeside}
 use Rattle.node_rows.proofs.LookLaws.{IsNear, HasRow, look-of, valid_row, nine_near, matrix_near}
 use Rattle.node_rows.proofs.PartLaws.{meet_inside}
 use Rattle.node_rows.proofs.PartLookLaws.{AreRight, are_right, first_within, end_within, SameNear, same_near, row_back, look_part, nine_moved, matrix_moved}

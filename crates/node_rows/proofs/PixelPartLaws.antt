@@ -1,23 +1,10 @@
 -- What a pixelwise node makes of some rows.
-use Rattle.std.proofs.Common.{◌≡◌, ℕ, ℤ, pos, ◌+◌, ◌-◌, ◌/◌, ◌<◌, ◌≤◌, true, false, Bool, ◌&&◌, cond, refl, sym, ◌∙◌, ap, inl, inr, ◌⊎◌, arith, nat_lt, zero-add, Option, Some, None, IfSome}
-use Rattle.std.specs.Prelude.{min, max}
-use Rattle.std.proofs.lemmas.Bool.{cases_Bool}
-use Rattle.std.proofs.lemmas.Bool.Decides.{nat_tests}
-use Rattle.vx_base.specs.declared.format.Format.{Format}
-use Rattle.vx_base.specs.declared.function.Function.{Function}
-use Rattle.vx_base.specs.declared.function.Function.TheVariants.{NotBits, ConvertDepth}
-use Rattle.vx_base.specs.declared.node.Node.{Node}
-use Rattle.vx_base.specs.declared.output.Output.{Output}
-use Rattle.vx_base.specs.Rectangle.{Rectangle, inside, meet_of}
-use Rattle.vx_base.specs.Image.{ImageValue, IsImage, at, made, within}
-use Rattle.vx_base.specs.Convolution.{ConvolutionValue, IsConvolution}
-use Rattle.vx_base.specs.Object.{ObjectValue, ImageObject, LutObject, ThresholdObject, ConvolutionObject, IsObject}
-use Rattle.vx_base.specs.Pixelwise.{from_one, from_two, formula_of_one, formula_of_two, looked_up, thresholded}
-use Rattle.vx_base.specs.Outputs.{image_of_one, node_image}
-use Rattle.vx_base.proofs.ImageLaws.{get_or-table, same_parts, column_inside}
-use Rattle.vx_base.proofs.RectangleLaws.{places_decide, both_inside}
-use Rattle.node_rows.specs.Reach.{matrix_in, reach}
-use Rattle.node_rows.specs.Parts.{rows_of, part_of, part_beside, HasInputs}
+use Rattle.std.proofs.Common.{◌≡◌, ℕ, ℤ, pos, ◌+◌, ◌-◌, ◌/◌, ◌<◌, ◌≤◌, true, false, Bool, ◌&&◌, cond, refl, sym, ◌∙◌, ap, inl, inr, ◌⊎◌, arith, nat_lt, zero-add, Option, Some, None, IfSome, min, max}
+use Rattle.node_rows.proofs.Common.{cases_Bool, nat_tests, Format, Function, NotBits, ConvertDepth, Node, Output, Rectangle, inside, meet_of, ImageValue, IsImage, at, made, ConvolutionValue, ObjectValue, ImageObject, LutObject, ThresholdObject, ConvolutionObject, IsObject, from_one, from_two, formula_of_one, formula_of_two, looked_up, thresholded, image_of_one, node_image, get_or-table, same_parts, column_inside, both_inside, matrix_in, reach, rows_of, part_of, HasInputs}
+use Rattle.vx_base.specs.Image.{within}
+use Rattle.vx_base.specs.Convolution.{IsConvolution}
+use Rattle.vx_base.proofs.RectangleLaws.{places_decide}
+use Rattle.node_rows.specs.Parts.{part_beside}
 use Rattle.node_rows.proofs.PartLaws.{bounded_is, meet_inside, rows_inside, band_moved, at-part}
 
 -- ---- rectangles

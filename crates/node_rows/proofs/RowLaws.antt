@@ -1,27 +1,11 @@
 -- What a node gives in a row.
-use Rattle.std.proofs.Common.{◌≡◌, ℕ, ℤ, pos, ◌+◌, ◌-◌, ◌/◌, ◌<◌, ◌≤◌, true, false, List, refl, sym, ◌∙◌, ap, subst, inl, inr, ◌⊎◌, arith, Option, Some, None, IfSome}
-use Rattle.std.specs.Prelude.{int_div, ◌^◌}
-use Rattle.std.proofs.lemmas.Bool.{cases_Bool}
-use Rattle.vx_base.specs.declared.border.Border.{Border}
-use Rattle.vx_base.specs.declared.format.Format.{Format}
-use Rattle.vx_base.specs.declared.function.Function.{Function}
-use Rattle.vx_base.specs.declared.function.Function.TheVariants.{NotBits, ConvertDepth, Box, Gaussian, Median, Erode, Dilate, Sobel, Integral}
-use Rattle.vx_base.specs.declared.node.Node.{Node}
-use Rattle.vx_base.specs.declared.output.Output.{Output}
-use Rattle.vx_base.specs.Rectangle.{Rectangle, inside, meet_of}
-use Rattle.vx_base.specs.Sample.{clamp}
-use Rattle.vx_base.specs.Description.{Description}
-use Rattle.vx_base.specs.Image.{ImageValue, IsImage, at, made, description_of}
-use Rattle.vx_base.specs.Convolution.{ConvolutionValue}
-use Rattle.vx_base.specs.Object.{ObjectValue, ImageObject, LutObject, ThresholdObject, ConvolutionObject, IsObject}
-use Rattle.vx_base.specs.Pixelwise.{from_one, from_two, formula_of_one, formula_of_two, looked_up, thresholded}
-use Rattle.vx_base.specs.Window.{look, nine_around, convolved, window_valid, from_nine, from_matrix, formula_of_nine}
+use Rattle.std.proofs.Common.{◌≡◌, ℕ, ℤ, pos, ◌+◌, ◌-◌, ◌/◌, ◌<◌, ◌≤◌, true, false, List, refl, sym, ◌∙◌, ap, subst, inl, inr, ◌⊎◌, arith, Option, Some, None, IfSome, int_div, ◌^◌}
+use Rattle.node_rows.proofs.Common.{cases_Bool, Border, Format, Function, NotBits, ConvertDepth, Box, Gaussian, Median, Erode, Dilate, Sobel, Node, Output, Rectangle, inside, meet_of, clamp, Description, ImageValue, IsImage, at, made, ConvolutionValue, ObjectValue, ImageObject, LutObject, ThresholdObject, ConvolutionObject, IsObject, from_one, from_two, formula_of_one, formula_of_two, looked_up, thresholded, look, nine_around, convolved, window_valid, from_nine, from_matrix, formula_of_nine, image_of_one, node_image, at-made, at-made_outside, column_inside, both_inside, matrix_in, reach, AgreeInRows}
+use Rattle.vx_base.specs.declared.function.Function.TheVariants.{Integral}
+use Rattle.vx_base.specs.Image.{description_of}
 use Rattle.vx_base.specs.Statistics.{sum_to}
-use Rattle.vx_base.specs.Outputs.{image_of_one, node_image}
-use Rattle.vx_base.proofs.ImageLaws.{at-made, at-made_outside, column_inside, row_inside, places_decide}
-use Rattle.vx_base.proofs.RectangleLaws.{both_inside}
-use Rattle.node_rows.specs.Reach.{matrix_in, reach}
-use Rattle.node_rows.specs.Rows.{AreAlike, AgreeInRows, AgreeBeside}
+use Rattle.vx_base.proofs.ImageLaws.{row_inside, places_decide}
+use Rattle.node_rows.specs.Rows.{AreAlike, AgreeBeside}
 use Rattle.node_rows.proofs.LookLaws.{nine_near, matrix_near, look_near}
 
 -- ---- images that are made alike

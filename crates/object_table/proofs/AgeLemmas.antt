@@ -1,8 +1,7 @@
 -- Delays that age with graphs.
-use Rattle.std.proofs.Common.{◌≡◌, ◌≢◌, ℕ, ◌+◌, ◌<◌, Bool, true, false, List, [], ◌∷◌, ◌++◌, length, map, take, get_or, Some, None, refl, sym, ap, ◌∙◌, arith}
-use Rattle.object_table.proofs.Common.{◌==◌, if◌then◌else◌, is_some, list_any, AllPairs, keys_of, lookup, set_value, is_at, option_map, nat_cmp, eqb-true, eqb-false, ne_eqb, All-nil, All-cons, All-filter, AllPairs-filter, sorted_tail, Kind, with_delays, ObjectValue, DelayObject, GraphObject, object_kind, Entry, is_there, aged_under, Context, with_objects, Named, object_held, aged_object, graph_value, IsUnder, graph_under, named, nodes_in}
-use Rattle.std.specs.Prelude.{All, filter}
-use Rattle.std.proofs.lemmas.List.{length-take, get_or-take, get_or_default}
+use Rattle.std.proofs.Common.{◌≡◌, ◌≢◌, ℕ, ◌+◌, ◌<◌, Bool, true, false, List, [], ◌∷◌, ◌++◌, length, map, take, get_or, Some, None, refl, sym, ap, ◌∙◌, arith, ◌==◌, if◌then◌else◌, is_some, eqb-true, ne_eqb, All, filter, length-take, get_or-take}
+use Rattle.object_table.proofs.Common.{list_any, AllPairs, keys_of, lookup, set_value, is_at, option_map, nat_cmp, eqb-false, All-nil, All-cons, All-filter, AllPairs-filter, sorted_tail, Kind, with_delays, ObjectValue, DelayObject, GraphObject, object_kind, Entry, is_there, aged_under, Context, with_objects, Named, object_held, aged_object, graph_value, IsUnder, graph_under, named, nodes_in}
+use Rattle.std.proofs.lemmas.List.{get_or_default}
 use Rattle.std.proofs.lemmas.List.Folds.{list_any_more, list_any_none}
 use Rattle.std.proofs.lemmas.List.Quantifiers.{all_pairs_push}
 use Rattle.vx_base.specs.declared.kind.Kind.TheVariants as kind

@@ -1,6 +1,6 @@
 -- In how many blocks objects have their samples is told by their skeletons.
-use Rattle.std.proofs.Common.{◌≡◌, ℕ, ◌+◌, List, [], ◌∷◌, ◌++◌, map, refl, sym, ap, ◌∙◌}
-use Rattle.object_table.proofs.Common.{sum, sum-map, sum_by_push, map-map, Format, ImageValue, ObjectValue, DelayObject, image_blocks, object_blocks, blocks_in, Named, image_skeleton, skeleton}
+use Rattle.std.proofs.Common.{◌≡◌, ℕ, ◌+◌, List, [], ◌∷◌, ◌++◌, map, refl, sym, ap, ◌∙◌, sum}
+use Rattle.object_table.proofs.Common.{sum-map, sum_by_push, map-map, Format, ImageValue, ObjectValue, DelayObject, image_blocks, object_blocks, blocks_in, Named, image_skeleton, skeleton}
 use Rattle.object_table.specs.Blocks.{KeepsBlocks}
 use Rattle.object_table.proofs.SkeletonLaws.{map-told}
 

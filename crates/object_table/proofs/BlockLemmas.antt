@@ -1,6 +1,6 @@
 -- Blocks that are given back one by one: how many are lent, beside the sum over what has them still.
-use Rattle.std.proofs.Common.{◌≡◌, ℕ, ◌+◌, ◌≤◌, List, [], ◌∷◌, length, ap, arith}
-use Rattle.object_table.proofs.Common.{sum_by, sum_by-cons}
+use Rattle.std.proofs.Common.{◌≡◌, ℕ, ◌+◌, ◌≤◌, List, [], ◌∷◌, length, ap, arith, sum_by}
+use Rattle.object_table.proofs.Common.{sum_by-cons}
 
 module _ {X : Type 0} (blocks : X → ℕ) where
   -- the first of those that are left to give back has no more than are lent

@@ -12,8 +12,8 @@ pub use Rattle.object_table.specs.Table.{IsTable, IsUnder, ended, graph_under, i
 pub use Rattle.object_table.specs.Uses.{names_used, names_used_by, nodes_in, times, used_names}
 pub use Rattle.object_table.specs.declared.table.Entry.{Entry}
 pub use Rattle.pixel_pool.specs.Pool.{lent_of}
-pub use Rattle.std.proofs.lemmas.Bool.{and_parts, cases_Bool, cases_lt, eqb-false, eqb-true, le-ltb, lt-ltb, ne_eqb, or_from, or_left}
-pub use Rattle.std.proofs.lemmas.List.{get_or-map, length-append, length-map, map-append, take_all}
+pub use Rattle.std.proofs.lemmas.Bool.{and_parts, cases_Bool, cases_lt, eqb-false, or_from, or_left}
+pub use Rattle.std.proofs.lemmas.List.{get_or-map, length-map, map-append}
 pub use Rattle.std.proofs.lemmas.List.Elements.{All-cons, All-filter, All-head, All-map, All-nil, All-tail, All-weaker, filter_passes}
 pub use Rattle.std.proofs.lemmas.List.Kept.{AllPairs-filter, AllPairs-from_increasing}
 pub use Rattle.std.proofs.lemmas.List.Sums.{count_by-le-length, sum-map, sum_by-append, sum_by-cons, sum_by-le, sum_by_push}
@@ -29,7 +29,6 @@ pub use Rattle.std.specs.List.Sorted.{IsStrictlyIncreasing}
 pub use Rattle.std.specs.Map.{keys_of, lookup, remove_entry, set_value}
 pub use Rattle.std.specs.Option.{option_map}
 pub use Rattle.std.specs.Ordering.{nat_cmp}
-pub use Rattle.std.specs.Prelude.{find, if◌then◌else◌, is_some, nat_lt, slice_get, sum, sum_by, unwrap_or, ◌==◌, ◌||◌}
 pub use Rattle.std.specs.Vec.Iter.{into_iter_items}
 pub use Rattle.vx_base.proofs.ImageLaws.{new_image_is}
 pub use Rattle.vx_base.proofs.PictureLaws.{side}

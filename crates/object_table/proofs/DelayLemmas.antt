@@ -1,8 +1,6 @@
 -- Delays: images of one description.
-use Rattle.std.proofs.Common.{◌≡◌, ℕ, ◌*◌, ◌<◌, ◌≤◌, List, [], ◌∷◌, ◌++◌, length, map, get_or, refl, sym, ◌∙◌, arith}
-use Rattle.object_table.proofs.Common.{sum_by, AllPairs, and_parts, length-map, get_or-map, All-head, All-tail, sum_by-cons, sum_by-append, Description, ImageValue, IsImage, new_image, description_of, IsDelay, image_bytes, new_image_is, new_delay}
-use Rattle.std.specs.Prelude.{All, take, drop, nat_le, IsTrue}
-use Rattle.std.proofs.lemmas.Bool.{leb-true}
+use Rattle.std.proofs.Common.{◌≡◌, ℕ, ◌*◌, ◌<◌, ◌≤◌, List, [], ◌∷◌, ◌++◌, length, map, get_or, refl, sym, ◌∙◌, arith, sum_by, All, take, drop, nat_le, IsTrue, leb-true}
+use Rattle.object_table.proofs.Common.{AllPairs, and_parts, length-map, get_or-map, All-head, All-tail, sum_by-cons, sum_by-append, Description, ImageValue, IsImage, new_image, description_of, IsDelay, image_bytes, new_image_is, new_delay}
 use Rattle.std.proofs.lemmas.List.{length-replicate}
 use Rattle.std.proofs.lemmas.List.Elements.{All-replicate}
 use Rattle.std.proofs.lemmas.List.Sums.{sum_by-take-drop}

@@ -1,6 +1,6 @@
 -- In how many blocks of a pool the entries of a map have their samples.
-use Rattle.std.proofs.Common.{◌≡◌, ℕ, ◌+◌, List, [], ◌∷◌, map, Some, refl, sym, ap, ◌∙◌, arith, rules}
-use Rattle.object_table.proofs.Common.{sum_by, lookup, set_value, remove_entry, is_at, nat_cmp, sum_by-cons, Format, Entry, GraphValue, ObjectValue, ImageObject, DelayObject, GraphObject, object_kind, object_blocks, blocks_in, LendsAtLeast, Balances, Named, named}
+use Rattle.std.proofs.Common.{◌≡◌, ℕ, ◌+◌, List, [], ◌∷◌, map, Some, refl, sym, ap, ◌∙◌, arith, rules, sum_by}
+use Rattle.object_table.proofs.Common.{lookup, set_value, remove_entry, is_at, nat_cmp, sum_by-cons, Format, Entry, GraphValue, ObjectValue, ImageObject, DelayObject, GraphObject, object_kind, object_blocks, blocks_in, LendsAtLeast, Balances, Named, named}
 use Rattle.vx_base.specs.declared.kind.Kind.TheVariants as kind
 use Rattle.pixel_pool.specs.declared.pool.Pool.{Pool}
 use Rattle.object_table.specs.Blocks.{LendsLess}

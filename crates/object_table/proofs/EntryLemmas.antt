@@ -1,7 +1,6 @@
 -- Entries of a map by name, and what they show.
-use Rattle.std.proofs.Common.{◌≡◌, ℕ, ◌+◌, ◌<◌, ◌≤◌, true, cond, List, [], ◌∷◌, ◌++◌, ◌*◌, length, map, Option, Some, None, refl, sym, ap, subst, ◌∙◌, arith, rules}
-use Rattle.object_table.proofs.Common.{◌==◌, nat_lt, ◌||◌, sum_by, unwrap_or, nat_cmp, keys_of, lookup, set_value, remove_entry, is_at, option_map, IsStrictlyIncreasing, cases_lt, and_parts, length-append, length-map, All-cons, All-head, All-tail, All-weaker, sum_by-cons, sum_by-le, sum_by_push, keys-set_value, length-set_value, All-lookup, sorted_tail, U8, Kind, Cell, ImageValue, new_image, ObjectValue, ImageObject, DelayObject, ExtremesObject, GraphObject, object_bytes, object_kind, Entry, Context, object_named, charge_of, with_objects, object_in, with_slot, HasImage, object_held, with_object, image_value, aged_object, IsUnder, named, is_kept, IsTable, nodes_in, names_used_by, names_used, times, GREATEST_SLOTS, GREATEST_BYTES}
-use Rattle.std.specs.Prelude.{All, IfSome, IsTrue}
+use Rattle.std.proofs.Common.{◌≡◌, ℕ, ◌+◌, ◌<◌, ◌≤◌, true, cond, List, [], ◌∷◌, ◌++◌, ◌*◌, length, map, Option, Some, None, refl, sym, ap, subst, ◌∙◌, arith, rules, ◌==◌, nat_lt, ◌||◌, sum_by, unwrap_or, length-append, All, IfSome, IsTrue}
+use Rattle.object_table.proofs.Common.{nat_cmp, keys_of, lookup, set_value, remove_entry, is_at, option_map, IsStrictlyIncreasing, cases_lt, and_parts, length-map, All-cons, All-head, All-tail, All-weaker, sum_by-cons, sum_by-le, sum_by_push, keys-set_value, length-set_value, All-lookup, sorted_tail, U8, Kind, Cell, ImageValue, new_image, ObjectValue, ImageObject, DelayObject, ExtremesObject, GraphObject, object_bytes, object_kind, Entry, Context, object_named, charge_of, with_objects, object_in, with_slot, HasImage, object_held, with_object, image_value, aged_object, IsUnder, named, is_kept, IsTable, nodes_in, names_used_by, names_used, times, GREATEST_SLOTS, GREATEST_BYTES}
 use Rattle.std.specs.BTreeMap.{insert_entry}
 use Rattle.std.specs.List.Sorted.{IsStrictlySortedBy}
 use Rattle.std.proofs.lemmas.Cmp.{nat_cmp_total, eq_by_cmp_equiv}

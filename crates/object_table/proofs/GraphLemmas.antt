@@ -1,9 +1,8 @@
 -- Nodes that come and go, the names that they use, and what is held then.
-use Rattle.std.proofs.Common.{inl, inr, ◌≡◌, ℕ, ◌+◌, ◌-◌, ◌*◌, ◌<◌, ◌≤◌, zero, suc, Bool, true, false, cond, List, [], ◌∷◌, ◌++◌, Some, None, length, map, get_or, IsTrue, refl, sym, ap, subst, ◌∙◌, arith, rules}
-use Rattle.object_table.proofs.Common.{◌==◌, ◌||◌, nat_lt, find, sum_by, is_some, list_any, flat_map, AllPairs, IsStrictlyIncreasing, lookup, set_value, is_at, nat_cmp, cases_Bool, eqb-true, ne_eqb, and_parts, map-append, length-map, length-append, get_or-map, All-nil, All-cons, All-head, All-tail, All-map, All-weaker, All-filter, filter_passes, AllPairs-filter, AllPairs-from_increasing, sum_by-cons, sum_by-le, count_by-le-length, keys-set_value, length-set_value, U8, Kind, Node, Numbered, Cell, GraphValue, can_add, with_node, without_node, new_image, given, ObjectValue, ImageObject, GraphObject, object_bytes, object_kind, Entry, Context, charge_of, object_named, still_held, unnamed, Named, object_held, graph_value, named, used_more, used_less, is_kept, kept, IsTable, used_names, nodes_in, names_used_by, names_used, times, GREATEST_SLOTS, GREATEST_BYTES}
-use Rattle.std.specs.Prelude.{All, ◌&&◌, not, filter}
+use Rattle.std.proofs.Common.{inl, inr, ◌≡◌, ℕ, ◌+◌, ◌-◌, ◌*◌, ◌<◌, ◌≤◌, zero, suc, Bool, true, false, cond, List, [], ◌∷◌, ◌++◌, Some, None, length, map, get_or, IsTrue, refl, sym, ap, subst, ◌∙◌, arith, rules, ◌==◌, ◌||◌, nat_lt, find, sum_by, is_some, eqb-true, ne_eqb, length-append, All, ◌&&◌, not, filter, ltb-true}
+use Rattle.object_table.proofs.Common.{list_any, flat_map, AllPairs, IsStrictlyIncreasing, lookup, set_value, is_at, nat_cmp, cases_Bool, and_parts, map-append, length-map, get_or-map, All-nil, All-cons, All-head, All-tail, All-map, All-weaker, All-filter, filter_passes, AllPairs-filter, AllPairs-from_increasing, sum_by-cons, sum_by-le, count_by-le-length, keys-set_value, length-set_value, U8, Kind, Node, Numbered, Cell, GraphValue, can_add, with_node, without_node, new_image, given, ObjectValue, ImageObject, GraphObject, object_bytes, object_kind, Entry, Context, charge_of, object_named, still_held, unnamed, Named, object_held, graph_value, named, used_more, used_less, is_kept, kept, IsTable, used_names, nodes_in, names_used_by, names_used, times, GREATEST_SLOTS, GREATEST_BYTES}
 use Rattle.std.proofs.lemmas.Bool.Decides.{nat_tests}
-use Rattle.std.proofs.lemmas.Bool.{ltb-true, false≢true}
+use Rattle.std.proofs.lemmas.Bool.{false≢true}
 use Rattle.std.proofs.lemmas.Grind.{flat_map-append}
 use Rattle.std.proofs.lemmas.List.Concat.{length-flat_map}
 use Rattle.std.proofs.lemmas.List.Elements.{All-append}

@@ -1,9 +1,8 @@
 -- Objects under their names: the one of a name, and the objects when one is written.
-use Rattle.std.proofs.Common.{◌≡◌, ℕ, ◌+◌, ◌<◌, List, [], ◌∷◌, map, zero, suc, refl, ap, subst, ◌∙◌, arith, Option, Some, IfSome, rules}
-use Rattle.object_table.proofs.Common.{◌==◌, if◌then◌else◌, find, IsStrictlyIncreasing, AllPairs, option_map, eqb-true, eqb-false, length-map, All-nil, All-cons, All-head, All-tail, All-weaker, AllPairs-from_increasing, Cell, ObjectValue, IsObject, with_slot, Named, object_held, with_object}
-use Rattle.std.specs.Prelude.{All}
+use Rattle.std.proofs.Common.{◌≡◌, ℕ, ◌+◌, ◌<◌, List, [], ◌∷◌, map, zero, suc, refl, ap, subst, ◌∙◌, arith, Option, Some, IfSome, rules, ◌==◌, if◌then◌else◌, find, eqb-true, All, eq-eqb}
+use Rattle.object_table.proofs.Common.{IsStrictlyIncreasing, AllPairs, option_map, eqb-false, length-map, All-nil, All-cons, All-head, All-tail, All-weaker, AllPairs-from_increasing, Cell, ObjectValue, IsObject, with_slot, Named, object_held, with_object}
 use Rattle.std.proofs.Math.ListN.{get_or-map as get_or-map_default}
-use Rattle.std.proofs.lemmas.Bool.{cond_both, eq-eqb}
+use Rattle.std.proofs.lemmas.Bool.{cond_both}
 use Rattle.std.proofs.lemmas.Option.{IfSome_then}
 use Rattle.object_table.proofs.SlotLemmas.{IsObject-in_slot}
 use Rattle.object_table.specs.Named.{held}

@@ -1,8 +1,7 @@
 -- Entries that are held, and what is left of them when uses and names end.
-use Rattle.std.proofs.Common.{inl, inr, ◌≡◌, ℕ, ◌+◌, ◌-◌, true, false, cond, List, [], ◌∷◌, ◌++◌, length, map, IsTrue, Option, Some, None, refl, sym, ap, subst, ◌∙◌, arith}
-use Rattle.object_table.proofs.Common.{◌==◌, nat_lt, ◌||◌, unwrap_or, keys_of, lookup, set_value, remove_entry, is_at, nat_cmp, option_map, cases_Bool, or_left, or_from, le-ltb, length-map, All-head, All-tail, filter_passes, sorted_tail, Numbered, object_bytes, object_kind, Entry, charge_of, unnamed, named, is_kept, kept, nodes_at, used_less, ended, nodes_in, times}
-use Rattle.std.specs.Prelude.{All}
-use Rattle.std.proofs.lemmas.Bool.{or_parts, ltb-false}
+use Rattle.std.proofs.Common.{inl, inr, ◌≡◌, ℕ, ◌+◌, ◌-◌, true, false, cond, List, [], ◌∷◌, ◌++◌, length, map, IsTrue, Option, Some, None, refl, sym, ap, subst, ◌∙◌, arith, ◌==◌, nat_lt, ◌||◌, unwrap_or, le-ltb, All, ltb-false}
+use Rattle.object_table.proofs.Common.{keys_of, lookup, set_value, remove_entry, is_at, nat_cmp, option_map, cases_Bool, or_left, or_from, length-map, All-head, All-tail, filter_passes, sorted_tail, Numbered, object_bytes, object_kind, Entry, charge_of, unnamed, named, is_kept, kept, nodes_at, used_less, ended, nodes_in, times}
+use Rattle.std.proofs.lemmas.Bool.{or_parts}
 use Rattle.object_table.proofs.EntryLemmas.{InOrder, same_name, past_head, charge_is, All-written, sum-written, sum-removed}
 use Rattle.object_table.proofs.UseLemmas.{with_uses, less, less_is, used-append, used-nil, shown-used}
 

@@ -1,7 +1,6 @@
 -- What stands in slots, and what is written there.
-use Rattle.std.proofs.Common.{◌≡◌, ◌≢◌, ℕ, ◌<◌, ◌≤◌, ◌⊎◌, inl, inr, IsTrue, List, length, map, set, Option, Some, None, IfSome, refl, sym, ap, subst, ◌∙◌, arith}
-use Rattle.object_table.proofs.Common.{is_some, unwrap_or, slice_get, option_map, AllPairs, cases_lt, get_or_from_slice_get, U8, Description, ImageValue, IsImage, new_image, description_of, ObjectValue, ImageObject, GraphObject, DelayObject, IsObject, IsDelay, object_kind, in_slot, object_in, with_slot, HasImage, graph_value, image_value}
-use Rattle.std.proofs.lemmas.List.{length-set, set-set, get_or-set_same, get_or-set_other}
+use Rattle.std.proofs.Common.{◌≡◌, ◌≢◌, ℕ, ◌<◌, ◌≤◌, ◌⊎◌, inl, inr, IsTrue, List, length, map, set, Option, Some, None, IfSome, refl, sym, ap, subst, ◌∙◌, arith, is_some, unwrap_or, slice_get, length-set, set-set, get_or-set_same, get_or-set_other}
+use Rattle.object_table.proofs.Common.{option_map, AllPairs, cases_lt, get_or_from_slice_get, U8, Description, ImageValue, IsImage, new_image, description_of, ObjectValue, ImageObject, GraphObject, DelayObject, IsObject, IsDelay, object_kind, in_slot, object_in, with_slot, HasImage, graph_value, image_value}
 use Rattle.std.proofs.lemmas.List.Elements.{All-set}
 use Rattle.std.proofs.lemmas.Option.{slice_get_past, slice_get_within, slice_get-get_or}
 use Rattle.vx_base.specs.declared.kind.Kind.TheVariants as kind

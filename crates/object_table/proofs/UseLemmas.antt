@@ -1,7 +1,6 @@
 -- How often nodes use what is held.
-use Rattle.std.proofs.Common.{◌≡◌, ℕ, ◌+◌, ◌-◌, ◌<◌, ◌≤◌, Bool, cond, List, [], ◌∷◌, ◌++◌, length, map, get_or, take, Option, Some, None, refl, sym, ap, subst, ◌∙◌, arith}
-use Rattle.object_table.proofs.Common.{◌==◌, nat_cmp, keys_of, lookup, set_value, is_at, flat_map, option_map, map-append, length-map, get_or-map, All-map, sum_by-append, count_by-le-length, sorted_tail, Node, Numbered, Cell, given, ObjectValue, Entry, used_more, used_names, times}
-use Rattle.std.specs.Prelude.{All}
+use Rattle.std.proofs.Common.{◌≡◌, ℕ, ◌+◌, ◌-◌, ◌<◌, ◌≤◌, Bool, cond, List, [], ◌∷◌, ◌++◌, length, map, get_or, take, Option, Some, None, refl, sym, ap, subst, ◌∙◌, arith, ◌==◌, All}
+use Rattle.object_table.proofs.Common.{nat_cmp, keys_of, lookup, set_value, is_at, flat_map, option_map, map-append, length-map, get_or-map, All-map, sum_by-append, count_by-le-length, sorted_tail, Node, Numbered, Cell, given, ObjectValue, Entry, used_more, used_names, times}
 use Rattle.std.proofs.lemmas.List.{take_more, flat_map_more}
 use Rattle.object_table.proofs.EntryLemmas.{InOrder, same_name, past_head}
 

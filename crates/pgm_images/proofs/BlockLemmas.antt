@@ -1,16 +1,14 @@
 -- Blocks of a text, of which it was found out where numbers begin.
-use Rattle.std.proofs.Common.{◌≡◌, ℕ, zero, suc, ◌+◌, ◌-◌, ◌/◌, ◌%◌, ◌^◌, ◌<◌, ◌≤◌, ◌⊎◌, inl, inr, Bool, true, false, not, cond, nat_lt, eqb, if◌then◌else◌, List, [], ◌∷◌, map, length, get_or, drop, replicate, Some, refl, ap, sym, subst, ◌∙◌, arith, w8, w64, bit_and}
-use Rattle.std.specs.Prelude.{slice_index}
+use Rattle.std.proofs.Common.{◌≡◌, ℕ, zero, suc, ◌+◌, ◌-◌, ◌/◌, ◌%◌, ◌^◌, ◌<◌, ◌≤◌, ◌⊎◌, inl, inr, Bool, true, false, not, cond, nat_lt, eqb, if◌then◌else◌, List, [], ◌∷◌, map, length, get_or, drop, replicate, Some, refl, ap, sym, subst, ◌∙◌, arith, w8, w64, bit_and, slice_index, get_or-set_same, get_or-set_other, drop-drop, length-drop, lt-ltb, le-ltb, ne_eqb}
+use Rattle.pgm_images.proofs.Common.{set, cases_lt, count_trailing_zeros, begins_digit, take_next, Kept, Tells, AreTold}
 use Rattle.std.specs.Int.{bit_at}
 use Rattle.std.proofs.lemmas.Simd.{bitmask_splat, bit_mask_l}
-use Rattle.std.proofs.Math.ListN.{set}
-use Rattle.std.proofs.lemmas.List.{get_or-map, get_or-set_same, get_or-set_other, drop-drop, length-drop}
-use Rattle.std.proofs.lemmas.Bool.{cases_eq, cases_lt, cases_order, lt-ltb, le-ltb, ne_eqb, both_ways}
+use Rattle.std.proofs.lemmas.List.{get_or-map}
+use Rattle.std.proofs.lemmas.Bool.{cases_eq, cases_order, both_ways}
 use Rattle.std.proofs.lemmas.Nat.Bits.{bit_at_lowest, bit_at-suc, bit_at-zero, bit_at_and, bit_at-trailing_zeros}
-use lib.Count.{count_trailing_zeros}
 use lib.Lanes.{mask_l, top, zip2}
 use mir.Val.{bits, hbits}
-use Rattle.pgm_images.specs.Marks.{begins_space, begins_digit, take_next, Kept, Tells, AreTold, IsBlock}
+use Rattle.pgm_images.specs.Marks.{begins_space, IsBlock}
 use Rattle.pgm_images.proofs.GapLemmas.{space_is}
 use Rattle.pgm_images.proofs.SpacedLemmas.{spaced_end}
 

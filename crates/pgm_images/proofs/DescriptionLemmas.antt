@@ -1,16 +1,9 @@
 -- What a text's header tells of the picture that the text stands for.
-use Rattle.std.proofs.Common.{◌≡◌, ℕ, ℤ, ◌&&◌, Bool, true, false, List, Some, None, Result, Ok, Err, IsTrue, if◌then◌else◌, refl, ap, sym, ◌∙◌, arith}
-use Rattle.std.specs.Prelude.{min, IfOk}
-use Rattle.std.proofs.lemmas.Bool.Decides.{nat_tests}
-use Rattle.vx_base.specs.Description.{Description, is_side, sample_count}
-use Rattle.vx_base.specs.Picture.{PictureValue}
-use Rattle.pgm_images.specs.declared.fault.PgmFault.{PgmFault}
-use Rattle.pgm_images.specs.declared.fault.PgmFault.TheVariants.{InvalidFormat, InvalidDimension}
+use Rattle.std.proofs.Common.{◌≡◌, ℕ, ℤ, ◌&&◌, Bool, true, false, List, Some, None, Result, Ok, Err, IsTrue, if◌then◌else◌, refl, ap, sym, ◌∙◌, arith, min, IfOk}
+use Rattle.pgm_images.proofs.Common.{nat_tests, Description, is_side, sample_count, PictureValue, PgmFault, InvalidFormat, InvalidDimension, BeginsWith, HeaderValue, take_header, is_maxval, format_up_to, header_description, numbers_in, samples_up_to, picture_with, picture_under, picture_after, reading, description_in, is_headed}
 use Rattle.pgm_images.specs.declared.header.Header.{Header}
-use Rattle.pgm_images.specs.Marks.{BeginsWith}
-use Rattle.pgm_images.specs.Header.{HeaderValue, take_header, is_maxval, format_up_to, header_description, KeptHeader}
-use Rattle.pgm_images.specs.Raster.{numbers_in, samples_up_to}
-use Rattle.pgm_images.specs.Reading.{picture_with, picture_under, picture_after, reading, description_after, description_in, is_headed}
+use Rattle.pgm_images.specs.Header.{KeptHeader}
+use Rattle.pgm_images.specs.Reading.{description_after}
 
 -- ---- a picture that is read has the description that the header tells
 

@@ -1,11 +1,8 @@
 -- The number that digits are.
 use Rattle.std.proofs.Common.{◌≡◌, ℕ, ◌+◌, ◌-◌, ◌*◌, Bool, true, false, ◌&&◌, if◌then◌else◌, List, ◌∷◌, refl, ap, arith}
-use Rattle.std.specs.Char.{is_ascii_digit}
+use Rattle.pgm_images.proofs.Common.{is_ascii_digit, all_ascii_digits, nat_tests, is_space, begins_comment, digits_after}
 use Rattle.std.specs.Int.{IsInRange}
-use Rattle.std.specs.Str.{all_ascii_digits}
-use Rattle.std.proofs.lemmas.Bool.Decides.{nat_tests}
 use Rattle.std.proofs.lemmas.Str.Parse.{IsNumeralModel, FoldsDigits, numerals_by_fold, tells_all_ascii_digits}
-use Rattle.pgm_images.specs.Marks.{is_space, begins_comment, digits_after}
 
 digit_in : (c : ℕ) → IsInRange 48 57 c → is_ascii_digit c ≡ true
 digit_in c is = grind (arith, nat_tests)

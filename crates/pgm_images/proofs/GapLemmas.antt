@@ -1,12 +1,9 @@
 -- Gaps and numbers: what the definition takes is what the grammar says.
-use Rattle.std.proofs.Common.{◌≡◌, ℕ, ◌<◌, ◌⊎◌, inl, inr, Bool, true, false, not, ◌||◌, if◌then◌else◌, List, [], ◌∷◌, ◌++◌, length, Option, Some, None, refl, ap, sym, subst, ◌∙◌, arith, append_assoc, append-nil}
-use Rattle.std.specs.Prelude.{All}
-use Rattle.std.specs.Char.{is_ascii_digit}
+use Rattle.std.proofs.Common.{◌≡◌, ℕ, ◌<◌, ◌⊎◌, inl, inr, Bool, true, false, not, ◌||◌, if◌then◌else◌, List, [], ◌∷◌, ◌++◌, length, Option, Some, None, refl, ap, sym, subst, ◌∙◌, arith, append_assoc, append-nil, All}
+use Rattle.pgm_images.proofs.Common.{is_ascii_digit, nat_tests, All-head, All-tail, All-nil, All-cons, begins_digit, is_space, begins_comment, begins_gap, past_blanks, ends, IsBlanks}
 use Rattle.std.specs.List.{flat_map}
-use Rattle.std.proofs.lemmas.Bool.Decides.{nat_tests}
-use Rattle.std.proofs.lemmas.List.Elements.{All-head, All-tail, All-nil, All-cons}
-use Rattle.pgm_images.specs.Marks.{begins_digit, ends_line, is_space, begins_comment, begins_gap, past_blanks, ends}
-use Rattle.pgm_images.specs.Grammar.{IsTail, IsBlank, IsBlanks}
+use Rattle.pgm_images.specs.Marks.{ends_line}
+use Rattle.pgm_images.specs.Grammar.{IsTail, IsBlank}
 
 -- ---- what a text begins with
 

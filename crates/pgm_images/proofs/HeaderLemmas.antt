@@ -1,16 +1,7 @@
 -- Headers by the grammar, and which fault a text has.
 use Rattle.std.proofs.Common.{◌≡◌, ℕ, ◌*◌, Bool, true, false, ◌&&◌, List, [], ◌∷◌, ◌++◌, length, map, pos, append_assoc, if◌then◌else◌, Option, Some, None, Result, Ok, Err, refl, ap, sym, ◌∙◌}
-use Rattle.std.specs.Option.{option_map}
-use Rattle.vx_base.specs.Description.{Description, is_side}
-use Rattle.pgm_images.specs.declared.fault.PgmFault.{PgmFault}
-use Rattle.pgm_images.specs.declared.fault.PgmFault.TheVariants.{InvalidFormat, InvalidDimension, InvalidValue}
-use Rattle.pgm_images.specs.declared.header.Encoding.{Encoding}
-use Rattle.pgm_images.specs.declared.header.Encoding.TheVariants.{Plain, Raw}
-use Rattle.pgm_images.specs.Marks.{BeginsWith, begins_digit}
-use Rattle.pgm_images.specs.Header.{HeaderValue, take_magic, past_header, take_numbers, take_header, is_maxval, format_up_to, header_description}
-use Rattle.pgm_images.specs.Raster.{numbers_in, samples_up_to, all_up_to}
-use Rattle.pgm_images.specs.Reading.{picture_with, picture_under, picture_after, fault_of, fault}
-use Rattle.pgm_images.specs.Grammar.{magic, EndsHeader, IsHeader, HasSamples}
+use Rattle.pgm_images.proofs.Common.{option_map, Description, is_side, PgmFault, InvalidFormat, InvalidDimension, InvalidValue, Encoding, Plain, Raw, BeginsWith, begins_digit, HeaderValue, take_magic, past_header, take_numbers, take_header, is_maxval, format_up_to, header_description, numbers_in, samples_up_to, all_up_to, picture_with, picture_under, picture_after, fault_of, fault, magic}
+use Rattle.pgm_images.specs.Grammar.{EndsHeader, IsHeader, HasSamples}
 use Rattle.pgm_images.proofs.ReadingLemmas.{then_some, numbers_size}
 use Rattle.pgm_images.proofs.GapLemmas.{space_is}
 use Rattle.pgm_images.proofs.SpacedLemmas.{many_spaced, spaced_many}

@@ -1,3 +1,4 @@
+mod Common
 pub mod RasterLemmas
 pub mod ReadingLemmas
 pub mod DescriptionLemmas

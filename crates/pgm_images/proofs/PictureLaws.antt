@@ -1,19 +1,8 @@
 -- What a text stands for is a picture.
-use Rattle.std.proofs.Common.{◌≡◌, ℕ, ℤ, pos, ◌≤◌, Bool, true, false, if◌then◌else◌, nat_lt, List, [], ◌∷◌, length, map, Ok, refl, sym, subst, ◌∙◌, arith}
-use Rattle.std.specs.Prelude.{All, nat_le}
-use Rattle.std.proofs.lemmas.Int.{ints}
-use Rattle.std.proofs.lemmas.Bool.{and_parts, leb-true, ltb-true}
-use Rattle.std.proofs.lemmas.List.{length-map}
-use Rattle.std.proofs.lemmas.List.Elements.{All-nil, All-cons}
+use Rattle.std.proofs.Common.{◌≡◌, ℕ, ℤ, pos, ◌≤◌, Bool, true, false, if◌then◌else◌, nat_lt, List, [], ◌∷◌, length, map, Ok, refl, sym, subst, ◌∙◌, arith, All, nat_le, leb-true, ltb-true}
+use Rattle.pgm_images.proofs.Common.{ints, and_parts, length-map, All-nil, All-cons, U8, IsSample, sample_count, PictureValue, IsPicture, format_up_to, all_up_to, reading, Stands}
 use Rattle.vx_base.specs.declared.format.Format.{Format}
-use Rattle.vx_base.specs.declared.format.Format.TheVariants.{U8, S16}
-use Rattle.vx_base.specs.Sample.{IsSample}
-use Rattle.vx_base.specs.Description.{sample_count}
-use Rattle.vx_base.specs.Picture.{PictureValue, IsPicture}
-use Rattle.pgm_images.specs.Header.{format_up_to}
-use Rattle.pgm_images.specs.Raster.{all_up_to}
-use Rattle.pgm_images.specs.Reading.{reading}
-use Rattle.pgm_images.specs.Grammar.{Stands}
+use Rattle.vx_base.specs.declared.format.Format.TheVariants.{S16}
 use Rattle.pgm_images.proofs.StandsLemmas.{stands_read}
 
 sample_up_to : (maxval n : ℕ) (narrow : Bool) → nat_lt maxval 256 ≡ narrow → n ≤ maxval → maxval ≤ 32767 → IsSample (if narrow then U8 else S16) (pos n)

@@ -1,15 +1,9 @@
 -- One more number of a raster.
-use Rattle.std.proofs.Common.{◌≡◌, ℕ, ℤ, pos, zero, suc, ◌+◌, ◌-◌, ◌<◌, ◌≤◌, Bool, true, false, not, ◌==◌, ◌||◌, ◌&&◌, nat_le, nat_lt, List, [], ◌∷◌, ◌++◌, map, Option, Some, None, Ok, Err, refl, ap, sym, subst, ◌∙◌, append_assoc, append-nil, length, get_or, take, Fits, w8, ◌≢◌, arith}
-use Rattle.std.specs.Prelude.{min}
-use Rattle.std.specs.Option.{option_map}
-use Rattle.std.proofs.lemmas.Bool.{eqb-true, le-ltb, le-leb}
-use Rattle.std.proofs.lemmas.Bool.Decides.{nat_tests}
-use Rattle.std.proofs.Math.ListN.{set}
-use Rattle.std.proofs.lemmas.List.{map-append, length-set, take_all, take_more_set}
+use Rattle.std.proofs.Common.{◌≡◌, ℕ, ℤ, pos, zero, suc, ◌+◌, ◌-◌, ◌<◌, ◌≤◌, Bool, true, false, not, ◌==◌, ◌||◌, ◌&&◌, nat_le, nat_lt, List, [], ◌∷◌, ◌++◌, map, Option, Some, None, Ok, Err, refl, ap, sym, subst, ◌∙◌, append_assoc, append-nil, length, get_or, take, Fits, w8, ◌≢◌, arith, min, eqb-true, le-ltb, le-leb, length-set, take_all}
+use Rattle.pgm_images.proofs.Common.{option_map, nat_tests, set, map-append, InvalidFormat, InvalidValue, BeginsWith, Kept, Filling, samples_up_to, all_up_to, so_many, take_short_sample, nothing_left}
+use Rattle.std.proofs.lemmas.List.{take_more_set}
 use Rattle.std.proofs.lemmas.List.Folds.{list_all-append}
-use Rattle.pgm_images.specs.declared.fault.PgmFault.TheVariants.{InvalidFormat, InvalidValue}
-use Rattle.pgm_images.specs.Marks.{BeginsWith, Kept}
-use Rattle.pgm_images.specs.Raster.{Reads, Filled, Filling, after, samples_up_to, all_up_to, so_many, take_short_sample, nothing_left}
+use Rattle.pgm_images.specs.Raster.{Reads, Filled, after}
 
 after_one : (done : List ℕ) (n : ℕ) (o : Option (List ℕ)) → after done (option_map (λ others. n ∷ others) o) ≡ after (done ++ n ∷ []) o
 after_one done n None = refl

@@ -1,12 +1,6 @@
 -- What was read has the samples that its header tells.
 use Rattle.std.proofs.Common.{◌≡◌, ℕ, ℤ, pos, zero, suc, Bool, true, false, List, [], ◌∷◌, length, map, Option, Some, None, Result, Ok, Err, if◌then◌else◌, refl, ap, sym, ◌∙◌}
-use Rattle.std.specs.Option.{option_map}
-use Rattle.pgm_images.specs.declared.fault.PgmFault.{PgmFault}
-use Rattle.pgm_images.specs.declared.fault.PgmFault.TheVariants.{InvalidValue}
-use Rattle.pgm_images.specs.declared.header.Encoding.{Encoding}
-use Rattle.pgm_images.specs.declared.header.Encoding.TheVariants.{Plain, Raw}
-use Rattle.pgm_images.specs.Marks.{BeginsWith, then_take, take_next, ends}
-use Rattle.pgm_images.specs.Raster.{so_many, take_raw, nothing_left, numbers_in, samples_up_to, all_up_to}
+use Rattle.pgm_images.proofs.Common.{option_map, PgmFault, InvalidValue, Encoding, Plain, Raw, BeginsWith, then_take, take_next, ends, so_many, take_raw, nothing_left, numbers_in, samples_up_to, all_up_to}
 
 -- ---- what stands before a step that was taken
 

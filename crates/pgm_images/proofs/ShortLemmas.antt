@@ -1,11 +1,9 @@
 -- Numbers of at most three digits behind a whitespace byte.
-use Rattle.std.proofs.Common.{◌≡◌, ℕ, ◌+◌, ◌-◌, ◌*◌, zero, suc, ◌%◌, ◌<◌, ◌≤◌, Bool, true, false, not, ◌&&◌, ◌||◌, if◌then◌else◌, nat_lt, nat_le, nat_eq, List, ◌∷◌, length, get_or, drop, Some, refl, ap, sym, ◌∙◌, arith}
-use Rattle.std.specs.Char.{is_ascii_digit}
+use Rattle.std.proofs.Common.{◌≡◌, ℕ, ◌+◌, ◌-◌, ◌*◌, zero, suc, ◌%◌, ◌<◌, ◌≤◌, Bool, true, false, not, ◌&&◌, ◌||◌, if◌then◌else◌, nat_lt, nat_le, nat_eq, List, ◌∷◌, length, get_or, drop, Some, refl, ap, sym, ◌∙◌, arith, ltb-true, leb-true}
+use Rattle.pgm_images.proofs.Common.{is_ascii_digit, and_parts, nat_tests, is_space, begins_digit, digits_after, take_next, Tells}
 use mir.Val.{bool_byte}
-use Rattle.std.proofs.lemmas.Bool.{ltb-true, leb-true, and_parts, not-true}
-use Rattle.std.proofs.lemmas.Bool.Decides.{nat_tests}
+use Rattle.std.proofs.lemmas.Bool.{not-true}
 use Rattle.std.proofs.lemmas.List.{drop_more}
-use Rattle.pgm_images.specs.Marks.{is_space, begins_digit, digits_after, take_next, Tells}
 use Rattle.pgm_images.proofs.DigitLemmas.{digit_begins}
 use Rattle.pgm_images.proofs.GapLemmas.{space_is}
 

@@ -1,12 +1,7 @@
 -- Numbers behind gaps: what the definition takes is what the grammar says.
 use Rattle.std.proofs.Common.{◌≡◌, ℕ, zero, suc, ◌+◌, ◌-◌, ◌*◌, ◌<◌, Bool, true, false, ◌&&◌, if◌then◌else◌, List, [], ◌∷◌, ◌++◌, length, Option, Some, None, refl, ap, sym, subst, ◌∙◌, arith, append_assoc, append-nil}
-use Rattle.std.specs.Char.{is_ascii_digit}
-use Rattle.std.specs.Option.{option_and_then, option_map}
-use Rattle.std.specs.Str.{all_ascii_digits}
+use Rattle.pgm_images.proofs.Common.{is_ascii_digit, option_and_then, option_map, all_ascii_digits, then_take, begins_digit, begins_gap, past_blanks, digits_after, take_number, take_next, ends, so_many, IsBlanks, IsSpaced, AreSpaced}
 use Rattle.std.specs.Str.Parse.{digits_value}
-use Rattle.pgm_images.specs.Marks.{then_take, begins_digit, begins_gap, past_blanks, digits_after, take_number, take_next, ends}
-use Rattle.pgm_images.specs.Raster.{so_many}
-use Rattle.pgm_images.specs.Grammar.{IsBlanks, IsSpaced, AreSpaced}
 use Rattle.pgm_images.proofs.ReadingLemmas.{then_some, map_some, if_some}
 use Rattle.pgm_images.proofs.DigitLemmas.{value_after, value_more, digits_model, first_digit, digit_begins}
 use Rattle.pgm_images.proofs.GapLemmas.{gap_begins, no_digit, skip_blanks, blanks_of, blanks_no_digit, ends_of}

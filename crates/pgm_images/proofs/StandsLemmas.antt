@@ -1,18 +1,8 @@
 -- A text is read as a picture exactly where it stands for it.
-use Rattle.std.proofs.Common.{◌≡◌, ℕ, ℤ, pos, zero, suc, ◌+◌, ◌*◌, ◌==◌, ◌⊎◌, inl, inr, Bool, true, false, ◌&&◌, ◌≢◌, if◌then◌else◌, nat_lt, List, [], ◌∷◌, ◌++◌, length, map, Option, Some, None, Result, Ok, Err, IsTrue, refl, ap, sym, subst, ◌∙◌, append_assoc, append-nil}
-use Rattle.std.specs.Option.{option_map}
-use Rattle.std.proofs.lemmas.Bool.{eqb-true, lt-ltb, le-ltb, cases_lt}
-use Rattle.vx_base.specs.Description.{Description, IsDescription, is_side, sample_count}
-use Rattle.vx_base.specs.Picture.{PictureValue}
-use Rattle.pgm_images.specs.declared.fault.PgmFault.{PgmFault}
-use Rattle.pgm_images.specs.declared.fault.PgmFault.TheVariants.{NoMemory, InvalidFormat, InvalidDimension, InvalidValue}
-use Rattle.pgm_images.specs.declared.header.Encoding.{Encoding}
-use Rattle.pgm_images.specs.declared.header.Encoding.TheVariants.{Plain, Raw}
-use Rattle.pgm_images.specs.Marks.{BeginsWith, then_take, is_space, begins_digit, take_next}
-use Rattle.pgm_images.specs.Header.{HeaderValue, take_magic, past_header, take_numbers, take_header, is_maxval, format_up_to, header_description}
-use Rattle.pgm_images.specs.Raster.{so_many, take_short_sample, take_long_sample, take_raw, nothing_left, numbers_in, samples_up_to, all_up_to}
-use Rattle.pgm_images.specs.Reading.{picture_with, picture_under, picture_after, reading, fault_of, fault}
-use Rattle.pgm_images.specs.Grammar.{IsSpaced, AreSpaced, ArePairs, IsRaster, magic, IsPlainText, IsRawText, Stands}
+use Rattle.std.proofs.Common.{◌≡◌, ℕ, ℤ, pos, zero, suc, ◌+◌, ◌*◌, ◌==◌, ◌⊎◌, inl, inr, Bool, true, false, ◌&&◌, ◌≢◌, if◌then◌else◌, nat_lt, List, [], ◌∷◌, ◌++◌, length, map, Option, Some, None, Result, Ok, Err, IsTrue, refl, ap, sym, subst, ◌∙◌, append_assoc, append-nil, eqb-true, lt-ltb, le-ltb}
+use Rattle.pgm_images.proofs.Common.{option_map, cases_lt, Description, IsDescription, is_side, sample_count, PictureValue, PgmFault, InvalidFormat, InvalidDimension, InvalidValue, Encoding, Plain, Raw, BeginsWith, then_take, is_space, begins_digit, take_next, HeaderValue, take_magic, past_header, take_numbers, take_header, is_maxval, format_up_to, header_description, so_many, take_short_sample, take_long_sample, take_raw, nothing_left, numbers_in, samples_up_to, all_up_to, picture_with, picture_under, picture_after, reading, fault_of, fault, IsSpaced, AreSpaced, magic, Stands}
+use Rattle.pgm_images.specs.declared.fault.PgmFault.TheVariants.{NoMemory}
+use Rattle.pgm_images.specs.Grammar.{ArePairs, IsRaster, IsPlainText, IsRawText}
 use Rattle.pgm_images.proofs.RasterLemmas.{bytes-many}
 use Rattle.pgm_images.proofs.ReadingLemmas.{then_some, map_some, if_some, samples_of, numbers_size}
 use Rattle.pgm_images.proofs.GapLemmas.{space_is, blanks_no_digit}

@@ -1,7 +1,7 @@
 -- The samples of an image, row by row.
-use Rattle.std.proofs.Common.{◌≡◌, ℕ, pos, unsigned_abs, ◌+◌, ◌*◌, ◌<◌, ◌≤◌, List, [], ◌∷◌, ◌++◌, length, map, take, refl, ap, sym, ◌∙◌, append_assoc, arith}
+use Rattle.std.proofs.Common.{◌≡◌, ℕ, pos, unsigned_abs, ◌+◌, ◌*◌, ◌<◌, ◌≤◌, List, [], ◌∷◌, ◌++◌, length, map, take, refl, ap, sym, ◌∙◌, append_assoc, arith, take_all}
+use Rattle.pgm_images.proofs.Common.{map-append}
 use Rattle.std.proofs.Math.Seq.{take-add}
-use Rattle.std.proofs.lemmas.List.{map-append, take_all}
 use Rattle.vx_base.specs.Image.{ImageValue, IsImage}
 use Rattle.vx_base.proofs.TableLaws.{part_is_run, row_fits}
 use Rattle.image_core.specs.Rows.{row_of}

@@ -1,25 +1,7 @@
 -- A text that was written is read back.
-use Rattle.std.proofs.Common.{◌≡◌, ℕ, ℤ, pos, negsuc, ◌+◌, ◌-◌, ◌*◌, ◌<◌, ◌^◌, true, false, if◌then◌else◌, nat_le, List, [], ◌∷◌, ◌++◌, length, map, unsigned_abs, Some, None, Ok, IsTrue, refl, ap, sym, ◌∙◌, arith, decimal, append_assoc}
-use Rattle.std.specs.Prelude.{All}
-use Rattle.std.specs.Char.{is_ascii_digit}
-use Rattle.std.specs.Str.{all_ascii_digits}
-use Rattle.std.specs.Option.{option_map, option_and_then}
-use Rattle.std.proofs.lemmas.Bool.{le-leb}
-use Rattle.std.proofs.lemmas.Int.{ints}
-use Rattle.std.proofs.lemmas.Bool.Decides.{nat_tests}
+use Rattle.std.proofs.Common.{◌≡◌, ℕ, ℤ, pos, negsuc, ◌+◌, ◌-◌, ◌*◌, ◌<◌, ◌^◌, true, false, if◌then◌else◌, nat_le, List, [], ◌∷◌, ◌++◌, length, map, unsigned_abs, Some, None, Ok, IsTrue, refl, ap, sym, ◌∙◌, arith, decimal, append_assoc, All, le-leb}
+use Rattle.pgm_images.proofs.Common.{is_ascii_digit, all_ascii_digits, option_map, option_and_then, ints, nat_tests, length-map, All-head, All-tail, U8, IsSample, Description, IsDescription, is_side, sample_count, PictureValue, IsPicture, Raw, BeginsWith, then_take, is_space, begins_comment, past_blanks, digits_after, take_number, begins_gap, take_next, HeaderValue, past_header, take_header, header_description, numbers_in, all_up_to, reading, pgm_text, written_header}
 use Rattle.std.proofs.lemmas.Fmt.{digits_decimal, digits_value-decimal, decimal_nonempty}
-use Rattle.std.proofs.lemmas.List.{length-map}
-use Rattle.std.proofs.lemmas.List.Elements.{All-head, All-tail}
-use Rattle.vx_base.specs.declared.format.Format.TheVariants.{U8}
-use Rattle.vx_base.specs.Sample.{IsSample}
-use Rattle.vx_base.specs.Description.{Description, IsDescription, is_side, sample_count}
-use Rattle.vx_base.specs.Picture.{PictureValue, IsPicture}
-use Rattle.pgm_images.specs.declared.header.Encoding.TheVariants.{Raw}
-use Rattle.pgm_images.specs.Marks.{BeginsWith, then_take, is_space, begins_comment, past_blanks, digits_after, take_number, begins_gap, take_next}
-use Rattle.pgm_images.specs.Header.{HeaderValue, past_header, take_header, header_description}
-use Rattle.pgm_images.specs.Raster.{numbers_in, all_up_to}
-use Rattle.pgm_images.specs.Reading.{reading}
-use Rattle.pgm_images.specs.Writing.{pgm_text, written_header}
 use Rattle.pgm_images.proofs.RasterLemmas.{bytes-many}
 use Rattle.pgm_images.proofs.DigitLemmas.{value_after, value_more, digits_model, first_digit, digit_begins}
 

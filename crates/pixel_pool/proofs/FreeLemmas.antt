@@ -1,6 +1,5 @@
 -- Lemmas on rooms, and on which of them suits best.
-use Rattle.std.proofs.Common.{◌≡◌, ℕ, ◌-◌, ◌<◌, ◌∷◌, true, false, List, length, get_or, sym, ap, ◌∙◌, Vec, vec_capacity, arith}
-use Rattle.std.specs.Prelude.{swap_remove}
+use Rattle.std.proofs.Common.{◌≡◌, ℕ, ◌-◌, ◌<◌, ◌∷◌, true, false, List, length, get_or, sym, ap, ◌∙◌, Vec, vec_capacity, arith, swap_remove}
 use Rattle.std.specs.List.Sorted.{IsPermutation}
 use Rattle.std.proofs.lemmas.Bool.Decides.{nat_tests}
 use Rattle.std.proofs.lemmas.List.{get_or-map}

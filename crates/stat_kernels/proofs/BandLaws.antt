@@ -1,23 +1,11 @@
 -- The samples of bands of rows, and what is counted of them.
-use Rattle.std.proofs.Common.{subst, ◌≡◌, ◌≢◌, ◌⊎◌, set, ℕ, zero, suc, ℤ, ◌+◌, ◌-◌, ◌*◌, ◌<◌, ◌≤◌, List, [], ◌++◌, length, map, get_or, slice_index, cond, replicate, true, false, inl, inr, refl, ap, sym, ◌∙◌, arith, ◌&&◌, nat_le, nat_lt, if◌then◌else◌, min, max}
-use Rattle.std.specs.Int.{int_min, int_max}
+use Rattle.std.proofs.Common.{subst, ◌≡◌, ◌≢◌, ◌⊎◌, set, ℕ, zero, suc, ℤ, ◌+◌, ◌-◌, ◌*◌, ◌<◌, ◌≤◌, List, [], ◌++◌, length, map, get_or, slice_index, cond, replicate, true, false, inl, inr, refl, ap, sym, ◌∙◌, arith, ◌&&◌, nat_le, nat_lt, if◌then◌else◌, min, max, unsigned_abs, length-append, append-nil, append_assoc, get_or-set_same, get_or-set_other, length-set}
+use Rattle.stat_kernels.proofs.Common.{int_min, int_max, cases_eq, cases_lt, nat_tests, length-map, map-append, get_or_past, length-replicate, get_or-replicate, same_lists, length-map-range_with_len, get_or-map-range_with_len, count_by-le-length, sum_by-append, ImageValue, IsImage, at, Rectangle, BinsValue, bin_of, is_bin, histogram, samples_in, tallies, valid_samples, places, row_places, extremes, Band, all_rows, added, band_of, valid_in, extremes_of, found_in}
 use Rattle.std.specs.List.{count_by}
-use Rattle.std.specs.Prelude.{unsigned_abs}
-use Rattle.std.proofs.lemmas.Bool.{cases_eq, cases_lt}
-use Rattle.std.proofs.lemmas.Bool.Decides.{nat_tests}
-use Rattle.std.proofs.lemmas.List.{length-map, map-append, length-append, append-nil, append_assoc, get_or-set_same, get_or-set_other, get_or_default, get_or_past, length-replicate, length-set, get_or-replicate, same_lists}
-use Rattle.std.proofs.lemmas.List.FromFn.{length-map-range_with_len, get_or-map-range_with_len}
-use Rattle.std.proofs.lemmas.List.Sums.{count_by-le-length, sum_by-append}
-use Rattle.vx_base.specs.Image.{ImageValue, IsImage, at}
-use Rattle.vx_base.specs.Rectangle.{Rectangle}
-use Rattle.vx_base.specs.Statistics.{BinsValue, bin_of, is_bin, histogram, samples_in, tallies, valid_samples, places, row_places, extremes}
-use Rattle.image_core.specs.declared.band.Band.{Band}
-use Rattle.image_core.specs.Bands.{all_rows}
-use Rattle.stat_kernels.specs.Counts.{added}
-use Rattle.stat_kernels.specs.Part.{band_of, valid_in}
+use Rattle.std.proofs.lemmas.List.{get_or_default}
 use Rattle.stat_kernels.proofs.PlaceLaws.{length-samples, places_more, places_none}
 use Rattle.vx_base.specs.Object.{no_extremes}
-use Rattle.stat_kernels.specs.Located.{added_extremes, extremes_of, found_in}
+use Rattle.stat_kernels.specs.Located.{added_extremes}
 use Rattle.stat_kernels.proofs.LocatedLaws.{at_most, AreLowered, extremes_joined, lowered_more, lowered_none}
 use Rattle.stat_kernels.proofs.Rows.{above}
 

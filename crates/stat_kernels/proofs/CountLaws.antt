@@ -1,15 +1,9 @@
 -- The first items of a list of samples: how many are this one, and what they fold to.
-use Rattle.std.proofs.Common.{◌≡◌, ℕ, ℤ, pos, ◌+◌, ◌-◌, ◌*◌, ◌<◌, ◌≤◌, List, [], ◌∷◌, length, map, take, drop, get_or, cond, true, false, eqb, ap, ◌∙◌, sym, refl, arith, rules, inl, inr, suc, to_z, of_z, w16, FitsSigned}
-use Rattle.std.specs.Prelude.{count_by, slice_range}
-use Rattle.std.proofs.lemmas.Bool.{cases_Bool, cases_eq, eq-eqb, ne_eqb}
+use Rattle.std.proofs.Common.{◌≡◌, ℕ, ℤ, pos, ◌+◌, ◌-◌, ◌*◌, ◌<◌, ◌≤◌, List, [], ◌∷◌, length, map, take, drop, get_or, cond, true, false, eqb, ap, ◌∙◌, sym, refl, arith, rules, inl, inr, suc, to_z, of_z, w16, FitsSigned, count_by, slice_range, eq-eqb, ne_eqb, take_all}
+use Rattle.stat_kernels.proofs.Common.{cases_Bool, cases_eq, fold, int_eq, take-add, ints, to_z-of_z, take-map, drop-map, get_or-map, length-map, sum_by-append, sum_by-cons, sum_by_more, count_by-le-length, chosen, count_of}
 use Rattle.std.proofs.lemmas.Bool.Decides.{Decides-int_eq}
-use Rattle.std.specs.List.{fold}
-use Rattle.std.specs.Ordering.{int_eq}
-use Rattle.std.proofs.Math.Seq.{take-add}
-use Rattle.std.proofs.lemmas.Int.{ints, to_z-of_z}
-use Rattle.std.proofs.lemmas.List.{take-map, drop-map, get_or-map, take_more, take_all, length-map}
-use Rattle.std.proofs.lemmas.List.Sums.{sum_by-append, sum_by-cons, sum_by_more, sum_by-take-le, fold_push, count_by-le-length}
-use Rattle.vx_base.specs.Statistics.{chosen, count_of}
+use Rattle.std.proofs.lemmas.List.{take_more}
+use Rattle.std.proofs.lemmas.List.Sums.{sum_by-take-le, fold_push}
 
 pub eq_from_test : (w z : ℤ) → int_eq w z ≡ true → w ≡ z
 eq_from_test w z h = (Decides-int_eq w z).0 h

@@ -1,10 +1,8 @@
 -- What the extremes are.
 use Rattle.std.proofs.Common.{◌≡◌, ◌⊎◌, inl, inr, ℤ, pos, ◌≤ℤ◌, List, [], ◌∷◌, suc, refl, sym, arith}
-use Rattle.std.specs.List.{fold, All, Contains}
-use Rattle.std.specs.Int.{int_min, int_max}
-use Rattle.std.proofs.lemmas.List.Elements.{All-nil, All-cons}
+use Rattle.stat_kernels.proofs.Common.{fold, All, int_min, int_max, All-nil, All-cons, chosen}
+use Rattle.std.specs.List.{Contains}
 use Rattle.std.proofs.lemmas.Int.{fold-int_min_bounds, fold-int_max_bounds, fold-int_min_reached, fold-int_max_reached}
-use Rattle.vx_base.specs.Statistics.{chosen}
 
 pub least_bounds : (zs : List ℤ) → All (λ z. chosen int_min zs ≤ℤ z) zs
 least_bounds [] = All-nil (λ z. pos 0 ≤ℤ z)

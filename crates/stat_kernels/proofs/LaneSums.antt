@@ -1,16 +1,12 @@
 -- Running sums in lanes, sixteen at a time.
-use Rattle.std.proofs.Common.{◌≡◌, ℕ, ◌+◌, ◌-◌, ◌%◌, ◌<◌, ◌≤◌, List, [], ◌∷◌, ◌++◌, zero, suc, length, map, take, drop, get_or, set, replicate, refl, ap, ◌∙◌, sym, subst, w8, Fits, arith}
-use Rattle.std.specs.List.{sum, range_with_len}
+use Rattle.std.proofs.Common.{◌≡◌, ℕ, ◌+◌, ◌-◌, ◌%◌, ◌<◌, ◌≤◌, List, [], ◌∷◌, ◌++◌, zero, suc, length, map, take, drop, get_or, set, replicate, refl, ap, ◌∙◌, sym, subst, w8, Fits, arith, take-take, take_all, drop-drop, drop-set-lt, get_or-drop}
+use Rattle.stat_kernels.proofs.Common.{sum, range_with_len, take-add, map-append, sum_by-append, sum_by_more, length-chunk, range-append, sum_below}
 use Rattle.std.specs.Simd.Lanes.{zip2, Each1, pick_l, chunk, put_chunk}
-use Rattle.std.proofs.Math.Seq.{take-add}
-use Rattle.std.proofs.lemmas.List.{take-take, take_all, take_more_set, drop-drop, drop-set-lt, get_or-drop, map-append}
+use Rattle.std.proofs.lemmas.List.{take_more_set}
 use Rattle.std.proofs.lemmas.List.FromFn.{map-range_with_len_more}
-use Rattle.std.proofs.lemmas.List.Sums.{sum_by-append, sum_by_more}
-use Rattle.std.proofs.lemmas.Simd.{pick_l_whole, Each1-get_or, put_chunk_whole, length-chunk, pick_l-range_with_len}
+use Rattle.std.proofs.lemmas.Simd.{pick_l_whole, Each1-get_or, put_chunk_whole, pick_l-range_with_len}
 use Rattle.std.proofs.lemmas.Slice.{take-put_mid, drop-put_mid}
 use borrow.Rule.Slice.PartMut.{put_mid}
-use Rattle.vx_base.proofs.TableLaws.{range-append}
-use Rattle.stat_kernels.specs.Sums.{sum_below}
 
 -- to each lane what stands some lanes before it is added
 abbrev shifted : List ℕ → List ℕ → List ℕ

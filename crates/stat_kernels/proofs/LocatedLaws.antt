@@ -1,29 +1,15 @@
 -- Extremes of one more row.
-use Rattle.std.proofs.Common.{zero, suc, Option, subst, ◌≢◌, ◌⊎◌, inl, inr, ◌==◌, if◌then◌else◌, ◌≡◌, ℕ, ℤ, pos, ◌+◌, ◌<◌, ◌≤◌, List, [], ◌∷◌, ◌++◌, length, map, cond, Bool, true, false, ap, ◌∙◌, sym, refl, arith, Some, None, ◌-◌, take, get_or, add-one}
-use Rattle.std.specs.List.{fold, find, flat_map, range_with_len, All}
-use Rattle.vx_base.specs.Rectangle.{Rectangle}
+use Rattle.std.proofs.Common.{zero, suc, Option, subst, ◌≢◌, ◌⊎◌, inl, inr, ◌==◌, if◌then◌else◌, ◌≡◌, ℕ, ℤ, pos, ◌+◌, ◌<◌, ◌≤◌, List, [], ◌∷◌, ◌++◌, length, map, cond, Bool, true, false, ap, ◌∙◌, sym, refl, arith, Some, None, ◌-◌, take, get_or, add-one, int_lt, eq-eqb, ne_eqb, append-nil}
+use Rattle.stat_kernels.proofs.Common.{fold, flat_map, range_with_len, All, Rectangle, int_eq, int_min, int_max, cases_Bool, cases_eq, ints, map-append, length-map, sum_by-append, sum_by-cons, count_by-le-length, All-nil, All-cons, All-head, All-tail, ImageValue, at, run, row_places, places, chosen, count_of, Part, Found, IsValidPart, get_or-run, take-map-range_with_len, Located, found_in, joined, extremes_of}
+use Rattle.std.specs.List.{find}
 use Rattle.std.specs.Option.{unwrap_or, option_map, option_or}
-use Rattle.std.specs.Ordering.{int_eq}
-use Rattle.std.specs.Int.{int_min, int_max}
-use Rattle.std.specs.Prelude.{int_lt}
-use Rattle.std.proofs.lemmas.Bool.{cases_Bool, cases_eq, eq-eqb, ne_eqb}
-use Rattle.std.proofs.lemmas.Int.{ints}
-use Rattle.std.proofs.lemmas.List.{append-nil, map-append, length-map}
-use Rattle.std.proofs.lemmas.List.Sums.{fold-append, sum_by-append, sum_by-cons, count_by-le-length}
-use Rattle.std.proofs.lemmas.List.Elements.{All-nil, All-cons, All-head, All-tail}
+use Rattle.std.proofs.lemmas.List.Sums.{fold-append}
 use Rattle.std.proofs.lemmas.List.Folds.{find-append}
-use Rattle.vx_base.specs.Image.{ImageValue, at, run}
-use Rattle.vx_base.specs.Statistics.{row_places, places, chosen, count_of, first_of}
-use Rattle.stat_kernels.specs.declared.part.Part.{Part}
-use Rattle.stat_kernels.specs.declared.located.Found.{Found}
-use Rattle.stat_kernels.specs.Part.{IsValidPart}
+use Rattle.vx_base.specs.Statistics.{first_of}
 use Rattle.stat_kernels.proofs.Rows.{above}
-use Rattle.vx_base.proofs.TableLaws.{get_or-run}
-use Rattle.std.proofs.lemmas.List.FromFn.{take-map-range_with_len}
 use Rattle.stat_kernels.proofs.CountLaws.{eq_from_test, test_same, test_other}
 use Rattle.stat_kernels.proofs.PlaceLaws.{next_places, row_samples, row_places-append}
-use Rattle.stat_kernels.specs.declared.located.Located.{Located}
-use Rattle.stat_kernels.specs.Located.{IsDirection, located, found_in, joined, joined_found, lowered, lowered_found, extremes_of}
+use Rattle.stat_kernels.specs.Located.{IsDirection, located, joined_found, lowered, lowered_found}
 
 pub downwards : IsDirection int_min int_lt
 downwards = grind (arith, ints)

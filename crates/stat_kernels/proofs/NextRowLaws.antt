@@ -1,18 +1,11 @@
 -- Rows of an integral image from the row above them.
-use Rattle.std.proofs.Common.{false, true, ◌%◌, ◌≡◌, ◌⊎◌, inl, inr, ℕ, pos, zero, suc, ◌+◌, ◌-◌, ◌*◌, ◌<◌, ◌≤◌, List, ◌++◌, length, map, take, drop, get_or, replicate, Option, Some, None, IfSome, subst, ap, ◌∙◌, sym, refl, arith, unwrap_or, option_map, Bool, if◌then◌else◌, ◌==◌, Bor, option_copied}
-use Rattle.std.specs.Prelude.{unsigned_abs}
-use Rattle.std.specs.List.{sum_by, range_with_len, flat_map}
-use Rattle.std.proofs.lemmas.Bool.{cases_lt, false_from_ne_true}
-use Rattle.std.proofs.lemmas.Bool.Decides.{nat_tests}
-use Rattle.std.proofs.lemmas.List.{drop-map, drop_at, get_or-drop, get_or-map, get_or-replicate, get_or-take, length-replicate}
-use Rattle.std.proofs.lemmas.Simd.{length-chunk}
-use Rattle.vx_base.specs.Rectangle.{Rectangle, inside}
-use Rattle.vx_base.specs.Image.{ImageValue, IsImage, at, band, run, within}
-use Rattle.vx_base.specs.Statistics.{row_places, sum_to}
-use Rattle.vx_base.proofs.TableLaws.{band-more, get_or-run, length-band, run-constant, run-same, within_beside, within_inside}
-use Rattle.stat_kernels.specs.declared.part.Part.{Part}
-use Rattle.stat_kernels.specs.Part.{IsValidPart, has_row}
-use Rattle.stat_kernels.specs.Sums.{AreSums, IsRowAbove, IsRowOf, last_row_or, sum_before, sums_below, sums_row}
+use Rattle.std.proofs.Common.{false, true, ◌%◌, ◌≡◌, ◌⊎◌, inl, inr, ℕ, pos, zero, suc, ◌+◌, ◌-◌, ◌*◌, ◌<◌, ◌≤◌, List, ◌++◌, length, map, take, drop, get_or, replicate, Option, Some, None, IfSome, subst, ap, ◌∙◌, sym, refl, arith, unwrap_or, option_map, Bool, if◌then◌else◌, ◌==◌, Bor, option_copied, unsigned_abs, drop_at, get_or-drop, get_or-take}
+use Rattle.stat_kernels.proofs.Common.{sum_by, range_with_len, flat_map, cases_lt, nat_tests, drop-map, get_or-map, get_or-replicate, length-replicate, length-chunk, Rectangle, ImageValue, IsImage, at, band, run, within, row_places, sum_to, band-more, get_or-run, run-same, Part, IsValidPart, AreSums, IsRowAbove, sum_before, sums_below}
+use Rattle.std.proofs.lemmas.Bool.{false_from_ne_true}
+use Rattle.vx_base.specs.Rectangle.{inside}
+use Rattle.vx_base.proofs.TableLaws.{length-band, run-constant, within_beside, within_inside}
+use Rattle.stat_kernels.specs.Part.{has_row}
+use Rattle.stat_kernels.specs.Sums.{IsRowOf, last_row_or, sums_row}
 use Rattle.stat_kernels.proofs.SumLaws.{row_of_parts, sum_at, sums_next}
 
 -- ---- places of a rectangle in a row

@@ -1,15 +1,8 @@
 -- The places of a rectangle and their samples, row by row.
-use Rattle.std.proofs.Common.{◌≡◌, ℕ, ℤ, ◌+◌, ◌-◌, ◌*◌, ◌<◌, ◌≤◌, List, [], ◌++◌, length, map, zero, suc, ap, ◌∙◌, sym, arith}
-use Rattle.std.specs.List.{range_with_len, flat_map}
-use Rattle.std.proofs.lemmas.List.{append-nil, map-append, length-append, length-map}
+use Rattle.std.proofs.Common.{◌≡◌, ℕ, ℤ, ◌+◌, ◌-◌, ◌*◌, ◌<◌, ◌≤◌, List, [], ◌++◌, length, map, zero, suc, ap, ◌∙◌, sym, arith, append-nil, length-append}
+use Rattle.stat_kernels.proofs.Common.{range_with_len, flat_map, map-append, length-map, Rectangle, ImageValue, at, run, row_places, places, samples_in, range-append, length-range, Part, IsValidPart}
 use Rattle.std.proofs.lemmas.List.Concat.{flat_map-append}
 use Rattle.std.proofs.lemmas.Simd.{map-map}
-use Rattle.vx_base.specs.Rectangle.{Rectangle}
-use Rattle.vx_base.specs.Image.{ImageValue, at, run}
-use Rattle.vx_base.specs.Statistics.{row_places, places, samples_in}
-use Rattle.vx_base.proofs.TableLaws.{range-append, length-range}
-use Rattle.stat_kernels.specs.declared.part.Part.{Part}
-use Rattle.stat_kernels.specs.Part.{IsValidPart}
 use Rattle.stat_kernels.proofs.Rows.{above}
 
 -- no row is above the first

@@ -1,6 +1,6 @@
 -- Rectangles row by row.
-use Rattle.std.specs.Prelude.{ℕ}
-use Rattle.vx_base.specs.Rectangle.{Rectangle}
+use Rattle.std.proofs.Common.{ℕ}
+use Rattle.stat_kernels.proofs.Common.{Rectangle}
 
 -- the rows of a rectangle that are above row y
 abbrev pub above : Rectangle → ℕ → Rectangle

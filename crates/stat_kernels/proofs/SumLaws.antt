@@ -1,22 +1,11 @@
 -- Sums to the left and above, row by row.
-use Rattle.std.proofs.Common.{false, ◌%◌, ◌≡◌, ◌⊎◌, inl, inr, ℕ, ℤ, pos, ◌+◌, ◌-◌, ◌*◌, ◌<◌, ◌≤◌, List, [], ◌∷◌, ◌++◌, length, map, take, drop, get_or, subst, ap, ◌∙◌, sym, refl, arith, replicate}
-use Rattle.std.specs.Prelude.{unsigned_abs, ◌==◌, if◌then◌else◌, Option, Some, None, IfSome}
-use Rattle.std.specs.List.{sum, sum_by, range_with_len}
+use Rattle.std.proofs.Common.{false, ◌%◌, ◌≡◌, ◌⊎◌, inl, inr, ℕ, ℤ, pos, ◌+◌, ◌-◌, ◌*◌, ◌<◌, ◌≤◌, List, [], ◌∷◌, ◌++◌, length, map, take, drop, get_or, subst, ap, ◌∙◌, sym, refl, arith, replicate, unsigned_abs, ◌==◌, if◌then◌else◌, Option, Some, None, IfSome, ext_get_or, length-append}
+use Rattle.stat_kernels.proofs.Common.{sum, sum_by, range_with_len, length-chunk, nat_tests, take-map, get_or-map, length-map, map-append, take-map-range_with_len, get_or-map-range_with_len, sum_by-append, sum_by-cons, Rectangle, ImageValue, at, run, band, within, samples_in, sum_to, map-replicate, get_or-run, length-range, band-more, Part, IsValidPart, sum_before, sum_below, sums_below, AreSums, AreAbove, last_row}
 use Rattle.std.proofs.Math.Seq.{take-append_seam, take-append-add, drop-append_seam}
-use Rattle.std.proofs.lemmas.Simd.{length-chunk}
-use Rattle.std.proofs.lemmas.Bool.Decides.{nat_tests}
-use Rattle.std.proofs.lemmas.List.{take-map, ext_get_or, get_or-map, length-map, map-append, length-append}
-use Rattle.std.proofs.lemmas.List.FromFn.{take-map-range_with_len, get_or-map-range_with_len}
-use Rattle.std.proofs.lemmas.List.Sums.{sum_by-append, sum_by-cons}
-use Rattle.vx_base.specs.Rectangle.{Rectangle, whole, meet_of}
-use Rattle.vx_base.specs.Image.{ImageValue, at, run, band, within}
-use Rattle.vx_base.specs.Statistics.{samples_in, sum_to}
-use Rattle.vx_base.proofs.ZeroLaws.{map-replicate}
-use Rattle.vx_base.proofs.TableLaws.{get_or-run, length-run, length-range, row_across, row_outside, band-more}
-use Rattle.stat_kernels.specs.declared.part.Part.{Part}
-use Rattle.stat_kernels.specs.Part.{IsValidPart}
+use Rattle.vx_base.specs.Rectangle.{whole, meet_of}
+use Rattle.vx_base.proofs.TableLaws.{length-run, row_across, row_outside}
 use Rattle.stat_kernels.proofs.Rows.{above}
-use Rattle.stat_kernels.specs.Sums.{corner, sum_before, sum_below, sums_below, AreSums, AreAbove, last_row}
+use Rattle.stat_kernels.specs.Sums.{corner}
 use Rattle.stat_kernels.proofs.LaneSums.{sum_wraps}
 use Rattle.stat_kernels.proofs.PlaceLaws.{samples_more}
 

@@ -1,15 +1,7 @@
 -- Counts by value, and those in bins.
-use Rattle.std.proofs.Common.{◌≡◌, ◌≢◌, ◌⊎◌, inl, inr, ℕ, ℤ, pos, ◌+◌, ◌*◌, ◌<◌, ◌≤◌, List, [], ◌∷◌, ◌++◌, length, map, take, get_or, set, replicate, cond, Bool, true, false, ◌&&◌, suc, refl, ap, ◌∙◌, sym, arith, Some, None}
-use Rattle.std.specs.List.{count_by, range_with_len, All}
-use Rattle.std.specs.Prelude.{unsigned_abs, ◌==◌, nat_lt}
-use Rattle.std.proofs.lemmas.Bool.{cases_eq, cases_lt}
-use Rattle.std.proofs.lemmas.Bool.Decides.{nat_tests}
-use Rattle.std.proofs.lemmas.List.{length-set, same_lists, get_or-set_same, get_or-set_other, get_or_past, get_or-map, length-map, length-take, length-replicate, get_or-replicate}
-use Rattle.std.proofs.lemmas.List.Elements.{All-nil, All-cons, All-head, All-tail}
-use Rattle.std.proofs.lemmas.List.Sums.{sum_by-cons, sum_by-append, sum_by_more, count_by-le-length}
-use Rattle.std.proofs.lemmas.List.FromFn.{length-map-range_with_len, get_or-map-range_with_len}
-use Rattle.vx_base.specs.Statistics.{BinsValue, bin_of, is_bin, tallies}
-use Rattle.stat_kernels.specs.Counts.{count_at, count_in_all}
+use Rattle.std.proofs.Common.{◌≡◌, ◌≢◌, ◌⊎◌, inl, inr, ℕ, ℤ, pos, ◌+◌, ◌*◌, ◌<◌, ◌≤◌, List, [], ◌∷◌, ◌++◌, length, map, take, get_or, set, replicate, cond, Bool, true, false, ◌&&◌, suc, refl, ap, ◌∙◌, sym, arith, Some, None, unsigned_abs, ◌==◌, nat_lt, length-set, get_or-set_same, get_or-set_other, length-take}
+use Rattle.stat_kernels.proofs.Common.{range_with_len, All, cases_eq, cases_lt, nat_tests, same_lists, get_or_past, get_or-map, length-map, length-replicate, get_or-replicate, All-nil, All-cons, All-head, All-tail, sum_by-cons, sum_by-append, sum_by_more, count_by-le-length, length-map-range_with_len, get_or-map-range_with_len, BinsValue, bin_of, is_bin, tallies, count_at, count_in_all}
+use Rattle.std.specs.List.{count_by}
 
 -- of these samples how many are below v and fall into bin k
 abbrev count_below : BinsValue → ℕ → List ℤ → ℕ → ℕ

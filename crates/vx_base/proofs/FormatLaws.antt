@@ -1,10 +1,7 @@
 -- An open output's format is one that the function writes.
 use Rattle.std.proofs.Common.{Option, Some, None, IsTrue, refl}
-use Rattle.vx_base.specs.declared.format.Format.{Format}
-use Rattle.vx_base.specs.declared.format.Format.TheVariants.{U8, S16, U32}
-use Rattle.vx_base.specs.declared.function.Function.{Function}
-use Rattle.vx_base.specs.declared.function.Function.TheVariants.{AndBits, OrBits, XorBits, NotBits, Add, Subtract, Multiply, AbsoluteDifference, MinPixel, MaxPixel, Threshold, TableLookup, ConvertDepth, Box, Gaussian, Median, Erode, Dilate, Sobel, Convolve, Histogram, Integral, MinMaxLoc, Accumulate, AccumulateSquare}
-use Rattle.vx_base.specs.Formats.{are_bytes, are_equal, are_arithmetic, takes_formats, open_format}
+use Rattle.vx_base.proofs.Common.{Format, U8, S16, U32, Function, AndBits, OrBits, XorBits, NotBits, Add, Subtract, Multiply, AbsoluteDifference, MinPixel, MaxPixel, Threshold, TableLookup, ConvertDepth, Box, Gaussian, Median, Erode, Dilate, Sobel, Convolve, Histogram, Integral, MinMaxLoc, Accumulate, AccumulateSquare, takes_formats}
+use Rattle.vx_base.specs.Formats.{are_bytes, are_equal, are_arithmetic, open_format}
 
 bytes : (a b g : Format) → IsTrue (are_bytes a b g) → IsTrue (are_bytes a b U8)
 bytes U8 U8 g is = refl

@@ -1,16 +1,11 @@
 -- Images as functions of places.
-use Rattle.std.proofs.Common.{◌≡◌, ℕ, ℤ, pos, ◌+◌, ◌*◌, ◌/◌, ◌%◌, ◌<◌, ◌≤◌, ◌⊎◌, inl, inr, List, ◌++◌, length, get_or, ap, ◌∙◌, sym, arith, true, false, Bool, zero, suc, add-one, cond, refl, subst}
-use Rattle.std.proofs.lemmas.Bool.Decides.{nat_tests}
-use Rattle.std.proofs.lemmas.List.{ext_get_or, get_or-append_right}
+use Rattle.std.proofs.Common.{◌≡◌, ℕ, ℤ, pos, ◌+◌, ◌*◌, ◌/◌, ◌%◌, ◌<◌, ◌≤◌, ◌⊎◌, inl, inr, List, ◌++◌, length, get_or, ap, ◌∙◌, sym, arith, true, false, Bool, zero, suc, add-one, cond, refl, subst, ext_get_or, div-add-mod'}
+use Rattle.vx_base.proofs.Common.{nat_tests, GREATEST_SIDE, Format, IsSample, Rectangle, inside, whole, IsOrdered, IsWithin, ImageValue, IsImage, run, band, table, within, at, made, new_image}
+use Rattle.std.proofs.lemmas.List.{get_or-append_right}
 use Rattle.std.proofs.Math.ListN.{get_or-append}
 use Rattle.std.proofs.Math.Nat.{div-lt_iff_lt-mul}
-use Rattle.std.proofs.lemmas.Nat.{div-add-mod'}
-use Rattle.vx_base.specs.declared.desc.TheConstants.{GREATEST_SIDE}
-use Rattle.vx_base.specs.declared.format.Format.{Format}
-use Rattle.vx_base.specs.Sample.{IsSample}
 use Rattle.vx_base.proofs.ResultLaws.{zero_sample}
-use Rattle.vx_base.specs.Rectangle.{Rectangle, inside, whole, IsOrdered, IsWithin}
-use Rattle.vx_base.specs.Image.{ImageValue, IsImage, run, band, table, within, at, made, new_image, with_valid}
+use Rattle.vx_base.specs.Image.{with_valid}
 use Rattle.vx_base.proofs.TableLaws.{table-more, length-table, get_or-run, band-same}
 
 -- a place of a row above the last

@@ -1,31 +1,21 @@
 -- What a node gives of images, tables and thresholds is an image.
-use Rattle.std.proofs.Common.{◌≡◌, ℕ, ℤ, IsTrue, ◌<◌, ◌≤◌, ◌-ℤ◌, pos, Bool, true, false, if◌then◌else◌, refl, arith, ◌⊎◌, inl, inr, length, List, Option, Some, None, IfSome}
-use Rattle.std.specs.Prelude.{All, ◌&&◌, slice_index_or, unsigned_abs}
+use Rattle.std.proofs.Common.{◌≡◌, ℕ, ℤ, IsTrue, ◌<◌, ◌≤◌, ◌-ℤ◌, pos, Bool, true, false, if◌then◌else◌, refl, arith, ◌⊎◌, inl, inr, length, List, Option, Some, None, IfSome, All, ◌&&◌, slice_index_or, unsigned_abs}
+use Rattle.vx_base.proofs.Common.{Each1, ints, Format, U8, S16, U32, Function, AndBits, NotBits, Threshold, TableLookup, ConvertDepth, Box, Gaussian, Median, Erode, Dilate, Sobel, Convolve, Histogram, Integral, MinMaxLoc, Accumulate, AccumulateSquare, IsSample, least, parameters, accumulates, takes_formats, has_amount, ImageValue, IsImage, from_nine, from_one, formula_of_one, formula_of_two}
 use Rattle.std.specs.Option.{option_and_then}
-use Rattle.std.specs.Simd.Lanes.{Each1}
-use Rattle.std.proofs.lemmas.Int.{ints}
 use Rattle.std.proofs.lemmas.Bool.{cases_lt}
 use Rattle.std.proofs.lemmas.List.{get_or_past}
-use Rattle.vx_base.specs.declared.format.Format.{Format}
-use Rattle.vx_base.specs.declared.format.Format.TheVariants.{U8, S16, U32}
 use Rattle.vx_base.specs.declared.node.Node.{Node}
-use Rattle.vx_base.specs.declared.function.Function.{Function}
-use Rattle.vx_base.specs.declared.function.Function.TheVariants.{AndBits, NotBits, Threshold, TableLookup, ConvertDepth, Box, Gaussian, Median, Erode, Dilate, Sobel, Convolve, Histogram, Integral, MinMaxLoc, Accumulate, AccumulateSquare}
 use Rattle.vx_base.specs.declared.kind.Kind.{Kind}
 use Rattle.vx_base.specs.declared.kind.Kind.TheVariants as kind
-use Rattle.vx_base.specs.Sample.{IsSample, least}
-use Rattle.vx_base.specs.Function.{parameters, accumulates}
-use Rattle.vx_base.specs.Formats.{takes_formats}
-use Rattle.vx_base.specs.Node.{is_node, has_amount, IsNode}
-use Rattle.vx_base.specs.Image.{ImageValue, IsImage}
+use Rattle.vx_base.specs.Node.{is_node, IsNode}
 use Rattle.vx_base.specs.Lut.{LutValue, IsLut}
 use Rattle.vx_base.specs.Threshold.{ThresholdValue, IsThreshold, passes}
 use Rattle.vx_base.specs.Object.{ObjectValue, ImageObject, LutObject, ThresholdObject, DelayObject, ConvolutionObject, DistributionObject, ExtremesObject, GraphObject, VirtualObject, IsObject, object_kind, same_kind, object_format}
 use Rattle.vx_base.specs.declared.output.Output.{Output}
 use Rattle.vx_base.specs.declared.output.Output.TheVariants.{First, Second}
-use Rattle.vx_base.specs.Window.{from_nine, formula_of_nine}
+use Rattle.vx_base.specs.Window.{formula_of_nine}
 use Rattle.vx_base.specs.Outputs.{node_image, image_of_one}
-use Rattle.vx_base.specs.Pixelwise.{from_one, looked_up, thresholded, formula_of_one, formula_of_two}
+use Rattle.vx_base.specs.Pixelwise.{looked_up, thresholded}
 use Rattle.vx_base.proofs.ResultLaws.{of_one, of_two, accumulated_is, not_so, zero_sample}
 use Rattle.vx_base.proofs.PixelLaws.{from_one_is, from_two_is}
 use Rattle.vx_base.proofs.SumLaws.{sums_image}

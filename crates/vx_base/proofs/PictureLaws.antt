@@ -1,11 +1,9 @@
 -- Pictures and images.
 use Rattle.std.proofs.Common.{ℕ, IsTrue, ◌≤◌, pos, ◌+◌, ◌*◌, ◌<◌, length, get_or, arith, subst}
-use Rattle.std.proofs.lemmas.Bool.Decides.{nat_tests}
-use Rattle.std.proofs.lemmas.List.Elements.{All-get_or, All-from_get_or}
-use Rattle.vx_base.specs.declared.desc.TheConstants.{GREATEST_SIDE}
-use Rattle.vx_base.specs.Sample.{IsSample}
+use Rattle.vx_base.proofs.Common.{nat_tests, All-from_get_or, GREATEST_SIDE, IsSample, ImageValue, IsImage}
+use Rattle.std.proofs.lemmas.List.Elements.{All-get_or}
 use Rattle.vx_base.specs.Description.{IsDescription, is_side}
-use Rattle.vx_base.specs.Image.{ImageValue, IsImage, description_of}
+use Rattle.vx_base.specs.Image.{description_of}
 use Rattle.vx_base.specs.Picture.{PictureValue, IsPicture, picture_of, pictured}
 use Rattle.vx_base.proofs.ImageLaws.{above, index_of_place, inside_whole}
 

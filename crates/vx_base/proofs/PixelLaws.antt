@@ -1,11 +1,7 @@
 -- Pixel formulas over whole images.
-use Rattle.std.proofs.Common.{◌≡◌, ℕ, ℤ, ◌≤◌, true, arith}
-use Rattle.std.specs.Prelude.{min, max}
-use Rattle.vx_base.specs.declared.format.Format.{Format}
-use Rattle.vx_base.specs.Sample.{IsSample}
-use Rattle.vx_base.specs.Rectangle.{inside, meet_of, IsOrdered, IsWithin}
-use Rattle.vx_base.specs.Image.{ImageValue, IsImage, at}
-use Rattle.vx_base.specs.Pixelwise.{from_one, from_two}
+use Rattle.std.proofs.Common.{◌≡◌, ℕ, ℤ, ◌≤◌, true, arith, min, max}
+use Rattle.vx_base.proofs.Common.{Format, IsSample, inside, meet_of, IsOrdered, IsWithin, ImageValue, IsImage, at, from_one}
+use Rattle.vx_base.specs.Pixelwise.{from_two}
 use Rattle.vx_base.proofs.RectangleLaws.{bounded_ordered, bounded_within, inside_meet, both_inside}
 use Rattle.vx_base.proofs.ImageLaws.{made_image, at-made, column_inside, row_inside, valid_sampled}
 

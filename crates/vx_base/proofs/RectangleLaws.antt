@@ -1,8 +1,7 @@
 -- Rectangles as sets of places.
-use Rattle.std.proofs.Common.{◌≡◌, ℕ, ◌+◌, ◌-◌, ◌<◌, ◌≤◌, ◌⊎◌, inl, inr, ap, ◌∙◌, sym, arith, true, false, Bool, IsTrue, ◌↔◌, ◌||◌}
-use Rattle.std.specs.Prelude.{◌==◌, ◌&&◌, nat_lt, min, max}
-use Rattle.std.proofs.lemmas.Bool.Decides.{nat_tests}
-use Rattle.vx_base.specs.Rectangle.{Rectangle, inside, is_rectangle, bounded, meet_of, shrunk, empty, IsOrdered, IsWithin}
+use Rattle.std.proofs.Common.{◌≡◌, ℕ, ◌+◌, ◌-◌, ◌<◌, ◌≤◌, ◌⊎◌, inl, inr, ap, ◌∙◌, sym, arith, true, false, Bool, IsTrue, ◌↔◌, ◌||◌, ◌==◌, ◌&&◌, nat_lt, min, max}
+use Rattle.vx_base.proofs.Common.{nat_tests, Rectangle, inside, meet_of, empty, IsOrdered, IsWithin}
+use Rattle.vx_base.specs.Rectangle.{is_rectangle, bounded, shrunk}
 
 -- the bounds decide
 same_bounds : (r s : Rectangle) → r.x0 ≡ s.x0 → r.y0 ≡ s.y0 → r.x1 ≡ s.x1 → r.y1 ≡ s.y1 → r ≡ s

@@ -1,21 +1,12 @@
 -- What comes of samples is a sample.
-use Rattle.std.proofs.Common.{ℕ, ℤ, pos, negsuc, ◌+ℤ◌, ◌-ℤ◌, ◌*ℤ◌, ◌≤◌, ◌*◌, ◌^◌, arith, rules, ◌≡◌, true, false, IsTrue, Some, None}
-use Rattle.std.specs.Prelude.{int_div}
-use Rattle.std.specs.Int.{int_div_euclid}
-use Rattle.std.proofs.lemmas.Int.{ints}
+use Rattle.std.proofs.Common.{ℕ, ℤ, pos, negsuc, ◌+ℤ◌, ◌-ℤ◌, ◌*ℤ◌, ◌≤◌, ◌*◌, ◌^◌, arith, rules, ◌≡◌, true, false, IsTrue, Some, None, int_div}
+use Rattle.vx_base.proofs.Common.{int_div_euclid, ints, Format, U8, S16, Function, AndBits, OrBits, XorBits, NotBits, Add, Subtract, Multiply, AbsoluteDifference, MinPixel, MaxPixel, Threshold, TableLookup, ConvertDepth, Box, Gaussian, Median, Erode, Dilate, Sobel, Convolve, Histogram, Integral, MinMaxLoc, Accumulate, AccumulateSquare, IsSample, wrap, parameters, accumulates, takes_formats, has_amount, formula_of_one, formula_of_two}
 use Rattle.std.proofs.lemmas.Nat.{or_lt, xor_lt}
 use Rattle.std.proofs.Math.Nat.{pow-le-pow_right}
-use Rattle.vx_base.specs.declared.format.Format.{Format}
-use Rattle.vx_base.specs.declared.format.Format.TheVariants.{U8, S16}
 use Rattle.vx_base.specs.declared.policy.Policy.{Policy}
 use Rattle.vx_base.specs.declared.policy.Policy.TheVariants.{Wrap, Saturate}
-use Rattle.vx_base.specs.declared.function.Function.{Function}
-use Rattle.vx_base.specs.declared.function.Function.TheVariants.{AndBits, OrBits, XorBits, NotBits, Add, Subtract, Multiply, AbsoluteDifference, MinPixel, MaxPixel, Threshold, TableLookup, ConvertDepth, Box, Gaussian, Median, Erode, Dilate, Sobel, Convolve, Histogram, Integral, MinMaxLoc, Accumulate, AccumulateSquare}
-use Rattle.vx_base.specs.Sample.{IsSample, wrap, clamp, narrow, distance}
-use Rattle.vx_base.specs.Function.{parameters, accumulates}
-use Rattle.vx_base.specs.Formats.{takes_formats}
-use Rattle.vx_base.specs.Node.{has_amount}
-use Rattle.vx_base.specs.Pixelwise.{and_bits, or_bits, xor_bits, smaller, greater, formula_of_one, formula_of_two}
+use Rattle.vx_base.specs.Sample.{clamp, narrow, distance}
+use Rattle.vx_base.specs.Pixelwise.{and_bits, or_bits, xor_bits, smaller, greater}
 
 -- ---- bits
 

@@ -1,11 +1,8 @@
 -- What wrap gives.
-use Rattle.std.proofs.Common.{ℕ, ℤ, pos, negsuc, ◌+ℤ◌, ◌-ℤ◌, ◌<◌, ◌/◌, arith, Bool, true, false, cond}
-use Rattle.std.proofs.lemmas.Int.{ints}
-use Rattle.std.specs.Prelude.{int_lt}
+use Rattle.std.proofs.Common.{ℕ, ℤ, pos, negsuc, ◌+ℤ◌, ◌-ℤ◌, ◌<◌, ◌/◌, arith, Bool, true, false, cond, int_lt}
+use Rattle.vx_base.proofs.Common.{ints, Format, U8, S16, U32, wrap}
 use Rattle.std.specs.Int.{int_rem_euclid}
-use Rattle.vx_base.specs.declared.format.Format.{Format}
-use Rattle.vx_base.specs.declared.format.Format.TheVariants.{U8, S16, U32}
-use Rattle.vx_base.specs.Sample.{AgreesModulo, range_size, signed_of, wrap}
+use Rattle.vx_base.specs.Sample.{AgreesModulo, range_size, signed_of}
 
 -- v agrees with the rest that division leaves
 pub rest_agrees : (m : ℕ) (v : ℤ) → 0 < m → AgreesModulo m v (int_rem_euclid v (pos m))

@@ -1,13 +1,7 @@
 -- Sums modulo 2 ^ 32 are samples of U32.
-use Rattle.std.proofs.Common.{◌≡◌, ℕ, ◌+◌, ◌%◌, ◌<◌, arith}
-use Rattle.std.specs.Prelude.{unsigned_abs}
+use Rattle.std.proofs.Common.{◌≡◌, ℕ, ◌+◌, ◌%◌, ◌<◌, arith, unsigned_abs}
+use Rattle.vx_base.proofs.Common.{ints, Format, U32, IsSample, whole, meet_of, ImageValue, IsImage}
 use Rattle.std.specs.List.{sum_by}
-use Rattle.std.proofs.lemmas.Int.{ints}
-use Rattle.vx_base.specs.declared.format.Format.{Format}
-use Rattle.vx_base.specs.declared.format.Format.TheVariants.{U32}
-use Rattle.vx_base.specs.Sample.{IsSample}
-use Rattle.vx_base.specs.Rectangle.{whole, meet_of}
-use Rattle.vx_base.specs.Image.{ImageValue, IsImage}
 use Rattle.vx_base.specs.Statistics.{samples_in, sum_to, sums_in}
 use Rattle.vx_base.proofs.ImageLaws.{made_image}
 

@@ -1,14 +1,12 @@
 -- Runs and tables: what a function of places gives along a row, and row by row.
-use Rattle.std.proofs.Common.{◌≡◌, ℕ, ℤ, pos, ◌+◌, ◌-◌, ◌*◌, ◌<◌, ◌≤◌, List, [], ◌∷◌, ◌++◌, length, map, take, drop, get_or, set, zero, suc, refl, ap, ◌∙◌, sym, arith, zero-add, add-zero, add-one, inl, inr, ◌⊎◌, replicate}
+use Rattle.std.proofs.Common.{◌≡◌, ℕ, ℤ, pos, ◌+◌, ◌-◌, ◌*◌, ◌<◌, ◌≤◌, List, [], ◌∷◌, ◌++◌, length, map, take, drop, get_or, set, zero, suc, refl, ap, ◌∙◌, sym, arith, zero-add, add-zero, add-one, inl, inr, ◌⊎◌, replicate, append-nil, append_assoc, length-append, length-take, length-drop, ext_get_or, get_or-take, get_or-drop, drop_at, take_at}
+use Rattle.vx_base.proofs.Common.{take_more_set, Rectangle, nat_tests, run, band, table, within}
 use Rattle.std.specs.List.{range_with_len, flat_map}
-use Rattle.std.proofs.lemmas.List.{append-nil, map-append, append_assoc, length-append, length-map, length-take, length-drop, ext_get_or, get_or-take, get_or-drop, take-map, drop-map, drop_at, take_at, take_more_set}
-use Rattle.vx_base.specs.Rectangle.{Rectangle}
-use Rattle.std.proofs.lemmas.Bool.Decides.{nat_tests}
+use Rattle.std.proofs.lemmas.List.{map-append, length-map, take-map, drop-map}
 use Rattle.std.proofs.lemmas.Slice.{take-put_mid}
 use Rattle.std.proofs.lemmas.Simd.{zip2-map, map-map}
 use Rattle.std.specs.Simd.Lanes.{zip2}
 use borrow.Rule.Slice.PartMut.{put_mid}
-use Rattle.vx_base.specs.Image.{run, band, table, within}
 
 suc-add : (m n : ℕ) → suc m + n ≡ suc (m + n)
 suc-add m n = omega arith

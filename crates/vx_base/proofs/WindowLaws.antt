@@ -1,22 +1,14 @@
 -- What windows see, and what comes of it.
-use Rattle.std.proofs.Common.{◌≡◌, ℕ, ℤ, pos, negsuc, ◌+◌, ◌-◌, ◌*◌, ◌/◌, ◌<◌, ◌≤◌, ◌+ℤ◌, ◌-ℤ◌, ◌≤ℤ◌, Bool, true, false, ◌&&◌, cond, List, [], ◌∷◌, ◌++◌, length, map, take, set, zero, suc, nat_lt, refl, ap, ◌∙◌, sym, subst, arith, rules, add-zero}
-use Rattle.std.specs.Prelude.{Some, unsigned_abs, unwrap_or, int_div, ◌^◌}
-use Rattle.std.specs.Int.{int_div_euclid, int_min, int_max}
+use Rattle.std.proofs.Common.{◌≡◌, ℕ, ℤ, pos, negsuc, ◌+◌, ◌-◌, ◌*◌, ◌/◌, ◌<◌, ◌≤◌, ◌+ℤ◌, ◌-ℤ◌, ◌≤ℤ◌, Bool, true, false, ◌&&◌, cond, List, [], ◌∷◌, ◌++◌, length, map, take, set, zero, suc, nat_lt, refl, ap, ◌∙◌, sym, subst, arith, rules, add-zero, Some, unsigned_abs, unwrap_or, int_div, ◌^◌}
+use Rattle.vx_base.proofs.Common.{int_div_euclid, Each1, ints, nat_tests, take_more_set, Format, U8, S16, IsSample, Rectangle, inside, empty, IsOrdered, IsWithin, ImageValue, IsImage, run, at, made, from_nine}
+use Rattle.std.specs.Int.{int_min, int_max}
 use Rattle.std.specs.List.{find, fold}
-use Rattle.std.specs.Simd.Lanes.{Each1}
-use Rattle.std.proofs.lemmas.Int.{ints}
-use Rattle.std.proofs.lemmas.Bool.Decides.{nat_tests}
-use Rattle.std.proofs.lemmas.List.{take_more_set, map_push}
-use Rattle.vx_base.specs.declared.format.Format.{Format}
-use Rattle.vx_base.specs.declared.format.Format.TheVariants.{U8, S16}
+use Rattle.std.proofs.lemmas.List.{map_push}
 use Rattle.vx_base.specs.declared.border.Border.{Border}
 use Rattle.vx_base.specs.declared.border.Border.TheVariants.{Undefined, Constant, Replicate}
-use Rattle.vx_base.specs.Sample.{IsSample}
-use Rattle.vx_base.specs.Rectangle.{Rectangle, inside, empty, IsOrdered, IsWithin}
 use Rattle.vx_base.specs.Convolution.{ConvolutionValue}
-use Rattle.vx_base.specs.Image.{ImageValue, IsImage, run, at, made}
 use Rattle.vx_base.specs.Node.{IsBorder}
-use Rattle.vx_base.specs.Window.{holds, nearest, beside, look, nine_around, total, weighted, box_mean, gaussian_weights, gaussian_mean, is_middle, median, least_of, greatest_of, gradient_x, gradient_y, window_valid, from_nine, matrix_product, convolved, from_matrix}
+use Rattle.vx_base.specs.Window.{holds, nearest, beside, look, nine_around, total, weighted, box_mean, gaussian_weights, gaussian_mean, is_middle, median, least_of, greatest_of, gradient_x, gradient_y, window_valid, matrix_product, convolved, from_matrix}
 use Rattle.vx_base.proofs.TableLaws.{run-more}
 use Rattle.vx_base.proofs.ResultLaws.{zero_sample, clamp_sample}
 use Rattle.vx_base.proofs.ImageLaws.{made_image}

@@ -1,9 +1,7 @@
 -- Samples that are all 0.
-use Rattle.std.proofs.Common.{◌≡◌, ℕ, pos, ◌∷◌, ◌*◌, ◌<◌, length, get_or, map, replicate, zero, suc, refl, ap, ◌∙◌, sym, arith}
-use Rattle.std.proofs.lemmas.List.{ext_get_or, get_or-replicate, length-replicate}
-use Rattle.vx_base.specs.declared.format.Format.{Format}
-use Rattle.vx_base.specs.Rectangle.{whole}
-use Rattle.vx_base.specs.Image.{within, new_image}
+use Rattle.std.proofs.Common.{◌≡◌, ℕ, pos, ◌∷◌, ◌*◌, ◌<◌, length, get_or, map, replicate, zero, suc, refl, ap, ◌∙◌, sym, arith, ext_get_or}
+use Rattle.vx_base.proofs.Common.{Format, whole, within, new_image}
+use Rattle.std.proofs.lemmas.List.{get_or-replicate, length-replicate}
 use Rattle.vx_base.proofs.TableLaws.{length-table}
 use Rattle.vx_base.proofs.ImageLaws.{index_of_place, at-new_image}
 

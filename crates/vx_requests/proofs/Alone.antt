@@ -1,12 +1,8 @@
 -- One more frame, and what each client gets.
-use Rattle.std.proofs.Common.{◌≡◌, ℕ, Bool, true, false, cond, not, eqb, suc, List, [], ◌∷◌, ◌++◌, length, arith, refl, sym, ap, ◌∙◌, append_assoc, append-nil, map, inl, inr, eq-eqb}
-use Rattle.std.specs.Prelude.{All, filter, ◌&&◌, ◌==◌}
-use Rattle.std.proofs.lemmas.List.{map_push}
+use Rattle.std.proofs.Common.{◌≡◌, ℕ, Bool, true, false, cond, not, eqb, suc, List, [], ◌∷◌, ◌++◌, length, arith, refl, sym, ap, ◌∙◌, append_assoc, append-nil, map, inl, inr, eq-eqb, All, filter, ◌&&◌, ◌==◌, eqb-true}
+use Rattle.vx_requests.proofs.Common.{map_push, cases_Bool, Frame, ReplyFrame, Received, reply_to, frames_of, is_kept_of, mine, answer_frame, after, reply_in, state_then, states_after, served, Said}
 use Rattle.std.proofs.lemmas.List.Elements.{filter-append}
-use Rattle.std.proofs.lemmas.Bool.{cases_Bool, eqb-true}
-use Rattle.vx_requests.specs.Frame.Frames.{Frame, ReplyFrame}
-use Rattle.vx_requests.specs.Serving.Clients.{Received, reply_to, no_memory, frames_of, is_kept_of, mine, sent_to, kept_replies, answer_frame, after, alone, reply_in, state_then, states_after, served_after, served}
-use Rattle.vx_wire.specs.Replies.{Said}
+use Rattle.vx_requests.specs.Serving.Clients.{no_memory, sent_to, kept_replies, alone, served_after}
 
 -- a frame at the end is its client's, if it was kept
 pub mine-push : (client : ℕ) (marked : List Received) (m : Received)

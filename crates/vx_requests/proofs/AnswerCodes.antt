@@ -1,21 +1,11 @@
 -- No answer of the model has the code NO_MEMORY.
-use Rattle.std.proofs.Common.{◌≡◌, ◌≢◌, ℕ, false, List, Result, Ok, Err, refl}
-use Rattle.std.specs.Prelude.{◌==◌}
-use Rattle.vx_base.specs.declared.code.Code.{Code}
-use Rattle.vx_base.specs.declared.code.Code.TheVariants.{NoMemory}
+use Rattle.std.proofs.Common.{◌≡◌, ◌≢◌, ℕ, false, List, Result, Ok, Err, refl, ◌==◌}
+use Rattle.vx_requests.proofs.Common.{Code, NoMemory, Request, Reply, Refused, Picture, Allowance, State, answer_to, BodyFault, request_of, said_of, answer_spelled}
 use Rattle.vx_base.specs.Code.{code_number}
-use Rattle.client_model.specs.declared.request.Request.{Request}
-use Rattle.client_model.specs.declared.reply.Reply.{Reply}
-use Rattle.client_model.specs.declared.reply.Reply.TheVariants.{Refused, Empty, Name, Node, Described, Picture, Text, Counts, Extremes}
-use Rattle.client_model.specs.Allowance.{Allowance}
-use Rattle.client_model.specs.Context.{State}
-use Rattle.client_model.specs.Answer.{answer_to}
+use Rattle.client_model.specs.declared.reply.Reply.TheVariants.{Empty, Name, Node, Described, Text, Counts, Extremes}
 use Rattle.client_laws.proofs.RefusalLaws.{never_no_memory}
-use Rattle.vx_wire.specs.declared.body_fault.BodyFault.{BodyFault}
 use Rattle.vx_wire.specs.declared.body_fault.BodyFault.TheVariants.{InvalidParameters, InvalidFormat, InvalidDimension, InvalidValue}
-use Rattle.vx_wire.specs.Requests.{request_of}
-use Rattle.vx_wire.specs.Replies.{said_of}
-use Rattle.vx_requests.specs.Serving.Answer.{answer, answer_spelled}
+use Rattle.vx_requests.specs.Serving.Answer.{answer}
 
 -- every other code has another number
 other_number : (code : Code) → code ≢ NoMemory → (code_number code == 1) ≡ false

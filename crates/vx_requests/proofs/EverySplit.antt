@@ -1,11 +1,8 @@
 -- All bytes are whole frames and a rest.
-use Rattle.std.proofs.Common.{◌≡◌, ℕ, ◌+◌, ◌-◌, ◌<◌, ◌≤◌, zero, suc, List, [], ◌∷◌, ◌++◌, inl, inr, arith, length, take, drop, get_or, refl, sym, ap, ◌∙◌, append_assoc, take-append-drop, length-drop, length-take-le, le_refl}
-use Rattle.std.specs.Prelude.{All}
-use Rattle.std.specs.Int.{w16, w32, to_be_bytes, from_be_bytes}
+use Rattle.std.proofs.Common.{◌≡◌, ℕ, ◌+◌, ◌-◌, ◌<◌, ◌≤◌, zero, suc, List, [], ◌∷◌, ◌++◌, inl, inr, arith, length, take, drop, get_or, refl, sym, ap, ◌∙◌, append_assoc, take-append-drop, length-drop, length-take-le, le_refl, All}
+use Rattle.vx_requests.proofs.Common.{w16, w32, to_be_bytes, from_be_bytes, All-drop, All-take, be_bytes_2, be_bytes_4, Frame, IsFrame, IsLength, IsRest, Splits, said_length, frame_bytes, joined}
 use Rattle.std.proofs.lemmas.Bool.{cases_lt}
-use Rattle.std.proofs.lemmas.List.Elements.{All-cons, All-drop, All-take}
-use Rattle.std.proofs.lemmas.Nat.{be_bytes_2, be_bytes_4}
-use Rattle.vx_requests.specs.Frame.Frames.{Frame, IsFrame, IsLength, IsRest, Splits, said_length, frame_bytes, joined}
+use Rattle.std.proofs.lemmas.List.Elements.{All-cons}
 use Rattle.vx_requests.specs.declared.frame.limits.TheConstants.{GREATEST_LENGTH}
 
 abbrev IsBytes : List ℕ → Type 0

@@ -1,37 +1,20 @@
 -- What a frame is answered: no request, the model's reply, or NO_MEMORY.
-use Rattle.std.proofs.Common.{◌≡◌, ◌≢◌, ℕ, Bool, true, false, cond, List, Some, None, Result, Ok, Err, inl, inr, refl, sym, ap, ◌∙◌, subst, eq-eqb}
-use Rattle.std.specs.Prelude.{◌&&◌, ◌==◌, if◌then◌else◌}
-use Rattle.std.proofs.lemmas.Bool.{cases_Bool, eqb-true}
-use Rattle.client_model.specs.declared.request.Request.{Request}
-use Rattle.client_model.specs.declared.request.Request.TheVariants.{ReadImage, ReadImagePgm}
-use Rattle.client_model.specs.declared.reply.Reply.{Reply}
-use Rattle.client_model.specs.declared.reply.Reply.TheVariants.{Refused}
-use Rattle.client_model.specs.Allowance.{Allowance}
-use Rattle.client_model.specs.Context.{State}
-use Rattle.client_model.specs.Answer.{answer_to, answered}
+use Rattle.std.proofs.Common.{◌≡◌, ◌≢◌, ℕ, Bool, true, false, cond, List, Some, None, Result, Ok, Err, inl, inr, refl, sym, ap, ◌∙◌, subst, eq-eqb, ◌&&◌, ◌==◌, if◌then◌else◌, eqb-true}
+use Rattle.vx_requests.proofs.Common.{cases_Bool, Request, ReadImage, ReadImagePgm, Reply, Refused, Allowance, State, answer_to, image_of, pgm_text, U8, picture_of, Cell, BodyFault, answer_spelled, spelled, reply_to, state_then, frame_of, MayBeLost, IsReply, said_in, Said, said_of, parse_fault, fault_code, request_of}
+use Rattle.client_model.specs.Answer.{answered}
 use Rattle.client_model.specs.Images.{read_from, read_text_from}
-use Rattle.client_model.specs.Operands.{image_of}
 use Rattle.client_model.specs.Refusal.{unless}
 use Rattle.client_model.specs.declared.refusal.Refusal.TheVariants.{InvalidFormat}
 use Rattle.client_model.specs.declared.reply.Reply.TheVariants.{Text as TextReply}
-use Rattle.pgm_images.specs.Writing.{pgm_text}
-use Rattle.vx_base.specs.declared.format.Format.TheVariants.{U8}
-use Rattle.vx_base.specs.Picture.{picture_of}
 use Rattle.vx_base.specs.Sample.{same_format}
 use Rattle.vx_base.specs.declared.code.Code.TheVariants.{NoMemory as CodeNoMemory}
-use Rattle.vx_base.specs.Cell.{Cell}
 use Rattle.vx_wire.specs.declared.parse_fault.ParseFault.{ParseFault}
-use Rattle.vx_wire.specs.declared.body_fault.BodyFault.{BodyFault}
-use Rattle.vx_requests.specs.Serving.Answer.{answer, answer_spelled}
-use Rattle.vx_requests.specs.Serving.Clients.{spelled, reply_to, state_then}
-use Rattle.vx_requests.specs.Frame.Frames.{frame_of}
-use Rattle.vx_requests.specs.Serving.Lost.{NeedsMemory, SpellsTaking, MayBeLost}
-use Rattle.vx_requests.specs.Serving.Turn.{IsReply, said_in}
+use Rattle.vx_requests.specs.Serving.Answer.{answer}
+use Rattle.vx_requests.specs.Serving.Lost.{NeedsMemory, SpellsTaking}
 use Rattle.vx_requests.specs.declared.serving.answered.Content.TheVariants.{Samples, Text}
 use Rattle.client_model.specs.Request.{TakesMemory}
-use Rattle.vx_wire.specs.Replies.{Said, said_of}
-use Rattle.vx_wire.specs.Faults.{parse_fault, MayFailWith, fault_code}
-use Rattle.vx_wire.specs.Requests.{request_of, HoldsSamples}
+use Rattle.vx_wire.specs.Faults.{MayFailWith}
+use Rattle.vx_wire.specs.Requests.{HoldsSamples}
 
 -- the model's answer to a body, once it is known what the body spells
 answer_is : (limits : Allowance) (state : State) (op : ℕ) (body : List ℕ) (spelled : Result Request BodyFault) → request_of op body ≡ spelled

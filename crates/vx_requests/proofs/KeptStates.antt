@@ -1,27 +1,13 @@
 -- Frames keep the limits of a client's state.
-use Rattle.std.proofs.Common.{◌≡◌, ℕ, List, [], ◌∷◌, Option, Some, None, Result, Ok, Err, refl, sym, subst}
-use Rattle.std.specs.Prelude.{All, IfSome, IfOk}
+use Rattle.std.proofs.Common.{◌≡◌, ℕ, List, [], ◌∷◌, Option, Some, None, Result, Ok, Err, refl, sym, subst, All, IfSome, IfOk}
+use Rattle.vx_requests.proofs.Common.{Cell, IsImage, Request, Allowance, State, image_of, IsRequest, BodyFault, request_of, Frame, IsFrame, answer_spelled, Summary, StreamFault, Received, is_kept_of, answer_frame, after, frames_of, mine, Session}
 use Rattle.std.proofs.lemmas.List.Elements.{All-head, All-tail, All-filter, All-map}
-use Rattle.vx_base.specs.Cell.{Cell}
-use Rattle.vx_base.specs.Image.{IsImage}
-use Rattle.client_model.specs.declared.request.Request.{Request}
-use Rattle.client_model.specs.Allowance.{Allowance}
-use Rattle.client_model.specs.Context.{State}
-use Rattle.client_model.specs.Operands.{image_of}
-use Rattle.client_model.specs.Request.{IsRequest}
 use Rattle.client_model.proofs.ImageStepLaws.{image_of_is}
 use Rattle.object_table.proofs.HeldLemmas.{All-from_map}
 use Rattle.client_model.proofs.OutcomeLaws.{StateKeeps}
 use Rattle.client_laws.proofs.StepLaws.{answer_keeps}
-use Rattle.vx_wire.specs.declared.body_fault.BodyFault.{BodyFault}
-use Rattle.vx_wire.specs.Requests.{request_of}
 use Rattle.vx_wire.proofs.OneSpelling.{one_spelling}
-use Rattle.vx_requests.specs.Frame.Frames.{Frame, IsFrame}
-use Rattle.vx_requests.specs.Serving.Answer.{answer, answer_spelled}
-use Rattle.vx_requests.specs.declared.serving.summary.Summary.{Summary}
-use Rattle.vx_requests.specs.declared.stream.fault.StreamFault.{StreamFault}
-use Rattle.vx_requests.specs.Serving.Clients.{Received, is_kept_of, answer_frame, after, frames_of, mine}
-use Rattle.vx_requests.specs.Serving.Session.{Session}
+use Rattle.vx_requests.specs.Serving.Answer.{answer}
 
 spelled_keeps : (limits : Allowance) (state : State) (spelled : Result Request BodyFault) → StateKeeps limits state → ((request : Request) → spelled ≡ Ok request → IsRequest request)
     → StateKeeps limits (answer_spelled limits state spelled).1

@@ -1,3 +1,4 @@
+mod Common
 pub mod TransferSteps
 pub mod Pieces
 pub mod ReadCounts

@@ -1,9 +1,7 @@
 -- A stream splits in one way.
-use Rattle.std.proofs.Common.{◌≡◌, ℕ, ◌+◌, suc, List, [], ◌∷◌, ◌++◌, inl, inr, arith, length, take, drop, get_or, refl, sym, ap, ◌∙◌, append_assoc, take_at, drop_at, length-append}
-use Rattle.std.specs.Prelude.{All}
-use Rattle.std.specs.Int.{w16, from_be_bytes}
-use Rattle.std.proofs.lemmas.Nat.{from_be_bytes-to_be_bytes_4, from_be_bytes-to_be_bytes_2}
-use Rattle.vx_requests.specs.Frame.Frames.{Frame, IsFrame, IsRest, Splits, said_length, frame_bytes, joined}
+use Rattle.std.proofs.Common.{◌≡◌, ℕ, ◌+◌, suc, List, [], ◌∷◌, ◌++◌, inl, inr, arith, length, take, drop, get_or, refl, sym, ap, ◌∙◌, append_assoc, take_at, drop_at, length-append, All}
+use Rattle.vx_requests.proofs.Common.{w16, from_be_bytes, from_be_bytes-to_be_bytes_4, Frame, IsFrame, IsRest, Splits, said_length, frame_bytes, joined}
+use Rattle.std.proofs.lemmas.Nat.{from_be_bytes-to_be_bytes_2}
 
 frame_eq : (f g : Frame) → f.client ≡ g.client → f.op ≡ g.op → f.body ≡ g.body → f ≡ g
 frame_eq f g p q r =

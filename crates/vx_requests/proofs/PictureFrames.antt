@@ -1,19 +1,10 @@
 -- The frame of a picture: its head and description, and then its samples; and that of its PGM text.
 use Rattle.std.proofs.Common.{◌≡◌, ℕ, ◌+◌, ◌*◌, ℤ, List, [], ◌∷◌, ◌++◌, length, map, unsigned_abs, refl, sym, ap, ◌∙◌, arith, append_assoc, length-append}
-use Rattle.std.proofs.lemmas.List.{length-map}
-use Rattle.pgm_images.specs.Writing.{written_header, pgm_text}
-use Rattle.vx_base.specs.Image.{ImageValue, IsImage, description_of}
-use Rattle.std.specs.List.{flat_map}
-use Rattle.vx_base.specs.declared.format.Format.TheVariants.{U8}
+use Rattle.vx_requests.proofs.Common.{length-map, pgm_text, IsImage, flat_map, U8, sample_bytes, Description, sample_count, byte_count, PictureValue, Describes, values, samples_format, picture_of, reply_bytes, reply_head, spelled, encoded_sample, description_bytes, length-encoded}
+use Rattle.pgm_images.specs.Writing.{written_header}
+use Rattle.vx_base.specs.Image.{ImageValue, description_of}
 use Rattle.vx_base.specs.declared.samples.Samples.{Samples}
-use Rattle.vx_base.specs.Sample.{sample_bytes}
-use Rattle.vx_base.specs.Description.{Description, sample_count, byte_count}
-use Rattle.vx_base.specs.Picture.{PictureValue, Describes, values, samples_format, picture_of}
-use Rattle.vx_requests.specs.Frame.Frames.{reply_bytes, reply_head}
-use Rattle.vx_requests.specs.Serving.Clients.{spelled}
-use Rattle.vx_wire.specs.Samples.{encoded_sample, picture_bytes}
-use Rattle.vx_wire.specs.Description.{description_bytes}
-use Rattle.vx_wire.proofs.SampleBytes.{length-encoded}
+use Rattle.vx_wire.specs.Samples.{picture_bytes}
 
 -- the bytes of samples, as they are written
 abbrev samples_in : Samples → List ℕ

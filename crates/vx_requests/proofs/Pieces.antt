@@ -1,11 +1,6 @@
 -- Pieces read or written one after the other.
-use Rattle.std.proofs.Common.{ℕ, ◌+◌, ◌≤◌, List, [], ◌++◌, Option, Result, Ok, Err, arith, length, sym, append-nil, length-append}
-use Rattle.std.specs.Prelude.{OnOk, OnErr}
-use Rattle.std.specs.Io.KnownBytes.{Consumes, Appends, Keeps}
-use Rattle.std.proofs.KnownBytes.{Consumes-trans, Appends-kept}
-use Rattle.vx_requests.specs.declared.stream.fault.StreamFault.{StreamFault}
-use Rattle.vx_requests.specs.Stream.Transfer.{AppendsPart, AppendsFront}
-use Rattle.vx_requests.specs.Frame.Reading.{ReadsPart}
+use Rattle.std.proofs.Common.{ℕ, ◌+◌, ◌≤◌, List, [], ◌++◌, Option, Result, Ok, Err, arith, length, sym, append-nil, length-append, OnOk, OnErr}
+use Rattle.vx_requests.proofs.Common.{Consumes, Appends, Keeps, Consumes-trans, Appends-kept, StreamFault, AppendsPart, AppendsFront, ReadsPart}
 
 -- what holds in any case holds in either
 pub on_ok : {T E P : Type 0} (r : Result T E) → P → OnOk r P

@@ -1,24 +1,12 @@
 -- How far serve has come, and how it ends.
-use Rattle.std.proofs.Common.{◌≡◌, ℕ, ◌+◌, Bool, true, false, cond, not, List, [], ◌∷◌, ◌++◌, Option, Result, Ok, Err, inl, inr, length, arith, refl, sym, ap, ◌∙◌, subst, append-nil, zero-add}
-use Rattle.std.specs.Prelude.{All, count_by, ◌==◌}
-use Rattle.std.specs.Io.KnownBytes.{Consumes, Appends}
-use Rattle.std.proofs.KnownBytes.{Consumes-nil, Appends-nil, Consumes-trans, Appends-trans}
-use Rattle.std.proofs.lemmas.List.{map_push, flat_map_more, length_push}
+use Rattle.std.proofs.Common.{◌≡◌, ℕ, ◌+◌, Bool, true, false, cond, not, List, [], ◌∷◌, ◌++◌, Option, Result, Ok, Err, inl, inr, length, arith, refl, sym, ap, ◌∙◌, subst, append-nil, zero-add, All, count_by, ◌==◌}
+use Rattle.vx_requests.proofs.Common.{Consumes, Appends, Appends-nil, Consumes-trans, Appends-trans, map_push, StreamFault, WriteFailed, Allowance, State, Summary, Frame, ReplyFrame, IsFrame, frame_bytes, reply_bytes, joined, Received, frames_of, served, reply_in, state_then, states_after, answer, MayBeLost, BreaksOff, ServesFrame, Turn, Session}
+use Rattle.std.proofs.KnownBytes.{Consumes-nil}
+use Rattle.std.proofs.lemmas.List.{flat_map_more, length_push}
 use Rattle.std.proofs.lemmas.List.Elements.{All-push}
 use Rattle.std.proofs.lemmas.List.Sums.{sum_by-append}
-use Rattle.vx_requests.specs.declared.stream.fault.StreamFault.{StreamFault}
-use Rattle.vx_requests.specs.declared.stream.fault.StreamFault.TheVariants.{WriteFailed}
-use Rattle.client_model.specs.Allowance.{Allowance}
-use Rattle.client_model.specs.Context.{State}
-use Rattle.vx_requests.specs.declared.serving.summary.Summary.{Summary}
-use Rattle.vx_requests.specs.Frame.Frames.{Frame, ReplyFrame, IsFrame, frame_bytes, reply_bytes, joined, joined_replies}
-use Rattle.vx_requests.specs.Serving.Clients.{Received, frames_of, served, reply_in, state_then, states_after}
-use Rattle.vx_requests.specs.Serving.Answer.{answer}
-use Rattle.vx_requests.specs.Serving.Lost.{MayBeLost}
-use Rattle.vx_requests.specs.Frame.Reading.{BreaksOff}
-use Rattle.vx_requests.specs.Serving.Turn.{ServesFrame, Turn}
+use Rattle.vx_requests.specs.Frame.Frames.{joined_replies}
 use Rattle.vx_requests.specs.Serving.Ends.{EndsBy}
-use Rattle.vx_requests.specs.Serving.Session.{Session}
 use Rattle.vx_requests.proofs.Alone.{states_after-push, served-push, reply_in-same, state_then-same}
 
 -- some whole frames were read and answered

@@ -1,6 +1,6 @@
 -- Reads one after the other.
 use Rattle.std.proofs.Common.{ℕ, Ok, arith, ◌∙◌}
-use Rattle.vx_requests.specs.Frame.Reading.{KeepsCount}
+use Rattle.vx_requests.proofs.Common.{KeepsCount}
 use Rattle.vx_requests.specs.declared.frame.reader.Reader.{Reader}
 
 -- more reads that went well

@@ -1,23 +1,13 @@
 -- The frames of requests that hold samples, a text or coefficients: a head, and then these.
 use Rattle.std.proofs.Common.{◌≡◌, ℕ, ℤ, ◌+◌, ◌*◌, List, [], ◌∷◌, ◌++◌, length, arith, refl, ap, ◌∙◌}
-use Rattle.std.specs.List.{flat_map}
-use Rattle.std.specs.Int.{w16, w32, to_be_bytes}
-use Rattle.vx_base.specs.declared.format.Format.{Format}
+use Rattle.vx_requests.proofs.Common.{flat_map, w16, w32, to_be_bytes, Format, sample_bytes, Cell, Description, sample_count, byte_count, PictureValue, Describes, values, samples_format, WriteImage, WriteImagePgm, CreateLut, CreateConvolution, frame_bytes, request_frame, encoded_sample, description_bytes, length-encoded}
 use Rattle.vx_base.specs.declared.samples.Samples.{Samples}
-use Rattle.vx_base.specs.Sample.{sample_bytes}
-use Rattle.vx_base.specs.Cell.{Cell}
-use Rattle.vx_base.specs.Description.{Description, sample_count, byte_count}
-use Rattle.vx_base.specs.Picture.{PictureValue, Describes, values, samples_format}
 use Rattle.vx_base.specs.Lut.{LutValue}
 use Rattle.vx_base.specs.declared.format.Format.TheVariants.{S16}
 use Rattle.vx_base.specs.Convolution.{ConvolutionValue}
-use Rattle.client_model.specs.declared.request.Request.TheVariants.{WriteImage, WriteImagePgm, CreateLut, CreateConvolution}
-use Rattle.vx_requests.specs.Frame.Frames.{frame_head, frame_bytes, request_frame}
-use Rattle.vx_wire.specs.Samples.{encoded_sample}
+use Rattle.vx_requests.specs.Frame.Frames.{frame_head}
 use Rattle.vx_wire.specs.Format.{format_number}
 use Rattle.vx_wire.specs.Reference.{reference_bytes}
-use Rattle.vx_wire.specs.Description.{description_bytes}
-use Rattle.vx_wire.proofs.SampleBytes.{length-encoded}
 
 -- the bytes of samples, as they are written
 abbrev spelled : Samples → List ℕ

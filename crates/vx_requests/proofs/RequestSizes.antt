@@ -1,12 +1,10 @@
 -- A request fits a frame, but for a text that is too long.
-use Rattle.std.proofs.Common.{ℕ, ◌<◌, ◌≤◌, ◌^◌, length, IsTrue, arith, refl}
-use Rattle.std.proofs.lemmas.Bool.{leb-true, le-leb}
-use Rattle.client_model.specs.declared.request.Request.{Request}
-use Rattle.client_model.specs.declared.request.Request.TheVariants.{OpenContext, ReleaseContext, CreateImage, QueryImage, WriteImage, WriteImagePgm, ReadImage, ReadImagePgm, SetValid, Release, CreateLut, CreateThreshold, CreateConvolution, CreateDistribution, ReadDistribution, CreateMinMax, ReadMinMax, CreateGraph, CreateVirtualImage, AddNode, RemoveNode, VerifyGraph, ProcessGraph, Immediate, CreateDelay, AgeDelay, RegisterAutoAging}
-use Rattle.client_model.specs.Request.{IsRequest}
+use Rattle.std.proofs.Common.{ℕ, ◌<◌, ◌≤◌, ◌^◌, length, IsTrue, arith, refl, leb-true, le-leb}
+use Rattle.vx_requests.proofs.Common.{Request, WriteImage, WriteImagePgm, ReadImage, ReadImagePgm, CreateLut, CreateConvolution, IsRequest, IsFrame, request_frame}
+use Rattle.client_model.specs.declared.request.Request.TheVariants.{OpenContext, ReleaseContext, CreateImage, QueryImage, SetValid, Release, CreateThreshold, CreateDistribution, ReadDistribution, CreateMinMax, ReadMinMax, CreateGraph, CreateVirtualImage, AddNode, RemoveNode, VerifyGraph, ProcessGraph, Immediate, CreateDelay, AgeDelay, RegisterAutoAging}
 use Rattle.vx_wire.proofs.SpelledBytes.{body_is}
 use Rattle.vx_wire.proofs.SpelledSizes.{spelled_most, entries_most, threshold_most, convolution_most, length-node_bytes}
-use Rattle.vx_requests.specs.Frame.Frames.{IsFrame, request_frame, fits_a_frame}
+use Rattle.vx_requests.specs.Frame.Frames.{fits_a_frame}
 use Rattle.vx_requests.specs.declared.frame.limits.TheConstants.{GREATEST_TEXT}
 
 pub fits : (client : ℕ) (request : Request) → client < 2 ^ 16 → IsRequest request → IsTrue (fits_a_frame request) → IsFrame (request_frame client request)

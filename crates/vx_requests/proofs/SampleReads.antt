@@ -1,20 +1,11 @@
 -- Samples that are read piece by piece.
-use Rattle.std.proofs.Common.{◌≡◌, ℕ, ℤ, pos, zero, suc, ◌+◌, ◌*◌, ◌-◌, ◌<◌, ◌≤◌, ◌^◌, List, [], ◌∷◌, ◌++◌, Option, arith, length, take, drop, map, sym, ap, subst, ◌∙◌, zero-add, length-append, length-take-le, length-drop}
-use Rattle.std.specs.Prelude.{All}
-use Rattle.std.specs.Io.KnownBytes.{Consumes}
-use Rattle.std.proofs.KnownBytes.{Consumes-trans}
-use Rattle.std.proofs.lemmas.List.{map-append, length-map, take-append-le, drop-append-le}
-use Rattle.std.proofs.lemmas.List.Elements.{All-append}
-use Rattle.vx_base.specs.declared.format.Format.{Format}
-use Rattle.vx_base.specs.declared.format.Format.TheVariants.{U8}
-use Rattle.vx_base.specs.Sample.{sample_bytes}
-use Rattle.vx_wire.specs.Samples.{decoded_sample, decoded}
+use Rattle.std.proofs.Common.{◌≡◌, ℕ, ℤ, pos, zero, suc, ◌+◌, ◌*◌, ◌-◌, ◌<◌, ◌≤◌, ◌^◌, List, [], ◌∷◌, ◌++◌, Option, arith, length, take, drop, map, sym, ap, subst, ◌∙◌, zero-add, length-append, length-take-le, length-drop, All}
+use Rattle.vx_requests.proofs.Common.{Consumes, Consumes-trans, length-map, All-append, Format, U8, sample_bytes, decoded, StreamFault, ReadsPart, ReadsSamples, put_mid}
+use Rattle.std.proofs.lemmas.List.{map-append, take-append-le, drop-append-le}
+use Rattle.vx_wire.specs.Samples.{decoded_sample}
 use Rattle.vx_wire.proofs.SampleBytes.{decoded-U8}
-use Rattle.vx_requests.specs.declared.stream.fault.StreamFault.{StreamFault}
-use Rattle.vx_requests.specs.Frame.Reading.{ReadsPart, ReadsSamples}
 use Rattle.vx_requests.proofs.Pieces.{part_after}
 use Rattle.vx_requests.proofs.TransferSteps.{take-put_mid}
-use borrow.Rule.Slice.PartMut.{put_mid}
 
 -- the bytes of some samples, and then those of others
 decoded-append : (format : Format) (n m : ℕ) (xs ys : List ℕ) → length xs ≡ n * sample_bytes format → decoded format (n + m) (xs ++ ys) ≡ decoded format n xs ++ decoded format m ys

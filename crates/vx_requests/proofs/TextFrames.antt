@@ -1,12 +1,7 @@
 -- The frames of texts and of counts: a head, and then the text or the counts.
 use Rattle.std.proofs.Common.{◌≡◌, ℕ, ◌+◌, ◌*◌, pos, List, [], ◌∷◌, ◌++◌, length, arith, ap, ◌∙◌}
-use Rattle.std.specs.List.{flat_map}
-use Rattle.std.specs.Int.{w16, w32, to_be_bytes}
-use Rattle.vx_base.specs.declared.format.Format.TheVariants.{U32}
-use Rattle.vx_wire.specs.Samples.{encoded_sample}
+use Rattle.vx_requests.proofs.Common.{flat_map, w16, w32, to_be_bytes, U32, encoded_sample, reply_bytes, reply_head, spelled}
 use Rattle.vx_wire.specs.Counts.{counts_bytes}
-use Rattle.vx_requests.specs.Frame.Frames.{reply_bytes, reply_head}
-use Rattle.vx_requests.specs.Serving.Clients.{spelled}
 
 pub text_parts : (client op : ℕ) (text bytes head : List ℕ) → bytes ≡ text → head ≡ reply_head (length bytes + 4) client op 0
     → head ++ bytes ≡ reply_bytes (spelled client op (record { code = 0; body = text }))

@@ -1,18 +1,8 @@
 -- What is told of an image that is read where it stands.
 use Rattle.std.proofs.Common.{◌≡◌, ℕ, List, sym, ap, ◌∙◌}
-use Rattle.vx_base.specs.Cell.{Cell}
-use Rattle.client_model.specs.declared.request.Request.TheVariants.{ReadImage, ReadImagePgm}
-use Rattle.client_model.specs.declared.reply.Reply.{Reply}
-use Rattle.client_model.specs.Context.{State}
+use Rattle.vx_requests.proofs.Common.{Cell, ReadImage, ReadImagePgm, Reply, State, World, state_of, said_of, Answered, Content, reply_bytes, states_of, spelled, said_in, reply_frame}
 use Rattle.client_contexts.specs.Applies.{IsAnswered}
-use Rattle.client_contexts.specs.World.{World, state_of}
-use Rattle.vx_wire.specs.Replies.{said_of}
-use Rattle.vx_requests.specs.declared.serving.answered.Answered.{Answered}
-use Rattle.vx_requests.specs.declared.serving.answered.Content.{Content}
 use Rattle.vx_requests.specs.declared.serving.answered.Content.TheVariants.{Samples, Text}
-use Rattle.vx_requests.specs.Frame.Frames.{reply_bytes}
-use Rattle.vx_requests.specs.Serving.Clients.{states_of, spelled}
-use Rattle.vx_requests.specs.Serving.Turn.{said_in, reply_frame}
 
 module _ (world : World) (a : Answered) (image : Cell) (reply : Reply) where
   abbrev frame_with : Content → List ℕ

@@ -1,11 +1,10 @@
 -- One more read into a buffer, and one more write of a rest.
 use Rattle.std.proofs.Common.{◌≡◌, ℕ, ◌+◌, ◌-◌, ◌≤◌, List, ◌++◌, Option, Ok, zero, suc, refl, length, take, drop, sym, ap, ◌∙◌, subst, le_refl, drop_at, length-take-le, append_assoc, take-append-drop}
+use Rattle.vx_requests.proofs.Common.{Consumes, Appends, Consumes-trans, Appends-trans, put_mid}
 use Rattle.std.proofs.lemmas.Slice.{take-put_mid_below}
 use Rattle.std.proofs.lemmas.List.{take_rest}
-use Rattle.std.specs.Io.KnownBytes.{Consumes, Appends}
-use Rattle.std.proofs.KnownBytes.{Consumes-trans, Appends-trans}
 use Rattle.vx_requests.specs.Stream.Calls.{failed_writes}
-use borrow.Rule.Slice.PartMut.{put_mid, post_of}
+use borrow.Rule.Slice.PartMut.{post_of}
 use lib.Seq.{take-add, take-append-le}
 
 -- the first from + n items, after a write of ys at from

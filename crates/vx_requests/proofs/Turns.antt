@@ -1,23 +1,10 @@
 -- From what stands after a length to a frame.
-use Rattle.std.proofs.Common.{◌≡◌, ℕ, ◌+◌, ◌-◌, ◌<◌, ◌^◌, List, [], ◌∷◌, ◌++◌, Option, Ok, Err, inl, arith, length, refl, sym, ap, subst}
-use Rattle.std.specs.Prelude.{All}
-use Rattle.std.specs.Int.{w16, w32, to_be_bytes}
-use Rattle.std.proofs.lemmas.Nat.{from_be_bytes-to_be_bytes_4}
-use Rattle.std.specs.Io.KnownBytes.{Consumes, Appends}
-use Rattle.std.proofs.KnownBytes.{Consumes-trans, Appends-nil}
-use Rattle.client_model.specs.Allowance.{Allowance}
-use Rattle.client_model.specs.Context.{State}
-use Rattle.client_model.specs.declared.reply.Reply.TheVariants.{Refused}
-use Rattle.vx_base.specs.declared.code.Code.TheVariants.{NoMemory}
-use Rattle.vx_requests.specs.declared.stream.fault.StreamFault.{StreamFault}
-use Rattle.vx_requests.specs.declared.stream.fault.StreamFault.TheVariants.{Truncated, BadLength, ReadFailed, WriteFailed, ReaderWouldNotEnd}
-use Rattle.vx_requests.specs.declared.serving.answered.Answered.{Answered}
-use Rattle.vx_requests.specs.declared.serving.answered.Content.{Content}
-use Rattle.vx_requests.specs.declared.serving.answered.Content.TheVariants.{Made}
-use Rattle.vx_requests.specs.Frame.Frames.{IsLength, IsBegun, said_length, frame_of, payload, reply_bytes}
-use Rattle.vx_requests.specs.Stream.Transfer.{AppendsFront}
-use Rattle.vx_requests.specs.Frame.Reading.{BreaksIn, BreaksOff, ReadsSome}
-use Rattle.vx_requests.specs.Serving.Turn.{IsReply, AnswersBody, AnswersPayload, ServesFrame, Turn, reply_frame}
+use Rattle.std.proofs.Common.{◌≡◌, ℕ, ◌+◌, ◌-◌, ◌<◌, ◌^◌, List, [], ◌∷◌, ◌++◌, Option, Ok, Err, inl, arith, length, refl, sym, ap, subst, All}
+use Rattle.vx_requests.proofs.Common.{w16, w32, to_be_bytes, from_be_bytes-to_be_bytes_4, Consumes, Appends, Consumes-trans, Appends-nil, Allowance, State, Refused, NoMemory, StreamFault, WriteFailed, Answered, Content, Made, IsLength, said_length, frame_of, reply_bytes, AppendsFront, BreaksOff, ReadsSome, IsReply, AnswersBody, ServesFrame, Turn, reply_frame}
+use Rattle.vx_requests.specs.declared.stream.fault.StreamFault.TheVariants.{Truncated, BadLength, ReadFailed, ReaderWouldNotEnd}
+use Rattle.vx_requests.specs.Frame.Frames.{IsBegun, payload}
+use Rattle.vx_requests.specs.Frame.Reading.{BreaksIn}
+use Rattle.vx_requests.specs.Serving.Turn.{AnswersPayload}
 use Rattle.vx_requests.proofs.FrameReplies.{lost_reply}
 use Rattle.vx_requests.proofs.Pieces.{part_after}
 

@@ -1,38 +1,8 @@
 -- What a WriteImage frame is answered, once the head of its body was read.
-use Rattle.std.proofs.Common.{◌≡◌, ◌≢◌, ℕ, ℤ, ◌*◌, ◌-◌, ◌<◌, ◌^◌, List, ◌++◌, Option, Some, Result, Ok, Err, inl, inr, ◌⊎◌, refl, arith, length, sym, ap, subst, ◌∙◌, length-append}
-use Rattle.std.specs.Prelude.{All, OnOk, IfOk, IfErr}
-use Rattle.std.specs.Io.KnownBytes.{Consumes}
-use Rattle.std.proofs.KnownBytes.{Consumes-trans}
-use Rattle.std.proofs.lemmas.List.Elements.{All-append}
-use Rattle.vx_base.specs.Cell.{Cell}
-use Rattle.vx_base.specs.Description.{Description, sample_count, byte_count}
-use Rattle.vx_base.specs.Picture.{PictureValue}
-use Rattle.vx_base.specs.Sample.{sample_bytes}
-use Rattle.vx_base.specs.declared.code.Code.{Code}
-use Rattle.vx_base.specs.declared.code.Code.TheVariants.{NoMemory}
-use Rattle.client_model.specs.declared.request.Request.{Request}
-use Rattle.client_model.specs.declared.request.Request.TheVariants.{WriteImage}
-use Rattle.client_model.specs.declared.reply.Reply.{Reply}
-use Rattle.client_model.specs.declared.reply.Reply.TheVariants.{Refused}
-use Rattle.client_model.specs.Allowance.{Allowance}
-use Rattle.client_model.specs.Context.{State}
-use Rattle.client_model.specs.Answer.{answer_to}
-use Rattle.vx_wire.specs.declared.body_fault.BodyFault.{BodyFault}
-use Rattle.vx_wire.specs.declared.op.Op.{Op}
+use Rattle.std.proofs.Common.{◌≡◌, ◌≢◌, ℕ, ℤ, ◌*◌, ◌-◌, ◌<◌, ◌^◌, List, ◌++◌, Option, Some, Result, Ok, Err, inl, inr, ◌⊎◌, refl, arith, length, sym, ap, subst, ◌∙◌, length-append, All, OnOk, IfOk, IfErr}
+use Rattle.vx_requests.proofs.Common.{Consumes, Consumes-trans, All-append, Cell, Description, sample_count, byte_count, PictureValue, sample_bytes, Code, NoMemory, Request, WriteImage, Reply, Refused, Allowance, State, answer_to, BodyFault, Op, op_numbered, parse_fault, fault_code, said_of, request_of, request_with_known, decoded, StreamFault, Content, Made, frame_of, ReadsPart, ReadsSome, ReadsSamples, spelled, IsReply, reply_frame, AnswersBody}
 use Rattle.vx_wire.specs.declared.op.Op.TheVariants as ops
-use Rattle.vx_wire.specs.Op.{op_numbered}
-use Rattle.vx_wire.specs.Faults.{parse_fault, fault_code}
 use Rattle.vx_wire.specs.Images.{write_image_in, write_image_of}
-use Rattle.vx_wire.specs.Replies.{said_of}
-use Rattle.vx_wire.specs.Requests.{request_of, request_with_known}
-use Rattle.vx_wire.specs.Samples.{decoded}
-use Rattle.vx_requests.specs.declared.stream.fault.StreamFault.{StreamFault}
-use Rattle.vx_requests.specs.declared.serving.answered.Content.{Content}
-use Rattle.vx_requests.specs.declared.serving.answered.Content.TheVariants.{Made}
-use Rattle.vx_requests.specs.Frame.Frames.{frame_of}
-use Rattle.vx_requests.specs.Frame.Reading.{ReadsPart, ReadsSome, ReadsSamples}
-use Rattle.vx_requests.specs.Serving.Clients.{spelled}
-use Rattle.vx_requests.specs.Serving.Turn.{IsReply, reply_frame, AnswersBody}
 use Rattle.vx_requests.proofs.Pieces.{part_after}
 use Rattle.vx_requests.proofs.FrameReplies.{lost_reply, refused_reply, kept_reply}
 

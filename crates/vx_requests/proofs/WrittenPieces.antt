@@ -1,17 +1,10 @@
 -- Bytes that are written one piece after the other.
-use Rattle.std.proofs.Common.{◌≡◌, ℕ, pos, List, [], ◌∷◌, ◌++◌, Option, Result, Ok, Err, ◌+◌, refl, sym, ap, subst, ◌∙◌, append_assoc, map, arith, length-append}
-use Rattle.std.specs.List.{flat_map}
-use Rattle.std.specs.Prelude.{IfErr}
-use Rattle.std.specs.Io.KnownBytes.{Appends, Keeps}
-use Rattle.std.proofs.KnownBytes.{Appends-trans, Appends-kept}
+use Rattle.std.proofs.Common.{◌≡◌, ℕ, pos, List, [], ◌∷◌, ◌++◌, Option, Result, Ok, Err, ◌+◌, refl, sym, ap, subst, ◌∙◌, append_assoc, map, arith, length-append, IfErr}
+use Rattle.vx_requests.proofs.Common.{flat_map, Appends, Keeps, Appends-trans, Appends-kept, U8, U32, StreamFault, WriteFailed, AppendsPart, AppendsFront, Sends, encoded_sample}
 use Rattle.std.proofs.lemmas.Grind.{flat_map-append}
-use Rattle.vx_base.specs.declared.format.Format.TheVariants.{U8, U32}
-use Rattle.vx_requests.specs.declared.stream.fault.StreamFault.{StreamFault}
-use Rattle.vx_requests.specs.declared.stream.fault.StreamFault.TheVariants.{WriteFailed}
 use Rattle.vx_requests.specs.Stream.Calls.{failed_calls}
-use Rattle.vx_requests.specs.Stream.Transfer.{AppendsPart, AppendsFront, WritesAll, Sends}
+use Rattle.vx_requests.specs.Stream.Transfer.{WritesAll}
 use Rattle.vx_requests.proofs.Pieces.{on_ok, on_err, part_front, whole_front}
-use Rattle.vx_wire.specs.Samples.{encoded_sample}
 
 -- the first of two pieces failed
 pub AppendsPart-first : (a b : Option (List ℕ)) (x y : List ℕ) → AppendsPart a b x → AppendsPart a b (x ++ y)

@@ -1,23 +1,9 @@
 -- What a WriteImagePgm frame is answered.
 use Rattle.std.proofs.Common.{◌≡◌, ℕ, List, Option, Some, Result, Ok, Err, ap, ◌∙◌}
-use Rattle.vx_base.specs.Cell.{Cell}
-use Rattle.client_model.specs.declared.request.Request.{Request}
-use Rattle.client_model.specs.declared.request.Request.TheVariants.{WriteImagePgm}
-use Rattle.client_model.specs.declared.reply.Reply.{Reply}
-use Rattle.client_model.specs.declared.reply.Reply.TheVariants.{Refused}
+use Rattle.vx_requests.proofs.Common.{Cell, Request, WriteImagePgm, Reply, Refused, World, state_of, BodyFault, Op, parse_fault, fault_code, op_numbered, said_of, request_of, request_with_known, frame_of, states_of, spelled, IsReply}
 use Rattle.client_contexts.specs.Applies.{Applies}
-use Rattle.client_contexts.specs.World.{World, state_of}
-use Rattle.vx_wire.specs.declared.body_fault.BodyFault.{BodyFault}
-use Rattle.vx_wire.specs.declared.op.Op.{Op}
 use Rattle.vx_wire.specs.declared.op.Op.TheVariants as ops
-use Rattle.vx_wire.specs.Faults.{parse_fault, fault_code}
 use Rattle.vx_wire.specs.Images.{write_image_pgm_in}
-use Rattle.vx_wire.specs.Op.{op_numbered}
-use Rattle.vx_wire.specs.Replies.{said_of}
-use Rattle.vx_wire.specs.Requests.{request_of, request_with_known}
-use Rattle.vx_requests.specs.Frame.Frames.{frame_of}
-use Rattle.vx_requests.specs.Serving.Clients.{states_of, spelled}
-use Rattle.vx_requests.specs.Serving.Turn.{IsReply}
 use Rattle.vx_requests.proofs.FrameReplies.{refused_reply, kept_reply}
 
 -- what a body of the op spells is what the definition of WriteImagePgm says

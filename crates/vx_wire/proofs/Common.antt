@@ -2,13 +2,11 @@
 pub use Rattle.client_model.specs.Request.{IsRequest}
 pub use Rattle.client_model.specs.declared.request.Request.{Request}
 pub use Rattle.client_model.specs.declared.request.Request.TheVariants.{AddNode, AgeDelay, CreateConvolution, CreateDelay, CreateDistribution, CreateGraph, CreateImage, CreateLut, CreateMinMax, CreateThreshold, CreateVirtualImage, Immediate, OpenContext, ProcessGraph, QueryImage, ReadDistribution, ReadImage, ReadImagePgm, ReadMinMax, RegisterAutoAging, Release, ReleaseContext, RemoveNode, SetValid, VerifyGraph, WriteImage, WriteImagePgm}
-pub use Rattle.std.proofs.lemmas.Bool.{eq-eqb, eqb-true, le-leb, leb-true}
 pub use Rattle.std.proofs.lemmas.Bool.Decides.{nat_tests}
 pub use Rattle.std.proofs.lemmas.Int.{ints}
 pub use Rattle.std.proofs.lemmas.List.Elements.{All-cons, All-drop, All-head, All-nil, All-tail, All-take}
 pub use Rattle.std.proofs.lemmas.Nat.{from_be_bytes-to_be_bytes_4}
 pub use Rattle.std.specs.Int.{cast_unsigned, to_be_bytes, w16, w32}
-pub use Rattle.std.specs.Prelude.{All, IfSome}
 pub use Rattle.vx_base.specs.Cell.{Cell, IsCell}
 pub use Rattle.vx_base.specs.Convolution.{ConvolutionValue, IsConvolution, is_odd_side}
 pub use Rattle.vx_base.specs.Description.{Description, IsDescription, is_side, sample_count}

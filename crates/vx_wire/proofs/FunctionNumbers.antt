@@ -1,7 +1,6 @@
 -- Each function has a number of its own.
-use Rattle.std.proofs.Common.{◌≡◌, ℕ, Bool, true, false, cond, List, [], ◌∷◌, Some, refl, sym, ap, ◌∙◌, rules}
-use Rattle.vx_wire.proofs.Common.{eqb-true, Function, function_number, function_numbered}
-use Rattle.std.specs.Prelude.{◌==◌, find}
+use Rattle.std.proofs.Common.{◌≡◌, ℕ, Bool, true, false, cond, List, [], ◌∷◌, Some, refl, sym, ap, ◌∙◌, rules, eqb-true, ◌==◌, find}
+use Rattle.vx_wire.proofs.Common.{Function, function_number, function_numbered}
 use Rattle.vx_base.specs.Function.{functions}
 
 -- the function with a function's number is that function

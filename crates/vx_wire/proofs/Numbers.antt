@@ -1,6 +1,6 @@
 -- What a look-up finds.
-use Rattle.std.proofs.Common.{◌≡◌, ℕ, ◌==◌, Bool, true, false, cond, List, [], ◌∷◌, Some, IsTrue, refl, subst}
-use Rattle.vx_wire.proofs.Common.{All, eqb-true, All-head, All-tail, numbered}
+use Rattle.std.proofs.Common.{◌≡◌, ℕ, ◌==◌, Bool, true, false, cond, List, [], ◌∷◌, Some, IsTrue, refl, subst, All, eqb-true}
+use Rattle.vx_wire.proofs.Common.{All-head, All-tail, numbered}
 use Rattle.std.specs.List.{find}
 
 -- it passes the test

@@ -1,6 +1,6 @@
 -- What is read has one spelling: the bytes that it was read from.
-use Rattle.std.proofs.Common.{◌≡◌, ℕ, ◌+◌, ◌*◌, ◌<◌, ◌≤◌, nat_le, nat_lt, ◌&&◌, length, take, drop, sym, take-append-drop, length-take-le, ◌^◌, ◌%◌, ◌/◌, ◌==◌, List, [], ◌∷◌, ◌++◌, Option, Some, None, Result, Ok, Err, Bool, true, false, ◌⊎◌, inl, inr, IsTrue, if◌then◌else◌, unwrap_or, arith, refl, ap, subst, ◌∙◌, append_assoc}
-use Rattle.vx_wire.proofs.Common.{All, IfSome, w16, w32, to_be_bytes, eqb-true, eq-eqb, leb-true, All-head, All-tail, All-take, All-drop, Format, U8, S16, U32, Cell, IsCell, Description, is_side, IsDescription, Outline, may_be_side, IsOutline, is_slot_count, Rectangle, rectangle, IsRectangle, BinsValue, are_bins, BodyFault, InvalidParameters, InvalidFormat, InvalidDimension, InvalidValue, Taken, and_then, allowed, take_byte, take_short, take_long, take_bytes, take_format, format_number, open_format_number, take_open_format, take_side, take_description, description_bytes, open_side_number, open_side_numbered, take_open_side, take_outline, outline_bytes, slot_numbered, take_reference, reference_bytes, take_slots, take_rectangle, rectangle_bytes, is_up_to_256, take_up_to_256, take_offset, take_bins, bins_bytes}
+use Rattle.std.proofs.Common.{◌≡◌, ℕ, ◌+◌, ◌*◌, ◌<◌, ◌≤◌, nat_le, nat_lt, ◌&&◌, length, take, drop, sym, take-append-drop, length-take-le, ◌^◌, ◌%◌, ◌/◌, ◌==◌, List, [], ◌∷◌, ◌++◌, Option, Some, None, Result, Ok, Err, Bool, true, false, ◌⊎◌, inl, inr, IsTrue, if◌then◌else◌, unwrap_or, arith, refl, ap, subst, ◌∙◌, append_assoc, All, IfSome, eqb-true, eq-eqb, leb-true}
+use Rattle.vx_wire.proofs.Common.{w16, w32, to_be_bytes, All-head, All-tail, All-take, All-drop, Format, U8, S16, U32, Cell, IsCell, Description, is_side, IsDescription, Outline, may_be_side, IsOutline, is_slot_count, Rectangle, rectangle, IsRectangle, BinsValue, are_bins, BodyFault, InvalidParameters, InvalidFormat, InvalidDimension, InvalidValue, Taken, and_then, allowed, take_byte, take_short, take_long, take_bytes, take_format, format_number, open_format_number, take_open_format, take_side, take_description, description_bytes, open_side_number, open_side_numbered, take_open_side, take_outline, outline_bytes, slot_numbered, take_reference, reference_bytes, take_slots, take_rectangle, rectangle_bytes, is_up_to_256, take_up_to_256, take_offset, take_bins, bins_bytes}
 use Rattle.vx_base.specs.Rectangle.{is_rectangle}
 use Rattle.vx_wire.specs.Format.{format_numbered, open_format_numbered}
 use Rattle.vx_wire.proofs.NodeShape.{both}

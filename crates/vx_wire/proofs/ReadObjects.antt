@@ -1,6 +1,6 @@
 -- A table, a threshold or a convolution that is read has one spelling.
-use Rattle.std.proofs.Common.{◌≡◌, ◌≢◌, ℕ, ℤ, ◌*◌, ◌==◌, nat_le, length, List, [], ◌∷◌, ◌++◌, Some, None, Bool, true, false, IsTrue, int_le, if◌then◌else◌, sym, ap, refl, subst, ◌∙◌, append_assoc}
-use Rattle.vx_wire.proofs.Common.{All, All-nil, All-cons, Format, U8, S16, U32, ThresholdKind, Binary, Range, range_size, LutValue, is_full, IsLut, ThresholdValue, is_sample, has_limits, IsThreshold, ConvolutionValue, is_odd_side, IsConvolution, InvalidParameters, InvalidFormat, InvalidDimension, InvalidValue, Taken, and_then, take_byte, take_input_format, format_number, decoded_sample, encoded_sample, take_samples, take_lut, lut_bytes, is_range, range_number, take_is_range, take_signed, take_limit, take_upper, take_limits, take_threshold, limit_bytes, threshold_bytes, take_odd_side, take_exponent, take_convolution, convolution_bytes}
+use Rattle.std.proofs.Common.{◌≡◌, ◌≢◌, ℕ, ℤ, ◌*◌, ◌==◌, nat_le, length, List, [], ◌∷◌, ◌++◌, Some, None, Bool, true, false, IsTrue, int_le, if◌then◌else◌, sym, ap, refl, subst, ◌∙◌, append_assoc, All}
+use Rattle.vx_wire.proofs.Common.{All-nil, All-cons, Format, U8, S16, U32, ThresholdKind, Binary, Range, range_size, LutValue, is_full, IsLut, ThresholdValue, is_sample, has_limits, IsThreshold, ConvolutionValue, is_odd_side, IsConvolution, InvalidParameters, InvalidFormat, InvalidDimension, InvalidValue, Taken, and_then, take_byte, take_input_format, format_number, decoded_sample, encoded_sample, take_samples, take_lut, lut_bytes, is_range, range_number, take_is_range, take_signed, take_limit, take_upper, take_limits, take_threshold, limit_bytes, threshold_bytes, take_odd_side, take_exponent, take_convolution, convolution_bytes}
 use Rattle.vx_wire.specs.Format.{input_format_numbered}
 use Rattle.vx_wire.specs.Threshold.{range_numbered}
 use Rattle.vx_wire.proofs.ReadFields.{ok, Reads, then_reads, made, one_made, passed, tested, byte_reads, bytes_reads}

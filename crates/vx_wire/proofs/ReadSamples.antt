@@ -1,6 +1,6 @@
 -- Samples that are read have one spelling.
-use Rattle.std.proofs.Common.{◌≡◌, ℕ, ℤ, ◌*◌, List, [], length, sym, refl}
-use Rattle.vx_wire.proofs.Common.{All, Format, Description, sample_count, IsSample, sample_bytes, PictureValue, IsPicture, Taken, and_then, decoded, encoded, take_samples, take_picture, picture_bytes}
+use Rattle.std.proofs.Common.{◌≡◌, ℕ, ℤ, ◌*◌, List, [], length, sym, refl, All}
+use Rattle.vx_wire.proofs.Common.{Format, Description, sample_count, IsSample, sample_bytes, PictureValue, IsPicture, Taken, and_then, decoded, encoded, take_samples, take_picture, picture_bytes}
 use Rattle.vx_wire.proofs.ReadFields.{ok, Reads, then_reads, made, bytes_reads, description_reads}
 use Rattle.vx_wire.proofs.SampleBytes.{encoded_back}
 

@@ -1,8 +1,8 @@
 -- Samples and their bytes: each is had back from the other.
-use Rattle.std.proofs.Common.{◌≡◌, ℕ, ℤ, pos, negsuc, zero, suc, ◌+◌, ◌-ℤ◌, ◌*◌, ◌<◌, ◌≤◌, ◌-◌, ◌^◌, List, [], ◌∷◌, ◌++◌, inl, inr, if◌then◌else◌, length, take, drop, map, get_or, arith, refl, ap, ◌∙◌, take_at, drop_at, take-append-drop, length-take-le, length-append}
-use Rattle.vx_wire.proofs.Common.{All, w16, w32, to_be_bytes, cast_unsigned, ints, from_be_bytes-to_be_bytes_4, All-head, All-tail, All-nil, All-cons, All-take, All-drop, Format, U8, S16, U32, IsSample, sample_bytes, decoded_sample, encoded_sample, decoded, encoded}
+use Rattle.std.proofs.Common.{◌≡◌, ℕ, ℤ, pos, negsuc, zero, suc, ◌+◌, ◌-ℤ◌, ◌*◌, ◌<◌, ◌≤◌, ◌-◌, ◌^◌, List, [], ◌∷◌, ◌++◌, inl, inr, if◌then◌else◌, length, take, drop, map, get_or, arith, refl, ap, ◌∙◌, take_at, drop_at, take-append-drop, length-take-le, length-append, All, lt-ltb, le-ltb}
+use Rattle.vx_wire.proofs.Common.{w16, w32, to_be_bytes, cast_unsigned, ints, from_be_bytes-to_be_bytes_4, All-head, All-tail, All-nil, All-cons, All-take, All-drop, Format, U8, S16, U32, IsSample, sample_bytes, decoded_sample, encoded_sample, decoded, encoded}
 use Rattle.std.specs.Int.{from_be_bytes}
-use Rattle.std.proofs.lemmas.Bool.{lt-ltb, le-ltb, cases_lt}
+use Rattle.std.proofs.lemmas.Bool.{cases_lt}
 use Rattle.std.proofs.lemmas.Nat.{be_bytes_2, be_bytes_4, from_be_bytes-to_be_bytes_2}
 use Rattle.vx_base.specs.Sample.{signed_of}
 use Rattle.vx_wire.proofs.ReadFields.{AllBytes}

@@ -1,7 +1,7 @@
 -- One more sample decoded, and one more encoded.
-use Rattle.std.proofs.Common.{◌≡◌, ℕ, ℤ, zero, suc, ◌+◌, ◌*◌, ◌<◌, ◌-◌, List, [], ◌∷◌, ◌++◌, length, take, drop, map, arith, sym, ap, ◌∙◌}
+use Rattle.std.proofs.Common.{◌≡◌, ℕ, ℤ, zero, suc, ◌+◌, ◌*◌, ◌<◌, ◌-◌, List, [], ◌∷◌, ◌++◌, length, take, drop, map, arith, sym, ap, ◌∙◌, drop-drop}
 use Rattle.vx_wire.proofs.Common.{Format, sample_bytes, decoded_sample, decoded}
-use Rattle.std.proofs.lemmas.List.{drop-drop, take_more_set, map-append}
+use Rattle.std.proofs.lemmas.List.{take_more_set, map-append}
 use Rattle.std.proofs.Math.ListN.{set}
 
 -- the sample after so many

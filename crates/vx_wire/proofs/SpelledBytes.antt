@@ -1,7 +1,6 @@
 -- The bodies of requests are bytes.
-use Rattle.std.proofs.Common.{ℕ, ℤ, zero, suc, pos, negsuc, ◌<◌, ◌^◌, List, [], ◌∷◌, ◌++◌, length, Option, Some, None, Bool, true, false, arith, IsTrue, rules}
-use Rattle.vx_wire.proofs.Common.{All, IfSome, w16, w32, to_be_bytes, cast_unsigned, leb-true, ints, nat_tests, All-nil, All-cons, All-head, All-tail, Format, U8, S16, U32, Border, Undefined, Constant, Replicate, Policy, Wrap, Saturate, Function, Node, ThresholdKind, Binary, Range, Cell, IsCell, ConvolutionValue, is_odd_side, IsConvolution, Description, function_number, LutValue, IsLut, IsBorder, IsNode, Outline, PictureValue, IsPicture, Rectangle, IsSample, is_slot_count, BinsValue, ThresholdValue, IsThreshold, Request, OpenContext, ReleaseContext, CreateImage, QueryImage, WriteImage, WriteImagePgm, ReadImage, ReadImagePgm, SetValid, Release, CreateLut, CreateThreshold, CreateConvolution, CreateDistribution, ReadDistribution, CreateMinMax, ReadMinMax, CreateGraph, CreateVirtualImage, AddNode, RemoveNode, VerifyGraph, ProcessGraph, Immediate, CreateDelay, AgeDelay, RegisterAutoAging, IsRequest, format_number, open_format_number, description_bytes, encoded_sample, encoded, picture_bytes, reference_bytes, operand_bytes, rectangle_bytes, lut_bytes, range_number, limit_bytes, threshold_bytes, convolution_bytes, bins_bytes, outline_bytes, open_side_number, border_bytes, policy_number, node_bytes, body_of}
-use Rattle.std.specs.Prelude.{unwrap_or, unsigned_abs}
+use Rattle.std.proofs.Common.{ℕ, ℤ, zero, suc, pos, negsuc, ◌<◌, ◌^◌, List, [], ◌∷◌, ◌++◌, length, Option, Some, None, Bool, true, false, arith, IsTrue, rules, All, IfSome, leb-true, unwrap_or, unsigned_abs}
+use Rattle.vx_wire.proofs.Common.{w16, w32, to_be_bytes, cast_unsigned, ints, nat_tests, All-nil, All-cons, All-head, All-tail, Format, U8, S16, U32, Border, Undefined, Constant, Replicate, Policy, Wrap, Saturate, Function, Node, ThresholdKind, Binary, Range, Cell, IsCell, ConvolutionValue, is_odd_side, IsConvolution, Description, function_number, LutValue, IsLut, IsBorder, IsNode, Outline, PictureValue, IsPicture, Rectangle, IsSample, is_slot_count, BinsValue, ThresholdValue, IsThreshold, Request, OpenContext, ReleaseContext, CreateImage, QueryImage, WriteImage, WriteImagePgm, ReadImage, ReadImagePgm, SetValid, Release, CreateLut, CreateThreshold, CreateConvolution, CreateDistribution, ReadDistribution, CreateMinMax, ReadMinMax, CreateGraph, CreateVirtualImage, AddNode, RemoveNode, VerifyGraph, ProcessGraph, Immediate, CreateDelay, AgeDelay, RegisterAutoAging, IsRequest, format_number, open_format_number, description_bytes, encoded_sample, encoded, picture_bytes, reference_bytes, operand_bytes, rectangle_bytes, lut_bytes, range_number, limit_bytes, threshold_bytes, convolution_bytes, bins_bytes, outline_bytes, open_side_number, border_bytes, policy_number, node_bytes, body_of}
 use Rattle.std.specs.Int.{Width, byte_len, byte_at, bytes_high_first}
 use Rattle.std.proofs.lemmas.List.Elements.{All-append}
 use Rattle.vx_wire.proofs.TableSizes.{convolution_parts}

@@ -1,6 +1,6 @@
 -- Each field is read back from its bytes.
-use Rattle.std.proofs.Common.{◌≡◌, ℕ, ℤ, ◌+◌, ◌*◌, ◌<◌, ◌^◌, ◌%◌, ◌/◌, ◌==◌, ◌&&◌, List, ◌∷◌, ◌++◌, Option, Some, None, Result, Ok, Err, Bool, true, false, IsTrue, if◌then◌else◌, nat_le, nat_lt, unwrap_or, length, take, drop, arith, length-append, refl, sym, ap, ◌∙◌, take_at, drop_at}
-use Rattle.vx_wire.proofs.Common.{All, IfSome, w16, w32, to_be_bytes, eqb-true, le-leb, nat_tests, BodyFault, InvalidParameters, InvalidDimension, InvalidValue, from_be_bytes-to_be_bytes_4, Format, U8, S16, U32, Cell, IsCell, Description, is_side, sample_count, IsDescription, Outline, may_be_side, IsOutline, IsSample, sample_bytes, PictureValue, IsPicture, is_slot_count, Rectangle, rectangle, IsRectangle, BinsValue, are_bins, Taken, and_then, allowed, take_byte, take_short, take_long, take_bytes, take_format, format_number, open_format_number, take_open_format, take_side, take_description, description_bytes, open_side_number, open_side_numbered, take_open_side, take_outline, outline_bytes, slot_numbered, take_reference, reference_bytes, decoded, encoded, take_samples, take_picture, picture_bytes, take_slots, take_rectangle, rectangle_bytes, is_up_to_256, take_up_to_256, take_offset, take_bins, bins_bytes}
+use Rattle.std.proofs.Common.{◌≡◌, ℕ, ℤ, ◌+◌, ◌*◌, ◌<◌, ◌^◌, ◌%◌, ◌/◌, ◌==◌, ◌&&◌, List, ◌∷◌, ◌++◌, Option, Some, None, Result, Ok, Err, Bool, true, false, IsTrue, if◌then◌else◌, nat_le, nat_lt, unwrap_or, length, take, drop, arith, length-append, refl, sym, ap, ◌∙◌, take_at, drop_at, All, IfSome, eqb-true, le-leb}
+use Rattle.vx_wire.proofs.Common.{w16, w32, to_be_bytes, nat_tests, BodyFault, InvalidParameters, InvalidDimension, InvalidValue, from_be_bytes-to_be_bytes_4, Format, U8, S16, U32, Cell, IsCell, Description, is_side, sample_count, IsDescription, Outline, may_be_side, IsOutline, IsSample, sample_bytes, PictureValue, IsPicture, is_slot_count, Rectangle, rectangle, IsRectangle, BinsValue, are_bins, Taken, and_then, allowed, take_byte, take_short, take_long, take_bytes, take_format, format_number, open_format_number, take_open_format, take_side, take_description, description_bytes, open_side_number, open_side_numbered, take_open_side, take_outline, outline_bytes, slot_numbered, take_reference, reference_bytes, decoded, encoded, take_samples, take_picture, picture_bytes, take_slots, take_rectangle, rectangle_bytes, is_up_to_256, take_up_to_256, take_offset, take_bins, bins_bytes}
 use Rattle.vx_base.proofs.RectangleLaws.{rectangle_ordered}
 use Rattle.vx_wire.proofs.NodeShape.{both_of}
 use Rattle.vx_wire.proofs.SampleBytes.{length-encoded, decoded_back}

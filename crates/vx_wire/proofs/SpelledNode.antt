@@ -1,6 +1,6 @@
 -- A node is read back from its bytes.
-use Rattle.std.proofs.Common.{◌≡◌, ℕ, ◌==◌, List, [], ◌∷◌, ◌++◌, Option, Some, None, Ok, Bool, true, false, not, ◌&&◌, ◌||◌, IsTrue, if◌then◌else◌, cond, nat_le, is_some, is_none, unwrap_or, arith, refl, ap, ◌∙◌}
-use Rattle.vx_wire.proofs.Common.{IfSome, numbered, eq-eqb, leb-true, Border, Undefined, Constant, Replicate, Policy, Wrap, Saturate, Function, Parameters, Node, function_number, parameters, Cell, IsCell, is_nothing, is_named, is_wrap, has_amount, has_operands, all_named, IsNode, InvalidParameters, InvalidValue, Presence, Required, Absent, Free, Taken, and_then, allowed, take_reference, reference_bytes, operand, take_operand, second_input, first_output, second_output, take_operands, take_first_input, is_operand, operand_bytes, take_function, take_border, take_policy, amount_allowed, take_node, border_bytes, policy_number, node_bytes}
+use Rattle.std.proofs.Common.{◌≡◌, ℕ, ◌==◌, List, [], ◌∷◌, ◌++◌, Option, Some, None, Ok, Bool, true, false, not, ◌&&◌, ◌||◌, IsTrue, if◌then◌else◌, cond, nat_le, is_some, is_none, unwrap_or, arith, refl, ap, ◌∙◌, IfSome, eq-eqb, leb-true}
+use Rattle.vx_wire.proofs.Common.{numbered, Border, Undefined, Constant, Replicate, Policy, Wrap, Saturate, Function, Parameters, Node, function_number, parameters, Cell, IsCell, is_nothing, is_named, is_wrap, has_amount, has_operands, all_named, IsNode, InvalidParameters, InvalidValue, Presence, Required, Absent, Free, Taken, and_then, allowed, take_reference, reference_bytes, operand, take_operand, second_input, first_output, second_output, take_operands, take_first_input, is_operand, operand_bytes, take_function, take_border, take_policy, amount_allowed, take_node, border_bytes, policy_number, node_bytes}
 use Rattle.vx_wire.proofs.NodeShape.{both_of, take_node-fields, three_joined}
 use Rattle.vx_wire.proofs.FunctionNumbers.{numbered_back}
 use Rattle.vx_wire.proofs.SpelledFields.{then_ok, cell_back}

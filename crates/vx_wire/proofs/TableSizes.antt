@@ -1,6 +1,6 @@
 -- Tables and thresholds are of U8 or S16; what the numbers of a convolution are.
-use Rattle.std.proofs.Common.{◌≡◌, ◌≢◌, ℕ, ℤ, ◌≤◌, ◌*◌, ◌==◌, ◌≤ℤ◌, ◌&&◌, nat_le, int_le, T, IsTrue, arith, refl, sym, subst}
-use Rattle.vx_wire.proofs.Common.{eqb-true, eq-eqb, ints, Format, U8, S16, U32, Binary, Range, IsSample, range_size, sample_bytes, is_full, is_sample, has_limits, is_odd_side}
+use Rattle.std.proofs.Common.{◌≡◌, ◌≢◌, ℕ, ℤ, ◌≤◌, ◌*◌, ◌==◌, ◌≤ℤ◌, ◌&&◌, nat_le, int_le, T, IsTrue, arith, refl, sym, subst, eqb-true, eq-eqb}
+use Rattle.vx_wire.proofs.Common.{ints, Format, U8, S16, U32, Binary, Range, IsSample, range_size, sample_bytes, is_full, is_sample, has_limits, is_odd_side}
 use Rattle.std.specs.Int.Signed.{le_z_yes}
 use Rattle.vx_base.specs.Sample.{least, greatest}
 use Rattle.vx_base.specs.Convolution.{is_convolution}

@@ -1,6 +1,6 @@
 -- Bodies that begin as one that writes an image does, and end too early or too late.
-use Rattle.std.proofs.Common.{◌≡◌, ◌≢◌, ℕ, ℤ, ◌<◌, ◌≤◌, nat_le, Bool, true, false, List, [], ◌∷◌, ◌++◌, Ok, Err, length, take, drop, arith, refl, length-drop, if◌then◌else◌}
-use Rattle.vx_wire.proofs.Common.{leb-true, Cell, Description, sample_count, PictureValue, WriteImage, InvalidParameters, Taken, and_then, at_end, take_description, take_reference, decoded, take_samples}
+use Rattle.std.proofs.Common.{◌≡◌, ◌≢◌, ℕ, ℤ, ◌<◌, ◌≤◌, nat_le, Bool, true, false, List, [], ◌∷◌, ◌++◌, Ok, Err, length, take, drop, arith, refl, length-drop, if◌then◌else◌, leb-true}
+use Rattle.vx_wire.proofs.Common.{Cell, Description, sample_count, PictureValue, WriteImage, InvalidParameters, Taken, and_then, at_end, take_description, take_reference, decoded, take_samples}
 use Rattle.std.proofs.lemmas.Grind.{common_steps}
 use Rattle.vx_base.specs.Description.{byte_count}
 use Rattle.vx_wire.specs.Images.{write_image_in}

@@ -1,10 +1,9 @@
 -- Signed lanes as bits, and as the numbers that the bits say.
-use Rattle.std.proofs.Common.{rules, ◌≡◌, ℕ, ℤ, pos, zero, suc, ◌+◌, ◌*◌, ◌%◌, ◌<◌, ◌≤◌, List, [], ◌∷◌, ◌++◌, map, length, get_or, take, drop, ◌-◌, refl, ap, ◌∙◌, sym, subst, arith, w16, w32, FitsSigned, to_z, of_z, ◌+ℤ◌}
-use Rattle.window_kernels.proofs.Common.{◌*ℤ◌, unsigned_abs, range_with_len, zip2, Each1, pick_l, chunk, ints, to_z-of_z, fits_signed_from_abs, Each1-chunk, map-append, length-map, take-take, evens_of, odds_of, IsUpTo}
+use Rattle.std.proofs.Common.{rules, ◌≡◌, ℕ, ℤ, pos, zero, suc, ◌+◌, ◌*◌, ◌%◌, ◌<◌, ◌≤◌, List, [], ◌∷◌, ◌++◌, map, length, get_or, take, drop, ◌-◌, refl, ap, ◌∙◌, sym, subst, arith, w16, w32, FitsSigned, to_z, of_z, ◌+ℤ◌, ◌*ℤ◌, unsigned_abs, take-take, length-append}
+use Rattle.window_kernels.proofs.Common.{range_with_len, zip2, Each1, pick_l, chunk, ints, to_z-of_z, fits_signed_from_abs, Each1-chunk, map-append, length-map, evens_of, odds_of, IsUpTo}
 use Rattle.std.proofs.lemmas.Int.{of_z-to_z, wrapping_add_is, wrapping_mul_is, int_wrap_fits, unsigned_abs-mul}
 use Rattle.std.proofs.lemmas.Nat.{mul-le}
 use Rattle.std.proofs.lemmas.Simd.{pick_l_whole, Each1-weaker, length-zip2}
-use Rattle.std.proofs.lemmas.List.{length-append}
 use mir.Syntax.{Width}
 
 -- ---- lanes at positions

@@ -5,11 +5,10 @@ pub use Rattle.image_core.specs.Target.{written}
 pub use Rattle.std.proofs.Math.ListN.{get_or-map}
 pub use Rattle.std.proofs.lemmas.Bool.Decides.{nat_tests}
 pub use Rattle.std.proofs.lemmas.Int.{fits_signed_from_abs, ints, to_z-of_z}
-pub use Rattle.std.proofs.lemmas.List.{length-map, map-append, map-id, take-take, take_all, take_more_set}
+pub use Rattle.std.proofs.lemmas.List.{length-map, map-append, take_more_set}
 pub use Rattle.std.proofs.lemmas.Simd.{Each1-chunk, Each1-get_or, length-chunk, put_chunk_whole}
 pub use Rattle.std.proofs.lemmas.Slice.{take-put_mid}
 pub use Rattle.std.specs.List.{range_with_len}
-pub use Rattle.std.specs.Prelude.{int_div, unsigned_abs, ◌*ℤ◌}
 pub use Rattle.std.specs.Simd.Lanes.{Each1, chunk, pick_l, zip2}
 pub use Rattle.vx_base.proofs.TableLaws.{get_or-run, length-range, length-run, row_fits, run-append, run-same, run_part}
 pub use Rattle.vx_base.proofs.WindowLaws.{item_written, run_shifted}

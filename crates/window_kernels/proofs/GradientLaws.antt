@@ -1,6 +1,6 @@
 -- Gradients in lanes, and rows of them in parts.
-use Rattle.std.proofs.Common.{◌≡◌, ℕ, ℤ, pos, ◌+◌, ◌-◌, ◌*◌, ◌%◌, ◌<◌, ◌≤◌, ◌+ℤ◌, ◌-ℤ◌, List, [], ◌∷◌, ◌++◌, length, map, take, refl, ap, ◌∙◌, sym, arith, w16, to_z}
-use Rattle.window_kernels.proofs.Common.{◌*ℤ◌, range_with_len, zip2, ints, take-put_mid, put_mid, run, run-append, length-run}
+use Rattle.std.proofs.Common.{◌≡◌, ℕ, ℤ, pos, ◌+◌, ◌-◌, ◌*◌, ◌%◌, ◌<◌, ◌≤◌, ◌+ℤ◌, ◌-ℤ◌, List, [], ◌∷◌, ◌++◌, length, map, take, refl, ap, ◌∙◌, sym, arith, w16, to_z, ◌*ℤ◌}
+use Rattle.window_kernels.proofs.Common.{range_with_len, zip2, ints, take-put_mid, put_mid, run, run-append, length-run}
 use Rattle.window_kernels.proofs.LaneLaws.{further}
 
 -- the bits of signed lanes are added and subtracted modulo 2 ^ 16

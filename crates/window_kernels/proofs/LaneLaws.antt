@@ -1,6 +1,6 @@
 -- What is computed in lanes of bytes, lane by lane.
-use Rattle.std.proofs.Common.{◌≡◌, ℕ, pos, zero, suc, ◌+◌, ◌-◌, ◌*◌, ◌≤◌, List, [], ◌∷◌, length, map, take, drop, get_or, Bool, true, false, cond, min, max, ltb, refl, ap, ◌∙◌, sym, arith}
-use Rattle.window_kernels.proofs.Common.{range_with_len, zip2, chunk, take-take, length-map, put_mid, run, length-range, run_shifted}
+use Rattle.std.proofs.Common.{◌≡◌, ℕ, pos, zero, suc, ◌+◌, ◌-◌, ◌*◌, ◌≤◌, List, [], ◌∷◌, length, map, take, drop, get_or, Bool, true, false, cond, min, max, ltb, refl, ap, ◌∙◌, sym, arith, take-take}
+use Rattle.window_kernels.proofs.Common.{range_with_len, zip2, chunk, length-map, put_mid, run, length-range, run_shifted}
 use Rattle.std.specs.Simd.Lanes.{sel_l}
 use Rattle.std.proofs.lemmas.Simd.{pick_l-range_with_len}
 use Rattle.window_kernels.proofs.RowLaws.{part_written}

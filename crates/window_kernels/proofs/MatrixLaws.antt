@@ -1,7 +1,6 @@
 -- What a matrix that is turned gives of the rows that its windows see.
-use Rattle.std.proofs.Common.{◌≡◌, ℕ, ℤ, pos, zero, suc, ◌+◌, ◌-◌, ◌*◌, ◌/◌, ◌%◌, ◌<◌, ◌≤◌, ◌+ℤ◌, ◌-ℤ◌, List, length, map, take, get_or, refl, zero-add, ap, ◌∙◌, sym, subst, arith}
-use Rattle.window_kernels.proofs.Common.{◌*ℤ◌, chunk, Each1, ints, nat_tests, map-id, put_mid, run, table, length-run, get_or-run, run_part, run-same, run_shifted, alternating, sum_of_first, line_of, row_sum, sum_of_rows, first_of_pair, second_of_pair, IsPairTable, turned, turned_pairs}
-use Rattle.std.specs.Prelude.{IsTrue}
+use Rattle.std.proofs.Common.{◌≡◌, ℕ, ℤ, pos, zero, suc, ◌+◌, ◌-◌, ◌*◌, ◌/◌, ◌%◌, ◌<◌, ◌≤◌, ◌+ℤ◌, ◌-ℤ◌, List, length, map, take, get_or, refl, zero-add, ap, ◌∙◌, sym, subst, arith, ◌*ℤ◌, map-id, IsTrue}
+use Rattle.window_kernels.proofs.Common.{chunk, Each1, ints, nat_tests, put_mid, run, table, length-run, get_or-run, run_part, run-same, run_shifted, alternating, sum_of_first, line_of, row_sum, sum_of_rows, first_of_pair, second_of_pair, IsPairTable, turned, turned_pairs}
 use Rattle.std.proofs.lemmas.Simd.{get_or-chunk}
 use Rattle.vx_base.specs.Convolution.{ConvolutionValue, is_odd_side, coefficient}
 use Rattle.vx_base.specs.Window.{row_product, matrix_product}

@@ -1,7 +1,6 @@
 -- The median of nine.
-use Rattle.std.proofs.Common.{◌≡◌, ℕ, ℤ, pos, ◌+◌, ◌<◌, ◌≤◌, ◌<ℤ◌, Bool, true, false, ◌&&◌, ◌||◌, List, [], ◌∷◌, length, map, get_or, ◌+ℤ◌, ◌-ℤ◌, nat_le, min, max, refl, ap, ◌∙◌, sym, arith, cond, zero, suc, subst}
+use Rattle.std.proofs.Common.{◌≡◌, ℕ, ℤ, pos, ◌+◌, ◌<◌, ◌≤◌, ◌<ℤ◌, Bool, true, false, ◌&&◌, ◌||◌, List, [], ◌∷◌, length, map, get_or, ◌+ℤ◌, ◌-ℤ◌, nat_le, min, max, refl, ap, ◌∙◌, sym, arith, cond, zero, suc, subst, int_lt, int_le, unwrap_or, Option, Some, None, Contains}
 use Rattle.window_kernels.proofs.Common.{nat_tests, ints, get_or-map, run, median, nine_around, get_or-run, column_seen, three_at, median_of_sorted}
-use Rattle.std.specs.Prelude.{int_lt, int_le, unwrap_or, Option, Some, None, Contains}
 use Rattle.std.specs.Int.{int_min, int_max}
 use Rattle.std.specs.List.{count_by, find}
 use Rattle.std.proofs.lemmas.Int.{by_lt_z}

@@ -1,6 +1,6 @@
 -- Sums of products, and rows of them.
-use Rattle.std.proofs.Common.{◌≡◌, ℕ, ℤ, pos, zero, suc, ◌+◌, ◌-◌, ◌*◌, ◌<◌, List, [], ◌∷◌, ◌++◌, length, map, take, get_or, set, refl, ap, ◌+ℤ◌, ◌∙◌, sym, arith, zero-add, add-one, to_z, of_z, w32}
-use Rattle.window_kernels.proofs.Common.{◌*ℤ◌, ints, take_more_set, run, IsUpTo, sum_of_first, row_sum, pair_at, first_of_pair, second_of_pair}
+use Rattle.std.proofs.Common.{◌≡◌, ℕ, ℤ, pos, zero, suc, ◌+◌, ◌-◌, ◌*◌, ◌<◌, List, [], ◌∷◌, ◌++◌, length, map, take, get_or, set, refl, ap, ◌+ℤ◌, ◌∙◌, sym, arith, zero-add, add-one, to_z, of_z, w32, ◌*ℤ◌}
+use Rattle.window_kernels.proofs.Common.{ints, take_more_set, run, IsUpTo, sum_of_first, row_sum, pair_at, first_of_pair, second_of_pair}
 use Rattle.std.proofs.lemmas.List.{map_push, map_more}
 use Rattle.vx_base.proofs.TableLaws.{run-more}
 use Rattle.vx_base.specs.Window.{total}

@@ -1,10 +1,8 @@
 -- Sums over powers of two, rounded to zero.
-use Rattle.std.proofs.Common.{◌≡◌, ℕ, ℤ, pos, negsuc, neg_ℤ, suc, ◌+◌, ◌-◌, ◌*◌, ◌/◌, ◌%◌, ◌^◌, ◌<◌, ◌≤◌, ◌+ℤ◌, ◌<ℤ◌, ap, ◌∙◌, sym, refl, arith, ◌⊎◌, inl, inr, w32, to_z, of_z}
-use Rattle.window_kernels.proofs.Common.{int_div, unsigned_abs, ints, to_z-of_z, fits_signed_from_abs}
-use Rattle.std.specs.Prelude.{FitsSigned}
+use Rattle.std.proofs.Common.{◌≡◌, ℕ, ℤ, pos, negsuc, neg_ℤ, suc, ◌+◌, ◌-◌, ◌*◌, ◌/◌, ◌%◌, ◌^◌, ◌<◌, ◌≤◌, ◌+ℤ◌, ◌<ℤ◌, ap, ◌∙◌, sym, refl, arith, ◌⊎◌, inl, inr, w32, to_z, of_z, int_div, unsigned_abs, FitsSigned, pow_pos}
+use Rattle.window_kernels.proofs.Common.{ints, to_z-of_z, fits_signed_from_abs}
 use Rattle.std.specs.Int.{int_shr}
 use Rattle.std.proofs.lemmas.Int.{quot_fits}
-use Rattle.std.proofs.lemmas.Nat.{pow_pos}
 use Rattle.std.proofs.Math.Pow.{pow_mono}
 use Rattle.std.proofs.Math.Nat.{div-eq_of_lt, div-eq_of_lt-le, div-mul-le_self, lt-div-mul-add, suc-mul}
 

@@ -1,7 +1,6 @@
 -- Rows of a matrix that are added one after another.
-use Rattle.std.proofs.Common.{◌≡◌, ℕ, ℤ, pos, zero, get_or, ◌+◌, ◌-◌, ◌*◌, ◌<◌, ◌≤◌, List, [], ◌∷◌, ◌++◌, length, map, take, drop, replicate, refl, ap, ◌∙◌, sym, subst, arith, add-one, suc, w32, to_z, of_z, ◌+ℤ◌}
-use Rattle.window_kernels.proofs.Common.{unsigned_abs, Each1, chunk, pick_l, length-map, Each1-chunk, Each1-get_or, length-chunk, to_z-of_z, run, run-same, IsUpTo, row_sum, line_of, sum_of_rows}
-use Rattle.std.specs.Prelude.{All}
+use Rattle.std.proofs.Common.{◌≡◌, ℕ, ℤ, pos, zero, get_or, ◌+◌, ◌-◌, ◌*◌, ◌<◌, ◌≤◌, List, [], ◌∷◌, ◌++◌, length, map, take, drop, replicate, refl, ap, ◌∙◌, sym, subst, arith, add-one, suc, w32, to_z, of_z, ◌+ℤ◌, unsigned_abs, All}
+use Rattle.window_kernels.proofs.Common.{Each1, chunk, pick_l, length-map, Each1-chunk, Each1-get_or, length-chunk, to_z-of_z, run, run-same, IsUpTo, row_sum, line_of, sum_of_rows}
 use Rattle.std.proofs.lemmas.Simd.{Each1-replicate}
 use Rattle.window_kernels.proofs.BitLaws.{of_bits, picked, fits_32, each_fits_32, up_to_more, Each1-append}
 

@@ -1,6 +1,5 @@
 use Rattle.std.proofs.Common.{ap, ◌+◌}
-use Rattle.vx_base.specs.declared.node.Node.{Node}
-use Rattle.graph_verify.specs.Links.{writes}
+use Rattle.buffer_plan.proofs.Common.{Node, writes}
 use Rattle.buffer_plan.proofs.LiveLemmas.{position_found, position_missing}
 use Rattle.buffer_plan.proofs.lives.first_writing.Goals as goal
 

@@ -1,5 +1,5 @@
 use Rattle.std.proofs.Common.{◌∙◌, drop, ap, sym, ltb}
-use Rattle.buffer_plan.specs.Lives.{is_used}
+use Rattle.buffer_plan.proofs.Common.{is_used}
 use Rattle.buffer_plan.proofs.LiveLemmas.{unused_last, used_last}
 use Rattle.buffer_plan.proofs.lives.last_use.Goals as goal
 

@@ -1,5 +1,5 @@
 use Rattle.std.proofs.Common.{◌≡◌, ℕ, length, drop}
-use Rattle.buffer_plan.specs.Lives.{is_used}
+use Rattle.buffer_plan.proofs.Common.{is_used}
 use Rattle.buffer_plan.proofs.lives.last_use.Given as goal
 
 abbrev pub invariant-loop-node : goal.invariant-loop-node

@@ -1,6 +1,5 @@
 use Rattle.std.proofs.Common.{◌+◌, take, sym, ◌∙◌, ap, subst}
-use Rattle.buffer_plan.specs.Lives.{AreLives}
-use Rattle.buffer_plan.specs.Slots.{of_format}
+use Rattle.buffer_plan.proofs.Common.{AreLives, of_format}
 use Rattle.buffer_plan.proofs.LiveLemmas.{lives_more, lives_same}
 use Rattle.buffer_plan.proofs.lives.lives_of.Goals as goal
 use Rattle.buffer_plan.proofs.lives.lives_of.Goals.{then-is_of+in_ok-push, else-is_of}

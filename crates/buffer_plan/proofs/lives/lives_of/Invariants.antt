@@ -1,6 +1,5 @@
 use Rattle.std.proofs.Common.{take}
-use Rattle.buffer_plan.specs.Lives.{AreLives}
-use Rattle.buffer_plan.specs.Slots.{of_format}
+use Rattle.buffer_plan.proofs.Common.{AreLives, of_format}
 use Rattle.buffer_plan.proofs.lives.lives_of.Given as goal
 
 abbrev pub invariant-loop-image : goal.invariant-loop-image

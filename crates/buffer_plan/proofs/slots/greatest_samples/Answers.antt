@@ -1,7 +1,6 @@
 use Rattle.std.proofs.Common.{◌∙◌, length, length-set, set, get_or, ap, arith}
-use Rattle.std.proofs.lemmas.Grind.{common_steps}
+use Rattle.buffer_plan.proofs.Common.{common_steps, sample_count}
 use Rattle.std.proofs.lemmas.List.{get_or_default}
-use Rattle.vx_base.specs.Description.{sample_count}
 use Rattle.buffer_plan.proofs.SampleLemmas.{has_slot, samples_grow, samples_stay}
 use Rattle.buffer_plan.proofs.slots.greatest_samples.Goals as goal
 use Rattle.buffer_plan.proofs.slots.greatest_samples.Goals.{then-index-more, else-index-more}

@@ -1,5 +1,5 @@
 use Rattle.std.proofs.Common.{◌≡◌, ℕ, length, take, get_or}
-use Rattle.buffer_plan.specs.Placed.{samples_in}
+use Rattle.buffer_plan.proofs.Common.{samples_in}
 use Rattle.buffer_plan.proofs.slots.greatest_samples.Given as goal
 
 abbrev pub invariant-loop-placed : goal.invariant-loop-placed

@@ -1,10 +1,5 @@
-use Rattle.std.proofs.Common.{◌≡◌, ℕ, ◌∙◌, length, sym, ap, arith, subst}
-use Rattle.std.specs.Prelude.{◌==◌, if◌then◌else◌, Some, Option}
-use Rattle.std.proofs.lemmas.Grind.{common_steps}
-use Rattle.std.proofs.lemmas.List.{take_all}
-use Rattle.graph_verify.specs.Members.{In}
-use Rattle.buffer_plan.specs.declared.slots.Placed.{Placed}
-use Rattle.buffer_plan.specs.Placed.{IsReached, samples_in}
+use Rattle.std.proofs.Common.{◌≡◌, ℕ, ◌∙◌, length, sym, ap, arith, subst, ◌==◌, if◌then◌else◌, Some, Option, take_all}
+use Rattle.buffer_plan.proofs.Common.{common_steps, In, Placed, IsReached, samples_in}
 use Rattle.buffer_plan.proofs.PlacingLemmas.{placing_more, reached_in_all}
 use Rattle.buffer_plan.proofs.slots.place.Goals as goal
 

@@ -1,8 +1,7 @@
-use Rattle.std.proofs.Common.{◌≡◌, ℕ, ◌+◌, [], ◌∷◌, ◌∙◌, length, position, Some, None, sym, ap, refl, inl, inr, get_or, ltb, arith, length-append}
-use Rattle.std.proofs.lemmas.Grind.{common_steps}
-use Rattle.std.proofs.lemmas.Bool.{ltb-true, ltb-false}
+use Rattle.std.proofs.Common.{◌≡◌, ℕ, ◌+◌, [], ◌∷◌, ◌∙◌, length, position, Some, None, sym, ap, refl, inl, inr, get_or, ltb, arith, length-append, ltb-true, ltb-false}
+use Rattle.buffer_plan.proofs.Common.{common_steps, In-at}
 use Rattle.std.proofs.lemmas.List.Quantifiers.{position-Some}
-use Rattle.graph_verify.proofs.MemberLemmas.{position-None, In-at}
+use Rattle.graph_verify.proofs.MemberLemmas.{position-None}
 use Rattle.buffer_plan.proofs.slots.take_slot.Goals as goal
 
 pub returns-in-Some : goal.returns-in-Some

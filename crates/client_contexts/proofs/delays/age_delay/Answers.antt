@@ -1,7 +1,5 @@
 use Rattle.std.proofs.Common.{sym, subst}
-use Rattle.client_model.specs.States.{KeepsLimits}
-use Rattle.object_table.specs.Blocks.{KeepsBlocks}
-use Rattle.object_table.specs.Context.{Context}
+use Rattle.client_contexts.proofs.Common.{KeepsLimits, KeepsBlocks, Context}
 use Rattle.client_contexts.proofs.BlockLemmas.{age_keeps_blocks}
 use Rattle.client_contexts.proofs.DelayLemmas.{aged_keeps}
 use Rattle.client_contexts.proofs.delays.age_delay.Goals as goal

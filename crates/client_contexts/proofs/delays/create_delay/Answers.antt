@@ -1,11 +1,8 @@
 use Rattle.std.proofs.Common.{◌∙◌, ap, sym, subst}
-use Rattle.vx_base.specs.Description.{Description}
-use Rattle.vx_base.specs.Object.{ObjectValue, DelayObject}
+use Rattle.client_contexts.proofs.Common.{Description, ObjectValue, DelayObject, Outcome, MayComeTo}
 use Rattle.object_table.specs.Delay.{new_delay}
-use Rattle.client_model.specs.Refusal.{Outcome}
 use Rattle.client_model.specs.Images.{create}
 use Rattle.client_model.specs.Delays.{create_like}
-use Rattle.client_contexts.specs.Steps.{MayComeTo}
 use Rattle.client_contexts.proofs.delays.create_delay.Goals as goal
 
 pub returns-clause-comes : goal.returns-clause-comes

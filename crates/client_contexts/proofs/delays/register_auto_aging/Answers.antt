@@ -1,8 +1,5 @@
 use Rattle.std.proofs.Common.{Some, ap, sym, subst, ◌∙◌}
-use Rattle.std.specs.Option.{option_map}
-use Rattle.vx_base.specs.Object.{object_kind}
-use Rattle.object_table.specs.Blocks.{KeepsBlocks}
-use Rattle.object_table.specs.Context.{Context}
+use Rattle.client_contexts.proofs.Common.{option_map, object_kind, KeepsBlocks, Context}
 use Rattle.client_model.proofs.DelayStepLaws.{register_keeps}
 use Rattle.client_model.proofs.OutcomeLaws.{Keeps}
 use Rattle.client_contexts.proofs.RegisterLemmas.{registers, register_keeps_blocks}

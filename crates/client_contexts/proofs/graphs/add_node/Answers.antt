@@ -1,16 +1,7 @@
 use Rattle.std.proofs.Common.{rules, Ok, ap, sym, subst, ◌∙◌, ◌==◌, Some, ◌∷◌}
+use Rattle.client_contexts.proofs.Common.{Node, operands, cell_of, with_node, KeepsBlocks, Context, graph_under, operands_refusal, add_node, OperandsStand}
 use Rattle.vx_base.specs.declared.kind.Kind.TheVariants as kind
-use Rattle.vx_base.specs.declared.node.Node.{Node}
-use Rattle.vx_base.specs.Node.{operands}
-use Rattle.vx_base.specs.Cell.{cell_of}
-use Rattle.vx_base.specs.Graph.{with_node}
-use Rattle.object_table.specs.Blocks.{KeepsBlocks}
-use Rattle.object_table.specs.Context.{Context}
-use Rattle.object_table.specs.Table.{graph_under}
 use Rattle.client_model.specs.declared.reply.Reply.TheVariants as reply
-use Rattle.client_model.specs.Operands.{operands_refusal}
-use Rattle.client_model.specs.Graphs.{add_node}
-use Rattle.client_model.proofs.HoldLaws.{OperandsStand}
 use Rattle.client_model.proofs.GraphStepLaws.{add_node_keeps}
 use Rattle.client_contexts.proofs.KeptLemmas.{may_kept_by}
 use Rattle.client_contexts.proofs.BlockLemmas.{graph_keeps_blocks}

@@ -1,12 +1,5 @@
 use Rattle.std.proofs.Common.{◌≡◌, Some, None, Ok, Err, rules, arith, subst, sym, ap}
-use Rattle.std.specs.Option.{option_map}
-use Rattle.vx_base.specs.Graph.{GraphValue, nodes_of}
-use Rattle.vx_base.specs.Object.{object_kind}
-use Rattle.object_table.specs.Blocks.{blocks_in}
-use Rattle.object_table.specs.Context.{Context}
-use Rattle.object_table.specs.Table.{graph_under}
-use Rattle.graph_run.specs.Operands.{IsReady}
-use Rattle.client_model.specs.Graphs.{graph_named, graph_verdict}
+use Rattle.client_contexts.proofs.Common.{option_map, GraphValue, nodes_of, object_kind, blocks_in, Context, graph_under, IsReady, graph_named, graph_verdict}
 use Rattle.client_model.proofs.DelayStepLaws.{aged_under_last}
 use Rattle.client_model.proofs.OutcomeLaws.{Keeps}
 use Rattle.client_laws.proofs.RunStepLaws.{process_graph_keeps}

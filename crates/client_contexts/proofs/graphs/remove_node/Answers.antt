@@ -1,9 +1,7 @@
-use Rattle.std.proofs.Common.{rules, Ok}
-use Rattle.std.specs.Prelude.{◌==◌}
-use Rattle.client_model.specs.declared.reply.Reply.TheVariants.{Empty}
+use Rattle.std.proofs.Common.{rules, Ok, ◌==◌}
+use Rattle.client_contexts.proofs.Common.{Empty, ComesTo}
 use Rattle.client_model.specs.Graphs.{remove_node}
 use Rattle.client_model.proofs.GraphStepLaws.{remove_node_keeps}
-use Rattle.client_contexts.specs.Steps.{ComesTo}
 use Rattle.client_contexts.proofs.KeptLemmas.{kept_by}
 use Rattle.client_contexts.proofs.graphs.remove_node.Goals as goal
 

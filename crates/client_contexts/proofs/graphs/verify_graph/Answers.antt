@@ -1,12 +1,5 @@
-use Rattle.std.proofs.Common.{ℕ, List, IsTrue, subst, sym, ap, ◌∙◌}
-use Rattle.std.specs.Prelude.{All}
-use Rattle.vx_base.specs.Graph.{GraphValue, nodes_of}
-use Rattle.graph_verify.specs.Operand.{is_image}
-use Rattle.graph_verify.specs.Verdict.{verdict}
-use Rattle.graph_verify.specs.Verified.{IsVerified}
-use Rattle.graph_run.specs.Operands.{operand_held}
-use Rattle.client_contexts.specs.declared.kept.Kept.{Kept}
-use Rattle.client_contexts.specs.Kept.{IsKept, AreKept}
+use Rattle.std.proofs.Common.{ℕ, List, IsTrue, subst, sym, ap, ◌∙◌, All}
+use Rattle.client_contexts.proofs.Common.{GraphValue, nodes_of, is_image, verdict, IsVerified, operand_held, Kept, IsKept, AreKept}
 use Rattle.client_contexts.proofs.StandLemmas.{graph_firsts}
 use Rattle.client_contexts.proofs.ReadyLemmas.{All-insert, found_kept, kept_verifies, verified_is_kept}
 use Rattle.client_contexts.proofs.VerifiedLemmas.{stay_with_one}

@@ -1,13 +1,6 @@
 use Rattle.std.proofs.Common.{◌∙◌, Some, Ok, refl, ap, sym, subst}
-use Rattle.vx_base.specs.Description.{Description}
+use Rattle.client_contexts.proofs.Common.{Description, whole, KeepsBlocks, Context, Empty, Outcome, KeepsLimits, IsImageFor, refusal_for}
 use Rattle.vx_base.specs.Picture.{values}
-use Rattle.vx_base.specs.Rectangle.{whole}
-use Rattle.object_table.specs.Blocks.{KeepsBlocks}
-use Rattle.object_table.specs.Context.{Context}
-use Rattle.client_model.specs.declared.reply.Reply.TheVariants.{Empty}
-use Rattle.client_model.specs.Refusal.{Outcome}
-use Rattle.client_model.specs.States.{KeepsLimits}
-use Rattle.client_contexts.specs.Lookup.{IsImageFor, refusal_for}
 use Rattle.client_contexts.proofs.WriteLemmas.{write_refused, write_done, written_keeps, written_blocks, takes_samples, left_format, given_is}
 use Rattle.client_contexts.proofs.images.give_picture.Goals as goal
 

@@ -1,12 +1,5 @@
 use Rattle.std.proofs.Common.{◌∙◌, ap, sym, subst}
-use Rattle.object_table.specs.Context.{Context, with_objects}
-use Rattle.object_table.specs.Table.{image_held}
-use Rattle.object_table.specs.Named.{with_object}
-use Rattle.vx_base.specs.Image.{ImageValue, description_of, with_valid}
-use Rattle.vx_base.specs.Object.{ImageObject}
-use Rattle.client_model.specs.Images.{valid_refusal}
-use Rattle.client_model.specs.States.{KeepsLimits}
-use Rattle.object_table.specs.Blocks.{KeepsBlocks}
+use Rattle.client_contexts.proofs.Common.{Context, with_objects, image_held, with_object, ImageValue, description_of, with_valid, ImageObject, valid_refusal, KeepsLimits, KeepsBlocks}
 use Rattle.client_contexts.proofs.BlockLemmas.{image_blocks_kept}
 use Rattle.client_contexts.proofs.OutcomeLemmas.{holder_is, set_keeps}
 use Rattle.client_contexts.proofs.images.set_valid.Goals as goal

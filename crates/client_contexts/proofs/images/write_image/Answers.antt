@@ -1,8 +1,5 @@
 use Rattle.std.proofs.Common.{sym, subst}
-use Rattle.object_table.specs.Blocks.{KeepsBlocks}
-use Rattle.object_table.specs.Context.{Context}
-use Rattle.client_model.specs.States.{KeepsLimits}
-use Rattle.client_contexts.specs.Lookup.{IsImageFor}
+use Rattle.client_contexts.proofs.Common.{KeepsBlocks, Context, KeepsLimits, IsImageFor}
 use Rattle.client_contexts.proofs.OutcomeLemmas.{holder_is}
 use Rattle.client_contexts.proofs.WriteLemmas.{written_keeps, written_blocks}
 use Rattle.client_contexts.proofs.images.write_image.Goals as goal

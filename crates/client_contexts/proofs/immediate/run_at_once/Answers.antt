@@ -1,17 +1,7 @@
-use Rattle.std.proofs.Common.{◌∙◌, ap, sym, refl, subst}
-use Rattle.std.specs.Prelude.{Some, Ok}
-use Rattle.std.specs.List.{list_any}
-use Rattle.vx_base.specs.declared.node.Node.{Node}
-use Rattle.vx_base.specs.Node.{IsNode}
-use Rattle.object_table.specs.Context.{Context}
-use Rattle.graph_verify.specs.Operand.{is_virtual}
-use Rattle.graph_verify.specs.Verdict.{verdict_on}
-use Rattle.client_model.specs.declared.reply.Reply.TheVariants.{Empty}
-use Rattle.client_model.specs.Immediate.{immediate}
-use Rattle.client_model.specs.Refusal.{Outcome}
+use Rattle.std.proofs.Common.{◌∙◌, ap, sym, refl, subst, Some, Ok}
+use Rattle.client_contexts.proofs.Common.{list_any, Node, IsNode, Context, is_virtual, verdict_on, Empty, immediate, Outcome, all_operands}
 use Rattle.client_model.proofs.NodeStepLaws.{immediate_keeps}
 use Rattle.client_model.proofs.OutcomeLaws.{Keeps}
-use Rattle.client_contexts.specs.Steps.{all_operands}
 use Rattle.client_contexts.proofs.BlockLemmas.{lasting_blocks}
 use Rattle.client_contexts.proofs.ImmediateLemmas.{away_refuses, verdict_refuses, nothing_refuses, all_of_kind}
 use Rattle.client_contexts.proofs.immediate.run_at_once.Goals as goal

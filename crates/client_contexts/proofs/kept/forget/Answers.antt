@@ -1,10 +1,5 @@
-use Rattle.std.proofs.Common.{◌≡◌, ℕ, false, List, inl, inr, refl, sym, ap, subst}
-use Rattle.std.specs.Prelude.{All, ◌==◌}
-use Rattle.std.specs.Option.{option_map}
-use Rattle.client_model.specs.declared.request.Request.{Request}
-use Rattle.client_model.specs.States.{changes_nodes}
-use Rattle.client_contexts.specs.declared.kept.Kept.{Kept}
-use Rattle.client_contexts.specs.Kept.{ends_verification}
+use Rattle.std.proofs.Common.{◌≡◌, ℕ, false, List, inl, inr, refl, sym, ap, subst, All, ◌==◌}
+use Rattle.client_contexts.proofs.Common.{option_map, Request, changes_nodes, Kept, ends_verification}
 use Rattle.client_contexts.proofs.ForgetLemmas.{apart, others_left}
 use Rattle.client_contexts.proofs.kept.forget.Goals as goal
 

@@ -1,5 +1,5 @@
 use Rattle.std.proofs.Common.{◌∙◌, ap, sym}
-use Rattle.object_table.specs.Context.{object_named}
+use Rattle.client_contexts.proofs.Common.{object_named}
 use Rattle.client_contexts.proofs.LookupLemmas.{refused_unknown}
 use Rattle.client_contexts.proofs.lookup.find.Goals as goal
 

@@ -1,11 +1,7 @@
-use Rattle.std.proofs.Common.{◌≡◌, ◌∙◌, Option, ap, subst, rules}
-use Rattle.std.specs.Prelude.{All, Ok, Result, IfOk, OnOk, unwrap_or}
-use Rattle.vx_base.specs.declared.function.Parameters.{Parameters}
+use Rattle.std.proofs.Common.{◌≡◌, ◌∙◌, Option, ap, subst, rules, All, Ok, Result, IfOk, OnOk, unwrap_or}
+use Rattle.client_contexts.proofs.Common.{Parameters, with_kind, Refusal, IsFound}
 use Rattle.vx_base.specs.declared.kind.Kind.TheVariants as kind
-use Rattle.vx_base.specs.Node.{with_kind}
 use Rattle.graph_verify.specs.declared.operand.Operand.{Operand}
-use Rattle.client_model.specs.declared.refusal.Refusal.{Refusal}
-use Rattle.client_contexts.specs.Lookup.{IsFound}
 use Rattle.client_contexts.proofs.LookupLemmas.{operands_refused}
 use Rattle.client_contexts.proofs.ScopeLemmas.{operands_found}
 use Rattle.client_contexts.proofs.lookup.find_operands.Goals as goal

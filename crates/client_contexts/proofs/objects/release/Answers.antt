@@ -1,8 +1,7 @@
 use Rattle.std.proofs.Common.{false, rules, Ok}
-use Rattle.client_model.specs.declared.reply.Reply.TheVariants.{Empty}
+use Rattle.client_contexts.proofs.Common.{Empty, ComesTo}
 use Rattle.client_model.specs.Objects.{release}
 use Rattle.client_model.proofs.GraphStepLaws.{release_keeps}
-use Rattle.client_contexts.specs.Steps.{ComesTo}
 use Rattle.client_contexts.proofs.KeptLemmas.{kept_by}
 use Rattle.client_contexts.proofs.objects.release.Goals as goal
 

@@ -1,6 +1,5 @@
 use Rattle.std.proofs.Common.{sym, subst, arith}
-use Rattle.client_model.specs.States.{KeepsLimits}
-use Rattle.client_model.proofs.StateLaws.{with_new_keeps}
+use Rattle.client_contexts.proofs.Common.{KeepsLimits, with_new_keeps}
 use Rattle.client_contexts.proofs.BlockLemmas.{blocks_more}
 use Rattle.client_contexts.proofs.room.hold.Goals as goal
 

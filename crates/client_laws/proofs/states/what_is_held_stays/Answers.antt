@@ -1,6 +1,6 @@
+use Rattle.std.proofs.Common.{[], ◌∷◌}
 use Rattle.client_laws.proofs.StayLaws.{skeletons_stay, nodes_stay, after_one, operand_stays, verdict_stays, ready_stays}
 use Rattle.client_laws.proofs.states.what_is_held_stays.Goals as goal
-use Rattle.std.proofs.Common.{[], ◌∷◌}
 
 pub returns-clause-after_one : goal.returns-clause-after_one
 returns-clause-after_one c = λ limits before later request name h is e known.

@@ -1,7 +1,6 @@
 use Rattle.std.proofs.Common.{◌≡◌, ℕ, ℤ, ◌+◌, ◌-◌, ◌*◌, ◌++◌, ◌∙◌, List, length, take, drop, refl, ap, sym}
-use Rattle.graph_run.proofs.Common.{First, Description, ImageValue, ImageObject, band, at, values, Rectangle, with_objects, with_object, image_held, part_of, with_band, scene, added_to}
+use Rattle.graph_run.proofs.Common.{First, Description, ImageValue, band, at, ImageObject, values, Rectangle, with_objects, with_object, image_held, part_of, with_band, scene, added_to, sum_made}
 use Rattle.node_rows.specs.Parts.{rows_of}
-use Rattle.graph_run.specs.Bands.{sum_made}
 use Rattle.graph_run.proofs.AddedLemmas.{nothing_beside, rows_lent}
 use Rattle.graph_run.proofs.SeenLemmas.{as_target, band_count, first_image, first_is, first_rows, first_there, has_room, left_described, rows_put, runs_there, takes_back}
 use Rattle.graph_run.proofs.StepLemmas.{put_keeps, resized_alike, still_for}

@@ -1,6 +1,5 @@
 use Rattle.std.proofs.Common.{[], ◌∷◌, Option, IfSome, subst}
-use Rattle.graph_run.proofs.Common.{All-cons, All-nil, Cell, ObjectValue, ImageObject, image_held, scene}
-use Rattle.graph_run.specs.Bands.{CanAdd, sum_made, with_sums}
+use Rattle.graph_run.proofs.Common.{All-cons, All-nil, Cell, ObjectValue, ImageObject, image_held, scene, CanAdd, sum_made, with_sums}
 use Rattle.graph_run.proofs.AddedLemmas.{can_replace}
 use Rattle.graph_run.proofs.CellLemmas.{IsReplacement}
 use Rattle.graph_run.proofs.SeenLemmas.{written_stage}

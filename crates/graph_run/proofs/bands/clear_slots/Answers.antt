@@ -1,5 +1,5 @@
-use Rattle.std.proofs.Common.{◌<◌, ◌∙◌, length, None, refl, subst, sym, arith, slice_index_or}
-use Rattle.graph_run.proofs.Common.{take_all, Slot, Stage, AreEmpty}
+use Rattle.std.proofs.Common.{◌<◌, ◌∙◌, length, None, refl, subst, sym, arith, slice_index_or, take_all}
+use Rattle.graph_run.proofs.Common.{Slot, Stage, AreEmpty}
 use Rattle.std.specs.Vec.{with_items}
 use Rattle.std.proofs.lemmas.List.{with_items_is}
 use Rattle.graph_run.proofs.PartClaimLemmas.{room_kept, empty_more}

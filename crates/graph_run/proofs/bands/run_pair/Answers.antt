@@ -1,5 +1,6 @@
 use Rattle.std.proofs.Common.{◌∙◌, ap}
-use Rattle.graph_run.proofs.Common.{First, Second, ImageObject, ObjectValue, Context, with_objects, with_object, made_seen, part_made, scene}
+use Rattle.graph_run.proofs.Common.{First, Second, ImageObject, ObjectValue, Context, with_objects, with_object, made_seen, scene}
+use Rattle.graph_run.specs.Bands.{part_made}
 use Rattle.graph_run.proofs.SeenLemmas.{found_here, as_high_there, part_becomes, still_seen, still_becomes, both_stage}
 use Rattle.graph_run.proofs.StepLemmas.{Keeps-trans, stage_arranged}
 use Rattle.graph_run.proofs.bands.run_pair.Goals as goal

@@ -1,5 +1,5 @@
-use Rattle.std.proofs.Common.{◌≡◌, ◌+◌, ◌-◌, ◌*◌, ◌++◌, ℕ, ℤ, List, map, pos, take, drop, length, ap, sym, ◌∙◌, arith}
-use Rattle.graph_run.proofs.Common.{Band, length-map, map-id, band, at, values}
+use Rattle.std.proofs.Common.{◌≡◌, ◌+◌, ◌-◌, ◌*◌, ◌++◌, ℕ, ℤ, List, map, pos, take, drop, length, ap, sym, ◌∙◌, arith, map-id}
+use Rattle.graph_run.proofs.Common.{Band, length-map, band, at, values}
 use Rattle.graph_run.specs.Bands.{rows_made}
 use Rattle.graph_run.specs.Steps.{made_as}
 use Rattle.graph_run.proofs.BandRowsLemmas.{band_from, band_end, stand_among}

@@ -1,12 +1,7 @@
 use Rattle.std.proofs.Common.{◌≡◌, ◌<◌, ◌+◌, ◌^◌, ◌∙◌, ℕ, List, [], ◌∷◌, length, slice_index, Option, Some, IfSome, refl, ap, sym, subst, arith, unwrap_or, option_map}
-use Rattle.graph_run.proofs.Common.{All-cons, All-nil, BinsValue, histogram, cell_of, ImageValue, IsObject, ObjectValue, with_objects, object_held, object_held_has, with_object, image_value, object_under, Band, Strip, IsUnder, Stage, IsArranged, IsStage, scene, seen}
+use Rattle.graph_run.proofs.Common.{All-cons, All-nil, BinsValue, histogram, cell_of, ImageValue, IsObject, ObjectValue, with_objects, object_held, with_object, object_held_has, image_value, object_under, IsUnder, Band, Strip, Stage, IsArranged, IsStage, scene, DistributionObject, DistributionValue, valid_samples, distribution_value, with_counts, added, valid_in, band_seen, counted_before, tallied_too}
+use Rattle.graph_run.specs.Bands.{seen}
 use Rattle.vx_base.specs.declared.kind.Kind.TheVariants as kind
-use Rattle.vx_base.specs.Object.{DistributionObject, DistributionValue}
-use Rattle.vx_base.specs.Statistics.{valid_samples}
-use Rattle.object_table.specs.Object.{distribution_value, with_counts}
-use Rattle.stat_kernels.specs.Counts.{added}
-use Rattle.stat_kernels.specs.Part.{valid_in}
-use Rattle.graph_run.specs.Bands.{band_seen, counted_before, tallied_too}
 use Rattle.graph_run.proofs.CellLemmas.{IsReplacement}
 use Rattle.graph_run.proofs.CountLemmas.{tallied_replaces, distribution_of_kind}
 use Rattle.graph_run.proofs.SeenLemmas.{written_stage}

@@ -1,6 +1,6 @@
 use Rattle.std.proofs.Common.{◌≡◌, ◌∙◌, ℕ, Bool, true, false, Option, Some, if◌then◌else◌, IfSome, ap, subst, sym}
-use Rattle.graph_run.proofs.Common.{Cell, cell_of, Node, Context, with_objects, with_object, image_value, object_under, Stage, Strip, scene, seen, CanCount, with_counted}
-use Rattle.graph_run.specs.Bands.{CanLocate, CanTally, located_too, tallied_too, tallies, tallies_rows}
+use Rattle.graph_run.proofs.Common.{Cell, cell_of, Node, Context, with_objects, with_object, image_value, object_under, Stage, Strip, scene, CanCount, with_counted, CanLocate, CanTally, located_too, tallied_too, tallies, tallies_rows}
+use Rattle.graph_run.specs.Bands.{seen}
 use Rattle.graph_run.proofs.CountLemmas.{tallies_not}
 use Rattle.graph_run.proofs.counting.count_output.Goals as goal
 

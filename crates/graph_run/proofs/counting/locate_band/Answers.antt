@@ -1,10 +1,7 @@
 use Rattle.std.proofs.Common.{arith, ◌≡◌, ◌∙◌, [], ◌∷◌, Some, refl, ap, sym, option_map}
-use Rattle.graph_run.proofs.Common.{All-cons, All-nil, ExtremesObject, extremes, cell_of, Band, ImageValue, ObjectValue, with_objects, object_held, with_object, image_value, object_under, Stage, IsArranged, scene, seen}
-use Rattle.vx_base.specs.declared.extremes.Extremes.{Extremes}
+use Rattle.graph_run.proofs.Common.{All-cons, All-nil, ExtremesObject, ObjectValue, extremes, cell_of, Band, ImageValue, with_objects, object_held, with_object, image_value, object_under, Stage, IsArranged, scene, Extremes, added_extremes, valid_in, band_seen, extremes_value, located_before, located_too}
+use Rattle.graph_run.specs.Bands.{seen}
 use Rattle.vx_base.specs.declared.kind.Kind.TheVariants as kind
-use Rattle.stat_kernels.specs.Located.{added_extremes}
-use Rattle.stat_kernels.specs.Part.{valid_in}
-use Rattle.graph_run.specs.Bands.{band_seen, extremes_value, located_before, located_too}
 use Rattle.graph_run.proofs.CellLemmas.{IsReplacement}
 use Rattle.graph_run.proofs.CountLemmas.{located_replaces}
 use Rattle.graph_run.proofs.SeenLemmas.{written_stage}

@@ -1,5 +1,5 @@
-use Rattle.std.proofs.Common.{map, pos, ap, sym, ◌∙◌}
-use Rattle.graph_run.proofs.Common.{map-id, values}
+use Rattle.std.proofs.Common.{map, pos, ap, sym, ◌∙◌, map-id}
+use Rattle.graph_run.proofs.Common.{values}
 use Rattle.graph_run.proofs.PartSeenLemmas.{ends_within, part_lent, lent_is}
 use Rattle.graph_run.proofs.part.part_of.Goals as goal
 

@@ -1,5 +1,6 @@
 use Rattle.std.proofs.Common.{◌≡◌, ◌≤◌, ◌∙◌, List, length, map, refl, ap, sym, subst}
-use Rattle.graph_run.proofs.Common.{Node, written_by, Context, with_objects, Named, held, with_written, told, forgotten, lasting_named, shown, AreVirtual, CanRunNow}
+use Rattle.graph_run.proofs.Common.{Node, written_by, Context, with_objects, Named, held, with_written, told, forgotten, lasting_named, AreVirtual, CanRunNow}
+use Rattle.graph_run.specs.Stage.{shown}
 use Rattle.graph_run.proofs.SceneLemmas.{course_begins, course_outputs, first_shared, course_runs, course_next, course_ends}
 use Rattle.graph_run.proofs.runs.run_steps.Goals as goal
 

@@ -1,5 +1,5 @@
-use Rattle.std.proofs.Common.{◌≡◌, ◌<◌, ◌≤◌, List, get_or, length, ap, subst, ◌∙◌, All}
-use Rattle.graph_run.proofs.Common.{take_all, All-more, Node, SuitsBands}
+use Rattle.std.proofs.Common.{◌≡◌, ◌<◌, ◌≤◌, List, get_or, length, ap, subst, ◌∙◌, All, take_all}
+use Rattle.graph_run.proofs.Common.{All-more, Node, SuitsBands}
 use Rattle.graph_run.proofs.settle.all_suit.Goals as goal
 
 pub loop-node-preserved : goal.loop-node-preserved

@@ -1,5 +1,5 @@
-use Rattle.std.proofs.Common.{◌≡◌, ◌<◌, ◌≤◌, ◌+◌, List, [], ◌∷◌, ◌++◌, get_or, take, length, ap, sym, subst, ◌∙◌}
-use Rattle.graph_run.proofs.Common.{take_all, length-append, Node, Rectangle, AreAreas, final_of, IsArea}
+use Rattle.std.proofs.Common.{◌≡◌, ◌<◌, ◌≤◌, ◌+◌, List, [], ◌∷◌, ◌++◌, get_or, take, length, ap, sym, subst, ◌∙◌, take_all, length-append}
+use Rattle.graph_run.proofs.Common.{Node, Rectangle, AreAreas, final_of, IsArea}
 use Rattle.graph_run.proofs.SettleLemmas.{areas_more}
 use Rattle.graph_run.proofs.settle.areas_of.Goals as goal
 

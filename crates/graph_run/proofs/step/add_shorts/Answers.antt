@@ -1,5 +1,5 @@
-use Rattle.std.proofs.Common.{◌≡◌, ◌∙◌, ap, rules}
-use Rattle.graph_run.proofs.Common.{map-id, S16, ImageValue, image_over, description_of, written, added_to}
+use Rattle.std.proofs.Common.{◌≡◌, ◌∙◌, ap, rules, map-id}
+use Rattle.graph_run.proofs.Common.{S16, ImageValue, image_over, description_of, written, added_to}
 use Rattle.graph_run.proofs.step.add_shorts.Goals as goal
 
 pub returns-clause-samples : goal.returns-clause-samples

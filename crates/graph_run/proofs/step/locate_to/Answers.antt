@@ -1,6 +1,5 @@
 use Rattle.std.proofs.Common.{◌∙◌, refl, ap}
-use Rattle.graph_run.proofs.Common.{ExtremesObject, extremes, cell_of, with_objects, with_object, scene}
-use Rattle.vx_base.specs.declared.extremes.Extremes.{Extremes}
+use Rattle.graph_run.proofs.Common.{ExtremesObject, extremes, cell_of, with_objects, with_object, scene, Extremes}
 use Rattle.vx_base.specs.declared.kind.Kind.TheVariants as kind
 use Rattle.graph_run.proofs.StepLemmas.{held_is_under, under_set}
 use Rattle.graph_run.proofs.step.locate_to.Goals as goal

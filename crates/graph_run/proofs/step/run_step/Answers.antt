@@ -1,5 +1,6 @@
 use Rattle.std.proofs.Common.{◌≡◌, ◌∙◌, Option, Some, ap, sym, subst, IfSome}
-use Rattle.graph_run.proofs.Common.{IsStrictlyIncreasing, Node, First, Second, Cell, written_by, Context, with_objects, held, with_written, Stage, Lasts, scene, IsStage, IsArranged, Keeps, Stays, AreApart, RunsTo, with_output, CanRunNow}
+use Rattle.graph_run.proofs.Common.{IsStrictlyIncreasing, Node, First, Second, Cell, written_by, Context, with_objects, held, with_written, Stage, Lasts, scene, IsStage, IsArranged, Stays, AreApart, RunsTo, with_output, CanRunNow}
+use Rattle.graph_run.specs.Stage.{Keeps}
 use Rattle.graph_run.proofs.RunLemmas.{runs_first, runs_second, runs_then, two_outputs, written_is, Lasts-outputs}
 use Rattle.graph_run.proofs.PairLemmas.{has_two}
 use Rattle.graph_run.proofs.StageLemmas.{names-shown}

@@ -1,9 +1,7 @@
-use Rattle.std.proofs.Common.{◌≡◌, ◌==◌, ◌+◌, ◌-◌, ◌*◌, ◌++◌, ◌≤◌, ◌∙◌, List, ℤ, None, take, drop, length, refl, ap, sym, subst, arith, option_map}
-use Rattle.graph_run.proofs.Common.{take_all, and_parts, eqb-true, First, Description, sample_count, ImageValue, band, at, values, image_held, image_value, part_of, scene, seen, Rectangle, whole, with_objects, with_object, ImageObject, with_band}
-use Rattle.vx_base.specs.Image.{within}
-use Rattle.vx_base.specs.Statistics.{integral, sum_to}
-use Rattle.stat_kernels.specs.Sums.{AreRowsOf}
-use Rattle.graph_run.specs.Bands.{band_seen}
+use Rattle.std.proofs.Common.{◌≡◌, ◌==◌, ◌+◌, ◌-◌, ◌*◌, ◌++◌, ◌≤◌, ◌∙◌, List, ℤ, None, take, drop, length, refl, ap, sym, subst, arith, option_map, take_all, eqb-true}
+use Rattle.graph_run.proofs.Common.{and_parts, First, Description, sample_count, ImageValue, band, at, values, image_held, image_value, part_of, scene, with_band, Rectangle, with_objects, with_object, ImageObject, within, integral, sum_to, AreRowsOf, band_seen}
+use Rattle.graph_run.specs.Bands.{seen}
+use Rattle.vx_base.specs.Rectangle.{whole}
 use Rattle.graph_run.proofs.SeenLemmas.{first_image, first_is, first_rows, first_there, has_room, left_described, rows_put, takes_back}
 use Rattle.graph_run.proofs.StepLemmas.{put_keeps, resized_alike, still_for}
 use Rattle.graph_run.proofs.SummedLemmas.{band_among, band_fits, nothing_more, same_width}

@@ -1,10 +1,5 @@
 use Rattle.std.proofs.Common.{◌≡◌, ◌<◌, ◌≤◌, ◌⊎◌, inl, inr, ◌+◌, ◌++◌, ◌*◌, ◌∙◌, None, IfSome, option_copied, map, pos, take, drop, length, refl, ap, sym, subst, arith}
-use Rattle.graph_run.proofs.Common.{length-map, take-map, mul-le-mul_right, Band, Description, band, values}
-use Rattle.std.proofs.lemmas.Bool.{cases_lt}
-use Rattle.vx_base.specs.Image.{within}
-use Rattle.vx_base.specs.Statistics.{sum_to}
-use Rattle.stat_kernels.specs.Sums.{AreRowsOf, IsRowAbove, last_row}
-use Rattle.stat_kernels.proofs.NextRowLaws.{row_above}
+use Rattle.graph_run.proofs.Common.{length-map, take-map, mul-le-mul_right, Band, Description, band, values, cases_lt, within, sum_to, AreRowsOf, IsRowAbove, last_row, row_above}
 use Rattle.graph_run.proofs.BandRowsLemmas.{band_from, band_end, stand_among}
 use Rattle.graph_run.proofs.SummedLemmas.{above_lent, table_begins}
 use Rattle.graph_run.proofs.summing.sum_on.Goals as goal

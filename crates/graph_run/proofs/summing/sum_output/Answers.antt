@@ -1,7 +1,5 @@
 use Rattle.std.proofs.Common.{[], ◌∷◌, Option, IfSome, subst}
-use Rattle.graph_run.proofs.Common.{All-cons, All-nil, Cell, ImageValue, ObjectValue, ImageObject, image_held, part_of, with_band, scene}
-use Rattle.vx_base.specs.Statistics.{integral}
-use Rattle.graph_run.specs.Bands.{CanSum}
+use Rattle.graph_run.proofs.Common.{All-cons, All-nil, Cell, ImageValue, ObjectValue, ImageObject, image_held, part_of, with_band, scene, integral, CanSum}
 use Rattle.graph_run.proofs.SummedLemmas.{sum_replaces}
 use Rattle.graph_run.proofs.CellLemmas.{IsReplacement}
 use Rattle.graph_run.proofs.SeenLemmas.{written_stage}

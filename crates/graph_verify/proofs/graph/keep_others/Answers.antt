@@ -1,5 +1,5 @@
-use Rattle.std.proofs.Common.{◌≡◌, refl, not, rules}
-use Rattle.graph_verify.proofs.Common.{◌==◌, Numbered}
+use Rattle.std.proofs.Common.{◌≡◌, refl, not, rules, ◌==◌}
+use Rattle.graph_verify.proofs.Common.{Numbered}
 use Rattle.graph_verify.proofs.GraphLemmas.{filter_from_retain_by}
 use Rattle.graph_verify.proofs.graph.keep_others.Goals as goal
 

@@ -1,5 +1,5 @@
-use Rattle.std.proofs.Common.{◌≡◌, ◌*◌, ◌≤◌, take}
-use Rattle.graph_verify.proofs.Common.{sum_by, byte_count}
+use Rattle.std.proofs.Common.{◌≡◌, ◌*◌, ◌≤◌, take, sum_by}
+use Rattle.graph_verify.proofs.Common.{byte_count}
 use Rattle.graph_verify.proofs.known.sample_bytes.Given as goal
 use Rattle.vx_base.specs.declared.desc.TheConstants.{GREATEST_BYTES}
 

@@ -1,6 +1,5 @@
-use Rattle.std.proofs.Common.{◌≡◌, Bool, true, false, List, ◌∷◌, ap, sym, ◌∙◌}
+use Rattle.std.proofs.Common.{◌≡◌, Bool, true, false, List, ◌∷◌, ap, sym, ◌∙◌, ◌||◌}
 use Rattle.graph_verify.proofs.Common.{list_any, outputs, Linked, linked_nodes, is_written, two_writers, writes_twice}
-use Rattle.std.specs.Prelude.{◌||◌}
 use Rattle.graph_verify.proofs.LinkLemmas.{two_writers-cons}
 use Rattle.graph_verify.proofs.linked.has_two_writers.Goals as goal
 

@@ -1,7 +1,5 @@
-use Rattle.std.proofs.Common.{◌<◌, ◌∙◌, sym, ap, arith, length}
-use Rattle.graph_verify.proofs.Common.{position}
+use Rattle.std.proofs.Common.{◌<◌, ◌∙◌, sym, ap, arith, length, position, not, ◌||◌}
 use Rattle.std.proofs.lemmas.Grind.{common_steps}
-use Rattle.std.specs.Prelude.{not, ◌||◌}
 use Rattle.graph_verify.proofs.WaitingLemmas.{none_ordered, one_more_ordered, all_wait, all_ordered, no_cycle_when_ordered}
 use Rattle.graph_verify.proofs.order.put_in_order.Goals as goal
 

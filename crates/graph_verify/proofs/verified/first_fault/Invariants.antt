@@ -1,5 +1,5 @@
-use Rattle.std.proofs.Common.{◌≡◌, drop}
-use Rattle.graph_verify.proofs.Common.{All, Cell, Operand, known_operands, linked_nodes, operands_of, first_fault}
+use Rattle.std.proofs.Common.{◌≡◌, drop, All}
+use Rattle.graph_verify.proofs.Common.{Cell, Operand, known_operands, linked_nodes, operands_of, first_fault}
 use Rattle.graph_verify.proofs.verified.first_fault.Given as goal
 
 abbrev pub invariant-loop-linked : goal.invariant-loop-linked

@@ -1,6 +1,5 @@
-use Rattle.std.proofs.Common.{◌∙◌, ap, arith}
+use Rattle.std.proofs.Common.{◌∙◌, ap, arith, Some, None}
 use Rattle.graph_verify.proofs.Common.{filter_map, closed_output, linked_nodes}
-use Rattle.std.specs.Prelude.{Some, None}
 use Rattle.graph_verify.proofs.VerdictLemmas.{too_large, there_is_room}
 use Rattle.graph_verify.proofs.VerifyLemmas.{nodes_order, steps_one_writer, steps_images, loose_end_found, verdict_found, bytes_found, verified_found, few_outputs}
 use Rattle.graph_verify.proofs.verified.verify_ordered.Goals as goal

@@ -1,5 +1,4 @@
-use Rattle.std.proofs.Common.{◌≡◌, ℕ, ℤ, ◌∙◌, ◌+◌, ◌-◌, ◌*◌, ◌<◌, ap, sym, length, take, drop, arith}
-use Rattle.std.proofs.lemmas.List.{length-take, length-drop}
+use Rattle.std.proofs.Common.{◌≡◌, ℕ, ℤ, ◌∙◌, ◌+◌, ◌-◌, ◌*◌, ◌<◌, ap, sym, length, take, drop, arith, length-take, length-drop}
 use Rattle.vx_base.specs.Image.{run}
 use Rattle.image_core.proofs.PieceLaws.{piece_begins, piece_written, row_of_pieces}
 use Rattle.image_core.proofs.pieces.write_both_pieces.Goals as goal

@@ -1,6 +1,5 @@
 use Rattle.std.proofs.Common.{◌≡◌, map, pos, length, ap, ◌∙◌, sym}
-use Rattle.std.proofs.lemmas.List.{length-map}
-use Rattle.std.proofs.lemmas.Simd.{put_chunk_whole}
+use Rattle.lane_rows.proofs.Common.{length-map, put_chunk_whole}
 use Rattle.lane_rows.proofs.bytes.map_sixteen.Goals as goal
 
 pub returns : goal.returns

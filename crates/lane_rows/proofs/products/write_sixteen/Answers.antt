@@ -1,9 +1,5 @@
 use Rattle.std.proofs.Common.{◌≡◌, ℤ, List, length, map, ap, ◌∙◌, sym, w16, to_z, of_z}
-use Rattle.std.specs.Simd.Lanes.{zip2}
-use Rattle.std.proofs.lemmas.List.{length-map}
-use Rattle.std.proofs.lemmas.Simd.{length-zip2, put_chunk_whole}
-use Rattle.vx_base.specs.declared.format.Format.TheVariants.{S16}
-use Rattle.vx_base.specs.Pixelwise.{product}
+use Rattle.lane_rows.proofs.Common.{zip2, length-map, length-zip2, put_chunk_whole, S16, product}
 use Rattle.lane_rows.proofs.ShortLaws.{fit_as_bits}
 use Rattle.lane_rows.proofs.NarrowLaws.{products_told}
 use Rattle.lane_rows.proofs.products.write_sixteen.Goals as goal

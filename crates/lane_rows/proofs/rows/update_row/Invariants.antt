@@ -1,5 +1,5 @@
 use Rattle.std.proofs.Common.{◌≡◌, map, take, drop}
-use Rattle.std.specs.Simd.Lanes.{zip2}
+use Rattle.lane_rows.proofs.Common.{zip2}
 use Rattle.lane_rows.proofs.rows.update_row.Given as goal
 
 abbrev pub invariant-loop-i : goal.invariant-loop-i

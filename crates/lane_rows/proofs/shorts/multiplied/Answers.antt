@@ -1,17 +1,9 @@
-use Rattle.std.proofs.Common.{◌≡◌, ℕ, ℤ, ◌^◌, ◌≤◌, pos, int_div, unsigned_abs, List, length, map, refl, ap, ◌∙◌, sym, subst, w16, w32, FitsSigned, to_z, of_z}
-use Rattle.std.specs.Prelude.{◌*ℤ◌}
-use Rattle.std.specs.Simd.Lanes.{zip2, Each1}
-use Rattle.std.proofs.lemmas.Simd.{length-zip2}
-use Rattle.vx_base.specs.declared.format.Format.TheVariants.{S16}
-use Rattle.vx_base.specs.declared.policy.Policy.{Policy}
-use Rattle.vx_base.specs.Sample.{narrow}
-use Rattle.vx_base.specs.Pixelwise.{product}
-use Rattle.lane_rows.specs.Quarters.{exchanged}
+use Rattle.std.proofs.Common.{◌≡◌, ℕ, ℤ, ◌^◌, ◌≤◌, pos, int_div, unsigned_abs, List, length, map, refl, ap, ◌∙◌, sym, subst, w16, w32, FitsSigned, to_z, of_z, ◌*ℤ◌}
+use Rattle.lane_rows.proofs.Common.{zip2, Each1, length-zip2, S16, Policy, narrow, product, exchanged, Width}
 use Rattle.lane_rows.proofs.ShortLaws.{of_bits, fit_as_bits, told, products_fit, product_sizes}
 use Rattle.lane_rows.proofs.QuarterLaws.{written_out, Each1-exchanged}
 use Rattle.lane_rows.proofs.NarrowLaws.{quotients_fit, products_narrowed, narrow_fits, narrowed_products_fit}
 use Rattle.lane_rows.proofs.shorts.multiplied.Goals as goal
-use mir.Syntax.{Width}
 
 -- what lanes of a width hold
 abbrev in_lanes : Width → List ℤ → List ℤ

@@ -1,7 +1,5 @@
 use Rattle.std.proofs.Common.{map, ap, ◌∙◌, sym, w16, w32, to_z}
-use Rattle.vx_base.specs.declared.format.Format.TheVariants.{S16}
-use Rattle.vx_base.specs.declared.policy.Policy.TheVariants.{Wrap, Saturate}
-use Rattle.vx_base.specs.Sample.{narrow}
+use Rattle.lane_rows.proofs.Common.{S16, Wrap, Saturate, narrow}
 use Rattle.lane_rows.proofs.ShortLaws.{of_bits, fit_as_bits, told}
 use Rattle.lane_rows.proofs.NarrowLaws.{narrow_fits}
 use Rattle.lane_rows.proofs.shorts.narrowed.Goals.{in-Wrap, in-Saturate}

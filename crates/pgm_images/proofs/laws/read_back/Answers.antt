@@ -1,4 +1,4 @@
-use Rattle.pgm_images.specs.Writing.{pgm_text}
+use Rattle.pgm_images.proofs.Common.{pgm_text}
 use Rattle.pgm_images.proofs.StandsLemmas.{stands_read}
 use Rattle.pgm_images.proofs.WrittenBack.{read_back}
 use Rattle.pgm_images.proofs.laws.read_back.Goals as goal

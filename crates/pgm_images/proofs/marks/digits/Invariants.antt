@@ -1,5 +1,5 @@
 use Rattle.std.proofs.Common.{◌≡◌, ℕ, min, length}
-use Rattle.pgm_images.specs.Marks.{digits_after}
+use Rattle.pgm_images.proofs.Common.{digits_after}
 use Rattle.pgm_images.proofs.marks.digits.Given as goal
 
 abbrev pub invariant-loop-byte : goal.invariant-loop-byte

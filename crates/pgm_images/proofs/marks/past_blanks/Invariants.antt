@@ -1,5 +1,5 @@
 use Rattle.std.proofs.Common.{◌≡◌, false, length}
-use Rattle.pgm_images.specs.Marks.{past_blanks}
+use Rattle.pgm_images.proofs.Common.{past_blanks}
 use Rattle.pgm_images.proofs.marks.past_blanks.Given as goal
 
 abbrev pub invariant-loop-byte : goal.invariant-loop-byte

@@ -1,5 +1,5 @@
 use Rattle.std.proofs.Common.{◌≡◌, ℕ, take, nat_le}
-use Rattle.pgm_images.specs.Raster.{all_up_to}
+use Rattle.pgm_images.proofs.Common.{all_up_to}
 use Rattle.pgm_images.proofs.raster.greatest.Given as goal
 
 abbrev pub invariant-loop-byte : goal.invariant-loop-byte

@@ -1,6 +1,6 @@
-use Rattle.std.proofs.Common.{◌≡◌, nat_le, true, false, refl, ap, arith, ◌∙◌}
-use Rattle.std.proofs.lemmas.Bool.{le-leb, lt-leb}
-use Rattle.pgm_images.specs.Raster.{all_up_to, samples_up_to}
+use Rattle.std.proofs.Common.{◌≡◌, nat_le, true, false, refl, ap, arith, ◌∙◌, le-leb}
+use Rattle.pgm_images.proofs.Common.{all_up_to, samples_up_to}
+use Rattle.std.proofs.lemmas.Bool.{lt-leb}
 use Rattle.pgm_images.proofs.RasterLemmas.{bytes-many, bytes-other, bytes_low, bytes_read}
 use Rattle.pgm_images.proofs.raster.read_bytes.Goals as goal
 

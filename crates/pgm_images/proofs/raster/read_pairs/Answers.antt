@@ -1,5 +1,5 @@
 use Rattle.std.proofs.Common.{◌∙◌, ap, pos, sym, arith}
-use Rattle.pgm_images.specs.Raster.{take_long_sample, nothing_left}
+use Rattle.pgm_images.proofs.Common.{take_long_sample, nothing_left}
 use Rattle.pgm_images.proofs.RasterLemmas.{filling_set, filling_done, none_left}
 use Rattle.pgm_images.proofs.raster.read_pairs.Goals as goal
 

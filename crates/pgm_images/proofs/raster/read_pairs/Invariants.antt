@@ -1,5 +1,5 @@
 use Rattle.std.proofs.Common.{◌-◌, length, map, take}
-use Rattle.pgm_images.specs.Raster.{so_many, take_long_sample, nothing_left, Filling}
+use Rattle.pgm_images.proofs.Common.{so_many, take_long_sample, nothing_left, Filling}
 use Rattle.pgm_images.proofs.raster.read_pairs.Given as goal
 
 abbrev pub invariant-loop-index : goal.invariant-loop-index

@@ -1,7 +1,6 @@
 use Rattle.std.proofs.Common.{◌∙◌, length, subst, sym, arith}
+use Rattle.pgm_images.proofs.Common.{take_next, ends, so_many, PlainUpTo}
 use Rattle.std.proofs.lemmas.List.{take_rest}
-use Rattle.pgm_images.specs.Marks.{take_next, ends}
-use Rattle.pgm_images.specs.Raster.{so_many, PlainUpTo}
 use Rattle.pgm_images.proofs.RasterLemmas.{none_read, filling_done}
 use Rattle.pgm_images.proofs.raster.read_plain.Goals as goal
 

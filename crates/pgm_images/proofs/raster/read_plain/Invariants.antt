@@ -1,6 +1,5 @@
 use Rattle.std.proofs.Common.{◌≡◌, ◌-◌, ◌≤◌, length}
-use Rattle.pgm_images.specs.Marks.{take_next, ends}
-use Rattle.pgm_images.specs.Raster.{so_many, PlainUpTo}
+use Rattle.pgm_images.proofs.Common.{take_next, ends, so_many, PlainUpTo}
 use Rattle.pgm_images.proofs.raster.read_plain.Given as goal
 
 abbrev pub decreases-loop-index : goal.decreases-loop-index

@@ -1,8 +1,5 @@
-use Rattle.std.proofs.Common.{◌≡◌, ◌-◌, ◌||◌, ◌∙◌, Option, Some, None, length, ap, pos, arith, subst}
-use Rattle.std.specs.Prelude.{IfNone}
-use Rattle.std.proofs.lemmas.List.{length-set}
-use Rattle.pgm_images.specs.Marks.{take_next, ends}
-use Rattle.pgm_images.specs.Raster.{PlainUpTo}
+use Rattle.std.proofs.Common.{◌≡◌, ◌-◌, ◌||◌, ◌∙◌, Option, Some, None, length, ap, pos, arith, subst, IfNone, length-set}
+use Rattle.pgm_images.proofs.Common.{take_next, ends, PlainUpTo}
 use Rattle.pgm_images.proofs.RasterLemmas.{filling_next, filling_none}
 use Rattle.pgm_images.proofs.raster.read_singly.Goals as goal
 

@@ -1,5 +1,5 @@
 use Rattle.std.proofs.Common.{◌≡◌, ◌||◌, Bool, List, ℕ, Option, length}
-use Rattle.pgm_images.specs.Raster.{PlainUpTo}
+use Rattle.pgm_images.proofs.Common.{PlainUpTo}
 use Rattle.pgm_images.proofs.raster.read_singly.Given as goal
 
 abbrev pub invariant-loop-index : goal.invariant-loop-index

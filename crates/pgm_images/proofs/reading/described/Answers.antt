@@ -1,6 +1,5 @@
 use Rattle.std.proofs.Common.{◌≡◌, arith}
-use Rattle.std.proofs.lemmas.Grind.{common_steps}
-use Rattle.pgm_images.specs.Reading.{description_in}
+use Rattle.pgm_images.proofs.Common.{common_steps, description_in}
 use Rattle.pgm_images.proofs.DescriptionLemmas.{read_description}
 use Rattle.pgm_images.proofs.reading.described.Goals as goal
 

@@ -1,6 +1,5 @@
 use Rattle.std.proofs.Common.{◌≡◌, Ok, sym, true, arith}
-use Rattle.std.proofs.lemmas.Grind.{common_steps}
-use Rattle.pgm_images.specs.Reading.{reading, is_headed}
+use Rattle.pgm_images.proofs.Common.{common_steps, reading, is_headed}
 use Rattle.pgm_images.proofs.DescriptionLemmas.{told_headed}
 use Rattle.pgm_images.proofs.StandsLemmas.{stands_read}
 use Rattle.pgm_images.proofs.reading.read.Goals as goal

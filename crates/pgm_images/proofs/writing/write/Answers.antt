@@ -1,7 +1,5 @@
 use Rattle.std.proofs.Common.{◌≡◌, ap, arith}
-use Rattle.vx_base.specs.Description.{Description}
-use Rattle.vx_base.specs.Image.{description_of}
-use Rattle.pgm_images.specs.Writing.{written_header}
+use Rattle.pgm_images.proofs.Common.{Description, description_of, written_header}
 use Rattle.pgm_images.proofs.WritingLemmas.{rows_more, rows_all}
 use Rattle.pgm_images.proofs.writing.write.Goals as goal
 

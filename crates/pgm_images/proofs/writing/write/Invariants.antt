@@ -1,6 +1,5 @@
 use Rattle.std.proofs.Common.{◌≡◌, ◌*◌, ◌++◌, pos, map, take}
-use Rattle.vx_base.specs.Image.{description_of}
-use Rattle.pgm_images.specs.Writing.{written_header}
+use Rattle.pgm_images.proofs.Common.{description_of, written_header}
 use Rattle.pgm_images.proofs.writing.write.Given as goal
 
 abbrev pub invariant-loop-y : goal.invariant-loop-y

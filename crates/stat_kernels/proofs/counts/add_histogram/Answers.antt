@@ -1,9 +1,5 @@
-use Rattle.std.proofs.Common.{◌∙◌, ap, refl, arith}
-use Rattle.std.specs.Prelude.{List, ℕ, slice_index}
-use Rattle.std.proofs.lemmas.Bool.Decides.{nat_tests}
-use Rattle.vx_base.specs.Statistics.{valid_samples}
-use Rattle.stat_kernels.specs.Counts.{added}
-use Rattle.stat_kernels.specs.Part.{valid_in}
+use Rattle.std.proofs.Common.{◌∙◌, ap, refl, arith, List, ℕ, slice_index}
+use Rattle.stat_kernels.proofs.Common.{nat_tests, valid_samples, added, valid_in}
 use Rattle.stat_kernels.proofs.BandLaws.{added_all, added_next, added_none, tally_few}
 use Rattle.stat_kernels.proofs.counts.add_histogram.Goals as goal
 

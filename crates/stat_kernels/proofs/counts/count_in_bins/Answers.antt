@@ -1,6 +1,5 @@
 use Rattle.std.proofs.Common.{◌≡◌, ◌∙◌, sym, ap, length, get_or, arith}
-use Rattle.vx_base.specs.Statistics.{valid_samples}
-use Rattle.stat_kernels.specs.Part.{valid_in}
+use Rattle.stat_kernels.proofs.Common.{valid_samples, valid_in}
 use Rattle.stat_kernels.proofs.TallyLaws.{tallies_below, tallies_none, tallies_at_most, value_some, value_none, tallies_all, zeros_counted}
 use Rattle.stat_kernels.proofs.counts.count_in_bins.Goals as goal
 use Rattle.stat_kernels.proofs.counts.count_in_bins.Goals.{in-Some, in_default}

@@ -1,6 +1,5 @@
 use Rattle.std.proofs.Common.{◌≡◌}
-use Rattle.vx_base.specs.Statistics.{valid_samples}
-use Rattle.stat_kernels.specs.Part.{valid_in}
+use Rattle.stat_kernels.proofs.Common.{valid_samples, valid_in}
 use Rattle.stat_kernels.proofs.TallyLaws.{tallies_below}
 use Rattle.stat_kernels.proofs.counts.count_in_bins.Given as goal
 

@@ -1,6 +1,5 @@
-use Rattle.std.proofs.Common.{◌+◌, ◌*◌, get_or, ap, pos, map, arith}
-use Rattle.std.proofs.lemmas.List.{take_all, length-map}
-use Rattle.stat_kernels.specs.Counts.{count_at}
+use Rattle.std.proofs.Common.{◌+◌, ◌*◌, get_or, ap, pos, map, arith, take_all}
+use Rattle.stat_kernels.proofs.Common.{length-map, count_at}
 use Rattle.stat_kernels.proofs.TallyLaws.{one_more, four_more, few_of_first, all_bytes}
 use Rattle.stat_kernels.proofs.counts.count_row.Goals as goal
 

@@ -1,5 +1,5 @@
 use Rattle.std.proofs.Common.{◌≡◌, ◌+◌, ◌*◌, ℕ, pos, map, take}
-use Rattle.stat_kernels.specs.Counts.{count_at, count_in_all}
+use Rattle.stat_kernels.proofs.Common.{count_at, count_in_all}
 use Rattle.stat_kernels.proofs.counts.count_row.Given as goal
 
 abbrev pub invariant-loop-k : goal.invariant-loop-k

@@ -1,11 +1,6 @@
-use Rattle.std.proofs.Common.{◌<◌, ◌∙◌, sym, ap, pos, map, arith}
-use Rattle.std.specs.Prelude.{unsigned_abs}
-use Rattle.std.proofs.lemmas.List.Sums.{count_by-le-length}
+use Rattle.std.proofs.Common.{◌<◌, ◌∙◌, sym, ap, pos, map, arith, unsigned_abs, ◌==◌}
+use Rattle.stat_kernels.proofs.Common.{count_by-le-length, samples_in, count_at, valid_in}
 use Rattle.std.proofs.lemmas.List.Elements.{All-append, All-same}
-use Rattle.std.specs.Prelude.{◌==◌}
-use Rattle.vx_base.specs.Statistics.{samples_in}
-use Rattle.stat_kernels.specs.Counts.{count_at}
-use Rattle.stat_kernels.specs.Part.{valid_in}
 use Rattle.stat_kernels.proofs.Rows.{above}
 use Rattle.stat_kernels.proofs.PlaceLaws.{next_row, places_fit, length-samples, length-places, samples_fit}
 use Rattle.stat_kernels.proofs.TallyLaws.{row_counted}

@@ -1,9 +1,5 @@
-use Rattle.std.proofs.Common.{◌≡◌, ◌<◌, ℕ}
-use Rattle.std.specs.Prelude.{unsigned_abs}
-use Rattle.std.specs.List.{All}
-use Rattle.vx_base.specs.Statistics.{samples_in}
-use Rattle.stat_kernels.specs.Counts.{count_at, count_in_all}
-use Rattle.stat_kernels.specs.Part.{valid_in}
+use Rattle.std.proofs.Common.{◌≡◌, ◌<◌, ℕ, unsigned_abs}
+use Rattle.stat_kernels.proofs.Common.{All, samples_in, count_at, count_in_all, valid_in}
 use Rattle.stat_kernels.proofs.Rows.{above}
 use Rattle.stat_kernels.proofs.counts.count_values.Given as goal
 

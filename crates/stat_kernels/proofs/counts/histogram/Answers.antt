@@ -1,9 +1,5 @@
 use Rattle.std.proofs.Common.{◌∙◌, ap}
-use Rattle.vx_base.specs.Description.{Description}
-use Rattle.vx_base.specs.Statistics.{histogram}
-use Rattle.image_core.specs.Bands.{all_rows}
-use Rattle.image_core.specs.declared.band.Band.{Band}
-use Rattle.stat_kernels.specs.Part.{valid_in}
+use Rattle.stat_kernels.proofs.Common.{Description, histogram, all_rows, Band, valid_in}
 use Rattle.stat_kernels.proofs.BandLaws.{all_valid}
 use Rattle.stat_kernels.proofs.counts.histogram.Goals as goal
 

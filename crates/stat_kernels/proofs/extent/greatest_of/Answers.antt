@@ -1,6 +1,5 @@
 use Rattle.std.proofs.Common.{arith}
-use Rattle.std.specs.Int.{int_max}
-use Rattle.std.proofs.lemmas.Int.{ints}
+use Rattle.stat_kernels.proofs.Common.{int_max, ints}
 use Rattle.stat_kernels.proofs.CountLaws.{number_read, next_chosen, all_chosen}
 use Rattle.stat_kernels.proofs.extent.greatest_of.Goals as goal
 

@@ -1,6 +1,5 @@
 use Rattle.std.proofs.Common.{◌≡◌, pos, map, take, get_or}
-use Rattle.std.specs.List.{fold}
-use Rattle.std.specs.Int.{int_max}
+use Rattle.stat_kernels.proofs.Common.{fold, int_max}
 use Rattle.stat_kernels.proofs.extent.greatest_of.Given as goal
 
 abbrev pub invariant-loop-sample : goal.invariant-loop-sample

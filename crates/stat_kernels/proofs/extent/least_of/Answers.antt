@@ -1,6 +1,5 @@
 use Rattle.std.proofs.Common.{arith}
-use Rattle.std.specs.Int.{int_min}
-use Rattle.std.proofs.lemmas.Int.{ints}
+use Rattle.stat_kernels.proofs.Common.{int_min, ints}
 use Rattle.stat_kernels.proofs.CountLaws.{number_read, next_chosen, all_chosen}
 use Rattle.stat_kernels.proofs.extent.least_of.Goals as goal
 

@@ -1,12 +1,6 @@
 use Rattle.std.proofs.Common.{◌+◌, ◌-◌, ◌≤◌, ap, arith}
-use Rattle.std.specs.Int.{int_min, int_max}
-use Rattle.std.proofs.lemmas.Bool.Decides.{nat_tests}
-use Rattle.vx_base.specs.Image.{ImageValue, IsImage, at}
-use Rattle.vx_base.specs.Statistics.{chosen, samples_in}
+use Rattle.stat_kernels.proofs.Common.{int_min, int_max, nat_tests, ImageValue, IsImage, at, chosen, samples_in, Band, band_of, Found}
 use Rattle.image_core.specs.Bands.{IsInRows}
-use Rattle.image_core.specs.declared.band.Band.{Band}
-use Rattle.stat_kernels.specs.Part.{band_of}
-use Rattle.stat_kernels.specs.declared.located.Found.{Found}
 use Rattle.stat_kernels.proofs.LocatedLaws.{first_within}
 use Rattle.stat_kernels.proofs.extremes.add_min_max.Goals as goal
 

@@ -1,10 +1,5 @@
 use Rattle.std.proofs.Common.{◌≡◌, ◌∙◌, sym, ap, map, length, arith}
-use Rattle.std.specs.Int.{int_min, int_max}
-use Rattle.vx_base.specs.Image.{at}
-use Rattle.vx_base.specs.Statistics.{places}
-use Rattle.stat_kernels.specs.declared.located.Found.{Found}
-use Rattle.stat_kernels.specs.Part.{valid_in}
-use Rattle.stat_kernels.specs.Located.{found_in}
+use Rattle.stat_kernels.proofs.Common.{int_min, int_max, at, places, Found, valid_in, found_in}
 use Rattle.stat_kernels.proofs.Rows.{above}
 use Rattle.stat_kernels.proofs.PlaceLaws.{places_none, places_fit}
 use Rattle.stat_kernels.proofs.LocatedLaws.{at_most, next_found}

@@ -1,8 +1,5 @@
 use Rattle.std.proofs.Common.{◌≡◌}
-use Rattle.vx_base.specs.Image.{at}
-use Rattle.vx_base.specs.Statistics.{places}
-use Rattle.stat_kernels.specs.Part.{valid_in}
-use Rattle.stat_kernels.specs.Located.{found_in}
+use Rattle.stat_kernels.proofs.Common.{at, places, valid_in, found_in}
 use Rattle.stat_kernels.proofs.Rows.{above}
 use Rattle.stat_kernels.proofs.extremes.locate.Given as goal
 

@@ -1,11 +1,5 @@
 use Rattle.std.proofs.Common.{◌∙◌, ap}
-use Rattle.vx_base.specs.Description.{Description}
-use Rattle.vx_base.specs.Image.{at}
-use Rattle.vx_base.specs.Statistics.{extremes, places}
-use Rattle.image_core.specs.Bands.{all_rows}
-use Rattle.image_core.specs.declared.band.Band.{Band}
-use Rattle.stat_kernels.specs.Located.{extremes_of, found_in}
-use Rattle.stat_kernels.specs.Part.{valid_in}
+use Rattle.stat_kernels.proofs.Common.{Description, at, extremes, places, all_rows, Band, extremes_of, found_in, valid_in}
 use Rattle.stat_kernels.proofs.BandLaws.{all_valid}
 use Rattle.stat_kernels.proofs.extremes.min_max.Goals as goal
 

@@ -1,4 +1,4 @@
-use Rattle.vx_base.specs.Statistics.{valid_samples}
+use Rattle.stat_kernels.proofs.Common.{valid_samples}
 use Rattle.stat_kernels.proofs.ExtremeLaws.{least_bounds, greatest_bounds, least_reached, greatest_reached}
 use Rattle.stat_kernels.proofs.laws.extremes_bound.Goals as goal
 

@@ -1,5 +1,5 @@
 use Rattle.std.proofs.Common.{◌≡◌, ◌*◌, map, take}
-use Rattle.vx_base.specs.Statistics.{count_of}
+use Rattle.stat_kernels.proofs.Common.{count_of}
 use Rattle.stat_kernels.proofs.occurrences.count_of.Given as goal
 
 abbrev pub invariant-loop-k : goal.invariant-loop-k

@@ -1,5 +1,5 @@
 use Rattle.std.proofs.Common.{◌≡◌, ◌+◌, ◌%◌, ◌<◌, ◌∙◌, length, get_or, arith}
-use Rattle.stat_kernels.specs.Sums.{sum_below}
+use Rattle.stat_kernels.proofs.Common.{sum_below}
 use Rattle.stat_kernels.proofs.LaneSums.{total_more, place_sum, place_written, all_written}
 use Rattle.stat_kernels.proofs.running.add_row.Goals as goal
 

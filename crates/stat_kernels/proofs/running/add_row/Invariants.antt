@@ -1,6 +1,5 @@
 use Rattle.std.proofs.Common.{◌≡◌, ◌%◌, ◌^◌, map, take}
-use Rattle.std.specs.List.{sum, range_with_len}
-use Rattle.stat_kernels.specs.Sums.{sum_below}
+use Rattle.stat_kernels.proofs.Common.{sum, range_with_len, sum_below}
 use Rattle.stat_kernels.proofs.running.add_row.Given as goal
 
 abbrev pub invariant-loop-k : goal.invariant-loop-k

@@ -1,5 +1,5 @@
 use Rattle.std.proofs.Common.{◌≡◌, ◌+◌, ◌%◌, ◌<◌, ◌∙◌, ap, length, arith}
-use Rattle.stat_kernels.specs.Sums.{sum_below}
+use Rattle.stat_kernels.proofs.Common.{sum_below}
 use Rattle.stat_kernels.proofs.LaneSums.{total_more, place_sum, place_written, place_past, unwritten_place, all_written}
 use Rattle.stat_kernels.proofs.running.add_row_to.Goals as goal
 

@@ -1,5 +1,5 @@
 use Rattle.std.proofs.Common.{◌≤◌}
-use Rattle.stat_kernels.specs.Sums.{AreSums}
+use Rattle.stat_kernels.proofs.Common.{AreSums}
 use Rattle.stat_kernels.proofs.sums.add_lines.Given as goal
 
 abbrev pub invariant-loop-line : goal.invariant-loop-line

@@ -1,10 +1,5 @@
-use Rattle.std.proofs.Common.{◌≡◌, ◌+◌, ◌*◌, ◌≤◌, ◌∙◌, pos, length, map, take, drop, ap, sym, subst, arith, option_copied}
-use Rattle.std.proofs.lemmas.List.{length-take-le}
-use Rattle.vx_base.specs.Description.{Description}
-use Rattle.vx_base.specs.Image.{run, within}
-use Rattle.vx_base.specs.Statistics.{sum_to}
-use Rattle.vx_base.proofs.TableLaws.{row_fits}
-use Rattle.stat_kernels.specs.Sums.{IsRowAbove}
+use Rattle.std.proofs.Common.{◌≡◌, ◌+◌, ◌*◌, ◌≤◌, ◌∙◌, pos, length, map, take, drop, ap, sym, subst, arith, option_copied, length-take-le}
+use Rattle.stat_kernels.proofs.Common.{Description, run, within, sum_to, row_fits, IsRowAbove}
 use Rattle.stat_kernels.proofs.SumLaws.{rows_written}
 use Rattle.stat_kernels.proofs.NextRowLaws.{row_above}
 use Rattle.stat_kernels.proofs.sums.integral_on.Goals as goal

@@ -1,7 +1,6 @@
 use Rattle.std.proofs.Common.{◌≡◌, ◌*◌, ℕ, pos, map, take, option_copied}
-use Rattle.vx_base.specs.Image.{ImageValue, band, within}
-use Rattle.vx_base.specs.Statistics.{sum_to}
-use Rattle.stat_kernels.specs.Sums.{AreRowsOf, IsRowAbove}
+use Rattle.stat_kernels.proofs.Common.{ImageValue, band, within, sum_to, IsRowAbove}
+use Rattle.stat_kernels.specs.Sums.{AreRowsOf}
 use Rattle.stat_kernels.proofs.sums.integral_on.Given as goal
 
 abbrev pub invariant-loop-k : goal.invariant-loop-k

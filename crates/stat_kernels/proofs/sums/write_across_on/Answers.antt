@@ -1,7 +1,5 @@
 use Rattle.std.proofs.Common.{◌≡◌, ◌+◌, ◌-◌, ◌∙◌, length, take, drop, replicate, ap, subst, arith, unwrap_or, option_copied, option_map, IfSome}
-use Rattle.vx_base.specs.Image.{at, run}
-use Rattle.vx_base.proofs.TableLaws.{run-same}
-use Rattle.stat_kernels.specs.Sums.{sums_below}
+use Rattle.stat_kernels.proofs.Common.{at, run, run-same, sums_below}
 use Rattle.stat_kernels.proofs.NextRowLaws.{lent_long, next_row, same_columns}
 use Rattle.stat_kernels.proofs.sums.write_across_on.Goals as goal
 

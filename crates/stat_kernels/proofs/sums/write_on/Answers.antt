@@ -1,5 +1,5 @@
 use Rattle.std.proofs.Common.{◌∙◌, pos, map, replicate, ap, sym}
-use Rattle.vx_base.proofs.ZeroLaws.{map-replicate}
+use Rattle.stat_kernels.proofs.Common.{map-replicate}
 use Rattle.stat_kernels.proofs.NextRowLaws.{no_sums}
 use Rattle.stat_kernels.proofs.sums.write_on.Goals as goal
 

@@ -1,10 +1,5 @@
-use Rattle.std.proofs.Common.{◌≡◌, ◌*◌, ◌+◌, ◌≤◌, ◌∙◌, ap, sym, pos, map, take, drop, length, arith}
-use Rattle.std.proofs.lemmas.List.{length-take-le}
-use Rattle.vx_base.specs.Description.{Description}
-use Rattle.vx_base.specs.Image.{run, within}
-use Rattle.vx_base.specs.Statistics.{sum_to}
-use Rattle.vx_base.proofs.TableLaws.{row_fits}
-use Rattle.stat_kernels.specs.Sums.{AreAbove}
+use Rattle.std.proofs.Common.{◌≡◌, ◌*◌, ◌+◌, ◌≤◌, ◌∙◌, ap, sym, pos, map, take, drop, length, arith, length-take-le}
+use Rattle.stat_kernels.proofs.Common.{Description, run, within, sum_to, row_fits, AreAbove}
 use Rattle.stat_kernels.proofs.SumLaws.{above_at, above_next, rows_written}
 use Rattle.stat_kernels.proofs.sums.write_sums.Goals as goal
 

@@ -1,8 +1,5 @@
-use Rattle.std.proofs.Common.{◌≡◌, ◌*◌, ◌+◌, pos, map, take}
-use Rattle.std.specs.Prelude.{IfSome}
-use Rattle.vx_base.specs.Image.{band, within}
-use Rattle.vx_base.specs.Statistics.{sum_to}
-use Rattle.stat_kernels.specs.Sums.{AreAbove, last_row}
+use Rattle.std.proofs.Common.{◌≡◌, ◌*◌, ◌+◌, pos, map, take, IfSome}
+use Rattle.stat_kernels.proofs.Common.{band, within, sum_to, AreAbove, last_row}
 use Rattle.stat_kernels.proofs.sums.write_sums.Given as goal
 
 abbrev pub invariant-loop-k : goal.invariant-loop-k

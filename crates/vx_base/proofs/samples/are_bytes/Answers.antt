@@ -1,8 +1,5 @@
 use Rattle.std.proofs.Common.{arith, pos}
-use Rattle.std.proofs.lemmas.Int.{ints}
-use Rattle.std.proofs.lemmas.List.Elements.{All-map, All-from_get_or}
-use Rattle.vx_base.specs.declared.format.Format.TheVariants.{U8}
-use Rattle.vx_base.specs.Sample.{IsSample}
+use Rattle.vx_base.proofs.Common.{ints, All-map, All-from_get_or, U8, IsSample}
 use Rattle.vx_base.proofs.samples.are_bytes.Goals as goal
 
 pub returns : goal.returns

@@ -1,6 +1,5 @@
 use Rattle.std.proofs.Common.{ℕ, ℤ, ◌<◌, slice_index_or}
-use Rattle.vx_base.specs.declared.format.Format.TheVariants.{S16}
-use Rattle.vx_base.specs.Sample.{IsSample}
+use Rattle.vx_base.proofs.Common.{S16, IsSample}
 use Rattle.vx_base.proofs.samples.are_shorts.Given as goal
 
 abbrev pub invariant-loop-sample : goal.invariant-loop-sample

@@ -1,5 +1,5 @@
 use Rattle.std.proofs.Common.{arith, rules, refl, ◌∙◌}
-use Rattle.std.proofs.lemmas.Result.{err_from_is_err_and}
+use Rattle.vx_requests.proofs.Common.{err_from_is_err_and}
 use Rattle.vx_requests.proofs.Progress.{started, went_on, broke_off, left_there}
 use Rattle.vx_requests.proofs.ReadCounts.{KeepsCount-more}
 use Rattle.vx_requests.proofs.serving.serve.Goals as goal

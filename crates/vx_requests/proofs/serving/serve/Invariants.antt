@@ -1,6 +1,5 @@
 use Rattle.std.proofs.Common.{◌≡◌, ◌+◌, ◌≤◌, ◌^◌, ℕ, Ok}
-use Rattle.vx_requests.specs.Serving.Clients.{states_of}
-use Rattle.vx_requests.specs.Frame.Reading.{KeepsCount}
+use Rattle.vx_requests.proofs.Common.{states_of, KeepsCount}
 use Rattle.vx_requests.proofs.Progress.{Progress}
 use Rattle.vx_requests.proofs.serving.serve.Given as goal
 

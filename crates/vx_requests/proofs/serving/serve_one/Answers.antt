@@ -1,5 +1,5 @@
 use Rattle.std.proofs.Common.{inr}
-use Rattle.std.proofs.lemmas.Result.{err_from_is_err_and}
+use Rattle.vx_requests.proofs.Common.{err_from_is_err_and}
 use Rattle.vx_requests.proofs.Turns.{failed_turn, cut_turn, served_turn}
 use Rattle.vx_requests.proofs.serving.serve_one.Goals as goal
 

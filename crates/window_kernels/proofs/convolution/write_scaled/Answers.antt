@@ -1,6 +1,5 @@
-use Rattle.std.proofs.Common.{◌≡◌, ◌<◌, pos, ◌∙◌, ap, get_or, length, arith, w32, to_z, of_z}
-use Rattle.window_kernels.proofs.Common.{unsigned_abs, int_div, ints, clamp}
-use Rattle.std.specs.Prelude.{◌^◌}
+use Rattle.std.proofs.Common.{◌≡◌, ◌<◌, pos, ◌∙◌, ap, get_or, length, arith, w32, to_z, of_z, unsigned_abs, int_div, ◌^◌}
+use Rattle.window_kernels.proofs.Common.{ints, clamp}
 use Rattle.window_kernels.proofs.ProductLaws.{item_mapped, sum_of_bits}
 use Rattle.window_kernels.proofs.convolution.write_scaled.Goals as goal
 

@@ -1,6 +1,5 @@
-use Rattle.std.proofs.Common.{◌≡◌, pos, map, take}
-use Rattle.window_kernels.proofs.Common.{int_div, clamp}
-use Rattle.std.specs.Prelude.{◌^◌}
+use Rattle.std.proofs.Common.{◌≡◌, pos, map, take, int_div, ◌^◌}
+use Rattle.window_kernels.proofs.Common.{clamp}
 use Rattle.window_kernels.proofs.convolution.write_scaled.Given as goal
 
 abbrev pub invariant-loop-i : goal.invariant-loop-i

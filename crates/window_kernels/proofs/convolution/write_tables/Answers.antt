@@ -1,5 +1,5 @@
-use Rattle.std.proofs.Common.{◌≡◌, ◌≤◌, ◌*◌, ◌/◌, ◌%◌, ◌+◌, ◌∙◌, ap, sym, subst, map, length, arith, w16, FitsSigned}
-use Rattle.window_kernels.proofs.Common.{Each1, map-id, take_all, Each1-get_or, run, length-run, turned, turned_pairs}
+use Rattle.std.proofs.Common.{◌≡◌, ◌≤◌, ◌*◌, ◌/◌, ◌%◌, ◌+◌, ◌∙◌, ap, sym, subst, map, length, arith, w16, FitsSigned, map-id, take_all}
+use Rattle.window_kernels.proofs.Common.{Each1, Each1-get_or, run, length-run, turned, turned_pairs}
 use Rattle.window_kernels.proofs.MatrixLaws.{table_written}
 use Rattle.window_kernels.proofs.RowLaws.{part_fits}
 use Rattle.window_kernels.proofs.convolution.write_tables.Goals as goal

@@ -1,5 +1,5 @@
-use Rattle.std.proofs.Common.{pos, ◌+ℤ◌, ◌-ℤ◌, length, sym, ◌∙◌}
-use Rattle.window_kernels.proofs.Common.{◌*ℤ◌, map-id, look, gradient_x, gradient_y, x_is_x, y_is_y, weighted, change}
+use Rattle.std.proofs.Common.{pos, ◌+ℤ◌, ◌-ℤ◌, length, sym, ◌∙◌, ◌*ℤ◌, map-id}
+use Rattle.window_kernels.proofs.Common.{look, gradient_x, gradient_y, x_is_x, y_is_y, weighted, change}
 use Rattle.window_kernels.specs.declared.sums.WeightedSum.{WeightedSum}
 use Rattle.window_kernels.specs.declared.sums.Change.{Change}
 use Rattle.window_kernels.proofs.ColumnLaws.{nines_across}

@@ -1,5 +1,5 @@
-use Rattle.std.proofs.Common.{◌≡◌, ◌∙◌, length, ap, sym, zero-add, arith, w16, to_z, of_z}
-use Rattle.window_kernels.proofs.Common.{ints, take_all, run, x_at, y_at}
+use Rattle.std.proofs.Common.{◌≡◌, ◌∙◌, length, ap, sym, zero-add, arith, w16, to_z, of_z, take_all}
+use Rattle.window_kernels.proofs.Common.{ints, run, x_at, y_at}
 use Rattle.vx_base.proofs.TableLaws.{sample_written}
 use Rattle.window_kernels.proofs.gradients.write_changes.Goals as goal
 

@@ -1,5 +1,5 @@
-use Rattle.std.proofs.Common.{pos, ◌+ℤ◌, ◌-ℤ◌, length, ◌∙◌, arith}
-use Rattle.window_kernels.proofs.Common.{◌*ℤ◌, ints, look, gradient_x, gradient_y, x_is_x, y_is_y, weighted, change}
+use Rattle.std.proofs.Common.{pos, ◌+ℤ◌, ◌-ℤ◌, length, ◌∙◌, arith, ◌*ℤ◌}
+use Rattle.window_kernels.proofs.Common.{ints, look, gradient_x, gradient_y, x_is_x, y_is_y, weighted, change}
 use Rattle.window_kernels.proofs.ColumnLaws.{nines_in_place}
 use Rattle.window_kernels.proofs.gradients.write_inside.Goals as goal
 

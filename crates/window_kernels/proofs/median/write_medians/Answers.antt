@@ -1,5 +1,5 @@
-use Rattle.std.proofs.Common.{◌≡◌, ℕ, pos, map, length, ◌∙◌, ap, sym, arith, zero-add}
-use Rattle.window_kernels.proofs.Common.{take_all, run, item_written, three_at, median_of_sorted}
+use Rattle.std.proofs.Common.{◌≡◌, ℕ, pos, map, length, ◌∙◌, ap, sym, arith, zero-add, take_all}
+use Rattle.window_kernels.proofs.Common.{run, item_written, three_at, median_of_sorted}
 use Rattle.window_kernels.proofs.median.write_medians.Goals as goal
 
 pub loop-i-preserved : goal.loop-i-preserved

@@ -1,5 +1,5 @@
-use Rattle.std.proofs.Common.{◌≡◌, ℕ, ℤ, ◌+◌, ◌-◌, ◌≤◌, List, length, map, take, drop, ap, ◌∙◌, sym, subst, w16, w32, FitsSigned, to_z, of_z, ◌+ℤ◌}
-use Rattle.window_kernels.proofs.Common.{◌*ℤ◌, Each1, chunk, zip2, Each1-chunk, length-chunk, IsUpTo, evens_of, odds_of}
+use Rattle.std.proofs.Common.{◌≡◌, ℕ, ℤ, ◌+◌, ◌-◌, ◌≤◌, List, length, map, take, drop, ap, ◌∙◌, sym, subst, w16, w32, FitsSigned, to_z, of_z, ◌+ℤ◌, ◌*ℤ◌}
+use Rattle.window_kernels.proofs.Common.{Each1, chunk, zip2, Each1-chunk, length-chunk, IsUpTo, evens_of, odds_of}
 use Rattle.window_kernels.proofs.BitLaws.{loaded, bytes_fit, product_fits, of_bits}
 use Rattle.window_kernels.proofs.PlaceLaws.{eight_along}
 use Rattle.window_kernels.proofs.products.eight_places.Goals as goal

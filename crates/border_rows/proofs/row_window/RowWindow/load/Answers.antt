@@ -1,6 +1,5 @@
-use Rattle.std.proofs.Common.{◌≡◌, ◌∙◌, ◌-ℤ◌, ◌+◌, ◌*◌, ◌++◌, ap, subst, length, map, take, drop, pos, w32}
+use Rattle.std.proofs.Common.{◌≡◌, ◌∙◌, ◌-ℤ◌, ◌+◌, ◌*◌, ◌++◌, ap, subst, length, map, take, drop, pos, w32, take_at}
 use Rattle.std.proofs.lemmas.Int.{to_z-of_z}
-use Rattle.std.proofs.lemmas.List.{take_at}
 use Rattle.vx_base.specs.Image.{run}
 use Rattle.vx_base.specs.Window.{look}
 use Rattle.border_rows.specs.RowWindow.{RowWindowValue}

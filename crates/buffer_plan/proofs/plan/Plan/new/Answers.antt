@@ -1,4 +1,4 @@
-use Rattle.buffer_plan.specs.declared.plan.Plan.{Plan}
+use Rattle.buffer_plan.proofs.Common.{Plan}
 use Rattle.buffer_plan.proofs.VerifiedLemmas.{planned, slots_of}
 use Rattle.buffer_plan.proofs.plan.Plan.new.Goals as goal
 

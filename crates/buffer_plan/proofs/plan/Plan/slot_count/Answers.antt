@@ -1,6 +1,5 @@
 use Rattle.std.proofs.Common.{◌≡◌, arith}
-use Rattle.std.proofs.lemmas.Grind.{common_steps}
-use Rattle.buffer_plan.specs.Places.{told}
+use Rattle.buffer_plan.proofs.Common.{common_steps, told}
 use Rattle.buffer_plan.proofs.LeastLemmas.{least}
 use Rattle.buffer_plan.proofs.plan.Plan.slot_count.Goals as goal
 

@@ -1,12 +1,7 @@
 use Rattle.std.proofs.Common.{Result, Ok, inl, inr, ap, sym, subst, rules}
-use Rattle.client_model.specs.declared.reply.Reply.{Reply}
-use Rattle.client_model.specs.Answer.{answered}
-use Rattle.client_model.specs.States.{KeepsLimits}
+use Rattle.client_contexts.proofs.Common.{Reply, answered, KeepsLimits, AreKept, KeepsVerified, IsKeptWithin, verified_in, told_of, Opened}
 use Rattle.client_laws.proofs.RefusalLaws.{IsTold, outcome_told}
 use Rattle.client_contexts.specs.declared.memory.NoMemory.{NoMemory}
-use Rattle.client_contexts.specs.Kept.{AreKept, KeepsVerified, IsKeptWithin, verified_in}
-use Rattle.client_contexts.specs.Steps.{told_of}
-use Rattle.client_contexts.specs.World.{Opened}
 use Rattle.client_contexts.proofs.KeptGraphLemmas.{left_are_kept}
 use Rattle.client_contexts.proofs.VerifiedLemmas.{lost_unkept, lost_none, ran_keeps, done_keeps, shown_same}
 use Rattle.client_contexts.proofs.client.Client.answer.Goals as goal

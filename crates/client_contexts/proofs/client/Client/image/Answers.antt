@@ -1,7 +1,6 @@
 use Rattle.std.proofs.Common.{sym, subst}
+use Rattle.client_contexts.proofs.Common.{KeepsLimits, Opened}
 use Rattle.std.proofs.lemmas.Result.{IfOk-weaker}
-use Rattle.client_model.specs.States.{KeepsLimits}
-use Rattle.client_contexts.specs.World.{Opened}
 use Rattle.client_contexts.proofs.OutcomeLemmas.{image_is}
 use Rattle.client_contexts.proofs.client.Client.image.Goals as goal
 

@@ -1,7 +1,6 @@
 use Rattle.std.proofs.Common.{sym, subst}
-use Rattle.client_model.specs.States.{KeepsLimits}
+use Rattle.client_contexts.proofs.Common.{KeepsLimits, Opened}
 use Rattle.client_contexts.specs.Steps.{Keeps}
-use Rattle.client_contexts.specs.World.{Opened}
 use Rattle.client_contexts.proofs.KeptGraphLemmas.{kept_written}
 use Rattle.client_contexts.proofs.client.Client.write.Goals as goal
 

@@ -1,8 +1,7 @@
 use Rattle.std.proofs.Common.{◌<◌, ◌^◌, sym, subst, arith}
+use Rattle.client_contexts.proofs.Common.{KeepsLimits, Opened}
 use Rattle.std.proofs.lemmas.List.{get_or_default}
-use Rattle.client_model.specs.States.{KeepsLimits}
 use Rattle.client_contexts.specs.Steps.{Keeps}
-use Rattle.client_contexts.specs.World.{Opened}
 use Rattle.client_contexts.proofs.TextLemmas.{kept_text_written}
 use Rattle.client_contexts.proofs.client.Client.write_text.Goals as goal
 

@@ -1,8 +1,6 @@
 use Rattle.std.proofs.Common.{◌∙◌, ℕ, List, ap, sym, subst}
-use Rattle.std.specs.BTreeMap.{insert_entry}
-use Rattle.std.specs.Ordering.{nat_cmp}
-use Rattle.client_contexts.specs.Blocks.{IsRuntime}
-use Rattle.client_contexts.specs.World.{Opened, World, state_of}
+use Rattle.client_contexts.proofs.Common.{insert_entry, nat_cmp, IsRuntime, Opened, World}
+use Rattle.client_contexts.specs.World.{state_of}
 use Rattle.client_contexts.proofs.RuntimeLemmas.{none_open, opened_is}
 use Rattle.client_contexts.proofs.runtime.Runtime.answer_without.Goals as goal
 

@@ -1,6 +1,5 @@
 use Rattle.std.proofs.Common.{ℕ, List, sym, subst}
-use Rattle.client_contexts.specs.Blocks.{IsRuntime}
-use Rattle.client_contexts.specs.World.{Opened}
+use Rattle.client_contexts.proofs.Common.{IsRuntime, Opened}
 use Rattle.client_contexts.proofs.RuntimeLemmas.{lends_to_client, removed_is}
 use Rattle.client_contexts.proofs.runtime.Runtime.release_context.Goals as goal
 

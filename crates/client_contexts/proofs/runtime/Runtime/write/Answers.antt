@@ -1,14 +1,7 @@
-use Rattle.std.proofs.Common.{ℕ, List, Result, Ok, Some, refl, sym, subst, arith, rules}
-use Rattle.std.specs.Prelude.{IsSome}
+use Rattle.std.proofs.Common.{ℕ, List, Result, Ok, Some, refl, sym, subst, arith, rules, IsSome}
+use Rattle.client_contexts.proofs.Common.{nat_cmp, Reply, Request, WriteImage, AppliesToKept, IsRuntime, Opened, World}
 use Rattle.std.specs.BTreeMap.{get_by}
-use Rattle.std.specs.Ordering.{nat_cmp}
-use Rattle.client_model.specs.declared.reply.Reply.{Reply}
-use Rattle.client_model.specs.declared.request.Request.{Request}
-use Rattle.client_model.specs.declared.request.Request.TheVariants.{WriteImage}
 use Rattle.client_contexts.specs.declared.memory.NoMemory.{NoMemory}
-use Rattle.client_contexts.specs.Applies.{AppliesToKept}
-use Rattle.client_contexts.specs.Blocks.{IsRuntime}
-use Rattle.client_contexts.specs.World.{Opened, World}
 use Rattle.client_contexts.proofs.RuntimeLemmas.{client_keeps, changed_is, applies_to_kept}
 use Rattle.client_contexts.proofs.VerifiedLemmas.{same_keeps}
 use Rattle.client_contexts.proofs.runtime.Runtime.write.Goals as goal

@@ -1,6 +1,5 @@
 use Rattle.std.proofs.Common.{ℕ, List, sym, subst, arith}
-use Rattle.client_contexts.specs.Blocks.{IsRuntime}
-use Rattle.client_contexts.specs.World.{Opened}
+use Rattle.client_contexts.proofs.Common.{IsRuntime, Opened}
 use Rattle.client_contexts.proofs.RuntimeLemmas.{client_keeps, changed_is}
 use Rattle.client_contexts.proofs.runtime.Runtime.write_text.Goals as goal
 

@@ -1,5 +1,5 @@
-use Rattle.std.proofs.Common.{◌≡◌, ℕ, ℤ, List, Option, Some, None, IfSome, map, pos, take, ap, sym, subst, ◌∙◌, arith, IsSome}
-use Rattle.graph_run.proofs.Common.{map-id, take-map, IfSome_then, Description, sample_count, ImageValue, IsImage, image_over, values, VirtualOutput, Slot, standing_image}
+use Rattle.std.proofs.Common.{◌≡◌, ℕ, ℤ, List, Option, Some, None, IfSome, map, pos, take, ap, sym, subst, ◌∙◌, arith, IsSome, map-id}
+use Rattle.graph_run.proofs.Common.{take-map, IfSome_then, Description, sample_count, ImageValue, IsImage, image_over, values, VirtualOutput, Slot, standing_image}
 use Rattle.graph_run.proofs.stage.Slot.image.Goals as goal
 
 -- as many of a slot's samples as the image there has places

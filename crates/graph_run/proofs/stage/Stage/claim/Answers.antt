@@ -1,5 +1,6 @@
 use Rattle.std.proofs.Common.{◌≡◌, IfSome, Some, refl, subst, ap, arith}
-use Rattle.graph_run.proofs.Common.{slice_get_read, Rectangle, whole, VirtualOutput, Slot, HasRoomFor, claimed}
+use Rattle.graph_run.proofs.Common.{slice_get_read, Rectangle, VirtualOutput, Slot, HasRoomFor, claimed}
+use Rattle.vx_base.specs.Rectangle.{whole}
 use Rattle.graph_run.proofs.ClaimLemmas.{slice_get-set, claim_keeps}
 use Rattle.graph_run.proofs.stage.Stage.claim.Goals as goal
 

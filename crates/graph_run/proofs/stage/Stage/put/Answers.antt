@@ -1,5 +1,5 @@
-use Rattle.std.proofs.Common.{ℤ, List, length, ap, sym, ◌∙◌, arith}
-use Rattle.graph_run.proofs.Common.{take_all, sample_count, ImageValue, image_over, description_of, ObjectValue, values, with_objects, with_object, image_value, with_samples, cell_object, image_held, scene}
+use Rattle.std.proofs.Common.{ℤ, List, length, ap, sym, ◌∙◌, arith, take_all}
+use Rattle.graph_run.proofs.Common.{sample_count, ImageValue, image_over, description_of, ObjectValue, values, with_objects, with_object, image_value, with_samples, cell_object, image_held, scene}
 use Rattle.graph_run.proofs.StandingLemmas.{place_is, nowhere, as_image, as_object, format_held, slot_set, held_set}
 use Rattle.graph_run.proofs.stage.Stage.put.Goals as goal
 

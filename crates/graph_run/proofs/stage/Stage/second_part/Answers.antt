@@ -1,5 +1,6 @@
 use Rattle.std.proofs.Common.{◌≡◌, Option, Some, IsTrue, ap, sym, subst, ◌∙◌, arith, is_some, unwrap_or, IfSome, option_map}
-use Rattle.graph_run.proofs.Common.{U8, Cell, new_image, ObjectValue, ImageObject, IsObject, object_kind, object_held, cell_object, Slot, HasRows, HasRowsIn, part_seen, seen, seen_in, scene, Holds, IsRead}
+use Rattle.graph_run.proofs.Common.{U8, Cell, new_image, ObjectValue, ImageObject, IsObject, object_kind, object_held, cell_object, Slot, HasRows, HasRowsIn, part_seen, seen_in, scene, Holds, IsRead}
+use Rattle.graph_run.specs.Bands.{seen}
 use Rattle.graph_run.proofs.PartSeenLemmas.{real_nowhere}
 use Rattle.graph_run.proofs.StepLemmas.{none_found, virtual_read, real_cell, not_virtual}
 use Rattle.graph_run.proofs.stage.Stage.second_part.Goals as goal

@@ -1,5 +1,4 @@
-use Rattle.std.proofs.Common.{ap, sym, ◌∙◌}
-use Rattle.std.specs.Prelude.{is_none}
+use Rattle.std.proofs.Common.{ap, sym, ◌∙◌, is_none}
 use Rattle.graph_verify.proofs.GraphLemmas.{is_none-find, find_numbered, IsGraph-without_node}
 use Rattle.graph_verify.proofs.graph.Graph.remove_node.Goals as goal
 

@@ -1,5 +1,4 @@
-use Rattle.std.proofs.Common.{◌∙◌}
-use Rattle.std.specs.Prelude.{Some, None}
+use Rattle.std.proofs.Common.{◌∙◌, Some, None}
 use Rattle.graph_verify.proofs.VerifyLemmas.{description_found}
 use Rattle.graph_verify.proofs.verified.Verified.desc_of.Goals as goal
 

@@ -1,5 +1,4 @@
-use Rattle.std.proofs.Common.{◌∙◌, sym, refl}
-use Rattle.std.proofs.lemmas.List.{map-id}
+use Rattle.std.proofs.Common.{◌∙◌, sym, refl, map-id}
 use Rattle.vx_base.specs.declared.format.Format.TheVariants.{U8, S16, U32}
 use Rattle.image_core.proofs.BandLaws.{slice_cleared}
 use Rattle.image_core.proofs.image_mut.ImageMut.clear_outside.Goals as goal

@@ -1,6 +1,5 @@
-use Rattle.std.proofs.Common.{pos, take, ◌∙◌, sym, subst, arith, w16, FitsSigned}
-use Rattle.std.specs.Simd.Lanes.{Each1}
-use Rattle.std.proofs.lemmas.List.{take_all, map-id}
+use Rattle.std.proofs.Common.{pos, take, ◌∙◌, sym, subst, arith, w16, FitsSigned, take_all, map-id}
+use Rattle.lane_rows.proofs.Common.{Each1}
 use Rattle.std.proofs.lemmas.Simd.{Each1-from_get_or}
 use Rattle.lane_rows.proofs.ShortLaws.{told}
 use Rattle.lane_rows.proofs.item.I16Short.shorts.Goals as goal

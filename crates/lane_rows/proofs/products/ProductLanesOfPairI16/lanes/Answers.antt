@@ -1,7 +1,5 @@
-use Rattle.std.proofs.Common.{arith, ◌∙◌}
-use Rattle.std.proofs.lemmas.List.{map-id}
-use Rattle.vx_base.specs.declared.format.Format.TheVariants.{S16}
-use Rattle.vx_base.specs.Pixelwise.{product}
+use Rattle.std.proofs.Common.{arith, ◌∙◌, map-id}
+use Rattle.lane_rows.proofs.Common.{S16, product}
 use Rattle.lane_rows.proofs.BlockLaws.{pair_rest_written}
 use Rattle.lane_rows.proofs.products.ProductLanesOfPairI16.lanes.Goals as goal
 

@@ -1,7 +1,5 @@
 use Rattle.std.proofs.Common.{◌/◌, ◌*◌, ◌^◌, ◌∙◌, ap, map, pos, refl}
-use Rattle.vx_base.specs.declared.format.Format.TheVariants.{U8}
-use Rattle.vx_base.specs.Sample.{narrow}
-use Rattle.vx_base.specs.Pixelwise.{product}
+use Rattle.lane_rows.proofs.Common.{U8, narrow, product}
 use Rattle.lane_rows.proofs.LaneLaws.{pair_stored}
 use Rattle.lane_rows.proofs.products.ProductLanesOfPairU8U8U8.lanes.Goals as goal
 

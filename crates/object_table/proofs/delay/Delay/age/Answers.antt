@@ -1,5 +1,5 @@
-use Rattle.std.proofs.Common.{◌-◌, List, vec_len, ap, ◌∙◌}
-use Rattle.object_table.proofs.Common.{sum_by, ImageValue, image_bytes}
+use Rattle.std.proofs.Common.{◌-◌, List, vec_len, ap, ◌∙◌, sum_by}
+use Rattle.object_table.proofs.Common.{ImageValue, image_bytes}
 use Rattle.object_table.proofs.DelayLemmas.{sum-turned}
 use Rattle.object_table.proofs.delay.Delay.age.Goals as goal
 

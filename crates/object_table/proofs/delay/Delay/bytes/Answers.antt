@@ -1,5 +1,5 @@
-use Rattle.std.proofs.Common.{rules, ◌*◌, List, length, ap, sym, ◌∙◌}
-use Rattle.object_table.proofs.Common.{sum_by, ImageValue, image_bytes}
+use Rattle.std.proofs.Common.{rules, ◌*◌, List, length, ap, sym, ◌∙◌, sum_by}
+use Rattle.object_table.proofs.Common.{ImageValue, image_bytes}
 use Rattle.object_table.proofs.DelayLemmas.{bytes_alike}
 use Rattle.object_table.proofs.delay.Delay.bytes.Goals as goal
 

@@ -1,6 +1,6 @@
-use Rattle.std.proofs.Common.{◌≡◌, ◌∙◌, ℕ, ℤ, List, map, pos, ap, sym}
+use Rattle.std.proofs.Common.{◌≡◌, ◌∙◌, ℕ, ℤ, List, map, pos, ap, sym, map-id}
 use Rattle.object_table.proofs.Common.{image_over, band, within, with_valid, values, sample_from}
-use Rattle.std.proofs.lemmas.List.{map-id, with_items_is}
+use Rattle.std.proofs.lemmas.List.{with_items_is}
 use Rattle.object_table.specs.declared.stored.Stored.TheInside.{Inside}
 use Rattle.object_table.proofs.StoredLemmas.{cleared_is}
 use Rattle.object_table.proofs.stored.Stored.set_valid.Goals as goal

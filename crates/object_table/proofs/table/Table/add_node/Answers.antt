@@ -1,5 +1,5 @@
-use Rattle.std.proofs.Common.{◌≡◌, ℕ, ◌+◌, ◌≤◌, List, map, All, IsTrue, refl, sym, ap, subst, ◌∙◌}
-use Rattle.object_table.proofs.Common.{if◌then◌else◌, set_value, is_at, nat_cmp, err_from_is_err_and, can_add, with_node, ObjectValue, GraphObject, object_bytes, Entry, Context, Named, graph_value, IsTable, named, used_more, nodes_in, used_names, times}
+use Rattle.std.proofs.Common.{◌≡◌, ℕ, ◌+◌, ◌≤◌, List, map, All, IsTrue, refl, sym, ap, subst, ◌∙◌, if◌then◌else◌}
+use Rattle.object_table.proofs.Common.{set_value, is_at, nat_cmp, err_from_is_err_and, can_add, with_node, ObjectValue, GraphObject, object_bytes, Entry, Context, Named, graph_value, IsTable, named, used_more, nodes_in, used_names, times}
 use Rattle.graph_verify.specs.declared.fault.GraphFault.TheVariants as graph_fault
 use Rattle.object_table.proofs.EntryLemmas.{nothing_under, kind_under, under_is, shown_name, IsTable-written}
 use Rattle.object_table.proofs.GraphLemmas.{unchanged, live_there, all_below, few-uses, named-recounted, IsTable-added}

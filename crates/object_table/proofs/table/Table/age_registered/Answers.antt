@@ -1,5 +1,5 @@
-use Rattle.std.proofs.Common.{◌≡◌, ◌≢◌, ◌≤◌, ◌<◌, ℕ, List, ◌∷◌, [], length, take, get_or, sym, ap, subst, ◌∙◌, arith}
-use Rattle.object_table.proofs.Common.{AllPairs, take_all, GraphValue, aged_under, Context, with_objects, graph_under}
+use Rattle.std.proofs.Common.{◌≡◌, ◌≢◌, ◌≤◌, ◌<◌, ℕ, List, ◌∷◌, [], length, take, get_or, sym, ap, subst, ◌∙◌, arith, take_all}
+use Rattle.object_table.proofs.Common.{AllPairs, GraphValue, aged_under, Context, with_objects, graph_under}
 use Rattle.object_table.proofs.AgeLemmas.{aged_none, aged_more, kind_aged, graph_aged}
 use Rattle.object_table.proofs.table.Table.age_registered.Goals as goal
 use Rattle.object_table.proofs.table.Table.age_registered.Goals.{After-delays}

@@ -1,5 +1,5 @@
-use Rattle.std.proofs.Common.{◌≡◌, ℕ, List, [], map, Option, Some, None, cond, false, refl, sym, ap, ◌∙◌}
-use Rattle.object_table.proofs.Common.{unwrap_or, flat_map, set_value, is_at, option_map, nat_cmp, Node, Entry, Context, charge_of, object_named, with_objects, still_held, unnamed, Named, named, used_less, ended, kept, used_names, nodes_in}
+use Rattle.std.proofs.Common.{◌≡◌, ℕ, List, [], map, Option, Some, None, cond, false, refl, sym, ap, ◌∙◌, unwrap_or}
+use Rattle.object_table.proofs.Common.{flat_map, set_value, is_at, option_map, nat_cmp, Node, Entry, Context, charge_of, object_named, with_objects, still_held, unnamed, Named, named, used_less, ended, kept, used_names, nodes_in}
 use Rattle.object_table.proofs.EntryLemmas.{in_order, plain}
 use Rattle.object_table.proofs.KeptLemmas.{left_of, left-nil, left-ended, held-left}
 use Rattle.object_table.proofs.GraphLemmas.{AreLeft, names_in, named-unlive, none_there, named_there, released-left, IsTable-same}

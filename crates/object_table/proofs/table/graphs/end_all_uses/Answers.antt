@@ -1,5 +1,5 @@
-use Rattle.std.proofs.Common.{◌<◌, ◌≤◌, length, map, take, refl, ap, ◌∙◌, arith}
-use Rattle.object_table.proofs.Common.{flat_map, length-map, take_all, named, nodes_at, used_names}
+use Rattle.std.proofs.Common.{◌<◌, ◌≤◌, length, map, take, refl, ap, ◌∙◌, arith, take_all}
+use Rattle.object_table.proofs.Common.{flat_map, length-map, named, nodes_at, used_names}
 use Rattle.object_table.proofs.UseLemmas.{node_more}
 use Rattle.object_table.proofs.KeptLemmas.{left_of, left-nil, left-append, held-left, kind_kept, nodes_kept, count_kept}
 use Rattle.object_table.proofs.EntryBlockLemmas.{owns_after, Balances-trans}

@@ -1,5 +1,5 @@
-use Rattle.std.proofs.Common.{map, false, refl, sym, ap, ◌∙◌}
-use Rattle.object_table.proofs.Common.{remove_entry, is_at, nat_cmp, lt-ltb, le-ltb, charge_of, named, kept}
+use Rattle.std.proofs.Common.{map, false, refl, sym, ap, ◌∙◌, lt-ltb, le-ltb}
+use Rattle.object_table.proofs.Common.{remove_entry, is_at, nat_cmp, charge_of, named, kept}
 use Rattle.object_table.proofs.KeptLemmas.{all_kept, held-written, dropped, charge-written, ended-none, ended-one}
 use Rattle.object_table.proofs.EntryBlockLemmas.{owns-written, Balances-written, Balances-written_then}
 use Rattle.object_table.proofs.table.graphs.end_name.Goals as goal

@@ -1,5 +1,5 @@
-use Rattle.std.proofs.Common.{◌≡◌, true, map, refl, sym, ap, ◌∙◌}
-use Rattle.object_table.proofs.Common.{nat_lt, ◌||◌, remove_entry, set_value, is_at, nat_cmp, or_left, or_from, lt-ltb, le-ltb, charge_of, named, kept}
+use Rattle.std.proofs.Common.{◌≡◌, true, map, refl, sym, ap, ◌∙◌, nat_lt, ◌||◌, lt-ltb, le-ltb}
+use Rattle.object_table.proofs.Common.{remove_entry, set_value, is_at, nat_cmp, or_left, or_from, charge_of, named, kept}
 use Rattle.object_table.proofs.UseLemmas.{with_uses, less, less_is, used-one, used-none, operand_uses, no_operand_uses}
 use Rattle.object_table.proofs.KeptLemmas.{all_kept, held-written, dropped, charge-written, left_of, left-nil}
 use Rattle.object_table.proofs.EntryBlockLemmas.{owns-written, Balances-written, Balances-written_then}

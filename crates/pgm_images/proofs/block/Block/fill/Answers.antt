@@ -1,8 +1,6 @@
-use Rattle.std.proofs.Common.{◌+◌, ◌-◌, ℕ, get_or, drop, sym, subst, arith, bit_and}
-use Rattle.std.proofs.lemmas.List.{length-set}
+use Rattle.std.proofs.Common.{◌+◌, ◌-◌, ℕ, get_or, drop, sym, subst, arith, bit_and, length-set}
+use Rattle.pgm_images.proofs.Common.{count_trailing_zeros, take_next, ends, Kept}
 use lib.Bits.{and_le_r}
-use lib.Count.{count_trailing_zeros}
-use Rattle.pgm_images.specs.Marks.{take_next, ends, Kept}
 use Rattle.pgm_images.proofs.RasterLemmas.{filling_low}
 use Rattle.pgm_images.proofs.BlockLemmas.{Walks, walk_lowest}
 use Rattle.pgm_images.proofs.block.Block.fill.Goals as goal

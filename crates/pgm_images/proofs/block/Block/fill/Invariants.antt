@@ -1,5 +1,5 @@
 use Rattle.std.proofs.Common.{◌≡◌, ◌≤◌, ◌<◌, Bool, List, ℕ, Option, length, drop}
-use Rattle.pgm_images.specs.Raster.{PlainUpTo}
+use Rattle.pgm_images.proofs.Common.{PlainUpTo}
 use Rattle.pgm_images.proofs.BlockLemmas.{Walks}
 use Rattle.pgm_images.proofs.block.Block.fill.Given as goal
 

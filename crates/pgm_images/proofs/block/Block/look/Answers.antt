@@ -1,6 +1,5 @@
-use Rattle.std.proofs.Common.{◌+◌, ◌||◌, Bool, true, false, drop, subst, sym, arith}
-use Rattle.std.proofs.Common.{◌≡◌, refl}
-use Rattle.pgm_images.specs.Marks.{Tells}
+use Rattle.std.proofs.Common.{◌+◌, ◌||◌, Bool, true, false, drop, subst, sym, arith, ◌≡◌, refl}
+use Rattle.pgm_images.proofs.Common.{Tells}
 use Rattle.pgm_images.proofs.ShortLemmas.{five}
 use Rattle.pgm_images.proofs.BlockLemmas.{one_told}
 use Rattle.pgm_images.proofs.block.Block.look.Goals as goal

@@ -1,5 +1,5 @@
 use Rattle.std.proofs.Common.{◌≡◌, false}
-use Rattle.pgm_images.specs.Marks.{AreTold}
+use Rattle.pgm_images.proofs.Common.{AreTold}
 use Rattle.pgm_images.proofs.block.Block.look.Given as goal
 
 abbrev pub invariant-loop-i : goal.invariant-loop-i

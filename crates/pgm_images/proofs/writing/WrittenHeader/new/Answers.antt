@@ -1,7 +1,6 @@
 use Rattle.std.proofs.Common.{◌≡◌, ℕ, ◌≤◌, ◌<◌, length, decimal, arith, rules, IsTrue}
-use Rattle.std.proofs.lemmas.Bool.Decides.{nat_tests}
+use Rattle.pgm_images.proofs.Common.{nat_tests, is_side}
 use Rattle.std.proofs.lemmas.Fmt.{length-decimal-le}
-use Rattle.vx_base.specs.Description.{is_side}
 use Rattle.pgm_images.proofs.writing.WrittenHeader.new.Goals as goal
 
 side_limit : (n : ℕ) → IsTrue (is_side n) → n < 10000

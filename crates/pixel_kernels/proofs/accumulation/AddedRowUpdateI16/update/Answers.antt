@@ -1,5 +1,4 @@
-use Rattle.std.proofs.Common.{length, map, pos, ◌∙◌, sym}
-use Rattle.std.proofs.lemmas.List.{map-id}
+use Rattle.std.proofs.Common.{length, map, pos, ◌∙◌, sym, map-id}
 use Rattle.vx_base.specs.Image.{at}
 use Rattle.vx_base.proofs.TableLaws.{zip2_of_runs}
 use Rattle.pixel_kernels.proofs.accumulation.AddedRowUpdateI16.update.Goals as goal

@@ -1,8 +1,5 @@
-use Rattle.std.proofs.Common.{ap, ◌∙◌, rules, to_z, of_z, w16, FitsSigned}
-use Rattle.std.specs.Prelude.{int_lt}
-use Rattle.std.proofs.lemmas.Int.{to_z-of_z}
-use Rattle.stat_kernels.specs.Located.{joined}
-use Rattle.stat_kernels.specs.declared.located.Found.{Found}
+use Rattle.std.proofs.Common.{ap, ◌∙◌, rules, to_z, of_z, w16, FitsSigned, int_lt}
+use Rattle.stat_kernels.proofs.Common.{to_z-of_z, joined, Found}
 use Rattle.stat_kernels.proofs.located.Found.beside.Goals as goal
 
 pub returns : goal.returns

@@ -1,13 +1,5 @@
-use Rattle.std.proofs.Common.{◌≡◌, ◌<◌, ◌++◌, ◌∙◌, ap, sym, rules, to_z, of_z, w16, FitsSigned, map, length, arith}
-use Rattle.std.specs.Int.{int_min, int_max}
-use Rattle.std.specs.Prelude.{int_lt}
-use Rattle.std.proofs.lemmas.Bool.Decides.{nat_tests}
-use Rattle.std.proofs.lemmas.Int.{to_z-of_z}
-use Rattle.std.proofs.lemmas.List.{append-nil, length-map}
-use Rattle.vx_base.specs.Statistics.{row_places}
-use Rattle.stat_kernels.specs.declared.located.Found.{Found}
-use Rattle.stat_kernels.specs.declared.located.Located.{Located}
-use Rattle.stat_kernels.specs.Located.{found_in}
+use Rattle.std.proofs.Common.{◌≡◌, ◌<◌, ◌++◌, ◌∙◌, ap, sym, rules, to_z, of_z, w16, FitsSigned, map, length, arith, int_lt, append-nil}
+use Rattle.stat_kernels.proofs.Common.{int_min, int_max, nat_tests, to_z-of_z, length-map, row_places, Found, Located, found_in}
 use Rattle.stat_kernels.proofs.LocatedLaws.{downwards, upwards, chosen_among}
 use Rattle.stat_kernels.proofs.located.Found.joined.Goals as goal
 

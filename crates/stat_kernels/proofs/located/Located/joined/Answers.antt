@@ -1,6 +1,5 @@
 use Rattle.std.proofs.Common.{◌≡◌, ◌+◌, inl, inr, ◌∙◌, sym, ap, arith, rules, to_z, of_z, w16, FitsSigned}
-use Rattle.std.proofs.lemmas.Int.{to_z-of_z}
-use Rattle.std.proofs.lemmas.List.{length-map}
+use Rattle.stat_kernels.proofs.Common.{to_z-of_z, length-map}
 use Rattle.stat_kernels.proofs.CountLaws.{some_of_row, none_of_first}
 use Rattle.stat_kernels.proofs.LocatedLaws.{parts, joins_first, joins_beyond, joins_equal, joins_other}
 use Rattle.stat_kernels.proofs.located.Located.joined.Goals as goal

@@ -1,8 +1,5 @@
-use Rattle.std.proofs.Common.{ap, ◌∙◌, eqb, of_z, w16, map, take, length, arith}
-use lib.Count.{ones}
-use Rattle.std.specs.Prelude.{count_by}
-use Rattle.std.proofs.lemmas.List.{take_all, length-map}
-use Rattle.std.proofs.lemmas.Simd.{bitmask_splat, ones-mask_l}
+use Rattle.std.proofs.Common.{ap, ◌∙◌, eqb, of_z, w16, map, take, length, arith, count_by, take_all}
+use Rattle.stat_kernels.proofs.Common.{ones, length-map, bitmask_splat, ones-mask_l}
 use Rattle.stat_kernels.proofs.CountLaws.{bits_counted}
 use Rattle.stat_kernels.proofs.short.I16Short.count_in.Goals as goal
 

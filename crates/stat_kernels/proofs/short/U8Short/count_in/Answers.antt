@@ -1,8 +1,5 @@
-use Rattle.std.proofs.Common.{ap, ◌∙◌, eqb, w8, take, length, arith}
-use lib.Count.{ones}
-use Rattle.std.proofs.lemmas.List.{take_all}
-use Rattle.std.proofs.lemmas.Simd.{bitmask_splat, ones-mask_l}
-use Rattle.std.specs.Prelude.{count_by}
+use Rattle.std.proofs.Common.{ap, ◌∙◌, eqb, w8, take, length, arith, take_all, count_by}
+use Rattle.stat_kernels.proofs.Common.{ones, bitmask_splat, ones-mask_l}
 use Rattle.stat_kernels.proofs.CountLaws.{bytes_counted}
 use Rattle.stat_kernels.proofs.short.U8Short.count_in.Goals as goal
 

@@ -1,7 +1,5 @@
-use Rattle.std.proofs.Common.{zero, suc, ◌≡◌, ◌≤◌, ◌*◌, ◌<◌, ◌^◌, ◌<ℤ◌, ◌+ℤ◌, ◌*ℤ◌, ℕ, ℤ, pos, negsuc, ◌/◌, arith}
-use Rattle.std.specs.Int.{int_div_euclid}
-use Rattle.std.proofs.lemmas.Int.{ints}
-use Rattle.std.proofs.lemmas.Nat.{pow_pos}
+use Rattle.std.proofs.Common.{zero, suc, ◌≡◌, ◌≤◌, ◌*◌, ◌<◌, ◌^◌, ◌<ℤ◌, ◌+ℤ◌, ◌*ℤ◌, ℕ, ℤ, pos, negsuc, ◌/◌, arith, pow_pos}
+use Rattle.vx_base.proofs.Common.{int_div_euclid, ints}
 use Rattle.vx_base.proofs.laws.pixels.conversions_round_down.Goals as goal
 
 -- a quotient below zero, and one more

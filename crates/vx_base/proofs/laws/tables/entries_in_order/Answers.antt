@@ -1,10 +1,5 @@
-use Rattle.std.proofs.Common.{◌≡◌, ◌<◌, ◌+ℤ◌, ◌-ℤ◌, ℕ, ℤ, pos, IsTrue, arith}
-use Rattle.std.specs.Prelude.{unsigned_abs}
-use Rattle.std.proofs.lemmas.Int.{ints}
-use Rattle.std.proofs.lemmas.Bool.Decides.{nat_tests}
-use Rattle.vx_base.specs.declared.format.Format.{Format}
-use Rattle.vx_base.specs.declared.format.Format.TheVariants.{U8, S16, U32}
-use Rattle.vx_base.specs.Sample.{IsSample, least}
+use Rattle.std.proofs.Common.{◌≡◌, ◌<◌, ◌+ℤ◌, ◌-ℤ◌, ℕ, ℤ, pos, IsTrue, arith, unsigned_abs}
+use Rattle.vx_base.proofs.Common.{ints, nat_tests, Format, U8, S16, U32, IsSample, least}
 use Rattle.vx_base.specs.Lut.{is_full}
 use Rattle.vx_base.proofs.laws.tables.entries_in_order.Goals as goal
 

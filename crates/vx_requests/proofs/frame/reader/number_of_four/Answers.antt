@@ -1,4 +1,4 @@
-use Rattle.std.proofs.lemmas.Nat.{be_bytes_4}
+use Rattle.vx_requests.proofs.Common.{be_bytes_4}
 use Rattle.vx_requests.proofs.frame.reader.number_of_four.Goals as goal
 
 pub returns : goal.returns

@@ -1,5 +1,5 @@
 use Rattle.std.proofs.Common.{arith}
-use Rattle.std.proofs.lemmas.Nat.{be_bytes_2}
+use Rattle.vx_requests.proofs.Common.{be_bytes_2}
 use Rattle.vx_requests.proofs.frame.reader.number_of_two.Goals as goal
 
 pub returns : goal.returns

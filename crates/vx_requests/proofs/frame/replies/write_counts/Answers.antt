@@ -1,4 +1,4 @@
-use Rattle.std.proofs.lemmas.Result.{err_from_is_err_and}
+use Rattle.vx_requests.proofs.Common.{err_from_is_err_and}
 use Rattle.vx_requests.proofs.WrittenPieces.{Writes-first, Writes-then, Sends-failed, Sends-flushed}
 use Rattle.vx_requests.proofs.TextFrames.{counts_parts}
 use Rattle.vx_requests.proofs.frame.replies.write_counts.Goals as goal

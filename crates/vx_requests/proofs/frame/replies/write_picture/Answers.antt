@@ -1,6 +1,5 @@
 use Rattle.std.proofs.Common.{refl}
-use Rattle.std.proofs.lemmas.Result.{err_from_is_err_and}
-use Rattle.vx_base.specs.Picture.{PictureValue, values}
+use Rattle.vx_requests.proofs.Common.{err_from_is_err_and, PictureValue, values}
 use Rattle.vx_requests.proofs.WrittenPieces.{Writes-first, Writes-then, Sends-failed, Sends-flushed}
 use Rattle.vx_requests.proofs.PictureFrames.{picture_parts}
 use Rattle.vx_requests.proofs.frame.replies.write_picture.Goals as goal

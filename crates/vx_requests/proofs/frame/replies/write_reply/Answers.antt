@@ -1,11 +1,6 @@
 use Rattle.std.proofs.Common.{subst}
-use Rattle.client_model.specs.declared.reply.Reply.TheVariants.{Picture}
-use Rattle.vx_base.specs.Picture.{PictureValue, values}
-use Rattle.vx_requests.specs.Frame.Frames.{reply_bytes}
-use Rattle.vx_requests.specs.Serving.Clients.{spelled}
-use Rattle.vx_requests.specs.Stream.Transfer.{Sends}
+use Rattle.vx_requests.proofs.Common.{Picture, PictureValue, values, reply_bytes, spelled, Sends, said_of}
 use Rattle.vx_requests.proofs.PictureFrames.{picture_is}
-use Rattle.vx_wire.specs.Replies.{said_of}
 use Rattle.vx_requests.proofs.frame.replies.write_reply.Goals as goal
 
 pub returns-in-Described : goal.returns-in-Described

@@ -1,4 +1,4 @@
-use Rattle.std.proofs.lemmas.Result.{err_from_is_err_and}
+use Rattle.vx_requests.proofs.Common.{err_from_is_err_and}
 use Rattle.vx_requests.proofs.RequestFrames.{write_image_frame}
 use Rattle.vx_requests.proofs.WrittenPieces.{Writes-first, Writes-then}
 use Rattle.vx_requests.proofs.frame.requests.write_write_image.Goals as goal

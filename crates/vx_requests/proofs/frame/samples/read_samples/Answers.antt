@@ -1,5 +1,4 @@
-use Rattle.std.proofs.Common.{◌≡◌, ◌++◌, length, take, drop, rules, take_at}
-use Rattle.std.proofs.lemmas.List.{map-id}
+use Rattle.std.proofs.Common.{◌≡◌, ◌++◌, length, take, drop, rules, take_at, map-id}
 use Rattle.std.proofs.lemmas.Result.{on_ok_weaker}
 use Rattle.vx_requests.proofs.SampleReads.{reads_bytes}
 use Rattle.vx_requests.proofs.frame.samples.read_samples.Goals as goal

@@ -1,5 +1,5 @@
 use Rattle.std.proofs.Common.{rules}
-use Rattle.std.proofs.lemmas.Result.{err_from_is_err_and}
+use Rattle.vx_requests.proofs.Common.{err_from_is_err_and}
 use Rattle.vx_requests.proofs.ReadCounts.{KeepsCount-more}
 use Rattle.vx_requests.proofs.SampleReads.{reads_piece, part_of_samples}
 use Rattle.vx_requests.proofs.frame.samples.read_wide.Goals as goal

@@ -1,5 +1,5 @@
 use Rattle.std.proofs.Common.{◌-◌, ◌≤◌, ℕ, length, take, map, Ok}
-use Rattle.vx_requests.specs.Frame.Reading.{KeepsCount, ReadsSamples}
+use Rattle.vx_requests.proofs.Common.{KeepsCount, ReadsSamples}
 use Rattle.vx_requests.proofs.frame.samples.read_wide.Given as goal
 
 abbrev pub invariant-loop-done : goal.invariant-loop-done

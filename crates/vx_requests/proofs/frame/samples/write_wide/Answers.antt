@@ -1,8 +1,7 @@
 use Rattle.std.proofs.Common.{arith}
-use Rattle.std.proofs.lemmas.Result.{err_from_is_err_and}
+use Rattle.vx_requests.proofs.Common.{err_from_is_err_and, encoded_sample}
 use Rattle.vx_requests.proofs.WrittenPieces.{block_more, Writes-block}
 use Rattle.vx_requests.proofs.frame.samples.write_wide.Goals as goal
-use Rattle.vx_wire.specs.Samples.{encoded_sample}
 
 pub returns-in_err-write_block : goal.returns-in_err-write_block
 returns-in_err-write_block g c =

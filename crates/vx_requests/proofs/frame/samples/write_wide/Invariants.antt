@@ -1,8 +1,6 @@
 use Rattle.std.proofs.Common.{◌≡◌, List, ◌++◌, length}
-use Rattle.std.specs.List.{flat_map}
-use Rattle.std.specs.Io.KnownBytes.{Appends}
+use Rattle.vx_requests.proofs.Common.{flat_map, Appends, encoded_sample}
 use Rattle.vx_requests.proofs.frame.samples.write_wide.Given as goal
-use Rattle.vx_wire.specs.Samples.{encoded_sample}
 
 abbrev pub invariant-loop-rest : goal.invariant-loop-rest
 invariant-loop-rest g l = record {

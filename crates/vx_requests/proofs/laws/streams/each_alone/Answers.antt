@@ -1,4 +1,4 @@
-use Rattle.vx_requests.specs.Serving.Answer.{answer}
+use Rattle.vx_requests.proofs.Common.{answer}
 use Rattle.vx_requests.proofs.Alone.{each_alone}
 use Rattle.vx_requests.proofs.laws.streams.each_alone.Goals as goal
 

@@ -1,4 +1,4 @@
-use Rattle.vx_requests.specs.Serving.Answer.{answer}
+use Rattle.vx_requests.proofs.Common.{answer}
 use Rattle.vx_requests.proofs.Alone.{isolated}
 use Rattle.vx_requests.proofs.laws.streams.isolated.Goals as goal
 

@@ -1,5 +1,5 @@
 use Rattle.std.proofs.Common.{[]}
-use Rattle.vx_requests.specs.Serving.Answer.{answer}
+use Rattle.vx_requests.proofs.Common.{answer}
 use Rattle.vx_requests.proofs.Alone.{lost_shows_after}
 use Rattle.vx_requests.proofs.AnswerCodes.{answer-other}
 use Rattle.vx_requests.proofs.laws.streams.lost_shows.Goals as goal

@@ -1,4 +1,4 @@
-use Rattle.vx_requests.specs.Serving.Answer.{answer}
+use Rattle.vx_requests.proofs.Common.{answer}
 use Rattle.vx_requests.proofs.Alone.{one_client}
 use Rattle.vx_requests.proofs.laws.streams.one_client.Goals as goal
 

@@ -1,6 +1,5 @@
+use Rattle.vx_requests.proofs.Common.{answer, after}
 use Rattle.vx_requests.proofs.KeptStates.{frames_keep, images_are}
-use Rattle.vx_requests.specs.Serving.Answer.{answer}
-use Rattle.vx_requests.specs.Serving.Clients.{after}
 use Rattle.vx_requests.proofs.laws.streams.states_keep.Goals as goal
 
 pub returns-clause-limits : goal.returns-clause-limits

@@ -1,4 +1,4 @@
-use Rattle.std.proofs.lemmas.Result.{err_from_is_err_and}
+use Rattle.vx_requests.proofs.Common.{err_from_is_err_and}
 use Rattle.vx_requests.proofs.ToldReplies.{told_samples, told_text}
 use Rattle.vx_requests.proofs.WrittenPieces.{Sends-as, Sends-failed-as}
 use Rattle.vx_requests.proofs.serving.answered.write_answered.Goals as goal

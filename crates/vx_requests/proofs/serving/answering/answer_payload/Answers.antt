@@ -1,6 +1,5 @@
 use Rattle.std.proofs.Common.{rules}
-use Rattle.std.proofs.lemmas.Result.{err_from_is_err_and}
-use Rattle.vx_requests.specs.Serving.Clients.{states_of}
+use Rattle.vx_requests.proofs.Common.{err_from_is_err_and, states_of}
 use Rattle.vx_requests.proofs.Turns.{answered_payload, failed_payload}
 use Rattle.vx_requests.proofs.serving.answering.answer_payload.Goals as goal
 

@@ -1,6 +1,6 @@
 use Rattle.std.proofs.Common.{◌<◌, ◌^◌, ◌-◌, length, drop, arith, sym, subst}
+use Rattle.vx_requests.proofs.Common.{All-take, All-drop}
 use Rattle.std.proofs.lemmas.List.{get_or_default}
-use Rattle.std.proofs.lemmas.List.Elements.{All-take, All-drop}
 use Rattle.vx_requests.proofs.serving.answering.frame_in.Goals as goal
 
 pub returns-clause-bytes : goal.returns-clause-bytes

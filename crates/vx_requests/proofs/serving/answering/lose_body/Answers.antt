@@ -1,5 +1,5 @@
 use Rattle.std.proofs.Common.{refl}
-use Rattle.std.proofs.lemmas.Result.{err_from_is_err_and}
+use Rattle.vx_requests.proofs.Common.{err_from_is_err_and}
 use Rattle.vx_requests.proofs.Turns.{lost_body}
 use Rattle.vx_requests.proofs.serving.answering.lose_body.Goals as goal
 

@@ -1,8 +1,5 @@
 use Rattle.std.proofs.Common.{rules, refl}
-use Rattle.std.proofs.lemmas.Result.{err_from_is_err_and}
-use Rattle.client_model.specs.declared.reply.Reply.TheVariants.{Refused}
-use Rattle.vx_wire.specs.Faults.{parse_fault, fault_code}
-use Rattle.vx_requests.specs.Serving.Clients.{states_of}
+use Rattle.vx_requests.proofs.Common.{err_from_is_err_and, Refused, parse_fault, fault_code, states_of}
 use Rattle.vx_requests.proofs.WrittenImages.{past_rest, unwritten_rest, refused_rest, cut_samples, wrote_picture}
 use Rattle.vx_requests.proofs.serving.images.answer_write_image.Goals as goal
 

@@ -1,5 +1,5 @@
 use Rattle.std.proofs.Common.{◌≡◌, ◌+◌, ◌≤◌, ◌<◌, length, take}
-use Rattle.std.specs.Io.KnownBytes.{Consumes}
+use Rattle.vx_requests.proofs.Common.{Consumes}
 use Rattle.vx_requests.proofs.stream.transfer.fill.Given as goal
 
 abbrev pub invariant-loop-count : goal.invariant-loop-count

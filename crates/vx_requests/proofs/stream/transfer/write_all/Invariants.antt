@@ -1,5 +1,5 @@
 use Rattle.std.proofs.Common.{◌≡◌, List, ℕ, ◌++◌, length}
-use Rattle.std.specs.Io.KnownBytes.{Appends}
+use Rattle.vx_requests.proofs.Common.{Appends}
 use Rattle.vx_requests.proofs.stream.transfer.write_all.Given as goal
 
 abbrev pub invariant-loop-rest : goal.invariant-loop-rest

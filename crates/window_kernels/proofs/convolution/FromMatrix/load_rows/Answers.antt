@@ -1,5 +1,5 @@
-use Rattle.std.proofs.Common.{◌≡◌, ◌∙◌, ◌+◌, ◌*◌, ◌/◌, ◌<◌, ◌+ℤ◌, ◌-ℤ◌, ap, sym, subst, pos, length, map, take, arith}
-use Rattle.window_kernels.proofs.Common.{Each1, map-id, take_all, table, look, row_fits, IsUpTo}
+use Rattle.std.proofs.Common.{◌≡◌, ◌∙◌, ◌+◌, ◌*◌, ◌/◌, ◌<◌, ◌+ℤ◌, ◌-ℤ◌, ap, sym, subst, pos, length, map, take, arith, map-id, take_all}
+use Rattle.window_kernels.proofs.Common.{Each1, table, look, row_fits, IsUpTo}
 use Rattle.vx_base.proofs.TableLaws.{row_written, length_part}
 use Rattle.window_kernels.proofs.RowLaws.{row_fits_too, row_in_bits, line_seen}
 use Rattle.window_kernels.proofs.convolution.FromMatrix.load_rows.Goals as goal

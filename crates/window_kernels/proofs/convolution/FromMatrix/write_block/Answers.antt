@@ -1,6 +1,5 @@
-use Rattle.std.proofs.Common.{◌≡◌, ℕ, ℤ, ◌∙◌, ◌+◌, ◌/◌, ap, sym, pos, map, length, take, arith, w16, FitsSigned}
-use Rattle.window_kernels.proofs.Common.{int_div, clamp, run, run_part, sum_of_rows}
-use Rattle.std.specs.Prelude.{◌^◌}
+use Rattle.std.proofs.Common.{◌≡◌, ℕ, ℤ, ◌∙◌, ◌+◌, ◌/◌, ap, sym, pos, map, length, take, arith, w16, FitsSigned, int_div, ◌^◌}
+use Rattle.window_kernels.proofs.Common.{clamp, run, run_part, sum_of_rows}
 use Rattle.std.proofs.lemmas.Simd.{Each1-from_get_or}
 use Rattle.vx_base.proofs.TableLaws.{map_of_run}
 use Rattle.window_kernels.proofs.MatrixLaws.{are_tables, odd_side}

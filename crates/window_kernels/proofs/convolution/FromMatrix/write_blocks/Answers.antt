@@ -1,7 +1,5 @@
-use Rattle.std.proofs.Common.{◌≡◌, ℕ, ℤ, ◌∙◌, ◌+◌, ◌-◌, ◌*◌, ◌/◌, ◌≤◌, ap, sym, pos, map, length, take, drop, min, arith}
-use Rattle.window_kernels.proofs.Common.{int_div, take_all, clamp, run, sum_of_rows}
-use Rattle.std.specs.Prelude.{◌^◌}
-use Rattle.std.proofs.lemmas.List.{length-take, length-drop}
+use Rattle.std.proofs.Common.{◌≡◌, ℕ, ℤ, ◌∙◌, ◌+◌, ◌-◌, ◌*◌, ◌/◌, ◌≤◌, ap, sym, pos, map, length, take, drop, min, arith, int_div, take_all, ◌^◌, length-take, length-drop}
+use Rattle.window_kernels.proofs.Common.{clamp, run, sum_of_rows}
 use Rattle.window_kernels.proofs.RowLaws.{block_written, block_begins, blocks_end}
 use Rattle.window_kernels.proofs.convolution.FromMatrix.write_blocks.Goals as goal
 

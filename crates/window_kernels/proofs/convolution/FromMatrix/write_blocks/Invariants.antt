@@ -1,6 +1,5 @@
-use Rattle.std.proofs.Common.{◌≡◌, ◌*◌, ◌+◌, ◌/◌, pos, map, take, length, min}
-use Rattle.window_kernels.proofs.Common.{int_div, clamp, run, sum_of_rows}
-use Rattle.std.specs.Prelude.{◌^◌}
+use Rattle.std.proofs.Common.{◌≡◌, ◌*◌, ◌+◌, ◌/◌, pos, map, take, length, min, int_div, ◌^◌}
+use Rattle.window_kernels.proofs.Common.{clamp, run, sum_of_rows}
 use Rattle.window_kernels.proofs.convolution.FromMatrix.write_blocks.Given as goal
 
 abbrev pub invariant-loop-k : goal.invariant-loop-k

@@ -1,6 +1,5 @@
-use Rattle.std.proofs.Common.{ℤ, ◌∙◌, ◌+◌, ◌/◌, ap, pos, length, zero-add, arith}
-use Rattle.window_kernels.proofs.Common.{int_div, clamp, look, convolved, run_shifted, sum_of_rows}
-use Rattle.std.specs.Prelude.{◌^◌}
+use Rattle.std.proofs.Common.{ℤ, ◌∙◌, ◌+◌, ◌/◌, ap, pos, length, zero-add, arith, int_div, ◌^◌}
+use Rattle.window_kernels.proofs.Common.{clamp, look, convolved, run_shifted, sum_of_rows}
 use Rattle.window_kernels.proofs.MatrixLaws.{odd_side, sum_is_product}
 use Rattle.window_kernels.proofs.convolution.FromMatrixRowFormulaI16.fill.Goals as goal
 

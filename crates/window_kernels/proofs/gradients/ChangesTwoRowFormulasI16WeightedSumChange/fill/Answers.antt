@@ -1,5 +1,5 @@
-use Rattle.std.proofs.Common.{ℕ, pos, length, ◌∙◌, arith}
-use Rattle.window_kernels.proofs.Common.{map-id, look, nine_around, gradient_x, gradient_y}
+use Rattle.std.proofs.Common.{ℕ, pos, length, ◌∙◌, arith, map-id}
+use Rattle.window_kernels.proofs.Common.{look, nine_around, gradient_x, gradient_y}
 use Rattle.window_kernels.proofs.GradientLaws.{parts_joined}
 use Rattle.window_kernels.proofs.gradients.ChangesTwoRowFormulasI16WeightedSumChange.fill.Goals as goal
 

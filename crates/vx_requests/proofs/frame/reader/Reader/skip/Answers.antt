@@ -1,7 +1,5 @@
 use Rattle.std.proofs.Common.{◌+◌, ◌-◌, ◌<◌, ◌^◌, ap, ◌∙◌, rules, length-append, ◌++◌}
-use Rattle.std.proofs.KnownBytes.{Consumes-trans}
-use Rattle.std.proofs.lemmas.List.Elements.{All-append}
-use Rattle.std.proofs.lemmas.Result.{err_from_is_err_and}
+use Rattle.vx_requests.proofs.Common.{Consumes-trans, All-append, err_from_is_err_and}
 use Rattle.vx_requests.proofs.ReadCounts.{KeepsCount-more}
 use Rattle.vx_requests.proofs.Pieces.{part_after}
 use Rattle.vx_requests.proofs.frame.reader.Reader.skip.Goals as goal

@@ -1,7 +1,5 @@
-use Rattle.std.proofs.Common.{◌≡◌, ◌+◌, ◌<◌, ◌^◌, ℕ, List, length, Ok}
-use Rattle.std.specs.Prelude.{All}
-use Rattle.std.specs.Io.KnownBytes.{Consumes}
-use Rattle.vx_requests.specs.Frame.Reading.{KeepsCount}
+use Rattle.std.proofs.Common.{◌≡◌, ◌+◌, ◌<◌, ◌^◌, ℕ, List, length, Ok, All}
+use Rattle.vx_requests.proofs.Common.{Consumes, KeepsCount}
 use Rattle.vx_requests.proofs.frame.reader.Reader.skip.Given as goal
 
 abbrev pub invariant-loop-rest : goal.invariant-loop-rest
