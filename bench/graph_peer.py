@@ -25,6 +25,7 @@ first, second = noise(1), noise(2)
 arrays = [numpy.empty_like(first) for _ in range(16)]
 gradients = [numpy.empty_like(first, numpy.int16) for _ in range(2)]
 counts = numpy.empty((256, 1), numpy.float32)
+sums = numpy.empty((height + 1, width + 1), numpy.int32)
 square = numpy.ones((3, 3), numpy.uint8)
 REPLICATE = cv2.BORDER_REPLICATE
 
@@ -71,6 +72,13 @@ def measured():
     cv2.threshold(difference, 100, 255, cv2.THRESH_BINARY, out)
 
 
+def summed():
+    difference, out = arrays[:2]
+    cv2.absdiff(first, second, difference)
+    cv2.integral(difference, sums)
+    cv2.threshold(difference, 100, 255, cv2.THRESH_BINARY, out)
+
+
 # A quarter of a gradient, rounded down, is this with what OpenCV does, which rounds to nearest.
 QUARTER, DOWN = 1 / 4, -3 / 8
 
@@ -101,6 +109,7 @@ CHAINS = {
     "motion": (lambda: run(MOTION),),
     "edges": (edges_of_both, edges_of_each),
     "measured": (measured,),
+    "summed": (summed,),
 }
 times = {
     name: min(best_seconds(way, count) for way in CHAINS[name])

@@ -1,1 +1,2 @@
 mod ImageLaws
+mod BandLemmas

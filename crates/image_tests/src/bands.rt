@@ -1,11 +1,11 @@
 //! Bands of rows: what is written to one is those rows of the image, in any order.
-ghost use Rattle.std.specs.Prelude.{◌+◌, ◌≤◌};
+ghost use Rattle.std.specs.Prelude.{◌+◌, ◌^◌, ◌<◌, ◌≤◌};
 
 use crate::images::lend;
 use image_core::{Band, ImageMut};
-use stat_kernels::integral;
+use stat_kernels::{add_histogram, add_min_max, integral, integral_on};
 use std::test::Fail;
-use vx_base::{Border, Convolution, Desc, Format, Rect};
+use vx_base::{Bins, Border, Convolution, Desc, Extremes, Format, Rect};
 use window_kernels::{convolve, median3, sobel3};
 
 /// The samples of a 3 by 3 image.
@@ -56,6 +56,56 @@ fn sums_above_a_band(rt: HostRuntime) {
         510, 1020, 1530, 2040, 2550, 3060, 3570, 4080, 4590, 5100, 5610,
     ];
     assert!(rt; second_sums() == Some(sums));
+}
+
+/// The two lower rows of the sums, from the row above them.
+fn sums_below(first: &[u32; 3]) -> Option<[u32; 6]> {
+    let mut samples = SAMPLES;
+    let desc = Desc::new(3, 3, Format::U8)?;
+    let image = lend(desc, Rect::new(0, 0, 3, 3)?, &mut samples);
+    let mut sums = [77; 6];
+    let rows = Band { start: 1, count: 2 };
+    integral_on(&image, rows, Some(first.as_slice()), &mut sums);
+    Some(sums)
+}
+
+#[test]
+fn sums_go_on(rt: HostRuntime) {
+    assert!(rt; sums_below(&[1, 3, 12]) == Some([4, 10, 27, 9, 21, 45]));
+}
+
+/// What the two lower rows add to counts in three bins, and, as rows that are four further down, to
+/// these extremes.
+fn beside_others(above: Extremes) -> Option<([u32; 3], Extremes)>
+    requires least { above.min_count < 2 ^ 16 }
+    requires greatest { above.max_count < 2 ^ 16 }
+{
+    let mut samples = SAMPLES;
+    let desc = Desc::new(3, 3, Format::U8)?;
+    let image = lend(desc, Rect::new(0, 0, 3, 3)?, &mut samples);
+    let rows = Band { start: 1, count: 2 };
+    let mut counts = [7, 0, 1];
+    add_histogram(&image, rows, Bins::new(3, 0, 9)?, &mut counts);
+    Some((counts, add_min_max(&image, rows, 4, above)))
+}
+
+#[test]
+fn counts_and_extremes_of_bands(rt: HostRuntime) {
+    let above = Extremes {
+        min: 3,
+        max: 7,
+        min_count: 2,
+        max_count: 1,
+        min_at: (0, 1),
+        max_at: (2, 1),
+    };
+    let joined = Extremes {
+        max: 8,
+        min_count: 3,
+        max_at: (2, 5),
+        ..above
+    };
+    assert!(rt; beside_others(above) == Some(([7, 3, 4], joined)));
 }
 
 /// A row of the changes from left to right, and one of those from above to below.

@@ -3,7 +3,7 @@ ghost use Rattle.std.specs.Prelude.{◌≡◌, ◌<◌, ℕ, map, pos, length, g
 ghost use Rattle.vx_base.specs.declared.format.Format.TheVariants.{U8};
 ghost use Rattle.vx_base.specs.Description.{sample_count};
 ghost use Rattle.vx_base.specs.Rectangle.{IsWithin};
-ghost use Rattle.vx_base.specs.Image.{made, image_over, description_of};
+ghost use Rattle.vx_base.specs.Image.{IsImage, made, image_over, description_of};
 ghost use Rattle.image_core.specs.Bands.{all_rows};
 ghost use Rattle.image_core.specs.Rows.{sample_from};
 ghost use Rattle.image_core.specs.Target.{written, IsTarget, SameSlices};
@@ -50,7 +50,8 @@ pub fn lend(desc: Desc, valid: Rect, samples: &mut [u8]) -> Image<'_>
     requires format { desc.format ≡ U8 }
     requires size { length samples.old ≡ sample_count desc }
     requires room { IsWithin valid desc.width desc.height }
-    ensures { description_of result ≡ desc }
+    ensures desc { description_of result ≡ desc }
+    ensures image { IsImage result }
 {
     let _ordered = valid.x0();
     desc.has_sides();

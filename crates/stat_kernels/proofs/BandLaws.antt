@@ -204,6 +204,16 @@ bands_fit image is start count =
     all_fit : (m k : ℕ) → m ≤ 8192 → k ≤ 8192 → m * k < 4294967296
     all_fit m k rows columns = grind arith
 
+-- no rows of an image have more valid samples than an image has at most
+pub few_samples : (image : ImageValue) → IsImage image → (rows : Band) → length (valid_samples (valid_in rows image)) ≤ 67108864
+few_samples image is rows =
+    let r = band_of rows image.valid in
+    let high : r.y1 - r.y0 ≤ 8192 = grind (arith, nat_tests, is.sides.1, is.room.rows, is.ordered.rows) in
+    omega (arith, length-samples r image, all_few (r.y1 - r.y0) (r.x1 - r.x0) high (omega (arith, is.sides.0, is.room.columns)))
+  where
+    all_few : (m k : ℕ) → m ≤ 8192 → k ≤ 8192 → m * k ≤ 67108864
+    all_few m k rows columns = grind arith
+
 -- ---- extremes of bands
 
 -- rows of an image, and those of another that are so many rows further down: the same places of each row, and samples

@@ -4,7 +4,7 @@ import random
 from typing import Dict, List, NamedTuple, Optional, Sequence, Tuple
 
 from feqyldan import wire
-from checks.bands.graph import ADDING, COUNTED, GRAPH, WHOLE, Graph, Made, Node
+from checks.bands.graph import COUNTED, GRAPH, STATISTICS, Graph, Made, Node
 
 U8, S16, U32 = wire.U8, wire.S16, wire.U32
 Size = Tuple[int, int]
@@ -67,7 +67,7 @@ def any_style(rng: random.Random) -> Style:
     def now_and_then(share: float) -> bool:
         return rng.random() < share
 
-    statistics = rng.choices(((), (*COUNTED, *ADDING), (*COUNTED, *ADDING, *WHOLE)), (10, 2, 1))[0]
+    statistics = rng.choices(((), STATISTICS), (10, 3))[0]
     return Style(rng.choice((0, 0.1, 0.2, 0.4, 0.8)), statistics, now_and_then(0.12),
                  rng.choice((0, 0, 0, 1, 2)), now_and_then(0.4))
 

@@ -9,10 +9,10 @@ from feqyldan import wire
 GRAPH = 1
 # So many samples and more are a large image.
 LARGE = 131_072
-# What is counted, or added, band by band; and what keeps a graph from running in bands.
+# What is counted, added or summed up band by band.
 COUNTED = (wire.HISTOGRAM, wire.MIN_MAX_LOCATION)
 ADDING = (wire.ACCUMULATE, wire.ACCUMULATE_SQUARE)
-WHOLE = (wire.INTEGRAL,)
+STATISTICS = (*COUNTED, *ADDING, wire.INTEGRAL)
 WINDOWED = range(wire.BOX, wire.CONVOLVE + 1)
 
 
@@ -99,7 +99,10 @@ class Graph(NamedTuple):
             if made.slots or (made.virtual is None and cell in read):
                 return False
         heights = {self.made(cell).height for node in self.nodes for cell in node.banded()}
-        return len(heights) == 1 and not any(node.function in WHOLE for node in self.nodes)
+        return len(heights) == 1 and not any(map(self.is_virtual_sum, self.nodes))
+
+    def is_virtual_sum(self, node: Node) -> bool:
+        return node.function == wire.INTEGRAL and self.made(node.outputs()[0]).virtual is not None
 
     def without(self, number: int) -> "Graph":
         """The same without a node. An image that was virtual, and isn't written any more, is an

@@ -9,7 +9,7 @@ from feqyldan import wire
 from checks.bands.compared import fault_of
 from checks.bands.draw import graph_of
 from checks.bands.failures import tell
-from checks.bands.graph import LARGE, WHOLE, WINDOWED, Graph
+from checks.bands.graph import LARGE, WINDOWED, Graph
 
 # So many graphs run on one server.
 TOGETHER = 10
@@ -45,7 +45,7 @@ class Counts:
         for function in wire.Function:
             if not self.functions[function]:
                 yield function.name
-            elif function not in WHOLE and not self.borders_of(function):
+            elif not self.borders_of(function):
                 yield f"{function.name} in a graph that may run in bands"
             elif function in WINDOWED and len(self.borders_of(function)) < len(wire.Border):
                 yield f"{function.name} under each border in a graph that may run in bands"
