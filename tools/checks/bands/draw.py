@@ -4,7 +4,7 @@ import random
 from typing import Dict, List, NamedTuple, Optional, Sequence, Tuple
 
 from feqyldan import wire
-from checks.bands.graph import COUNTED, GRAPH, STATISTICS, Graph, Made, Node
+from checks.bands.graph import ADDING, GRAPH, STATISTICS, Graph, Made, Node
 
 U8, S16, U32 = wire.U8, wire.S16, wire.U32
 Size = Tuple[int, int]
@@ -244,7 +244,7 @@ class Draw:
             amount = self.rng.randint(0, 15) if function == wire.ACCUMULATE_SQUARE else 0
             self.node(function, first.cell, None, held.cell, amount)
         elif function == wire.INTEGRAL:
-            self.node(function, first.cell, None, self.image(U32, size).cell)
+            self.node(function, first.cell, None, self.output(U32, size))
         else:
             frame = (wire.create_min_max(0) if function == wire.MIN_MAX_LOCATION
                      else wire.create_distribution(0, *self.rng.choice(
