@@ -34,6 +34,9 @@ nearest_below low high v some h = grind (arith, ints)
 nearest_inside : (low high : ℕ) (v : ℤ) → pos low ≤ℤ v → v <ℤ pos high → nearest low high v ≡ unsigned_abs v
 nearest_inside low high v a b = grind (arith, ints)
 
+nearest_tested : (low high : ℕ) (v : ℤ) → (int_le (pos low) v && int_lt v (pos high)) ≡ true → nearest low high v ≡ unsigned_abs v
+nearest_tested low high v h = grind (arith, ints)
+
 nearest_above : (low high : ℕ) (v : ℤ) → low < high → pos high ≤ℤ v → nearest low high v ≡ high - 1
 nearest_above low high v some h = grind (arith, ints)
 
@@ -44,51 +47,30 @@ pub run_in_three : (g : ℕ → ℤ) (start b m r : ℕ) (left right : ℤ) (mid
     → ((c : ℕ) → c < start + b → start ≤ c → g c ≡ left) → run (start + b) m g ≡ middle → ((c : ℕ) → start + b + m ≤ c → c < start + b + m + r → g c ≡ right)
     → run start (b + (m + r)) g ≡ replicate b left ++ (middle ++ replicate r right)
 run_in_three g start b m r left right middle before between after =
-    run-append g start b (m + r)
-    ∙ ap (λ l. l ++ run (start + b) (m + r) g) (run-same g (λ _. left) start b (λ c x y. before c y x) ∙ run-constant left start b)
-    ∙ ap (λ l. replicate b left ++ l) (run-append g (start + b) m r)
-    ∙ ap (λ l. replicate b left ++ (l ++ run (start + b + m) r g)) between
-    ∙ ap (λ l. replicate b left ++ (middle ++ l)) (run-same g (λ _. right) (start + b + m) r after ∙ run-constant right (start + b + m) r)
+    let at_left = run-same g (λ _. left) start b (λ c x y. before c y x) ∙ run-constant left start b in
+    let at_right = run-same g (λ _. right) (start + b + m) r after ∙ run-constant right (start + b + m) r in
+    rw (run-append g start b (m + r), run-append g (start + b) m r, at_left, between, at_right) refl
 
 -- ---- along a valid row
 
 seen_left : (image : ImageValue) (border : Border) (x : ℤ) (line : ℕ) → x <ℤ pos image.valid.x0 → seen_along image border line x ≡ value_beside border (at image image.valid.x0 line)
-seen_left image border x line h =
-    ap (λ b. cond b (value_beside border (at image image.valid.x0 line)) (cond (int_lt x (pos image.valid.x1)) (at image (unsigned_abs x) line) (value_beside border (at image (image.valid.x1 - 1) line)))) (below x (pos image.valid.x0) h)
+seen_left image border x line h = rw (below x (pos image.valid.x0) h) refl
 
 seen_inside : (image : ImageValue) (border : Border) (x : ℤ) (line : ℕ) → pos image.valid.x0 ≤ℤ x → x <ℤ pos image.valid.x1 → seen_along image border line x ≡ at image (unsigned_abs x) line
-seen_inside image border x line a b =
-    ap (λ t. cond t (value_beside border (at image image.valid.x0 line)) (cond (int_lt x (pos image.valid.x1)) (at image (unsigned_abs x) line) (value_beside border (at image (image.valid.x1 - 1) line)))) (not_below x (pos image.valid.x0) a)
-    ∙ ap (λ t. cond t (at image (unsigned_abs x) line) (value_beside border (at image (image.valid.x1 - 1) line))) (below x (pos image.valid.x1) b)
+seen_inside image border x line a b = rw (not_below x (pos image.valid.x0) a, below x (pos image.valid.x1) b) refl
 
 seen_right : (image : ImageValue) (border : Border) (x : ℤ) (line : ℕ) → pos image.valid.x0 ≤ℤ x → pos image.valid.x1 ≤ℤ x → seen_along image border line x ≡ value_beside border (at image (image.valid.x1 - 1) line)
-seen_right image border x line a b =
-    ap (λ t. cond t (value_beside border (at image image.valid.x0 line)) (cond (int_lt x (pos image.valid.x1)) (at image (unsigned_abs x) line) (value_beside border (at image (image.valid.x1 - 1) line)))) (not_below x (pos image.valid.x0) a)
-    ∙ ap (λ t. cond t (at image (unsigned_abs x) line) (value_beside border (at image (image.valid.x1 - 1) line))) (not_below x (pos image.valid.x1) b)
+seen_right image border x line a b = rw (not_below x (pos image.valid.x0) a, not_below x (pos image.valid.x1) b) refl
 
 -- ---- rows
 
 -- a row that is seen in row y under Replicate is the nearest
 line_near : (valid : Rectangle) (y : ℤ) (line : ℕ) → row_seen valid Replicate y ≡ Some line → nearest valid.y0 valid.y1 y ≡ line
-line_near valid y line e = by_lt_z y (pos valid.y0) above (λ a. by_lt_z y (pos valid.y1) (λ b. inner a b) (λ b. under a b))
+line_near valid y line e = known (int_le (pos valid.y0) y && int_lt y (pos valid.y1)) refl e
   where
-    above : y <ℤ pos valid.y0 → nearest valid.y0 valid.y1 y ≡ line
-    above h = let t = not_at_most (pos valid.y0) y h in let s : row_seen valid Replicate y ≡ Some (nearest valid.y0 valid.y1 y) = ap (λ b. cond (b && int_lt y (pos valid.y1)) (Some (unsigned_abs y)) (Some (nearest valid.y0 valid.y1 y))) t in cc
-
-    inner : pos valid.y0 ≤ℤ y → y <ℤ pos valid.y1 → nearest valid.y0 valid.y1 y ≡ line
-    inner a b =
-        let t = at_most (pos valid.y0) y a in
-        let u = below y (pos valid.y1) b in
-        let s : row_seen valid Replicate y ≡ Some (unsigned_abs y) = ap (λ p. cond (p && int_lt y (pos valid.y1)) (Some (unsigned_abs y)) (Some (nearest valid.y0 valid.y1 y))) t ∙ ap (λ p. cond p (Some (unsigned_abs y)) (Some (nearest valid.y0 valid.y1 y))) u in
-        let n = nearest_inside valid.y0 valid.y1 y a b in
-        cc
-
-    under : pos valid.y0 ≤ℤ y → pos valid.y1 ≤ℤ y → nearest valid.y0 valid.y1 y ≡ line
-    under a b =
-        let t = at_most (pos valid.y0) y a in
-        let u = not_below y (pos valid.y1) b in
-        let s : row_seen valid Replicate y ≡ Some (nearest valid.y0 valid.y1 y) = ap (λ p. cond (p && int_lt y (pos valid.y1)) (Some (unsigned_abs y)) (Some (nearest valid.y0 valid.y1 y))) t ∙ ap (λ p. cond p (Some (unsigned_abs y)) (Some (nearest valid.y0 valid.y1 y))) u in
-        cc
+    known : (b : Bool) → (int_le (pos valid.y0) y && int_lt y (pos valid.y1)) ≡ b → cond b (Some (unsigned_abs y)) (Some (nearest valid.y0 valid.y1 y)) ≡ Some line → nearest valid.y0 valid.y1 y ≡ line
+    known true inside e = cc (nearest_tested valid.y0 valid.y1 y inside)
+    known false outside e = cc
 
 -- what counts beside the columns of a row that is seen
 beside_line : (image : ImageValue) (border : Border) (x y : ℤ) (line edge : ℕ) → row_seen image.valid border y ≡ Some line → nearest image.valid.x0 image.valid.x1 x ≡ edge → beside image border x y ≡ value_beside border (at image edge line)
@@ -98,9 +80,7 @@ beside_line image Replicate x y line edge e near = ap (λ n. at image n (nearest
 
 -- beside the columns
 look_beside : (image : ImageValue) (border : Border) (x y : ℤ) (line edge : ℕ) → row_seen image.valid border y ≡ Some line → nearest image.valid.x0 image.valid.x1 x ≡ edge → (int_le (pos image.valid.x0) x && int_lt x (pos image.valid.x1)) ≡ false → look image border x y ≡ value_beside border (at image edge line)
-look_beside image border x y line edge e near out =
-    ap (λ b. cond (b && (int_le (pos image.valid.y0) y && int_lt y (pos image.valid.y1))) (at image (unsigned_abs x) (unsigned_abs y)) (beside image border x y)) out
-    ∙ beside_line image border x y line edge e near
+look_beside image border x y line edge e near out = rw out (beside_line image border x y line edge e near)
 
 -- in the columns
 inner_row : (image : ImageValue) (border : Border) (x y : ℤ) (line : ℕ) (b : Bool) → cond b (Some (unsigned_abs y)) (row_beside image.valid border y) ≡ Some line → row_seen image.valid border y ≡ Some line → nearest image.valid.x0 image.valid.x1 x ≡ unsigned_abs x → cond b (at image (unsigned_abs x) (unsigned_abs y)) (beside image border x y) ≡ at image (unsigned_abs x) line
@@ -111,9 +91,8 @@ inner_row image Replicate x y line false e seen near = beside_line image Replica
 
 look_inside : (image : ImageValue) (border : Border) (x y : ℤ) (line : ℕ) → row_seen image.valid border y ≡ Some line → pos image.valid.x0 ≤ℤ x → x <ℤ pos image.valid.x1 → look image border x y ≡ at image (unsigned_abs x) line
 look_inside image border x y line e a b =
-    let columns : (int_le (pos image.valid.x0) x && int_lt x (pos image.valid.x1)) ≡ true = cc (at_most (pos image.valid.x0) x a, below x (pos image.valid.x1) b) in
-    ap (λ p. cond (p && (int_le (pos image.valid.y0) y && int_lt y (pos image.valid.y1))) (at image (unsigned_abs x) (unsigned_abs y)) (beside image border x y)) columns
-    ∙ inner_row image border x y line (int_le (pos image.valid.y0) y && int_lt y (pos image.valid.y1)) e e (nearest_inside image.valid.x0 image.valid.x1 x a b)
+    rw (at_most (pos image.valid.x0) x a, below x (pos image.valid.x1) b)
+    (inner_row image border x y line (int_le (pos image.valid.y0) y && int_lt y (pos image.valid.y1)) e e (nearest_inside image.valid.x0 image.valid.x1 x a b))
 
 -- what is seen in a row is what is seen along the valid row that counts for it
 pub look_along : (image : ImageValue) (border : Border) (x y : ℤ) (line : ℕ) → image.valid.x0 < image.valid.x1 → row_seen image.valid border y ≡ Some line → look image border x y ≡ seen_along image border line x
@@ -193,11 +172,8 @@ seen_there image border x line count y seen left right =
 pub seen_nowhere : (image : ImageValue) (border : Border) (x count : ℕ) (y : ℤ) (all : List ℕ) → row_seen image.valid border y ≡ None → map pos all ≡ replicate (length all) (value_beside border (pos 0)) → count ≤ length all
     → map pos (take count all) ≡ run x count (λ c. look image border (pos c) y)
 seen_nowhere image border x count y all off same room =
-    sym (take-map pos count all)
-    ∙ ap (take count) same
-    ∙ take-replicate count (length all) (value_beside border (pos 0)) room
-    ∙ sym (run-constant (value_beside border (pos 0)) x count)
-    ∙ run-same (λ _. value_beside border (pos 0)) (λ c. look image border (pos c) y) x count (λ k a b. sym (look_off image border (pos k) y off))
+    rw (← take-map pos count all, same, take-replicate count (length all) (value_beside border (pos 0)) room, ← run-constant (value_beside border (pos 0)) x count)
+    (run-same (λ _. value_beside border (pos 0)) (λ c. look image border (pos c) y) x count (λ k a b. sym (look_off image border (pos k) y off)))
 
 -- ---- beside the valid columns the border counts for the nearest one
 
@@ -210,13 +186,9 @@ beside_again Replicate z = refl
 look_from_edge : (image : ImageValue) (border : Border) (x y : ℤ) (e : ℕ) (seen : Option ℕ) → row_seen image.valid border y ≡ seen → image.valid.x0 < image.valid.x1
     → ((line : ℕ) → seen_along image border line x ≡ value_beside border (at image e line)) → image.valid.x0 ≤ e → e < image.valid.x1 → look image border x y ≡ value_beside border (look image border (pos e) y)
 look_from_edge image border x y e (Some line) is some along left right =
-    look_along image border x y line some is
-    ∙ along line
-    ∙ ap (value_beside border) (sym (look_inside image border (pos e) y line is (omega (arith, ints)) (omega (arith, ints))))
+    rw (look_along image border x y line some is, along line, look_inside image border (pos e) y line is (omega (arith, ints)) (omega (arith, ints))) refl
 look_from_edge image border x y e None is some along left right =
-    look_off image border x y is
-    ∙ sym (beside_again border (pos 0))
-    ∙ ap (value_beside border) (sym (look_off image border (pos e) y is))
+    rw (look_off image border x y is, look_off image border (pos e) y is) (sym (beside_again border (pos 0)))
 
 pub look_left : (image : ImageValue) (border : Border) (x y : ℤ) → image.valid.x0 < image.valid.x1 → x <ℤ pos image.valid.x0 → look image border x y ≡ value_beside border (look image border (pos image.valid.x0) y)
 look_left image border x y some h =

@@ -12,7 +12,7 @@ pub use Rattle.graph_verify.proofs.MemberLemmas.{In-at, In-filter, In-from_any, 
 pub use Rattle.graph_verify.specs.Links.{has_twice, is_written, reads, writes}
 pub use Rattle.graph_verify.specs.Members.{In}
 pub use Rattle.graph_verify.specs.declared.known.VirtualOutput.{VirtualOutput}
-pub use Rattle.std.proofs.lemmas.Bool.{and_from, and_parts, cases_Bool, cases_eq, false_from_ne_true, or_left, or_parts, or_right}
+pub use Rattle.std.proofs.lemmas.Bool.{and_from, cases_Bool, cases_eq, false_from_ne_true, or_left, or_parts, or_right}
 pub use Rattle.std.proofs.lemmas.Bool.Decides.{nat_tests}
 pub use Rattle.std.proofs.lemmas.Grind.{common_steps}
 pub use Rattle.std.proofs.lemmas.List.{map-append, take_more}

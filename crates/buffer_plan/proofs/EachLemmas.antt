@@ -1,5 +1,5 @@
 -- What holds of each of a list.
-use Rattle.std.proofs.Common.{inl, inr, List, [], ◌∷◌, ◌++◌, refl, sym, subst}
+use Rattle.std.proofs.Common.{inl, inr, arith, List, [], ◌∷◌, ◌++◌, refl, sym, subst}
 use Rattle.buffer_plan.proofs.Common.{In}
 use Rattle.std.specs.List.{AllByRecursion}
 
@@ -11,5 +11,4 @@ by_recursion-from_In P (x ∷ xs) h = (h x (inl refl), by_recursion-from_In P xs
 pub each-push : {X : Type 0} (P : X → Type 0) (xs : List X) (y : X) → ((x : X) → In x xs → P x) → P y → (x : X) → In x (xs ++ y ∷ []) → P x
 each-push P [] y each one x (inl e) = subst P (sym e) one
 each-push P [] y each one x (inr none) = absurd none
-each-push P (z ∷ xs) y each one x (inl e) = each x (inl e)
-each-push P (z ∷ xs) y each one x (inr h) = each-push P xs y (λ w i. each w (inr i)) one x h
+each-push P (z ∷ xs) y each one x h = grind (arith, each-push P xs y (λ w i. each w (inr i)) one x, each x)

@@ -1,6 +1,6 @@
 -- Images that get slots one after the other.
-use Rattle.std.proofs.Common.{◌≡◌, ◌≢◌, ℕ, ◌+◌, ◌<◌, ◌≤◌, inl, inr, suc, zero, true, false, List, [], ◌∷◌, ◌++◌, length, take, get_or, set, map, eqb, leb, refl, sym, ◌∙◌, ap, subst, arith, length-append, get_or-set_other, get_or-set_same, length-set, Option, Some, None, if◌then◌else◌, ◌==◌, take_all, leb-true, le-leb, eq-eqb, eqb-true, ne_eqb}
-use Rattle.buffer_plan.proofs.Common.{filter, map-append, take_more, filter-append, nat_tests, cases_Bool, cases_eq, and_parts, and_from, In, In-from_any, any-from_In, In-filter, In-from_filter, In-map, In-from_map, In-at, Life, Placed, is_in, Rising, count_in, AllApart, IsReached}
+use Rattle.std.proofs.Common.{◌≡◌, ◌≢◌, ℕ, ◌+◌, ◌<◌, ◌≤◌, inl, inr, suc, zero, true, false, List, [], ◌∷◌, ◌++◌, length, take, get_or, set, map, eqb, refl, sym, ◌∙◌, ap, subst, arith, length-append, get_or-set_other, get_or-set_same, length-set, Option, Some, None, if◌then◌else◌, ◌==◌, take_all, eq-eqb, eqb-true, ne_eqb}
+use Rattle.buffer_plan.proofs.Common.{filter, map-append, take_more, filter-append, nat_tests, cases_Bool, cases_eq, In, In-from_any, any-from_In, In-filter, In-from_filter, In-map, In-from_map, In-at, Life, Placed, is_in, Rising, count_in, AllApart, IsReached}
 use Rattle.std.specs.List.{IsDistinct}
 use Rattle.std.proofs.Math.Seq.{get_or-append_seam}
 use Rattle.std.proofs.Math.ListN.{get_or-append}
@@ -12,10 +12,10 @@ use Rattle.buffer_plan.proofs.EachLemmas.{by_recursion-from_In, each-push}
 -- ---- steps of a life
 
 pub in_life : (s : ℕ) (l : Life) → is_in s l ≡ true → (l.first ≤ s) × (s ≤ l.last)
-in_life s l h = let r = and_parts (leb l.first s) (leb s l.last) h in (leb-true l.first s r.0, leb-true s l.last r.1)
+in_life s l h = grind (arith, nat_tests)
 
 pub in_life-from : (s : ℕ) (l : Life) → l.first ≤ s → s ≤ l.last → is_in s l ≡ true
-in_life-from s l a b = and_from (leb l.first s) (leb s l.last) (le-leb l.first s a) (le-leb s l.last b)
+in_life-from s l a b = grind (arith, nat_tests)
 
 -- ---- the slots of what is live at a step are distinct
 
@@ -153,14 +153,13 @@ peaking-reused step count placed q earlier peak =
 
 rising-proper : (lives : List Life) (i : ℕ) (d : Life) → Rising lives → i < length lives → (get_or lives i d).first ≤ (get_or lives i d).last
 rising-proper [] i d rising h = absurd (omega (arith, h))
-rising-proper (l ∷ lives) zero d rising h = rising.0
-rising-proper (l ∷ lives) (suc i) d rising h = rising-proper lives i d rising.2 (omega (arith, h))
+rising-proper (l ∷ lives) i d rising h = grind (arith, rising-proper lives)
 
 rising-before : (lives : List Life) (i : ℕ) (d m : Life) → Rising lives → i < length lives → In m (take i lives) → m.first ≤ (get_or lives i d).first
 rising-before [] i d m rising h before = absurd (omega (arith, h))
 rising-before (l ∷ lives) zero d m rising h before = absurd before
-rising-before (l ∷ lives) (suc i) d m rising h (inl e) = omega (arith, rising.1 (get_or lives i d) (In-at lives i d (omega (arith, h))), ap (λ (z : Life). z.first) e)
-rising-before (l ∷ lives) (suc i) d m rising h (inr before) = rising-before lives i d m rising.2 (omega (arith, h)) before
+rising-before (l ∷ lives) (suc i) d m rising h before =
+    grind (arith, rising.1 (get_or lives i d), In-at lives i d, rising-before lives i d m rising.2)
 
 -- the first i images have their slots
 pub record IsPlacing (lives : List Life) (i : ℕ) (ends : List ℕ) (placed : List Placed) (peak : Option ℕ) : Type 0 where

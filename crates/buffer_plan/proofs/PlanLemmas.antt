@@ -12,15 +12,10 @@ use Rattle.buffer_plan.proofs.PlacingLemmas.{count-within}
 -- ---- formats
 
 pub same_format-refl : (f : Format) → same_format f f ≡ true
-same_format-refl U8 = refl
-same_format-refl S16 = refl
-same_format-refl U32 = refl
+same_format-refl f = grind arith
 
 same_format-true : (f g : Format) → same_format f g ≡ true → f ≡ g
-same_format-true U8 U8 h = refl
-same_format-true S16 S16 h = refl
-same_format-true U32 U32 h = refl
-same_format-true f g h = cc
+same_format-true f g h = grind arith
 
 pub In-format : (f : Format) (o : VirtualOutput) (images : List VirtualOutput) → In o images → o.desc.format ≡ f → In o (of_format f images)
 In-format f o images i is = In-filter (λ (z : VirtualOutput). same_format z.desc.format f) o images i (ap (λ g. same_format g f) is ∙ same_format-refl f)
@@ -31,9 +26,7 @@ from_format f o images i =
     (r.0, same_format-true o.desc.format f r.1)
 
 cases_format : (f : Format) → (f ≡ U8) ⊎ ((f ≡ S16) ⊎ (f ≡ U32))
-cases_format U8 = inl refl
-cases_format S16 = inr (inl refl)
-cases_format U32 = inr (inr refl)
+cases_format f = grind arith
 
 -- each image is of one of the formats
 any_format : (p : VirtualOutput → Bool) (images : List VirtualOutput) → list_any p images ≡ ((list_any p (of_format U8 images) || list_any p (of_format S16 images)) || list_any p (of_format U32 images))
@@ -41,8 +34,7 @@ any_format p [] = refl
 any_format p (o ∷ images) = grind (arith, any_format p images, cases_format o.desc.format)
 
 is_some-or : (a b : Option ℕ) → is_some (option_or a b) ≡ (is_some a || is_some b)
-is_some-or (Some a) b = refl
-is_some-or None b = refl
+is_some-or a b = grind arith
 
 -- ---- the slot of a cell among those of a format
 
@@ -53,10 +45,7 @@ is_some_slot (p ∷ ps) c = grind (arith, is_some_slot ps c, cases_Bool (same_ce
 -- two that are live at one step and have one slot are one
 one_in_slot : (ps : List Placed) (p q : Placed) (s : ℕ) → AllApart ps → In p ps → In q ps → is_in s p.life ≡ true → is_in s q.life ≡ true → p.slot ≡ q.slot → p ≡ q
 one_in_slot [] p q s a h i l m e = absurd h
-one_in_slot (r ∷ ps) p q s a (inl f) (inl g) l m e = f ∙ sym g
-one_in_slot (r ∷ ps) p q s a (inl f) (inr j) l m e = absurd (a.0 q s j (ap (λ (z : Placed). is_in s z.life) (sym f) ∙ l) m (ap (λ (z : Placed). z.slot) (sym f) ∙ e))
-one_in_slot (r ∷ ps) p q s a (inr k) (inl g) l m e = absurd (a.0 p s k (ap (λ (z : Placed). is_in s z.life) (sym g) ∙ m) l (ap (λ (z : Placed). z.slot) (sym g) ∙ sym e))
-one_in_slot (r ∷ ps) p q s a (inr k) (inr j) l m e = one_in_slot ps p q s a.1 k j l m e
+one_in_slot (r ∷ ps) p q s a h i l m e = grind (arith, one_in_slot ps p q s a.1, a.0 p s, a.0 q s)
 
 -- ---- lists that pass tests alike
 
@@ -87,10 +76,7 @@ module _ (steps : List Node) (images : List VirtualOutput) (p : Plan) (lives : F
     slots_given c =
         let each : (f : Format) → is_some (slot_among (places_in p f).placed.items c) ≡ list_any (λ (o : VirtualOutput). same_cell o.cell c) (of_format f images) =
         λ f. is_some_slot (places_in p f).placed.items c ∙ ap (list_any (λ (o : VirtualOutput). same_cell o.cell c)) (all_images f) in
-        let first = slot_among p.u8s.placed.items c in
-        let second = slot_among p.s16s.placed.items c in
-        is_some-or (option_or first second) (slot_among p.u32s.placed.items c) ∙ ap (λ b. b || is_some (slot_among p.u32s.placed.items c)) (is_some-or first second)
-        ∙ rw (each U8, each S16, each U32) (sym (any_format (λ o. same_cell o.cell c) images))
+        rw (is_some-or, is_some-or, each U8, each S16, each U32) (sym (any_format (λ o. same_cell o.cell c) images))
 
     placed_life : (f : Format) (q : Placed) → In q (places_in p f).placed.items → In q.life (lives f)
     placed_life f q i = subst (In q.life) (placed f).each (In-map (λ (z : Placed). z.life) q (places_in p f).placed.items i)
@@ -122,9 +108,7 @@ module _ (steps : List Node) (images : List VirtualOutput) (p : Plan) (lives : F
 
       told_is : (f : Format) (c : Cell) (k : ℕ) → slot_among (places_in p f).placed.items c ≡ Some k → ((g : Format) → (f ≡ g → ⊥) → slot_among (places_in p g).placed.items c ≡ None)
           → (told p).slot_of c ≡ Some k
-      told_is U8 c k own none = rw own refl
-      told_is S16 c k own none = rw (none U8 (λ e. cc), own) refl
-      told_is U32 c k own none = rw (none U8 (λ e. cc), none S16 (λ e. cc), own) refl
+      told_is f c k own none = grind (arith, none U8, none S16, cases_format f)
 
       -- an image stands in its slot
       found : (f : Format) (o : VirtualOutput) → In o (of_format f images) → (q : Placed) × In q (places_in p f).placed.items × (q.life.image ≡ o) × ((told p).slot_of o.cell ≡ Some q.slot)

@@ -14,7 +14,7 @@ Rise f (c ∷ cs) = ((d : Cell) → In d cs → f c ≤ f d) × Rise f cs
 rise-append : (f : Cell → ℕ) (cs ds : List Cell) → Rise f cs → Rise f ds → ((c d : Cell) → In c cs → In d ds → f c ≤ f d) → Rise f (cs ++ ds)
 rise-append f [] ds a b across = b
 rise-append f (c ∷ cs) ds a b across = (
-  (λ d i. elim (In-append d cs ds i) [ inl j ↦ a.0 d j | inr j ↦ across c d (inl refl) j ]),
+  (λ d i. grind (arith, In-append d cs ds i, a.0 d, across c d)),
   rise-append f cs ds a.1 b (λ e d i j. across e d (inr i) j),
 )
 
@@ -61,15 +61,12 @@ rise-outputs p (n ∷ steps) once =
 -- images of a format among images
 rise-filter : (f : Cell → ℕ) (q : VirtualOutput → Bool) (images : List VirtualOutput) → Rise f (map (λ o. o.cell) images) → Rise f (map (λ o. o.cell) (filter q images))
 rise-filter f q [] rise = tt
-rise-filter f q (o ∷ images) rise = elim (cases_Bool (q o)) [
-  | inl k ↦ rw k (
-    (λ d i.
-        let r = In-from_map (λ (z : VirtualOutput). z.cell) d (filter q images) i in
-        rw r.2 (rise.0 r.0.cell (In-map (λ (z : VirtualOutput). z.cell) r.0 images (In-from_filter q r.0 images r.1).0))),
-    rise-filter f q images rise.1,
-  )
-  | inr k ↦ rw k (rise-filter f q images rise.1)
-]
+rise-filter f q (o ∷ images) rise =
+    let rest = rise-filter f q images rise.1 in
+    let first = λ (d : Cell) (i : In d (map (λ (z : VirtualOutput). z.cell) (filter q images))).
+    let r = In-from_map (λ (z : VirtualOutput). z.cell) d (filter q images) i in
+    rise.0 d (rw r.2 (In-map (λ (z : VirtualOutput). z.cell) r.0 images (In-from_filter q r.0 images r.1).0)) in
+    elim (cases_Bool (q o)) [ inl k ↦ rw k (first, rest) | inr k ↦ rw k rest ]
 
 -- ---- an image that is written is live as it is written
 

@@ -1,6 +1,6 @@
 -- What stands in a slot as another image takes it.
-use Rattle.std.proofs.Common.{◌≡◌, ◌≢◌, ℕ, ◌+◌, ◌-◌, suc, true, false, List, [], ◌∷◌, ◌++◌, length, take, drop, Option, refl, ◌∙◌, ap, arith, ◌||◌}
-use Rattle.buffer_plan.proofs.Common.{false_from_ne_true, or_left, or_right, and_from, Node, Cell, VirtualOutput, reads, writes, is_written, In, In-filter, is_used, is_live, IsPlan, PlanValue, of_format, IsValid}
+use Rattle.std.proofs.Common.{◌≡◌, ◌≢◌, ℕ, ◌+◌, ◌-◌, true, false, List, [], ◌∷◌, ◌++◌, length, take, Option, refl, ap, arith, ◌||◌}
+use Rattle.buffer_plan.proofs.Common.{false_from_ne_true, or_left, or_right, Node, Cell, VirtualOutput, reads, writes, is_written, In, In-filter, is_used, is_live, IsPlan, PlanValue, of_format, IsValid}
 use Rattle.std.proofs.Math.Bool.{or-false}
 use Rattle.std.proofs.Math.Seq.{drop-append_seam}
 use Rattle.std.proofs.lemmas.List.Folds.{list_any-append}
@@ -8,19 +8,20 @@ use Rattle.buffer_plan.proofs.PlanLemmas.{In-format}
 
 take_one : (before after : List Node) (n : Node) → take (length before + 1) (before ++ n ∷ after) ≡ before ++ n ∷ []
 take_one [] after n = refl
-take_one (m ∷ before) after n =
-    let more : length (m ∷ before) + 1 ≡ suc (length before + 1) = omega arith in
-    rw more (ap (λ ns. m ∷ ns) (take_one before after n))
+take_one (m ∷ before) after n = grind (arith, take_one before after n)
 
 -- a cell that has been written, this step's own included, and is used from this step on
 live_now : (before after : List Node) (n : Node) (c : Cell) → (is_written before c || writes n c) ≡ true → is_used (n ∷ after) c ≡ true → is_live (before ++ n ∷ after) c (length before + 1) ≡ true
 live_now before after n c written used =
     let here : length before + 1 - 1 ≡ length before = omega arith in
-    let steps = before ++ n ∷ after in
-    let begun : is_written (take (length before + 1) steps) c ≡ true =
-    ap (λ ns. is_written ns c) (take_one before after n) ∙ list_any-append (λ m. writes m c) before (n ∷ []) ∙ ap (λ b. is_written before c || b) (or-false (writes n c)) ∙ written in
-    let later = ap (λ k. is_used (drop k steps) c) here ∙ ap (λ ns. is_used ns c) (drop-append_seam before (n ∷ after)) ∙ used in
-    and_from (is_written (take (length before + 1) steps) c) (is_used (drop (length before + 1 - 1) steps) c) begun later
+    rw (
+      take_one before after n,
+      here,
+      drop-append_seam before (n ∷ after),
+      list_any-append (λ m. writes m c) before (n ∷ []),
+      or-false (writes n c),
+      written,
+    ) used
 
 -- of two images in one slot, of which a step writes one, the other is that one if it has been written and is used again
 pub one_when_taken : (before after : List Node) (n : Node) (images : List VirtualOutput) (slot : Cell → Option ℕ) → IsValid (before ++ n ∷ after) images slot → (taken held : VirtualOutput)

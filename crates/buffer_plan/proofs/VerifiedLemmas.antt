@@ -1,6 +1,7 @@
 -- The plan of a verified graph.
-use Rattle.std.proofs.Common.{◌≡◌, ℕ, Bool, false, List, refl, sym, ◌∙◌, ap, subst, None, is_some, ◌&&◌, map-id}
-use Rattle.buffer_plan.proofs.Common.{filter, flat_map, list_any, and_parts, and_from, Format, U8, S16, U32, Node, Cell, same_cell, outputs, VirtualOutput, writes, is_written, has_twice, In, same-from_In, same_cell-true, same_cell-is, In-filter, In-from_filter, In-from_flat_map, In-from_any, any-from_In, Plan, places_in, told, IsPlan}
+use Rattle.std.proofs.Common.{◌≡◌, ℕ, Bool, false, List, refl, ◌∙◌, ap, subst, None, is_some, ◌&&◌, map-id}
+use Rattle.buffer_plan.proofs.Common.{filter, flat_map, list_any, and_from, Format, U8, S16, U32, Node, Cell, same_cell, outputs, VirtualOutput, writes, is_written, has_twice, In, same-from_In, same_cell-true, same_cell-is, In-filter, In-from_filter, In-from_flat_map, In-from_any, any-from_In, Plan, places_in, told, IsPlan}
+use Rattle.std.proofs.lemmas.Bool.{and_parts}
 use Rattle.graph_verify.specs.declared.operand.Operand.{Operand}
 use Rattle.graph_verify.specs.declared.verified.Verified.{Verified}
 use Rattle.graph_verify.specs.Operand.{is_virtual}
@@ -21,7 +22,7 @@ of_each P a b c S16 = b
 of_each P a b c U32 = c
 
 pub once_cells : (p : Cell → Bool) (cs : List Cell) → has_twice cs ≡ false → has_twice (filter p cs) ≡ false
-once_cells p cs once = ap has_twice (sym (map-id (filter p cs))) ∙ once-filter (λ (c : Cell). c) p cs (ap has_twice (map-id cs) ∙ once)
+once_cells p cs once = rw (← map-id (filter p cs)) (once-filter (λ (c : Cell). c) p cs (rw (map-id cs) once))
 
 -- a cell is among the images exactly where it is virtual and a node writes it
 images_are : (is : Cell → Operand) (nodes : List Node) (v : Verified) → IsVerified is nodes v → (c : Cell)

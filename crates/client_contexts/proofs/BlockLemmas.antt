@@ -1,7 +1,8 @@
 -- In how many blocks a context has its samples: as one object more is held, and as objects are written.
-use Rattle.std.proofs.Common.{◌≡◌, ◌∙◌, ℕ, ◌+◌, ◌-◌, true, List, [], Option, Some, None, length, take, drop, refl, sym, ap, subst, arith, sum, sum_by, unwrap_or, take-append-drop}
-use Rattle.client_contexts.proofs.Common.{IsStrictlyIncreasing, option_map, option_and_then, All-weaker, sum-map, Format, U8, Cell, cell_of, Description, GraphValue, ImageValue, new_image, image_over, description_of, ObjectValue, ImageObject, DelayObject, GraphObject, object_kind, blocks_in, KeepsBlocks, Context, with_graph, in_slot, Named, object_held, held, with_object, image_value, aged_object, IsUnder, HoldsImage, object_under, image_held, names_of}
+use Rattle.std.proofs.Common.{◌≡◌, ◌∙◌, ℕ, ◌+◌, ◌-◌, true, List, [], Option, Some, length, take, drop, refl, sym, ap, subst, arith, sum, sum_by, unwrap_or, take-append-drop}
+use Rattle.client_contexts.proofs.Common.{IsStrictlyIncreasing, option_map, All-weaker, sum-map, Format, U8, Cell, cell_of, Description, GraphValue, ImageValue, new_image, image_over, description_of, ObjectValue, ImageObject, DelayObject, GraphObject, object_kind, blocks_in, KeepsBlocks, Context, with_graph, in_slot, Named, object_held, held, with_object, image_value, aged_object, IsUnder, HoldsImage, object_under, image_held, names_of, map_some}
 use Rattle.std.proofs.lemmas.List.Sums.{sum_by-append}
+use Rattle.std.proofs.lemmas.Option.{option_and_then_some}
 use Rattle.vx_base.specs.declared.kind.Kind.TheVariants as kind
 use Rattle.vx_base.specs.Rectangle.{empty}
 use Rattle.object_table.specs.Blocks.{image_blocks, object_blocks}
@@ -21,8 +22,7 @@ use Rattle.graph_run.proofs.CellLemmas.{held_once}
 pub blocks_more : (c new : Context) (object : ObjectValue) (format : Format) → new ≡ with_new c object
     → blocks_in new.objects format ≡ blocks_in c.objects format + object_blocks object format
 blocks_more c new object format is =
-    ap (λ (k : Context). blocks_in k.objects format) is
-    ∙ blocks-with_new c.objects (record { name = c.next; live = true; object = object }) format
+    rw is (blocks-with_new c.objects (record { name = c.next; live = true; object = object }) format)
 
 -- ---- objects that are written
 
@@ -58,29 +58,22 @@ module _ (objects : List Named) (names : IsStrictlyIncreasing (names_of objects)
 
   -- where a cell is written with what has the skeleton of what is there
   blocks_written : (cell : Cell) (new : ObjectValue) → option_map skeleton (held objects cell) ≡ Some (skeleton new) → KeepsBlocks objects (with_object objects cell new)
-  blocks_written cell new there = found (object_held objects cell.name) refl
-    where
-      as_found : (o : Option ObjectValue) → object_held objects cell.name ≡ o → option_map skeleton (option_and_then (in_slot cell.slot) o) ≡ Some (skeleton new)
-      as_found o e = ap (λ y. option_map skeleton (option_and_then (in_slot cell.slot) y)) (sym e) ∙ there
-
-      found : (o : Option ObjectValue) → object_held objects cell.name ≡ o → KeepsBlocks objects (with_object objects cell new)
-      found None e = let no : ◌≡◌ {A = Option ObjectValue} None (Some (skeleton new)) = as_found None e in absurd (cc)
-      found (Some object) e =
-          blocks_replaced cell new object e
-          (λ format. same_blocks (with_slot cell.slot new object) object format (skeleton-with_slot cell.slot new object (as_found (Some object) e)))
+  blocks_written cell new there =
+      let (was, held_there, alike) = map_some skeleton (held objects cell) (skeleton new) there in
+      option_and_then_some (in_slot cell.slot) (object_held objects cell.name) was held_there
+      (λ object found at.
+      blocks_replaced cell new object found (λ format. same_blocks (with_slot cell.slot new object) object format (skeleton-with_slot cell.slot new object (rw (at, alike)))))
 
   -- where an image is written over one of its size and format
   pub image_blocks_kept : (cell : Cell) (image new : ImageValue) → HoldsImage objects cell → image_held objects cell ≡ image → description_of new ≡ description_of image
       → KeepsBlocks objects (with_object objects cell (ImageObject new))
-  image_blocks_kept cell image new there is same = blocks_written cell (ImageObject new) (as_there (held objects cell) there is)
-    where
-      as_there : (o : Option ObjectValue) → option_map object_kind o ≡ Some kind.Image → image_value (unwrap_or o (ImageObject (new_image 0 0 U8))) ≡ image
-          → option_map skeleton o ≡ Some (skeleton (ImageObject new))
-      as_there None e i = absurd (cc)
-      as_there (Some object) e i =
-          let of_kind : object_kind object ≡ kind.Image = cc in
-          ap (λ (x : ObjectValue). Some (skeleton x)) (image_of_kind object of_kind ∙ ap ImageObject i)
-          ∙ ap (λ (d : Description). let left : Option ObjectValue = Some (ImageObject (image_over d empty [])) in left) (sym same)
+  image_blocks_kept cell image new there is same =
+      let (object, at, of_kind) = map_some object_kind (held objects cell) kind.Image there in
+      let value : image_value object ≡ image = ap (λ (o : Option ObjectValue). image_value (unwrap_or o (ImageObject (new_image 0 0 U8)))) (sym at) ∙ is in
+      blocks_written cell (ImageObject new)
+      (ap (option_map skeleton) at
+      ∙ ap (λ (x : ObjectValue). Some (skeleton x)) (image_of_kind object of_kind ∙ ap ImageObject value)
+      ∙ ap (λ (d : Description). let left : Option ObjectValue = Some (ImageObject (image_over d empty [])) in left) (sym same))
 
   -- where the object of a name ages
   pub age_keeps_blocks : (name : ℕ) (object : ObjectValue) → object_held objects name ≡ Some object
@@ -92,15 +85,10 @@ module _ (objects : List Named) (names : IsStrictlyIncreasing (names_of objects)
 
   -- where a graph is another
   pub graph_keeps_blocks : (name : ℕ) (graph : GraphValue) → IsUnder objects kind.Graph name → KeepsBlocks objects (with_graph objects name graph)
-  graph_keeps_blocks name graph is = found (object_held objects name) refl
+  graph_keeps_blocks name graph is =
+      let (object, there, of_kind) = map_some object_kind (object_held objects name) kind.Graph is in
+      blocks_replaced (cell_of name) (GraphObject graph) object there (none object of_kind)
     where
       none : (object : ObjectValue) → object_kind object ≡ kind.Graph → (format : Format) → 0 ≡ object_blocks object format
       none (GraphObject was) e format = refl
       none other e format = cc
-
-      found : (o : Option ObjectValue) → object_held objects name ≡ o → KeepsBlocks objects (with_graph objects name graph)
-      found None e = let no = ap (option_map object_kind) (sym e) ∙ is in absurd (cc)
-      found (Some object) e =
-          let there : Some (object_kind object) ≡ Some kind.Graph = ap (option_map object_kind) (sym e) ∙ is in
-          let of_kind : object_kind object ≡ kind.Graph = cc in
-          blocks_replaced (cell_of name) (GraphObject graph) object e (none object of_kind)

@@ -1,7 +1,8 @@
 -- What is kept of a graph, from call to call.
-use Rattle.std.proofs.Common.{◌≡◌, ℕ, Bool, true, false, List, [], ◌∷◌, Result, Ok, Err, inl, refl, sym, subst, All, OnErr, ◌==◌, eqb-true}
-use Rattle.client_contexts.proofs.Common.{All-head, All-tail, Reply, Empty, VerifyGraph, Allowance, IsKeptWithin, ends_verification, World}
+use Rattle.std.proofs.Common.{◌≡◌, ℕ, false, List, [], ◌∷◌, Result, Ok, inl, inr, refl, sym, subst, All, OnErr, ◌==◌, eqb-true}
+use Rattle.client_contexts.proofs.Common.{All-head, All-tail, Reply, Empty, VerifyGraph, IsKeptWithin, ends_verification, World, cases_Bool}
 use Rattle.std.proofs.lemmas.Bool.{eqb-false}
+use Rattle.std.proofs.lemmas.Result.{on_err_weaker}
 use Rattle.client_contexts.specs.declared.memory.NoMemory.{NoMemory}
 use Rattle.client_contexts.specs.Calls.{Call, Does, Lead}
 use Rattle.client_contexts.specs.World.{verified_of}
@@ -17,15 +18,12 @@ module _ (client graph : ℕ) where
 
   kept_after_call : (call : Call) (old new : World) → Does call old new → Spares call → IsKeptIn old → IsKeptIn new
   kept_after_call call old new does spares kept =
-      subst (λ (limits : Allowance). IsKeptWithin limits.work graph (verified_of client new)) (sym does.applies.limits) (by_client (call.client == client) refl)
-    where
-      by_client : (same : Bool) → (call.client == client) ≡ same → IsKeptWithin old.limits.work graph (verified_of client new)
-      by_client true is =
-          let own : call.client ≡ client = eqb-true call.client client is in
-          subst (λ (n : ℕ). IsKeptWithin old.limits.work graph (verified_of n new)) own
-          (does.kept.own.stays graph (spares own) (subst (λ (n : ℕ). IsKeptWithin old.limits.work graph (verified_of n old)) (sym own) kept))
-      by_client false is =
-          subst (IsKeptWithin old.limits.work graph) (sym (does.kept.others client (λ same. eqb-false call.client client is (sym same)))) kept
+      elim (cases_Bool (call.client == client)) [
+        | inl is ↦
+            let own : call.client ≡ client = eqb-true call.client client is in
+            rw (does.applies.limits, ← own) (does.kept.own.stays graph (spares own) (rw own kept))
+        | inr is ↦ rw (does.applies.limits, does.kept.others client (λ same. eqb-false call.client client is (sym same))) kept
+      ]
 
   kept_after_calls : (calls : List Call) (old new : World) → Lead calls old new → All Spares calls → IsKeptIn old → IsKeptIn new
   kept_after_calls [] old new lead spare kept = subst IsKeptIn (sym lead) kept
@@ -37,11 +35,5 @@ module _ (client graph : ℕ) where
       → Does (record { client = client; request = VerifyGraph graph; result = Ok Empty }) first verified → Lead calls verified later → All Spares calls
       → Does (record { client = client; request = VerifyGraph graph; result = result }) later last → OnErr result ⊥
   finds_memory first verified later last calls result found lead spare again =
-      let begun : IsKeptIn verified =
-      subst (λ (limits : Allowance). IsKeptWithin limits.work graph (verified_of client verified)) (sym found.applies.limits) (found.kept.own.found refl graph (inl refl)) in
-      of_result result again.kept.own.lost (kept_after_calls calls verified later lead spare begun)
-    where
-      of_result : (r : Result Reply NoMemory) → OnErr r ((name : ℕ) → VerifyGraph graph ≡ VerifyGraph name → IsKeptWithin later.limits.work name (verified_of client later) → ⊥)
-          → IsKeptIn later → OnErr r ⊥
-      of_result (Ok reply) lost kept = tt
-      of_result (Err error) lost kept = lost graph refl kept
+      let begun : IsKeptIn verified = rw found.applies.limits (found.kept.own.found refl graph (inl refl)) in
+      on_err_weaker result (λ lost. lost graph refl (kept_after_calls calls verified later lead spare begun)) again.kept.own.lost

@@ -1,6 +1,8 @@
 -- A node that runs at once, or is refused.
-use Rattle.std.proofs.Common.{◌≡◌, Bool, true, false, List, ◌++◌, IfSome, Option, Some, None, refl, sym, ap, ◌∙◌, All, unwrap_or, ◌||◌, if◌then◌else◌, option_to_list, Err, Ok}
-use Rattle.client_contexts.proofs.Common.{list_any, option_map, option_and_then, list_any-append, Kind, Node, Cell, parameters, operands, with_kind, second_kind, ObjectValue, object_kind, Operands, Verdict, is_virtual, verdict_on, Named, held, Refusal, Rejected, Empty, Context, with_objects, unless, operands_refusal, immediate, operand_held, OfOperands, of_operands, IsFound, all_operands}
+use Rattle.std.proofs.Common.{◌≡◌, Bool, true, false, List, IfSome, Option, Some, None, refl, sym, ap, ◌∙◌, All, unwrap_or, ◌||◌, if◌then◌else◌, option_to_list, Err, Ok}
+use Rattle.client_contexts.proofs.Common.{list_any, option_map, option_and_then, list_any-append, Kind, Node, Cell, parameters, operands, with_kind, second_kind, ObjectValue, object_kind, Operands, is_virtual, verdict_on, Named, held, Refusal, Empty, Context, with_objects, unless, operands_refusal, immediate, operand_held, OfOperands, of_operands, IsFound, all_operands}
+use Rattle.graph_verify.specs.declared.verdict.Verdict.{Verdict}
+use Rattle.client_model.specs.declared.refusal.Refusal.TheVariants.{Rejected}
 use Rattle.std.specs.Option.{option_or}
 use Rattle.std.proofs.lemmas.Bool.{or_parts}
 use Rattle.vx_base.specs.declared.kind.Kind.TheVariants as kind
@@ -12,7 +14,7 @@ use Rattle.graph_run.specs.Graph.{is_virtual_object}
 use Rattle.object_table.specs.Named.{with_written}
 use Rattle.client_model.specs.declared.refusal.Refusal.TheVariants.{OptimizedAway}
 use Rattle.client_model.specs.Operands.{stands_for}
-use Rattle.client_model.specs.Immediate.{operand_in, operand_if, operands_in, is_some_virtual, away_refusal, node_refusal}
+use Rattle.client_model.specs.Immediate.{operand_in, operand_if, operands_in, is_some_virtual, node_refusal}
 use Rattle.graph_verify.specs.declared.operand.Operand.TheVariants.{Delay}
 use Rattle.graph_run.specs.Turns.{HoldsKind}
 use Rattle.client_contexts.proofs.ScopeLemmas.{to_operands}
@@ -61,10 +63,12 @@ module _ (c : Context) (n : Node) where
 
     operands_there : operands_in c.objects n ≡ Some held_operands
     operands_there =
-        ap (λ o. option_map (λ in1. let r : Operands = record { in1 = in1; in2 = operand_if c.objects n.in2; out1 = operand_if c.objects n.out1; out2 = operand_if c.objects n.out2 } in r) o) (operand_there c.objects (n.in1, kind.Image) each.in1)
-        ∙ ap (λ o. let r : Operands = record held_operands { in2 = o; out1 = operand_if c.objects n.out1; out2 = operand_if c.objects n.out2 } in Some r) (operand_if_there n.in2 (second_kind n) each.in2)
-        ∙ ap (λ o. let r : Operands = record held_operands { out1 = o; out2 = operand_if c.objects n.out2 } in Some r) (operand_if_there n.out1 (parameters n.function).output each.out1)
-        ∙ ap (λ o. let r : Operands = record held_operands { out2 = o } in Some r) (operand_if_there n.out2 (parameters n.function).output each.out2)
+        rw (
+          operand_there c.objects (n.in1, kind.Image) each.in1,
+          operand_if_there n.in2 (second_kind n) each.in2,
+          operand_if_there n.out1 (parameters n.function).output each.out1,
+          operand_if_there n.out2 (parameters n.function).output each.out2,
+        )
 
     -- ---- virtual images
 
@@ -79,40 +83,25 @@ module _ (c : Context) (n : Node) where
     away_is : list_any is_away (operands n) ≡ list_any is_virtual (all_operands held_operands)
     away_is =
         let output = (parameters n.function).output in
-        let in2 = with_kind (second_kind n) n.in2 in
-        let out1 = with_kind output n.out1 in
-        let out2 = with_kind output n.out2 in
-        let o = held_operands in
-        ap (λ b. b || list_any is_away (in2 ++ (out1 ++ out2))) (away_there c.objects (n.in1, kind.Image) each.in1)
-        ∙ ap (λ b. is_virtual o.in1 || b)
-        (list_any-append is_away in2 (out1 ++ out2)
-        ∙ ap (λ b. list_any is_away in2 || b)
-        (list_any-append is_away out1 out2
-        ∙ ap (λ b. b || list_any is_away out2) (away_if_there n.out1 output each.out1)
-        ∙ ap (λ b. list_any is_virtual (option_to_list o.out1) || b) (away_if_there n.out2 output each.out2)
-        ∙ sym (list_any-append is_virtual (option_to_list o.out1) (option_to_list o.out2)))
-        ∙ ap (λ b. b || list_any is_virtual (written_operands o)) (away_if_there n.in2 (second_kind n) each.in2)
-        ∙ sym (list_any-append is_virtual (option_to_list o.in2) (written_operands o)))
+        simp list_any-append
+        (rw (away_there c.objects (n.in1, kind.Image) each.in1, away_if_there n.in2 (second_kind n) each.in2, away_if_there n.out1 output each.out1, away_if_there n.out2 output each.out2))
 
     refusal_is : node_refusal c.objects n ≡ option_or (if list_any is_virtual (all_operands held_operands) then Some OptimizedAway else None) (option_map Rejected (verdict_on n held_operands))
-    refusal_is =
-        ap (λ r. option_or r (option_or (away_refusal c.objects n) verdict_part)) (sym known)
-        ∙ ap (λ b. option_or (if b then Some OptimizedAway else None) verdict_part) away_is
-        ∙ ap (λ o. option_or (if list_any is_virtual (all_operands held_operands) then Some OptimizedAway else None) (option_map Rejected (option_and_then (verdict_on n) o))) operands_there
+    refusal_is = rw (← known, away_is, operands_there)
 
     -- an operand is a virtual image
     pub away_refuses : list_any is_virtual (all_operands held_operands) ≡ true → immediate c n ≡ Err OptimizedAway
-    away_refuses away = refused_is OptimizedAway (refusal_is ∙ ap (λ b. option_or (if b then Some OptimizedAway else None) (option_map Rejected (verdict_on n held_operands))) away)
+    away_refuses away = refused_is OptimizedAway (rw (refusal_is, away))
 
     module _ (solid : list_any is_virtual (all_operands held_operands) ≡ false) where
       verdict_is : node_refusal c.objects n ≡ option_map Rejected (verdict_on n held_operands)
-      verdict_is = refusal_is ∙ ap (λ b. option_or (if b then Some OptimizedAway else None) (option_map Rejected (verdict_on n held_operands))) solid
+      verdict_is = rw (refusal_is, solid)
 
       pub verdict_refuses : (verdict : Verdict) → verdict_on n held_operands ≡ Some verdict → immediate c n ≡ Err (Rejected verdict)
-      verdict_refuses verdict e = refused_is (Rejected verdict) (verdict_is ∙ ap (option_map Rejected) e)
+      verdict_refuses verdict e = refused_is (Rejected verdict) (rw (verdict_is, e))
 
       pub nothing_refuses : verdict_on n held_operands ≡ None → immediate c n ≡ Ok (Empty, Some (with_objects c (with_written c.objects (written_by n (held c.objects)))))
-      nothing_refuses e = ap (λ r. unless r Empty (with_objects c (with_written c.objects (written_by n (held c.objects))))) (verdict_is ∙ ap (option_map Rejected) e)
+      nothing_refuses e = rw (verdict_is, e)
 
       -- what is found is then of just the kinds that are wanted
       of_kind_if : (cell : Option Cell) (wanted : Kind) → list_any is_virtual (option_to_list (option_map (operand_held c.objects) cell)) ≡ false → IfSome cell (λ x. IsFound c.objects (x, wanted)) → IfSome cell (λ x. HoldsKind c.objects (x, wanted))

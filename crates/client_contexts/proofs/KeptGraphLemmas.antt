@@ -1,6 +1,7 @@
 -- How a graph runs is kept, and stays right through the requests that leave its nodes.
-use Rattle.std.proofs.Common.{◌≡◌, ◌≢◌, ℕ, ◌<◌, false, List, [], ◌∷◌, Option, Some, None, IfSome, Result, Ok, Err, get_or, refl, sym, ap, subst, ◌∙◌, arith, All, MatchOption, is_some}
-use Rattle.client_contexts.proofs.Common.{option_map, All-nil, All-cons, Node, Cell, IsCell, ObjectValue, PictureValue, IsPicture, Context, object_held, nodes_in, verdict, operand_held, IsReady, Request, WriteImage, Refusal, Reply, Allowance, answered, write_image, KeepsLimits, changes_nodes, Kept, IsKept, AreKept, forgotten_by, ComesTo}
+use Rattle.std.proofs.Common.{◌≡◌, ◌≢◌, ℕ, ◌<◌, false, List, [], ◌∷◌, Option, Some, None, IfSome, Result, Ok, Err, get_or, refl, sym, ap, subst, ◌∙◌, arith, All, MatchOption, is_some, IfOk, OnErr}
+use Rattle.client_contexts.proofs.Common.{option_map, All-nil, All-cons, Node, ObjectValue, Context, object_held, nodes_in, verdict, operand_held, IsReady, Request, Reply, Allowance, answered, Outcome, KeepsLimits, Kept, IsKept, AreKept, forgotten_by}
+use Rattle.client_model.specs.States.{changes_nodes}
 use Rattle.client_model.specs.declared.request.Request.TheVariants.{ReleaseContext}
 use Rattle.client_model.specs.Context.{State}
 use Rattle.client_model.specs.Request.{IsRequest}
@@ -26,7 +27,6 @@ module _ (limits : Allowance) (c later : Context) (request : Request) (h : Keeps
     (e : (answer_to limits (Some c) request).1 ≡ Some later) where
   next_stays : Leaves limits (changes_nodes request) c later
   next_stays =
-      let is_later = after_one limits c later request h is e in
       let stays : request ≢ ReleaseContext = (λ release. let gone : ◌≡◌ {A = State} None (Some later) = ap (λ r. (answer_to limits (Some c) r).1) (sym release) ∙ e in cc) in
       subst (λ (state : State). MatchOption state ⊥ (Leaves limits (changes_nodes request) c)) e (answer_leaves limits c request stays h is)
 
@@ -58,9 +58,10 @@ module _ (limits : Allowance) (c later : Context) (request : Request) (h : Keeps
       let held : AreKept c left = subst (AreKept c) (sym forgotten) (left_by (λ k. IsKept c k.0 k.1) request kept are) in
       λ n d below. kept_after_one (get_or left n d).0 (get_or left n d).1 (leave n d below) (held n d below)
 
--- so is all of it where a picture is written, which leaves the nodes of all graphs
-pub kept_written : (limits : Allowance) (c later : Context) (cell : Cell) (p : PictureValue) (result : Result Reply Refusal) (kept : List (ℕ × Kept)) → KeepsLimits limits c → IsCell cell → IsPicture p
-    → ComesTo (write_image c cell p) c later result → AreKept c kept → AreKept later kept
-kept_written limits c later cell p (Ok reply) kept h is_cell is comes are =
-    left_are_kept limits c later (WriteImage cell p) h (is_cell, is) (ap (λ o. (answered c o).1) comes.done) kept kept are refl (λ n d below. refl)
-kept_written limits c later cell p (Err refusal) kept h is_cell is comes are = subst (λ (k : Context). AreKept k kept) (sym comes.kept) are
+-- so is all of it where a picture or a text is written, which leaves the nodes of all graphs
+pub kept_written : {E : Type 0} (limits : Allowance) (c later : Context) (request : Request) (outcome : Outcome) (result : Result Reply E) (kept : List (ℕ × Kept)) → KeepsLimits limits c → IsRequest request
+    → answer_to limits (Some c) request ≡ answered c outcome → ((name : ℕ) → changes_nodes request name ≡ false) → forgotten_by request kept ≡ kept
+    → IfOk result (λ reply. outcome ≡ Ok (reply, Some later)) → OnErr result (later ≡ c) → AreKept c kept → AreKept later kept
+kept_written limits c later request outcome (Ok reply) kept h is answers leaves forgets done back are =
+    left_are_kept limits c later request h is (rw (answers, done)) kept kept are (sym forgets) (λ n d below. leaves (get_or kept n d).0)
+kept_written limits c later request outcome (Err error) kept h is answers leaves forgets done back are = rw back are

@@ -5,7 +5,6 @@ mod StandLemmas
 mod ReadyLemmas
 mod RegisterLemmas
 mod AddLemmas
-mod KeptLemmas
 mod ForgetLemmas
 mod KeptGraphLemmas
 mod VerifiedLemmas
@@ -15,5 +14,4 @@ mod CallLemmas
 mod ImmediateLemmas
 mod OutcomeLemmas
 mod WriteLemmas
-mod TextLemmas
 mod DelayLemmas

@@ -1,6 +1,6 @@
 -- What is kept of a graph: what it says of the graph's verdict and run, and that it is so once the graph is verified.
-use Rattle.std.proofs.Common.{◌≡◌, ℕ, ◌<◌, ◌^◌, List, [], ◌∷◌, Option, Some, None, Result, Ok, Err, Ordering, Less, Equal, Greater, IfSome, refl, sym, ap, subst, ◌∙◌, All, unwrap_or}
-use Rattle.client_contexts.proofs.Common.{graph_under, U8, new_image, insert_entry, is_at, lookup, option_map, nat_cmp, All-nil, All-cons, All-head, All-tail, All-weaker, exact_unsigned, GraphValue, nodes_of, ObjectValue, GraphObject, ImageObject, Context, with_objects, object_held, graph_value, nodes_in, graph_of_kind, Verdict, verdict, IsVerified, IsReady, operand_held, Refusal, Rejected, Reply, Empty, ProcessGraph, Allowance, answered, graph_named, graph_verdict, Outcome, unless, KeepsLimits, RequestFault, Kept, IsKept, AreKept, IsNamed, MayComeTo, SaysWhy}
+use Rattle.std.proofs.Common.{◌≡◌, ℕ, ◌<◌, ◌^◌, List, [], ◌∷◌, Option, Some, None, Result, Ok, Err, Ordering, Less, Equal, Greater, refl, ap, subst, ◌∙◌, All, arith}
+use Rattle.client_contexts.proofs.Common.{graph_under, insert_entry, is_at, lookup, option_map, nat_cmp, All-nil, All-cons, All-head, All-tail, All-weaker, exact_unsigned, GraphValue, nodes_of, ObjectValue, GraphObject, Context, with_objects, object_held, graph_value, graph_of_kind, verdict, IsVerified, IsReady, operand_held, Refusal, Reply, Empty, ProcessGraph, Allowance, answered, graph_named, graph_verdict, Outcome, KeepsLimits, RequestFault, Kept, IsKept, AreKept, IsNamed, MayComeTo, map_some}
 use Rattle.client_laws.proofs.RunLaws.{graph_stays}
 use Rattle.object_table.specs.Ageing.{aged_under}
 use Rattle.std.specs.Ordering.{match_ordering, eq_by_cmp}
@@ -12,7 +12,7 @@ use Rattle.graph_verify.specs.Outlines.{resolved}
 use Rattle.buffer_plan.specs.Places.{told}
 use Rattle.buffer_plan.specs.Plan.{IsPlan}
 use Rattle.graph_run.specs.Graph.{run_of_graph}
-use Rattle.client_model.specs.Graphs.{verify_found, verify_graph, process_found, process_graph}
+use Rattle.client_model.specs.Graphs.{verify_graph, process_graph}
 use Rattle.client_laws.proofs.StayLaws.{graph_held}
 use Rattle.client_contexts.specs.declared.fault.RequestFault.TheVariants.{Refused, NoMemory}
 use Rattle.client_contexts.proofs.KeptGraphLemmas.{kept_after_one}
@@ -35,24 +35,17 @@ module _ {X : Type 0} (name : ℕ) (value : X) where
 -- ---- what is kept under a name
 
 -- what is found under a name is kept of the graph of that name
-kept_there : (c : Context) (name : ℕ) (k : Kept) (entries : List (ℕ × Kept)) → AreKept c entries → lookup (is_at (nat_cmp name)) entries ≡ Some k → IsKept c name k
+pub kept_there : (c : Context) (name : ℕ) (k : Kept) (entries : List (ℕ × Kept)) → AreKept c entries → lookup (is_at (nat_cmp name)) entries ≡ Some k → IsKept c name k
 kept_there c name k entries are is =
     All-contains (λ (entry : ℕ × Kept). IsKept c entry.0 entry.1) entries (name, k) are
     (Contains-from_lookup {eq = eq_by_cmp nat_cmp} (tells_apart exact_unsigned) name k entries is)
 
--- its plan is one
-pub kept_plan : (c : Context) (name : ℕ) (k : Kept) (entries : List (ℕ × Kept)) → AreKept c entries → lookup (is_at (nat_cmp name)) entries ≡ Some k
-    → IsPlan k.verified.steps.items k.verified.virtual_outputs.items (told k.plan)
-kept_plan c name k entries are is = (kept_there c name k entries are is).plan
-
 -- so is what was found within so many work bytes
 pub found_kept : (c : Context) (name work : ℕ) (entries : List (ℕ × Kept)) → AreKept c entries → option_map (λ (k : Kept). k.work) (lookup (is_at (nat_cmp name)) entries) ≡ Some work
     → (k : Kept) × (k.work ≡ work) × IsKept c name k
-found_kept c name work entries are same = of_entry (lookup (is_at (nat_cmp name)) entries) refl same
-  where
-    of_entry : (o : Option Kept) → lookup (is_at (nat_cmp name)) entries ≡ o → option_map (λ (k : Kept). k.work) o ≡ Some work → (k : Kept) × (k.work ≡ work) × IsKept c name k
-    of_entry None is e = absurd (cc)
-    of_entry (Some k) is e = let so : k.work ≡ work = cc in (k, so, kept_there c name k entries are is)
+found_kept c name work entries are same =
+    let (k, is, so) = map_some (λ (k : Kept). k.work) (lookup (is_at (nat_cmp name)) entries) work same in
+    (k, so, kept_there c name k entries are is)
 
 -- ---- a graph that is found under its name
 
@@ -64,10 +57,8 @@ module _ (limits : Allowance) (c : Context) (name : ℕ) (x : ObjectValue) (h : 
   -- what is kept of it is its verdict
   pub kept_verifies : (within : Allowance) (k : Kept) → IsKept c name k → k.work ≡ within.work → verify_graph within c name ≡ Ok (Empty, Some c)
   kept_verifies within k kept same =
-      let allowed : verdict k.work (operand_held c.objects) (nodes_of (graph_value x)) ≡ None =
-      subst (λ (o : Option ObjectValue). IfSome o (λ object. verdict k.work (operand_held c.objects) (nodes_in object) ≡ None)) held_graph kept.allowed in
-      let passes : graph_verdict within c.objects (graph_value x) ≡ None = ap (λ n. verdict n (operand_held c.objects) (nodes_of (graph_value x))) (sym same) ∙ allowed in
-      ap (λ g. verify_found g within c) (graph_is_named limits c name x h named) ∙ ap (λ o. unless (option_map Rejected o) Empty c) passes
+      let allowed : verdict within.work (operand_held c.objects) (nodes_of (graph_value x)) ≡ None = rw (held_graph, same) at kept.allowed in
+      rw (graph_is_named limits c name x h named, allowed)
 
   -- once it is verified, so much is kept of it
   pub verified_is_kept : (k : Kept) → IsVerified (operand_held c.objects) (nodes_of (graph_value x)) k.verified
@@ -76,11 +67,9 @@ module _ (limits : Allowance) (c : Context) (name : ℕ) (x : ObjectValue) (h : 
   verified_is_kept k verified allowed planned =
       record {
         plan = planned;
-        below = subst (λ (o : Option ObjectValue). IfSome o (λ object. name < c.next)) held_graph (named_has (λ n object. n < c.next) c.objects name h.below);
-        ready =
-            subst (λ (o : Option ObjectValue). IfSome o (λ object. IsReady c.objects (nodes_in object) k.verified)) (sym held_graph)
-            (graph_ready limits c name x h named k.verified k.work verified allowed);
-        allowed = subst (λ (o : Option ObjectValue). IfSome o (λ object. verdict k.work (operand_held c.objects) (nodes_in object) ≡ None)) (sym held_graph) allowed;
+        below = rw held_graph at (named_has (λ n object. n < c.next) c.objects name h.below);
+        ready = rw held_graph (graph_ready limits c name x h named k.verified k.work verified allowed);
+        allowed = rw held_graph allowed;
       }
 
 -- ---- a graph that runs
@@ -88,48 +77,24 @@ module _ (limits : Allowance) (c : Context) (name : ℕ) (x : ObjectValue) (h : 
 module _ (limits : Allowance) (c : Context) (name : ℕ) where
   -- what refuses its verification refuses its run
   refuses_run : (refusal : Refusal) → verify_graph limits c name ≡ Err refusal → process_graph limits c name ≡ Err refusal
-  refuses_run refusal = of_graph (graph_named c.objects name)
-    where
-      of_verdict : (o : Option Verdict) (after : Context) → unless (option_map Rejected o) Empty c ≡ Err refusal → unless (option_map Rejected o) Empty after ≡ Err refusal
-      of_verdict None after e = absurd (cc)
-      of_verdict (Some v) after e = e
-
-      of_graph : (g : Result GraphValue Refusal) → verify_found g limits c ≡ Err refusal → process_found g limits c ≡ Err refusal
-      of_graph (Err other) e = e
-      of_graph (Ok graph) e =
-          of_verdict (graph_verdict limits c.objects graph) (with_objects c (aged_under graph.delays (run_of_graph (resolved (operand_held c.objects) (nodes_of graph)) (nodes_of graph) c.objects))) e
+  refuses_run refusal e = grind arith
 
   pub fails_to_run : (fault : RequestFault) (result : Result Reply RequestFault) → MayComeTo (verify_graph limits c name) c c (Err fault) → result ≡ Err fault
       → MayComeTo (process_graph limits c name) c c result
-  fails_to_run fault result comes is =
-      subst (MayComeTo (process_graph limits c name) c c) (sym is) (record { done = tt; refused = of_fault fault comes.refused; kept = refl })
-    where
-      of_fault : (f : RequestFault) → SaysWhy (verify_graph limits c name) f → SaysWhy (process_graph limits c name) f
-      of_fault (Refused refusal) why = refuses_run refusal why
-      of_fault NoMemory why = tt
+  fails_to_run (Refused refusal) result comes is = rw is record { done = tt; refused = refuses_run refusal comes.refused; kept = refl }
+  fails_to_run NoMemory result comes is = rw is record { done = tt; refused = tt; kept = refl }
 
   -- a graph that is verified is there, and nothing refuses it
   passed : (done : Reply × Option Context) → verify_graph limits c name ≡ Ok done
       → (graph : GraphValue) × (graph_named c.objects name ≡ Ok graph) × (graph_verdict limits c.objects graph ≡ None)
-  passed done = of_graph (graph_named c.objects name) refl
-    where
-      of_verdict : (o : Option Verdict) → unless (option_map Rejected o) Empty c ≡ Ok done → o ≡ None
-      of_verdict None e = refl
-      of_verdict (Some v) e = absurd (cc)
-
-      of_graph : (g : Result GraphValue Refusal) → graph_named c.objects name ≡ g → verify_found g limits c ≡ Ok done
-          → (graph : GraphValue) × (graph_named c.objects name ≡ Ok graph) × (graph_verdict limits c.objects graph ≡ None)
-      of_graph (Err refusal) is e = absurd (cc)
-      of_graph (Ok graph) is e = (graph, is, of_verdict (graph_verdict limits c.objects graph) e)
+  passed done e = grind arith
 
   -- its run leaves this
   pub runs_to : (graph : GraphValue) (after : Context) → graph_named c.objects name ≡ Ok graph → graph_verdict limits c.objects graph ≡ None
       → after ≡ with_objects c (aged_under graph.delays (run_of_graph (resolved (operand_held c.objects) (nodes_of graph)) (nodes_of graph) c.objects))
       → process_graph limits c name ≡ Ok (Empty, Some after)
   runs_to graph after is allowed e =
-      ap (λ g. process_found g limits c) is
-      ∙ ap (λ o. unless (option_map Rejected o) Empty (with_objects c (aged_under graph.delays (run_of_graph (resolved (operand_held c.objects) (nodes_of graph)) (nodes_of graph) c.objects)))) allowed
-      ∙ ap (λ (k : Context). let r : Outcome = Ok (Empty, Some k) in r) (sym e)
+      rw (is, allowed, e)
 
   -- the graph is as it was as its run ends
   pub graph_left : KeepsLimits limits c → (graph : GraphValue) (ran : Context) → graph_named c.objects name ≡ Ok graph → graph_verdict limits c.objects graph ≡ None
@@ -141,24 +106,15 @@ module _ (limits : Allowance) (c : Context) (name : ℕ) where
       → ran ≡ with_objects c (run_of_graph (resolved (operand_held c.objects) (nodes_of graph)) (nodes_of graph) c.objects)
       → after ≡ with_objects ran (aged_under (graph_under ran.objects name).delays ran.objects) → process_graph limits c name ≡ Ok (Empty, Some after)
   aged_to h graph ran after is allowed e aged =
-      let left = graph_left h graph ran is allowed e in
-      runs_to graph after is allowed
-      (aged
-      ∙ ap (λ (o : Option ObjectValue). with_objects ran (aged_under (graph_value (unwrap_or o (ImageObject (new_image 0 0 U8)))).delays ran.objects)) left
-      ∙ ap (λ (k : Context). with_objects k (aged_under graph.delays k.objects)) e)
+      runs_to graph after is allowed (rw (aged, graph_left h graph ran is allowed e, e))
 
   -- what is kept of a graph that is verified runs its nodes
   pub kept_runs : KeepsLimits limits c → (done : Reply × Option Context) → verify_graph limits c name ≡ Ok done → (k : Kept) (entries : List (ℕ × Kept)) → AreKept c entries
       → lookup (is_at (nat_cmp name)) entries ≡ Some k
       → (graph : GraphValue) × (graph_named c.objects name ≡ Ok graph) × (graph_verdict limits c.objects graph ≡ None) × IsReady c.objects (nodes_of graph) k.verified
   kept_runs h done passes k entries are is =
-      let graph = passed done passes in (
-        graph.0,
-        graph.1,
-        graph.2,
-        subst (λ (o : Option ObjectValue). IfSome o (λ object. IsReady c.objects (nodes_in object) k.verified)) (graph_held limits c name h graph.0 graph.1)
-            (kept_there c name k entries are is).ready,
-      )
+      let (graph, named, allowed) = passed done passes in
+      (graph, named, allowed, rw (graph_held limits c name h graph named) at (kept_there c name k entries are is).ready)
 
 -- what is kept of each graph holds after a run
 pub kept_after_run : (limits : Allowance) (c later : Context) (name : ℕ) → KeepsLimits limits c → name < 2 ^ 32 → process_graph limits c name ≡ Ok (Empty, Some later)

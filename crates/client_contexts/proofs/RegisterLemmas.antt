@@ -1,6 +1,6 @@
 -- Delays that are registered with graphs.
-use Rattle.std.proofs.Common.{◌≡◌, ℕ, Bool, true, false, List, Option, Some, Ok, refl, sym, ap, ◌∙◌, if◌then◌else◌, unwrap_or}
-use Rattle.client_contexts.proofs.Common.{IsStrictlyIncreasing, U8, new_image, ObjectValue, ImageObject, DelayObject, GraphObject, object_kind, KeepsBlocks, Context, object_named, with_objects, with_graph, Named, object_held, graph_value, IsUnder, graph_under, names_of, Empty, Outcome}
+use Rattle.std.proofs.Common.{◌≡◌, ℕ, Bool, true, false, List, Some, Ok, refl, if◌then◌else◌}
+use Rattle.client_contexts.proofs.Common.{IsStrictlyIncreasing, ObjectValue, DelayObject, GraphObject, object_kind, KeepsBlocks, Context, with_objects, with_graph, Named, object_held, IsUnder, graph_under, names_of, Empty}
 use Rattle.vx_base.specs.declared.kind.Kind.TheVariants as kind
 use Rattle.vx_base.specs.Graph.{is_registered}
 use Rattle.object_table.specs.Ageing.{one_more, registered}
@@ -12,14 +12,10 @@ use Rattle.client_contexts.proofs.BlockLemmas.{graph_keeps_blocks}
 pub registers : (c after : Context) (graph delay : ℕ) → NameGraphAndDelay c.objects graph delay → after ≡ with_objects c (registered c.objects graph (graph_under c.objects graph) delay)
     → register_auto_aging c graph delay ≡ Ok (Empty, Some after)
 registers c after graph delay named e =
-    ap (λ o. register_named c graph delay o (object_named c.objects delay)) named.is_graph.live
-    ∙ ap (register_named c graph delay (Some named.first)) named.live
-    ∙ done named.first named.second named.is_graph.kind named.is_delay named.is_graph.held
+    rw (named.is_graph.live, named.live) (done named.first named.second named.is_graph.kind named.is_delay named.is_graph.held)
   where
     done : (a b : ObjectValue) → object_kind a ≡ kind.Graph → object_kind b ≡ kind.Delay → object_held c.objects graph ≡ Some a → register_named c graph delay (Some a) (Some b) ≡ Ok (Empty, Some after)
-    done (GraphObject found) (DelayObject images) is_graph is_delay held =
-        ap (λ (k : Context). let r : Outcome = Ok (Empty, Some k) in r)
-        (sym (e ∙ ap (λ (o : Option ObjectValue). with_objects c (registered c.objects graph (graph_value (unwrap_or o (ImageObject (new_image 0 0 U8)))) delay)) held))
+    done (GraphObject found) (DelayObject images) is_graph is_delay held = rw (e, held)
     done (GraphObject found) b is_graph is_delay held = absurd (cc)
     done a b is_graph is_delay held = absurd (cc)
 

@@ -1,10 +1,11 @@
 -- What a runtime keeps, as the contexts of its clients come, change and go.
-use Rattle.std.proofs.Common.{◌≡◌, ◌∙◌, ℕ, false, List, [], Result, Option, Some, None, IfSome, refl, sym, ap, subst, arith, sum, sum_by, unwrap_or, ne_eqb}
-use Rattle.client_contexts.proofs.Common.{insert_entry, is_at, lookup, remove_entry, option_map, nat_cmp, nat_cmp_total, sum-map, Format, blocks_in, Request, Reply, Allowance, KeepsLimits, AppliesToKept, IsRuntime, KeepsVerified, Opened}
+use Rattle.std.proofs.Common.{◌≡◌, ◌∙◌, ℕ, false, List, [], Result, Option, Some, None, sym, ap, arith, sum, sum_by, unwrap_or, ne_eqb}
+use Rattle.client_contexts.proofs.Common.{insert_entry, is_at, lookup, remove_entry, option_map, nat_cmp, sum-map, Format, blocks_in, Request, Reply, Allowance, KeepsLimits, AppliesToKept, IsRuntime, KeepsVerified, Opened, All-map-remove_entry}
+use Rattle.std.proofs.lemmas.Cmp.{nat_cmp_total}
 use Rattle.std.specs.List.Sorted.{IsStrictlySortedBy}
 use Rattle.std.specs.Map.{keys_of, values_of, set_value}
 use Rattle.std.proofs.lemmas.Map.Entries.{sum_by-set_value, sum_by-remove_entry, sum_by-insert_entry}
-use Rattle.std.proofs.lemmas.Map.Views.{All-map-remove_entry, All-values-insert_entry, All-values-set_value, IfSome-lookup_from_All}
+use Rattle.std.proofs.lemmas.Map.Views.{All-values-insert_entry, All-values-set_value, IfSome-lookup_from_All}
 use Rattle.std.proofs.lemmas.Simd.{map-map}
 use Rattle.pixel_pool.specs.declared.pool.Pool.{Pool}
 use Rattle.object_table.specs.Blocks.{LendsAtLeast, LendsLess, Balances}
@@ -27,11 +28,7 @@ blocks_of_values contexts format =
 -- a client without a state has no context that is open
 pub none_open : (contexts : List (ℕ × Opened)) (client : ℕ) → option_map (λ (o : Opened). o.context) (lookup (is_at (nat_cmp client)) contexts) ≡ None
     → lookup (is_at (nat_cmp client)) contexts ≡ None
-none_open contexts client = of_entry (lookup (is_at (nat_cmp client)) contexts)
-  where
-    of_entry : (entry : Option Opened) → option_map (λ (o : Opened). o.context) entry ≡ None → entry ≡ None
-    of_entry None none = refl
-    of_entry (Some o) none = absurd (cc)
+none_open contexts client none = grind arith
 
 module _ (limits : Allowance) (contexts : List (ℕ × Opened)) (pool : Pool) (h : IsRuntime limits contexts pool) (client : ℕ) where
   -- a client's images have their samples in blocks that are lent
@@ -47,7 +44,7 @@ module _ (limits : Allowance) (contexts : List (ℕ × Opened)) (pool : Pool) (h
 
   -- its context keeps the limits
   pub client_keeps : (o : Opened) → lookup (is_at (nat_cmp client)) contexts ≡ Some o → KeepsLimits limits o.context
-  client_keeps o found = subst (λ (entry : Option Opened). IfSome entry (λ found. KeepsLimits limits found.context)) found (IfSome-lookup_from_All (λ entry. KeepsLimits limits entry.context) (is_at (nat_cmp client)) contexts h.keeps)
+  client_keeps o found = rw found at (IfSome-lookup_from_All (λ entry. KeepsLimits limits entry.context) (is_at (nat_cmp client)) contexts h.keeps)
 
   -- its context changes, and what is lent by as much
   pub changed_is : (o new : Opened) (changed : Pool) → lookup (is_at (nat_cmp client)) contexts ≡ Some o → KeepsLimits limits new.context → Balances pool changed o.context.objects new.context.objects
@@ -60,8 +57,7 @@ module _ (limits : Allowance) (contexts : List (ℕ × Opened)) (pool : Pool) (h
               arith,
               h.lent format,
               balances format,
-              blocks_of_values contexts format,
-              blocks_of_values (set_value (is_at (nat_cmp client)) contexts new) format,
+              blocks_of_values,
               sum_by-set_value (client_blocks format) (is_at (nat_cmp client)) contexts o new found,
             );
       }
@@ -77,8 +73,7 @@ module _ (limits : Allowance) (contexts : List (ℕ × Opened)) (pool : Pool) (h
               arith,
               h.lent format,
               less format,
-              blocks_of_values contexts format,
-              blocks_of_values (remove_entry (is_at (nat_cmp client)) contexts) format,
+              blocks_of_values,
               sum_by-remove_entry (client_blocks format) (is_at (nat_cmp client)) contexts,
               ap (λ (entry : Option Opened). unwrap_or (option_map (client_blocks format) entry) 0) found,
             );
@@ -95,8 +90,7 @@ module _ (limits : Allowance) (contexts : List (ℕ × Opened)) (pool : Pool) (h
             omega (
               arith,
               h.lent format,
-              blocks_of_values contexts format,
-              blocks_of_values (insert_entry nat_cmp contexts client opened) format,
+              blocks_of_values,
               sum_by-insert_entry (client_blocks format) nat_cmp_total contexts client opened sorted,
               ap (λ (entry : Option Opened). unwrap_or (option_map (client_blocks format) entry) 0) none,
             );
@@ -116,8 +110,6 @@ module _ (limits : Allowance) (client : ℕ) (request : Request) (result : Resul
       → AppliesToKept client request (record { limits = limits; contexts = old }) (record { limits = limits; contexts = new }) result
   applies_to_kept before after was is others keeps =
       record {
-        own =
-            subst (λ (entry : Option Opened). KeepsVerified limits.work request (shown_of entry) (shown_of (lookup (is_at (nat_cmp client)) new)) result) (sym was)
-            (subst (λ (entry : Option Opened). KeepsVerified limits.work request (shown_of before) (shown_of entry) result) (sym is) keeps);
+        own = rw (was, is) keeps;
         others = λ other differs. ap shown_of (others other (apart client other (ne_eqb client other (λ same. differs (sym same)))));
       }

@@ -51,6 +51,4 @@ module _ (graph : ℕ) (objects : List Named) where
   pub graph_for_refused : (n : Node) (cell : Cell) (named found both : Option Refusal) → cell ≡ cell_of graph → named ≡ operands_refusal (Some graph) objects ((cell, kind.Graph) ∷ [])
       → found ≡ operands_refusal (Some graph) objects (operands n) → both ≡ first_class named found → both ≡ operands_refusal (Some graph) objects ((cell_of graph, kind.Graph) ∷ operands n)
   graph_for_refused n cell named found both is by_name by_operands joined =
-      joined ∙ ap (λ r. first_class r found) by_name ∙ ap (first_class (operands_refusal (Some graph) objects ((cell, kind.Graph) ∷ []))) by_operands
-      ∙ refusal-append (Some graph) objects ((cell, kind.Graph) ∷ []) (operands n)
-      ∙ ap (λ c. operands_refusal (Some graph) objects ((c, kind.Graph) ∷ operands n)) is
+      rw (joined, by_name, by_operands, refusal-append (Some graph) objects ((cell, kind.Graph) ∷ []) (operands n), is)

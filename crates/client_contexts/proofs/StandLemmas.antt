@@ -1,6 +1,7 @@
 -- A graph of a context that keeps the limits: what the cells of its nodes hold.
 use Rattle.std.proofs.Common.{◌≡◌, ℕ, IsTrue, List, Option, Some, None, Ok, IfSome, ap, subst, ◌∙◌, All}
-use Rattle.client_contexts.proofs.Common.{All-map, All-weaker, Node, nodes_of, IsNode, operands, ObjectValue, IsObject, Context, graph_value, nodes_in, graph_of_kind, is_image, verdict, IsVerified, IsReady, operand_held, Allowance, graph_named, as_graph, KeepsLimits, OperandsStand, IsNamed}
+use Rattle.client_contexts.proofs.Common.{All-map, All-weaker, Node, nodes_of, IsNode, operands, ObjectValue, IsObject, Context, graph_value, nodes_in, graph_of_kind, is_image, verdict, IsVerified, IsReady, operand_held, Allowance, graph_named, KeepsLimits, OperandsStand, IsNamed}
+use Rattle.client_model.specs.Graphs.{as_graph}
 use Rattle.vx_base.specs.declared.kind.Kind.TheVariants as kind
 use Rattle.vx_base.specs.declared.numbered.Numbered.{Numbered}
 use Rattle.vx_base.specs.Graph.{IsGraph}

@@ -1,6 +1,6 @@
 -- What shows of the graphs that are kept as verified, as a client's requests are answered.
-use Rattle.std.proofs.Common.{◌≡◌, ◌≢◌, ◌∙◌, ℕ, Bool, true, false, cond, List, Option, Some, Result, Ok, Err, ◌⊎◌, inl, inr, sym, ap, subst, IfErr, OnOk, OnErr}
-use Rattle.client_contexts.proofs.Common.{is_at, lookup, option_map, nat_cmp, Reply, Request, VerifyGraph, ProcessGraph, RequestFault, Kept, verified_in, IsKeptWithin, KeepsVerified, ends_verification, told_of}
+use Rattle.std.proofs.Common.{◌≡◌, ◌≢◌, ◌∙◌, ℕ, true, false, cond, List, Some, Result, Ok, Err, ◌⊎◌, inl, inr, sym, ap, subst, IfErr, OnOk, OnErr, arith}
+use Rattle.client_contexts.proofs.Common.{cases_Bool, is_at, lookup, nat_cmp, Reply, Request, VerifyGraph, ProcessGraph, RequestFault, Kept, verified_in, IsKeptWithin, KeepsVerified, ends_verification, told_of}
 use Rattle.std.proofs.lemmas.Map.Made.{lookup-map_values}
 use Rattle.vx_base.specs.declared.code.Code.{Code}
 use Rattle.client_model.specs.declared.reply.Reply.TheVariants as reply
@@ -29,11 +29,7 @@ pub stay_with_one : (work graph : ℕ) (k : Kept) → k.work ≡ work → (old n
     → ((q : ℕ) → lookup (is_at (nat_cmp q)) new ≡ cond (is_at (nat_cmp graph) q) (Some k) (lookup (is_at (nat_cmp q)) old))
     → StayKept work (verified_in old) (verified_in new)
 stay_with_one work graph k same old new updates = λ q.
-    shown_still work q old new (λ is. ap (option_map (λ (e : Kept). e.work)) (updates q) ∙ either (is_at (nat_cmp graph) q) (lookup (is_at (nat_cmp q)) old) is)
-  where
-    either : (b : Bool) (o : Option Kept) → option_map (λ (e : Kept). e.work) o ≡ Some work → option_map (λ (e : Kept). e.work) (cond b (Some k) o) ≡ Some work
-    either true o is = ap (λ (n : ℕ). let s : Option ℕ = Some n in s) same
-    either false o is = is
+    shown_still work q old new (λ is. elim (cases_Bool (is_at (nat_cmp graph) q)) [ inl here ↦ rw (updates q, here, same) | inr apart ↦ rw (updates q, apart) is ])
 
 -- ---- requests
 
@@ -46,11 +42,10 @@ on_err (Err error) said = said
 pub lost_unkept : (work graph : ℕ) (request : Request) (kept : List (ℕ × Kept)) (result : Result Reply RequestFault) → request ≡ VerifyGraph graph
     → IfErr result (λ f. WantsMemory f (kept_within graph kept ≢ Some work))
     → OnErr (told_of result) ((name : ℕ) → request ≡ VerifyGraph name → IsKeptWithin work name (verified_in kept) → ⊥)
-lost_unkept work graph request kept (Ok made) is takes = tt
-lost_unkept work graph request kept (Err (fault.Refused refusal)) is takes = tt
 lost_unkept work graph request kept (Err fault.NoMemory) is takes = λ name asks verified.
     let same : name ≡ graph = cc in
     takes (sym (shown graph kept) ∙ subst (λ (n : ℕ). IsKeptWithin work n (verified_in kept)) same verified)
+lost_unkept work graph request kept other is takes = tt
 
 -- what is said of no request where there is no memory
 pub lost_none : (P : ℕ → Type 0) (graph : ℕ) (request : Request) (result : Result Reply NoMemory) → request ≡ ProcessGraph graph → OnErr result ((name : ℕ) → request ≡ VerifyGraph name → P name)
@@ -70,10 +65,7 @@ ran_keeps work graph request old new result is lost found stay =
     }
   where
     same_graph : (name : ℕ) → (request ≡ VerifyGraph graph) ⊎ (request ≡ ProcessGraph graph) → (request ≡ VerifyGraph name) ⊎ (request ≡ ProcessGraph name) → graph ≡ name
-    same_graph name (inl first) (inl second) = cc
-    same_graph name (inl first) (inr second) = cc
-    same_graph name (inr first) (inl second) = cc
-    same_graph name (inr first) (inr second) = cc
+    same_graph name first second = grind arith
 
     of_result : (r : Result Reply RequestFault) → told_of r ≡ Ok reply.Empty → OnOk r (kept_within graph new ≡ Some work) → IsKeptWithin work graph (verified_in new)
     of_result (Ok made) told said = shown graph new ∙ said

@@ -1,6 +1,7 @@
 -- Pictures that are written to images: whether they may be, what becomes of the context, and what that keeps.
 use Rattle.std.proofs.Common.{◌≡◌, ◌∙◌, List, [], Option, Some, None, ℤ, Result, Ok, Err, refl, sym, ap, subst, arith, eq-eqb}
-use Rattle.client_contexts.proofs.Common.{IsStrictlyIncreasing, Cell, Description, ImageValue, image_over, description_of, ObjectValue, ImageObject, PictureValue, IsPicture, Rectangle, whole, KeepsBlocks, Context, with_objects, with_object, image_value, HoldsImage, image_held, names_of, Refusal, Empty, Allowance, write_image, unless, KeepsLimits, IsImageOf, IsImageFor, refusal_for}
+use Rattle.client_contexts.proofs.Common.{IsStrictlyIncreasing, Cell, Description, ImageValue, image_over, description_of, ObjectValue, ImageObject, Rectangle, whole, KeepsBlocks, Context, with_objects, with_object, image_value, HoldsImage, image_held, names_of, Refusal, Empty, Allowance, write_image, unless, KeepsLimits, IsImageOf, IsImageFor, refusal_for}
+use Rattle.vx_base.specs.Picture.{PictureValue, IsPicture}
 use Rattle.vx_base.specs.Picture.{pictured}
 use Rattle.object_table.specs.Object.{with_samples}
 use Rattle.object_table.specs.Table.{cell_object}
@@ -32,7 +33,7 @@ module _ (c : Context) (cell : Cell) (p : PictureValue) (found : IsImageFor c.ob
   allowed = ap (λ (d : Description). picture_refusal d p.description) found.same ∙ same_allowed p.description
 
   pub write_done : write_image c cell p ≡ Ok (Empty, Some written)
-  write_done = ap (λ i. write_to i c cell p) found.named.image ∙ ap (λ (r : Option Refusal). unless r Empty written) allowed
+  write_done = rw (found.named.image, allowed)
 
   pub written_keeps : (limits : Allowance) → KeepsLimits limits c → IsPicture p → KeepsLimits limits written
   written_keeps limits h is = (subst (Keeps limits c) write_done (write_image_keeps limits c cell p h is)).keeps

@@ -1,6 +1,5 @@
 mod Common
 pub mod RefusalLaws
-mod StatisticStepLaws
 mod RoundLaws
 pub mod RunStepLaws
 pub mod StepLaws

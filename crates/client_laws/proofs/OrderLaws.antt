@@ -1,6 +1,7 @@
 -- The order in which the nodes of a graph were added makes no difference to whether it runs, nor to what it leaves.
-use Rattle.std.proofs.Common.{◌≡◌, ℕ, ◌≤◌, Bool, false, List, [], ◌∷◌, length, Option, Some, None, Ok, inl, inr, refl, sym, ap, ◌∙◌, arith, ◌&&◌, ◌||◌, not, sum_by}
-use Rattle.client_laws.proofs.Common.{list_any, filter, IsPermutation, option_map, option_or, fun_ext, false_from_ne_true, Node, Cell, GraphValue, nodes_of, inputs, outputs, aged_under, Context, with_objects, Named, Operand, Verdict, has_cycle, writes, feeds, In, AllIn, is_virtual, operands_of, virtual_bytes, operand_outline, written_outline, as_known, resolved, rounds, node_fault, reads_loose, adds_to_virtual, has_loose_end, first_fault, virtual_outputs, work_bytes, verdict, has_cycle-from_cycle, AllIn-permutation_back, CanRun, can_run, run_of_graph, operand_held, no_delay, no_fault, each_alone, Rejected, Empty, ProcessGraph, Allowance, answered, answer_to, graph_named, graph_verdict, process_found, Outcome, unless, KeepsLimits, pairs_of}
+use Rattle.std.proofs.Common.{◌≡◌, ℕ, ◌≤◌, Bool, false, List, [], ◌∷◌, length, Some, None, Ok, inl, inr, refl, sym, ap, ◌∙◌, arith, ◌&&◌, ◌||◌, not, sum_by}
+use Rattle.client_laws.proofs.Common.{list_any, filter, IsPermutation, option_or, fun_ext, Node, Cell, GraphValue, nodes_of, inputs, outputs, aged_under, Context, with_objects, Operand, has_cycle, writes, feeds, In, AllIn, is_virtual, operands_of, virtual_bytes, operand_outline, written_outline, as_known, resolved, rounds, node_fault, reads_loose, adds_to_virtual, has_loose_end, first_fault, virtual_outputs, work_bytes, verdict, has_cycle-from_cycle, AllIn-permutation_back, CanRun, can_run, run_of_graph, operand_held, no_delay, no_fault, each_alone, Empty, ProcessGraph, Allowance, answered, answer_to, graph_named, graph_verdict, process_found, KeepsLimits, pairs_of}
+use Rattle.std.proofs.lemmas.Bool.{false_from_ne_true}
 use Rattle.std.proofs.lemmas.List.Sorted.{length_permutation, list_any-IsPermutation, sum_by-IsPermutation}
 use Rattle.graph_verify.proofs.CycleLemmas.{cycle_from-has_cycle}
 use Rattle.graph_verify.proofs.LinkLemmas.{one_writer, two_writers-permutation}
@@ -8,7 +9,7 @@ use Rattle.graph_verify.proofs.MemberLemmas.{AllIn-permutation}
 use Rattle.graph_verify.proofs.VerdictLemmas.{by_fault, there_is_room}
 use Rattle.graph_run.proofs.AddingLaws.{cell_rounds, same_graph}
 use Rattle.graph_verify.proofs.VerifyLemmas.{sum_of_outputs}
-use Rattle.client_laws.proofs.RunLaws.{graph_stood, outcome_is}
+use Rattle.client_laws.proofs.RunLaws.{graph_stood, outcome_is, done_is}
 use Rattle.client_laws.proofs.StandLaws.{cells_stand}
 
 -- ---- what a verdict asks of the nodes, one by one
@@ -76,28 +77,14 @@ module _ (work : ℕ) (is : Cell → Operand) (nodes others : List Node) (same :
 -- a graph with the same nodes in another order leaves the same
 pub same_run : (limits : Allowance) (c later : Context) (name : ℕ) (graph other : GraphValue) → KeepsLimits limits c → graph_named c.objects name ≡ Ok graph → IsPermutation (nodes_of graph) (nodes_of other) → graph.delays ≡ other.delays
     → process_found (Ok graph) limits c ≡ Ok (Empty, Some later) → process_found (Ok other) limits c ≡ Ok (Empty, Some later)
-same_run limits c later name graph other h is_graph same delays done = of_verdict (graph_verdict limits c.objects graph) refl done
-  where
-    nodes : List Node
-    nodes = nodes_of graph
-
-    others : List Node
-    others = nodes_of other
-
-    is : Cell → Operand
-    is = operand_held c.objects
-
-    of_verdict : (v : Option Verdict) → graph_verdict limits c.objects graph ≡ v → unless (option_map Rejected v) Empty (with_objects c (aged_under graph.delays (run_of_graph (resolved is nodes) nodes c.objects))) ≡ Ok (Empty, Some later)
-        → process_found (Ok other) limits c ≡ Ok (Empty, Some later)
-    of_verdict None allowed e =
-        let run : run_of_graph (resolved is nodes) nodes c.objects ≡ run_of_graph (resolved is others) others c.objects =
-        same_graph is nodes others c.objects same (can_run limits.work is nodes allowed).one_writer (pairs_of c.objects h.names)
-        (no_delay is nodes c.objects (cells_stand c.objects name nodes (graph_stood limits c name graph h is_graph))) in
-        ap (λ (o : Option Verdict). unless (option_map Rejected o) Empty (with_objects c (aged_under other.delays (run_of_graph (resolved is others) others c.objects)))) (others_run limits.work is nodes others same allowed)
-        ∙ ap (λ (objects : List Named). let r : Outcome = Ok (Empty, Some (with_objects c (aged_under other.delays objects))) in r) (sym run)
-        ∙ ap (λ (names : List ℕ). let r : Outcome = Ok (Empty, Some (with_objects c (aged_under names (run_of_graph (resolved is nodes) nodes c.objects)))) in r) (sym delays)
-        ∙ e
-    of_verdict (Some v) refused e = absurd (cc)
+same_run limits c later name graph other h is_graph same delays done =
+    let nodes = nodes_of graph in
+    let is = operand_held c.objects in
+    let left = run_of_graph (resolved is nodes) nodes c.objects in
+    let ran = done_is (graph_verdict limits c.objects graph) (with_objects c (aged_under graph.delays left)) later done in
+    let run = same_graph is nodes (nodes_of other) c.objects same (can_run limits.work is nodes ran.0).one_writer (pairs_of c.objects h.names)
+    (no_delay is nodes c.objects (cells_stand c.objects name nodes (graph_stood limits c name graph h is_graph))) in
+    rw (others_run limits.work is nodes (nodes_of other) same ran.0, ← run, ← delays, ran.1) refl
 
 -- of requests on two graphs of one client
 pub same_answer : (limits : Allowance) (c later : Context) (one two : ℕ) (graph other : GraphValue) → KeepsLimits limits c → graph_named c.objects one ≡ Ok graph → graph_named c.objects two ≡ Ok other

@@ -1,22 +1,23 @@
 -- What a graph leaves that runs: its only solution.
-use Rattle.std.proofs.Common.{◌≡◌, ◌≢◌, ℕ, Bool, true, false, eqb, List, [], ◌∷◌, length, map, Option, Some, None, Result, Ok, Err, IsTrue, IfSome, refl, sym, ap, subst, ◌∙◌, arith, All, slice_get, unwrap_or, ◌==◌, if◌then◌else◌}
-use Rattle.client_laws.proofs.Common.{aged_under, list_any, option_map, option_and_then, false_from_ne_true, or_left, or_right, Kind, Node, Cell, cell_of, GraphValue, nodes_of, ImageValue, ObjectValue, ImageObject, DelayObject, GraphObject, VirtualObject, object_kind, Outline, written_from, Context, with_objects, in_slot, Named, object_held, held, nodes_in, named_has, Operand, Image, Virtual, Verdict, reads, writes, is_written, In, operand_of, operand_kind, operand_format, operands_of, is_image, outlines, as_known, resolved, In-left, In-right, CanRun, can_run, rounds_of_nodes, is_virtual_object, forgotten, run_of_graph, CellsStand, names_cell, operand_held, All-from_In, In-from_All, kind-operand, no_delay, no_fault, each_alone, pairs_of, named_by_input, named_by_output, Refusal, Rejected, Reply, Refused, Empty, ProcessGraph, VerifyGraph, Allowance, answered, answer_to, State, graph_named, graph_verdict, verify_found, process_found, Outcome, refusal_code, unless, KeepsLimits, OperandsStand}
+use Rattle.std.proofs.Common.{◌≡◌, ◌≢◌, ℕ, Bool, true, false, List, length, map, Option, Some, None, Result, Ok, Err, IsTrue, IfSome, refl, sym, ap, subst, ◌∙◌, arith, All}
+use Rattle.client_laws.proofs.Common.{aged_under, option_map, option_and_then, or_right, Kind, Node, Cell, cell_of, GraphValue, nodes_of, ObjectValue, GraphObject, object_kind, Outline, written_from, Context, with_objects, in_slot, Named, object_held, held, nodes_in, named_has, Operand, reads, writes, is_written, In, operand_of, operand_kind, operand_format, operands_of, is_image, outlines, as_known, resolved, In-left, In-right, CanRun, can_run, rounds_of_nodes, is_virtual_object, forgotten, run_of_graph, CellsStand, names_cell, operand_held, All-from_In, In-from_All, kind-operand, no_delay, no_fault, each_alone, pairs_of, named_by_input, named_by_output, Refusal, Rejected, Refused, Empty, ProcessGraph, VerifyGraph, Allowance, answered, answer_to, State, graph_named, graph_verdict, process_found, Outcome, refusal_code, unless, KeepsLimits, OperandsStand, labels-begun, label_of}
+use Rattle.std.proofs.lemmas.Bool.{or_left}
+use Rattle.graph_verify.specs.declared.verdict.Verdict.{Verdict}
+use Rattle.client_model.specs.declared.reply.Reply.{Reply}
+use Rattle.client_model.specs.Graphs.{verify_found}
 use Rattle.object_table.proofs.AgeLemmas.{held_aged}
-use Rattle.object_table.specs.Object.{aged_object}
-use Rattle.std.proofs.lemmas.Bool.{cases_Bool}
 use Rattle.vx_base.specs.declared.format.Format.{Format}
 use Rattle.vx_base.specs.declared.kind.Kind.TheVariants as kind
 use Rattle.vx_base.specs.Graph.{is_registered}
 use Rattle.graph_verify.proofs.VerifyLemmas.{first_format}
-use Rattle.graph_run.specs.Solution.{WritesNo, ReadImages, form_of, kind_in, label_of}
-use Rattle.graph_run.proofs.BegunLaws.{begun_under, object_held-begun, labels-begun, begun_stays}
+use Rattle.graph_run.specs.Solution.{WritesNo, ReadImages, form_of, kind_in}
+use Rattle.graph_run.proofs.BegunLaws.{begun_under, object_held-begun, object_held-forgotten, both_held}
 use Rattle.graph_run.proofs.LinkLaws.{reads_first}
 use Rattle.graph_run.proofs.NameLaws.{Rising, rising}
 use Rattle.graph_run.proofs.OperandLaws.{begun_stands}
 use Rattle.graph_run.proofs.OrderLaws.{rounds_in_order}
 use Rattle.graph_run.proofs.SolutionLaws.{rounds_are_solution, only_rising}
 use Rattle.graph_run.proofs.NodeLaws.{written_held}
-use Rattle.graph_run.proofs.VerifiedLemmas.{whole}
 use Rattle.client_laws.specs.Run.{at_begin, IsTheRun, IsRunOf}
 use Rattle.client_laws.proofs.InTurnLaws.{an_order}
 use Rattle.client_laws.proofs.StandLaws.{cells_stand, firsts_are_images}
@@ -26,14 +27,11 @@ use Rattle.client_laws.proofs.StayLaws.{graph_held}
 
 -- an image with a format is one that is there
 image_there : (operand : Operand) (known : Outline) (f : Format) → is_image operand ≡ true → operand_format (as_known operand known) ≡ Some f → operand_kind (as_known operand known) ≡ kind.Image
-image_there (Image d) known f is e = refl
-image_there (Virtual declared) known f is e = grind arith
-image_there other known f is e = absurd (cc)
+image_there operand known f is e = grind arith
 
 -- what is held is of the kind of its operand
 kind_of_operand : (found : Option ObjectValue) (operand : Operand) (k : Kind) → option_map operand_of found ≡ Some operand → operand_kind operand ≡ k → option_map object_kind found ≡ Some k
-kind_of_operand None operand k e is = absurd (cc)
-kind_of_operand (Some x) operand k e is = grind (arith, kind-operand x)
+kind_of_operand found operand k e is = grind (arith, kind-operand)
 
 -- the nodes of a graph of a context that keeps the limits find what they name
 pub graph_stood : (limits : Allowance) (c : Context) (name : ℕ) (graph : GraphValue) → KeepsLimits limits c → graph_named c.objects name ≡ Ok graph → All (OperandsStand c.objects name) (nodes_of graph)
@@ -96,20 +94,14 @@ module _ (limits : Allowance) (c : Context) (name : ℕ) (graph : GraphValue) (h
 
 -- as virtual images are forgotten, what is no virtual image stays, and a virtual image is what it was
 real_stays : (before after : List Named) → map label_of before ≡ map label_of after → (name : ℕ) → option_map is_virtual_object (object_held before name) ≢ Some true → object_held (forgotten before after) name ≡ object_held after name
-real_stays [] after labels name real = refl
-real_stays (o ∷ before) [] labels name real = absurd (cc labels)
-real_stays (o ∷ before) (p ∷ after) labels name real =
-    let label : label_of o ≡ label_of p = cc in
-    let rest : map label_of before ≡ map label_of after = cc in
-    grind (arith, real_stays before after rest name, cases_Bool (is_virtual_object o.object), cases_Bool (eqb o.name name))
+real_stays before after labels name real = grind (arith, object_held-forgotten before after labels name)
 
 virtual_again : (before after : List Named) → map label_of before ≡ map label_of after → (name : ℕ) → option_map is_virtual_object (object_held before name) ≡ Some true → object_held (forgotten before after) name ≡ object_held before name
-virtual_again [] after labels name virtual = absurd (cc virtual)
-virtual_again (o ∷ before) [] labels name virtual = absurd (cc labels)
-virtual_again (o ∷ before) (p ∷ after) labels name virtual =
-    let label : label_of o ≡ label_of p = cc in
-    let rest : map label_of before ≡ map label_of after = cc in
-    grind (arith, virtual_again before after rest name, cases_Bool (is_virtual_object o.object), cases_Bool (eqb o.name name))
+virtual_again before after labels name virtual = grind (arith, object_held-forgotten before after labels name, both_held before after labels name)
+
+-- what isn't virtual begins as it is
+begun_real : (is : Cell → Operand) (nodes : List Node) (name : ℕ) (o : Option ObjectValue) → option_map is_virtual_object o ≢ Some true → option_map (begun_under is nodes name) o ≡ o
+begun_real is nodes name o real = grind arith
 
 module _ (nodes : List Node) (before later : List Named) (run : IsTheRun nodes before later) (cell : Cell) where
   abbrev found_to_be : Cell → Operand
@@ -129,12 +121,8 @@ module _ (nodes : List Node) (before later : List Named) (run : IsTheRun nodes b
   as_at_end real = ap (λ objects. held objects cell) run.left ∙ ap in_cell (real_stays before run.at_end labels cell.name real)
 
   real_begins : option_map is_virtual_object (object_held before cell.name) ≢ Some true → held (at_begin nodes before) cell ≡ held before cell
-  real_begins real = ap in_cell (object_held-begun found_to_be nodes before cell.name ∙ unchanged (object_held before cell.name) real)
-    where
-      unchanged : (o : Option ObjectValue) → option_map is_virtual_object o ≢ Some true → option_map (begun_under found_to_be nodes cell.name) o ≡ o
-      unchanged None real = refl
-      unchanged (Some x) real =
-          ap Some (begun_stays x (is_written nodes (whole cell.name)) (found_to_be (whole cell.name)) (false_from_ne_true (is_virtual_object x) (λ e. real (ap Some e))))
+  real_begins real =
+      ap in_cell (object_held-begun found_to_be nodes before cell.name ∙ begun_real found_to_be nodes cell.name (object_held before cell.name) real)
 
   -- what no node writes is as it was
   unwritten_stays : is_written nodes cell ≡ false → kind_in before cell ≢ Some kind.Delay → held later cell ≡ held before cell
@@ -147,8 +135,7 @@ module _ (nodes : List Node) (before later : List Named) (run : IsTheRun nodes b
 
       by : (v : Option Bool) → option_map is_virtual_object (object_held before cell.name) ≡ v → held later cell ≡ held before cell
       by (Some true) e = virtual_stays e
-      by (Some false) e = other (λ is. cc)
-      by None e = other (λ is. cc)
+      by v e = other (λ is. cc)
 
 -- a graph is as it was
 graph_again : (nodes : List Node) (before later : List Named) → IsTheRun nodes before later → (name : ℕ) (graph : GraphValue) → object_held before name ≡ Some (GraphObject graph) → object_held later name ≡ Some (GraphObject graph)
@@ -161,13 +148,10 @@ graph_again nodes before later run name graph is =
     ∙ of_form (held run.at_end cell) (run.solves.forms cell ∙ ap (option_map form_of) begins)
   where
     held_whole : (o : Option ObjectValue) → option_and_then (in_slot None) o ≡ o
-    held_whole None = refl
-    held_whole (Some object) = refl
+    held_whole o = grind arith
 
     of_form : (o : Option ObjectValue) → option_map form_of o ≡ Some (GraphObject graph) → o ≡ Some (GraphObject graph)
-    of_form None e = absurd (cc)
-    of_form (Some (GraphObject other)) e = e
-    of_form (Some other) e = absurd (cc)
+    of_form o e = grind arith
 
 -- what a node writes depends on the cells that it names
 written_alike : (n : Node) (start begin one other : Cell → Option ObjectValue) → ((cell : Cell) → names_cell n cell ≡ true → start cell ≡ begin cell) → ((cell : Cell) → names_cell n cell ≡ true → one cell ≡ other cell)
@@ -177,10 +161,7 @@ written_alike n start begin one other begun same = grind (arith, named_by_input,
 -- a cell that holds what is no virtual image is under a name of none
 no_virtual : (slot : Option ℕ) (o : Option ObjectValue) (operand : Operand) → option_map operand_of (option_and_then (in_slot slot) o) ≡ Some operand → option_map object_kind (option_and_then (in_slot slot) o) ≢ Some kind.VirtualImage
     → option_map is_virtual_object o ≢ Some true
-no_virtual slot None operand there real e = cc
-no_virtual None (Some (VirtualObject image)) operand there real e = real refl
-no_virtual (Some k) (Some (VirtualObject image)) operand there real e = cc
-no_virtual slot (Some other) operand there real e = cc
+no_virtual slot o operand there real e = grind arith
 
 -- where as much is held by the cells that a node names, it finds what it gives as before
 written_again : (n : Node) (start begin one other : List Named) → ((cell : Cell) → names_cell n cell ≡ true → held start cell ≡ held begin cell) → ((cell : Cell) → names_cell n cell ≡ true → held other cell ≡ held one cell)
@@ -192,72 +173,33 @@ written_again n start begin one other begun same found =
     same w.0 (or_right (reads n w.0) (writes n w.0) (written_held (held begin) n (held one) w j).0)
     ∙ In-from_All (λ (v : Cell × ObjectValue). held one v.0 ≡ Some v.1) (written_from (held begin) n (held one)) found w j))
 
--- what isn't virtual begins as it is
-begun_real : (is : Cell → Operand) (nodes : List Node) (name : ℕ) (o : Option ObjectValue) → option_map is_virtual_object o ≢ Some true → option_map (begun_under is nodes name) o ≡ o
-begun_real is nodes name o real = grind arith
-
 module _ (nodes : List Node) (before later : List Named) (run : IsTheRun nodes before later) (stand : CellsStand (operand_held before) nodes before) (n : Node) (i : In n nodes) where
   -- a node that names no virtual image finds what it gives
   found_again : ((cell : Cell) → names_cell n cell ≡ true → kind_in before cell ≢ Some kind.VirtualImage)
       → All (λ w. held later w.0 ≡ Some w.1) (written_from (held before) n (held later))
-  found_again real = written_again n before begin at_end later as_before as_then solved
+  found_again real =
+      written_again n before (at_begin nodes before) run.at_end later
+      (λ cell named_there. sym (real_begins nodes before later run cell (no_virtual_there cell named_there)))
+      (λ cell named_there. as_at_end nodes before later run cell (no_virtual_there cell named_there))
+      (In-from_All (λ m. All (λ w. held run.at_end w.0 ≡ Some w.1) (written_from (held (at_begin nodes before)) m (held run.at_end))) nodes
+      run.solves.written n i)
     where
-      begin : List Named
-      begin = at_begin nodes before
-
       no_virtual_there : (cell : Cell) → names_cell n cell ≡ true → option_map is_virtual_object (object_held before cell.name) ≢ Some true
       no_virtual_there cell named_there = no_virtual cell.slot (object_held before cell.name) (operand_held before cell) (stand.found n cell i named_there) (real cell named_there)
 
-      as_before : (cell : Cell) → names_cell n cell ≡ true → held before cell ≡ held begin cell
-      as_before cell named_there =
-          ap (option_and_then (in_slot cell.slot))
-          (sym (object_held-begun (resolved (operand_held before) nodes) nodes before cell.name
-          ∙ begun_real (resolved (operand_held before) nodes) nodes cell.name (object_held before cell.name) (no_virtual_there cell named_there)))
-
-      at_end : List Named
-      at_end = run.at_end
-
-      as_then : (cell : Cell) → names_cell n cell ≡ true → held later cell ≡ held at_end cell
-      as_then cell named_there =
-          as_at_end nodes before later run cell (no_virtual_there cell named_there)
-
-      solved : All (λ w. held at_end w.0 ≡ Some w.1) (written_from (held begin) n (held at_end))
-      solved = In-from_All (λ m. All (λ w. held at_end w.0 ≡ Some w.1) (written_from (held begin) m (held at_end))) nodes run.solves.written n i
-
 -- a cell of a virtual image has no slot
 virtual_held : (slot : Option ℕ) (o : Option ObjectValue) → option_map object_kind (option_and_then (in_slot slot) o) ≡ Some kind.VirtualImage → option_map is_virtual_object o ≡ Some true
-virtual_held slot None e = absurd (cc)
-virtual_held None (Some (VirtualObject image)) e = refl
-virtual_held None (Some other) e = absurd (cc)
-virtual_held (Some k) (Some (DelayObject images)) e = of_image (slice_get images k) e
-  where
-    of_image : (image : Option ImageValue) → option_map object_kind (option_map ImageObject image) ≡ Some kind.VirtualImage → option_map is_virtual_object (Some (DelayObject images)) ≡ Some true
-    of_image None f = absurd (cc)
-    of_image (Some image) f = absurd (cc)
-virtual_held (Some k) (Some other) e = absurd (cc)
+virtual_held slot o e = grind arith
 
 -- ---- delays that age then
 
 -- what isn't under one of the names is held still
 unregistered_stays : (graph : GraphValue) (objects : List Named) (cell : Cell) → is_registered graph cell.name ≡ false → held (aged_under graph.delays objects) cell ≡ held objects cell
-unregistered_stays graph objects cell apart =
-    ap (option_and_then (in_slot cell.slot))
-    (held_aged graph.delays objects cell.name ∙ ap (λ b. option_map (λ object. if b then aged_object object else object) (object_held objects cell.name)) apart ∙ as_it_is (object_held objects cell.name))
-  where
-    as_it_is : (o : Option ObjectValue) → option_map (λ object. if false then aged_object object else object) o ≡ o
-    as_it_is None = refl
-    as_it_is (Some object) = refl
+unregistered_stays graph objects cell apart = grind (arith, held_aged graph.delays objects cell.name)
 
 -- and so is a virtual image
 virtual_unaged : (names : List ℕ) (objects : List Named) (cell : Cell) → option_map is_virtual_object (object_held objects cell.name) ≡ Some true → held (aged_under names objects) cell ≡ held objects cell
-virtual_unaged names objects cell virtual =
-    ap (option_and_then (in_slot cell.slot)) (held_aged names objects cell.name ∙ as_it_is (list_any (λ n. n == cell.name) names) (object_held objects cell.name) virtual)
-  where
-    as_it_is : (b : Bool) (o : Option ObjectValue) → option_map is_virtual_object o ≡ Some true → option_map (λ object. if b then aged_object object else object) o ≡ o
-    as_it_is b None e = cc
-    as_it_is true (Some (VirtualObject image)) e = refl
-    as_it_is true (Some other) e = absurd (cc)
-    as_it_is false (Some object) e = refl
+virtual_unaged names objects cell virtual = grind (arith, held_aged names objects cell.name)
 
 -- ---- requests
 
@@ -267,9 +209,8 @@ outcome_is c later (Ok done) e = ap (λ (d : Reply × State). let o : Outcome = 
 outcome_is c later (Err refusal) e = let reply : Refused (refusal_code refusal) ≡ Empty = ap (λ (d : Reply × State). d.0) e in absurd (cc)
 
 -- it was refused by no verdict
-done_is : (v : Option Verdict) (after later : Context) → unless (option_map Rejected v) Empty after ≡ Ok (Empty, Some later) → (v ≡ None) × (after ≡ later)
-done_is None after later e = let told : ◌≡◌ {A = Reply × State} (Empty, Some after) (Empty, Some later) = cc in (refl, ap (λ (d : Reply × State). unwrap_or d.1 after) told)
-done_is (Some v) after later e = absurd (cc)
+pub done_is : (v : Option Verdict) (after later : Context) → unless (option_map Rejected v) Empty after ≡ Ok (Empty, Some later) → (v ≡ None) × (after ≡ later)
+done_is v after later e = grind arith
 
 -- what ProcessGraph leaves is that run
 pub run_is : (limits : Allowance) (c later : Context) (name : ℕ) → KeepsLimits limits c → answer_to limits (Some c) (ProcessGraph name) ≡ (Empty, Some later) → IsRunOf name c later
@@ -332,8 +273,7 @@ same_reply limits None name = refl
 same_reply limits (Some c) name = of_graph (graph_named c.objects name)
   where
     of_verdict : (v : Option Verdict) (after : Context) → (answered c (unless (option_map Rejected v) Empty after)).0 ≡ (answered c (unless (option_map Rejected v) Empty c)).0
-    of_verdict None after = refl
-    of_verdict (Some v) after = refl
+    of_verdict v after = grind arith
 
     of_graph : (found : Result GraphValue Refusal) → (answered c (process_found found limits c)).0 ≡ (answered c (verify_found found limits c)).0
     of_graph (Err refusal) = refl

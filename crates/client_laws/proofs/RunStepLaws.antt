@@ -1,7 +1,9 @@
 -- A graph that runs keeps the limits, and what is held: as it begins, virtual images become images; its rounds write to outputs what they may become;
 -- and as it ends, virtual images are forgotten.
-use Rattle.std.proofs.Common.{◌≡◌, inl, inr, ℕ, Bool, true, false, cond, IsTrue, List, [], ◌∷◌, ◌++◌, length, map, get_or, Option, Some, None, IfSome, if◌then◌else◌, refl, sym, ap, subst, ◌∙◌, All, not, ◌||◌, is_some, is_none, unwrap_or}
-use Rattle.client_laws.proofs.Common.{list_any, IsStrictlyIncreasing, option_map, option_and_then, not-false, or_left, or_right, All-nil, All-cons, All-head, All-tail, Kind, Node, Cell, parameters, nodes_of, given, inputs, operands, ObjectValue, GraphObject, IsObject, object_kind, in_slot, aged_under, Named, object_held, held, Context, object_named, with_objects, nodes_in, Operand, Delay, writes, is_written, operand_of, operand_kind, operand_format, operands_of, outlines, as_known, resolved, node_fault, is_loose, reads_loose, adds_to_virtual, first_fault, can_run, rounds_of_nodes, is_virtual_object, forgotten, run_of_graph, Rejected, Empty, Allowance, as_graph, graph_verdict, process_found, operand_held, operand_in, is_kind, stands_for, KeepsLimits, kind_held, stands, names_of, held_kind, is_taken, kinds_taken, OperandsStand, stands_parts, CanRunOn, of_operands, Keeps}
+use Rattle.std.proofs.Common.{◌≡◌, inl, inr, ℕ, true, false, cond, IsTrue, List, [], ◌∷◌, ◌++◌, length, map, get_or, Option, Some, None, IfSome, refl, sym, ap, subst, ◌∙◌, All, not, ◌||◌, is_some, is_none, unwrap_or, arith}
+use Rattle.client_laws.proofs.Common.{list_any, IsStrictlyIncreasing, option_map, option_and_then, not-false, All-head, All-tail, Kind, Node, Cell, parameters, nodes_of, given, inputs, operands, ObjectValue, IsObject, object_kind, in_slot, aged_under, Named, object_held, held, Context, with_objects, Operand, Delay, writes, is_written, operand_of, operand_kind, operand_format, operands_of, outlines, as_known, resolved, node_fault, is_loose, reads_loose, adds_to_virtual, first_fault, can_run, rounds_of_nodes, is_virtual_object, forgotten, run_of_graph, Rejected, Empty, Allowance, graph_verdict, process_found, operand_held, operand_in, is_kind, stands_for, KeepsLimits, kind_held, stands, names_of, held_kind, is_taken, kinds_taken, OperandsStand, stands_parts, CanRunOn, of_operands, labels-begun, label_of}
+use Rattle.std.proofs.lemmas.List.Elements.{All-nil, All-cons}
+use Rattle.client_model.proofs.OutcomeLaws.{Keeps}
 use Rattle.std.proofs.lemmas.Bool.{and_cases, both_ways, cond_both, or_parts}
 use Rattle.std.proofs.lemmas.List.Elements.{All-map}
 use Rattle.std.proofs.lemmas.List.Folds.{list_any_at}
@@ -20,11 +22,12 @@ use Rattle.graph_verify.proofs.SuitLemmas.{Suits, no_fault_suits}
 use Rattle.client_model.proofs.NodeStepLaws.{CanGive, CanGiveTo, neither, second_there, not_rejected}
 use Rattle.client_model.proofs.OutcomeLaws.{unless_keeps}
 use Rattle.client_model.proofs.DelayStepLaws.{aged_under_last}
-use Rattle.client_model.proofs.GraphStepLaws.{graph_is, graph_stands}
+use Rattle.client_model.proofs.GraphStepLaws.{of_graph}
 use Rattle.client_laws.proofs.RoundLaws.{rounds_last}
 use Rattle.client_model.proofs.BegunLaws.{IsSmall, object_small, rounds_small, begun_is_object, slot_as_begun, image_as_begun, Taken, taken_as_begun, kind_as_begun, SecondTaken, give_as_taken}
 use Rattle.graph_run.proofs.BegunLaws.{begun_if, virtual_as_operand}
 use Rattle.graph_run.proofs.SettledLemmas.{forgotten_lasts}
+use Rattle.object_table.proofs.SkeletonLaws.{map-told}
 
 -- ---- the cells of a node
 
@@ -37,13 +40,7 @@ each_faultless known (n ∷ nodes) h =
 
 -- each output of a node is one
 own_outputs : (first second : Option Cell) → IfSome first (λ cell. list_any (same_cell cell) (given first ++ given second) ≡ true) × IfSome second (λ cell. list_any (same_cell cell) (given first ++ given second) ≡ true)
-own_outputs None None = (tt, tt)
-own_outputs None (Some b) = (tt, or_left (same_cell b b) false (same_cell-refl b))
-own_outputs (Some a) None = (or_left (same_cell a a) false (same_cell-refl a), tt)
-own_outputs (Some a) (Some b) = (
-  or_left (same_cell a a) (list_any (same_cell a) (b ∷ [])) (same_cell-refl a),
-  or_right (same_cell b a) (list_any (same_cell b) (b ∷ [])) (or_left (same_cell b b) false (same_cell-refl b)),
-)
+own_outputs first second = grind (arith, same_cell-refl)
 
 -- so is its second input
 own_second : (P : Cell → Type 0) (cell : Option Cell) → All P (given cell) → IfSome cell P
@@ -51,17 +48,11 @@ own_second P None h = tt
 own_second P (Some x) h = All-head P x [] h
 
 if_both : {X : Type 0} (P Q R : X → Type 0) (x : Option X) → IfSome x P → IfSome x Q → ((y : X) → P y → Q y → R y) → IfSome x R
-if_both P Q R None p q both = tt
-if_both P Q R (Some x) p q both = both x p q
+if_both P Q R x p q both = grind arith
 
 -- a node has a second input where its function has one
 second_if_given : (n : Node) → IsNode n → (known : Cell → Operand) → is_some (option_map known n.in2) ≡ true → is_some (parameters n.function).second_input ≡ true
-second_if_given n node known = either (parameters n.function).second_input n.in2 (second_there n node.shape)
-  where
-    either : (wanted : Option Kind) (cell : Option Cell) → IsTrue (if is_some wanted then is_some cell else is_none cell) → is_some (option_map known cell) ≡ true → is_some wanted ≡ true
-    either (Some k) cell there given_one = refl
-    either None None there given_one = given_one
-    either None (Some x) there given_one = there
+second_if_given n node known = grind (arith, second_there n node.shape)
 
 -- ---- objects as a run begins
 
@@ -87,21 +78,15 @@ module _ (objects : List Named) (nodes : List Node) (are : All (λ o. IsObject o
 
   -- each object becomes what the cell of its name does
   begun_object : (o : Named) → (begun found_to_be nodes o).object ≡ begun_in (whole o.name) o.object
-  begun_object o = either (is_written nodes (whole o.name))
-    where
-      either : (b : Bool) → (if b then record o { object = begun_as o.object (found_to_be (whole o.name)) } else o).object ≡ begun_if b o.object (found_to_be (whole o.name))
-      either true = refl
-      either false = refl
+  begun_object o = grind arith
 
   begun_name : (o : Named) → (begun found_to_be nodes o).name ≡ o.name
   begun_name o = cond_both (is_written nodes (whole o.name)) (record o { object = begun_as o.object (found_to_be (whole o.name)) }) o (λ p. p.name ≡ o.name) (λ e. refl) (λ e. refl)
 
   begin_increases : IsStrictlyIncreasing (names_of begin)
-  begin_increases = subst IsStrictlyIncreasing (sym (same_names objects)) names
-    where
-      same_names : (l : List Named) → names_of (map (begun found_to_be nodes) l) ≡ names_of l
-      same_names [] = refl
-      same_names (o ∷ l) = ap (λ n. n ∷ names_of (map (begun found_to_be nodes) l)) (begun_name o) ∙ ap (λ ns. o.name ∷ ns) (same_names l)
+  begin_increases =
+      let same = map-told label_of (λ o. o.name) (λ label. label.0) (λ o. refl) begin objects (labels-begun found_to_be nodes objects) in
+      subst IsStrictlyIncreasing (sym same) names
 
   -- they are objects
   begin_is : All (λ o. IsObject o.object) begin
@@ -124,11 +109,7 @@ module _ (objects : List Named) (nodes : List Node) (are : All (λ o. IsObject o
     where
       in_its_slot : (slot : Option ℕ) (object : Option ObjectValue) → option_and_then (in_slot slot) (option_map (begun_in (whole cell.name)) object)
           ≡ option_map (begun_in (record { name = cell.name; slot = slot })) (option_and_then (in_slot slot) object)
-      in_its_slot slot None = refl
-      in_its_slot None (Some x) = refl
-      in_its_slot (Some k) (Some x) =
-          let cell_of_slot : Cell = record { name = cell.name; slot = Some k } in
-          slot_as_begun k x (is_written nodes (whole cell.name)) (found_to_be (whole cell.name)) ∙ sym (image_as_begun k x (is_written nodes cell_of_slot) (found_to_be cell_of_slot))
+      in_its_slot slot object = grind (arith, slot_as_begun, image_as_begun)
 
   -- ---- what a node sees as a run begins
 
@@ -216,16 +197,16 @@ forgotten_are [] after were are = are
 forgotten_are (o ∷ objects) [] were are = are
 forgotten_are (o ∷ objects) (p ∷ after) were are =
     let Is : Named → Type 0 = λ q. IsObject q.object in
-    All-cons Is (cond (is_virtual_object o.object) o p) (forgotten objects after)
-    (cond_both (is_virtual_object o.object) o p Is (λ e. All-head Is o objects were) (λ e. All-head Is p after are))
+    All-cons Is (cond (is_virtual_object o.object) o p) (forgotten objects after) (grind (arith, were 0 o (omega arith), are 0 p (omega arith)))
     (forgotten_are objects after (All-tail Is o objects were) (All-tail Is p after are))
 
 -- ---- runs
 
-process_found_keeps : (limits : Allowance) (c : Context) (name : ℕ) (object : Option ObjectValue) → KeepsLimits limits c → IfSome object IsObject → IfSome object (λ x. All (OperandsStand c.objects name) (nodes_in x))
-    → Keeps limits c (process_found (as_graph object) limits c)
-process_found_keeps limits c name None h is stood = tt
-process_found_keeps limits c name (Some (GraphObject graph)) h is stood =
+-- a graph that runs keeps the limits, and what is held
+pub process_graph_keeps : (limits : Allowance) (c : Context) (name : ℕ) → KeepsLimits limits c → Keeps limits c (process_graph limits c name)
+process_graph_keeps limits c name h =
+    of_graph limits c name h (λ graph. Keeps limits c (process_found graph limits c)) (λ refusal. tt)
+    (λ graph found is stood.
     let objects : List Named = c.objects in
     let nodes = nodes_of graph in
     let operand = operand_held objects in
@@ -246,9 +227,4 @@ process_found_keeps limits c name (Some (GraphObject graph)) h is stood =
     let left : List Named = rounds_of_nodes nodes (length nodes) begin in
     let aged = aged_under_last graph.delays run (forgotten_are objects left h.objects ran.objects) in
     alike_leaves limits (λ name. false) c h (aged_under graph.delays run)
-    (record { objects = aged.objects; lasting = aged.lasting ∙ forgotten_lasts known nodes objects left ran.lasting }))
-process_found_keeps limits c name (Some other) h is stood = tt
-
--- a graph that runs keeps the limits, and what is held
-pub process_graph_keeps : (limits : Allowance) (c : Context) (name : ℕ) → KeepsLimits limits c → Keeps limits c (process_graph limits c name)
-process_graph_keeps limits c name h = process_found_keeps limits c name (object_named c.objects name) h (graph_is limits c name h) (graph_stands limits c name h)
+    (record { objects = aged.objects; lasting = aged.lasting ∙ forgotten_lasts known nodes objects left ran.lasting })))

@@ -1,6 +1,6 @@
 -- What the cells of a graph's nodes hold, where the nodes find what they name.
-use Rattle.std.proofs.Common.{◌≡◌, ℕ, true, false, IsTrue, List, get_or, Option, Some, None, IfSome, inl, inr, refl, sym, ap, subst, ◌∙◌, All, is_none, unwrap_or}
-use Rattle.client_laws.proofs.Common.{option_map, All-weaker, Kind, Node, Cell, parameters, given, inputs, outputs, operands, ObjectValue, VirtualObject, object_kind, Named, held, Operand, Image, Delay, Virtual, reads, writes, In, operand_of, is_image, In-append, names_cell, StandsFor, CellsStand, operand_held, of_operands, In-from_All, kind-operand, is_kind, stands_for, kind_held, stands, OperandsStand, stands_parts, is_taken, kinds_taken, held_kind}
+use Rattle.std.proofs.Common.{◌≡◌, ℕ, true, false, IsTrue, List, get_or, Option, Some, None, IfSome, inl, inr, refl, sym, subst, All, is_none, unwrap_or, arith}
+use Rattle.client_laws.proofs.Common.{option_map, All-weaker, Kind, Node, Cell, parameters, given, inputs, outputs, operands, ObjectValue, object_kind, Named, held, Operand, Delay, reads, writes, In, operand_of, is_image, In-append, names_cell, StandsFor, CellsStand, operand_held, of_operands, In-from_All, kind-operand, is_kind, stands_for, kind_held, stands, OperandsStand, stands_parts, is_taken, kinds_taken, held_kind}
 use Rattle.std.proofs.lemmas.Bool.{or_cases}
 use Rattle.vx_base.specs.declared.kind.Kind.TheVariants as kind
 use Rattle.graph_verify.proofs.LinkLemmas.{In-from_same}
@@ -36,23 +36,15 @@ module _ (P : Cell × Kind → Type 0) (n : Node) (c : Cell) (h : OfOperands P n
 
 -- an object that stands for a kind does so as an operand
 operand_stands : (object : ObjectValue) (wanted : Kind) → is_taken wanted ≡ true → stands_for (object_kind object) wanted ≡ true → StandsFor (operand_of object) wanted
-operand_stands (VirtualObject image) wanted taken h = as_image wanted taken h
-  where
-    as_image : (k : Kind) → is_taken k ≡ true → stands_for kind.VirtualImage k ≡ true → k ≡ kind.Image
-    as_image kind.Image t s = refl
-    as_image kind.VirtualImage t s = cc
-    as_image other t s = cc
-operand_stands other wanted taken h = kind-operand other ∙ sym (stands_for_equal (object_kind other) wanted h (λ e. absurd (cc)))
+operand_stands object wanted taken h = grind (arith, is_taken, kind-operand, stands_for_equal)
 
 module _ (objects : List Named) (cell : Cell) where
   holds : (found : Option ObjectValue) → is_none found ≡ false → option_map operand_of found ≡ Some (unwrap_or (option_map operand_of found) Delay)
-  holds None there = cc
-  holds (Some object) there = refl
+  holds found there = grind arith
 
   stands_as : (found : Option ObjectValue) (wanted : Kind) → is_none found ≡ false → IfSome found (λ object. kind_held objects cell ≡ Some (object_kind object)) → is_taken wanted ≡ true
       → is_kind wanted (kind_held objects cell) ≡ true → StandsFor (unwrap_or (option_map operand_of found) Delay) wanted
-  stands_as None wanted there is taken of_kind = absurd (cc)
-  stands_as (Some object) wanted there is taken of_kind = operand_stands object wanted taken (ap (is_kind wanted) (sym is) ∙ of_kind)
+  stands_as found wanted there is taken of_kind = grind (arith, operand_stands)
 
 -- an operand of a node that stands, of a kind that a node can name
 abbrev Stands : List Named → ℕ → Cell × Kind → Type 0
@@ -89,6 +81,4 @@ firsts_are_images objects graph nodes stood =
     as_image (operand_held objects n.in1) (stands_as objects n.in1 (held objects n.in1) kind.Image parts.there (held_kind objects n.in1) refl parts.kind)) nodes stood
   where
     as_image : (operand : Operand) → StandsFor operand kind.Image → is_image operand ≡ true
-    as_image (Image d) is = refl
-    as_image (Virtual declared) is = refl
-    as_image other is = absurd (cc)
+    as_image operand is = grind arith

@@ -1,25 +1,19 @@
 -- What stays of the objects that are held, as requests are answered.
-use Rattle.std.proofs.Common.{◌≡◌, ◌≢◌, ℕ, ◌<◌, false, List, [], ◌∷◌, Option, Some, None, IfSome, refl, sym, ap, subst, ◌∙◌, arith, All, IsSome, MatchOption, Ok}
-use Rattle.client_laws.proofs.Common.{option_map, option_and_then, All-nil, All-cons, All-head, All-tail, Node, Cell, GraphValue, nodes_of, ObjectValue, GraphObject, Context, object_named, in_slot, Named, object_held, held, nodes_in, named_has, Verified, operand_of, verdict, operand_held, IsReady, Request, ReleaseContext, Allowance, State, IsRequest, answer_to, as_graph, graph_named, graph_verdict, KeepsLimits, state_after, changes_nodes, Leaves, OperandsStand}
-use Rattle.std.proofs.lemmas.Option.{IfSome_then}
+use Rattle.std.proofs.Common.{◌≡◌, ◌≢◌, ℕ, ◌<◌, false, List, [], ◌∷◌, Option, Some, None, IfSome, sym, ap, subst, ◌∙◌, arith, All, IsSome, MatchOption, Ok}
+use Rattle.client_laws.proofs.Common.{option_map, All-head, All-tail, Node, Cell, GraphValue, nodes_of, ObjectValue, GraphObject, Context, Named, object_held, held, nodes_in, named_has, Verified, operand_of, verdict, operand_held, IsReady, Request, ReleaseContext, Allowance, State, IsRequest, answer_to, graph_named, graph_verdict, KeepsLimits, state_after, changes_nodes, Leaves, OperandsStand}
 use Rattle.object_table.specs.Skeleton.{skeleton}
 use Rattle.object_table.proofs.SkeletonLaws.{option_map-told, slots_alike}
 use Rattle.graph_run.proofs.OperandLaws.{operand-skeleton}
 use Rattle.client_model.specs.States.{IsLater, Stays}
-use Rattle.client_model.proofs.StateLaws.{stays_alike}
 use Rattle.client_model.proofs.NamedLaws.{held_if_live}
 use Rattle.client_laws.proofs.StandLaws.{cells_stand}
 use Rattle.client_laws.proofs.StepLaws.{answer_leaves, state_after_keeps}
 use Rattle.client_laws.proofs.VerdictLaws.{IsNamed, verdict_alike, held_alike, ready_alike}
+use Rattle.std.proofs.lemmas.List.Elements.{All-replicate}
 
 -- what stays from one list to a next, and from that to another, stays from the first to the last
 stays_on : {X : Type 0} (part : ObjectValue → X) (before between after : List Named) (name : ℕ) → Stays part before between name → Stays part between after name → Stays part before after name
-stays_on part before between after name first then = IfSome_then (object_held after name) then (λ object e. found object (object_held between name) e first)
-  where
-    found : (object : ObjectValue) (b : Option ObjectValue) → option_map part b ≡ Some (part object) → IfSome b (λ p. option_map part (object_held before name) ≡ Some (part p))
-        → option_map part (object_held before name) ≡ Some (part object)
-    found object None e stayed = absurd (cc)
-    found object (Some p) e stayed = stayed ∙ e
+stays_on part before between after name first then = grind arith
 
 -- a part that stays through each request of a kind stays through all
 module _ {X : Type 0} (part : ObjectValue → X) (limits : Allowance) (name : ℕ) (Leave : Request → Type 0)
@@ -27,7 +21,7 @@ module _ {X : Type 0} (part : ObjectValue → X) (limits : Allowance) (name : �
   through : (requests : List Request) (c later : Context) → IsLater limits c requests later → All Leave requests → name < c.next → Stays part c.objects later.objects name
   through [] c later is leave known =
       let same : c ≡ later = (let e = is.state in cc) in
-      subst (λ (d : Context). Stays part c.objects d.objects name) same (stays_alike part (object_held c.objects name) (object_held c.objects name) refl)
+      subst (λ (d : Context). Stays part c.objects d.objects name) same (grind arith)
   through (request ∷ requests) c later is leave known =
       of_state (λ next h given. through requests next later h (All-tail Leave request requests leave) given) (answer_to limits (Some c) request).1
       (answer_leaves limits c request (All-head (λ r. r ≢ ReleaseContext) request requests is.unreleased) is.keeps (All-head IsRequest request requests is.are)) is.state
@@ -60,27 +54,16 @@ nodes_stay limits c later requests name is leave known =
 -- the context after one request
 pub after_one : (limits : Allowance) (c later : Context) (request : Request) → KeepsLimits limits c → IsRequest request → (answer_to limits (Some c) request).1 ≡ Some later → IsLater limits c (request ∷ []) later
 after_one limits c later request h is e =
-    record {
-      keeps = h;
-      are = All-cons IsRequest request [] is (All-nil IsRequest);
-      unreleased = All-cons (λ r. r ≢ ReleaseContext) request [] stays (All-nil (λ r. r ≢ ReleaseContext));
-      state = e;
-    }
-  where
-    stays : request ≢ ReleaseContext
-    stays release = let gone : ◌≡◌ {A = State} None (Some later) = ap (λ r. (answer_to limits (Some c) r).1) (sym release) ∙ e in cc
+    let stays : request ≢ ReleaseContext = λ release.
+    let gone : ◌≡◌ {A = State} None (Some later) = ap (λ r. (answer_to limits (Some c) r).1) (sym release) ∙ e in cc in
+    record { keeps = h; are = All-replicate IsRequest 1 request is; unreleased = All-replicate (λ r. r ≢ ReleaseContext) 1 request stays; state = e }
 
 -- what is told of an operand stays with the skeleton
 pub operand_stays : (before after : List Named) (cell : Cell) → Stays skeleton before after cell.name → IsSome (object_held after cell.name)
     → option_map operand_of (held after cell) ≡ option_map operand_of (held before cell)
-operand_stays before after cell stays there = found (object_held after cell.name) stays there
-  where
-    found : (o : Option ObjectValue) → IfSome o (λ object. option_map skeleton (object_held before cell.name) ≡ Some (skeleton object)) → IsSome o
-        → option_map operand_of (option_and_then (in_slot cell.slot) o) ≡ option_map operand_of (held before cell)
-    found None s is = absurd (cc)
-    found (Some object) s is =
-        option_map-told skeleton operand_of operand_of operand-skeleton (option_and_then (in_slot cell.slot) (Some object)) (held before cell)
-        (slots_alike cell.slot (Some object) (object_held before cell.name) (sym s))
+operand_stays before after cell stays there =
+    option_map-told skeleton operand_of operand_of operand-skeleton (held after cell) (held before cell)
+    (slots_alike cell.slot (object_held after cell.name) (object_held before cell.name) (grind (arith, stays, there)))
 
 -- the limits are kept later too
 pub later_keeps : (limits : Allowance) (c later : Context) (requests : List Request) → IsLater limits c requests later → KeepsLimits limits later
@@ -88,29 +71,23 @@ later_keeps limits c later requests is = subst (λ (state : State). IfSome state
 
 -- ---- verdicts
 
+-- what holds of a part of what is there holds of it where it is told
+of_some : {X Y : Type 0} (part : X → Y) (P : Y → Type 0) (o : Option X) (y : Y) → option_map part o ≡ Some y → IfSome o (λ x. P (part x)) → P y
+of_some part P None y e h = absurd (cc)
+of_some part P (Some x) y e h = let same : part x ≡ y = cc in subst P same h
+
 -- a graph of a live name is held, and its nodes find what they name
 module _ (limits : Allowance) (c : Context) (name : ℕ) (h : KeepsLimits limits c) where
   pub graph_held : (graph : GraphValue) → graph_named c.objects name ≡ Ok graph → object_held c.objects name ≡ Some (GraphObject graph)
-  graph_held graph e = found (object_named c.objects name) e (held_if_live c.objects name h.names)
-    where
-      found : (o : Option ObjectValue) → as_graph o ≡ Ok graph → IfSome o (λ object. object_held c.objects name ≡ Some object) → object_held c.objects name ≡ Some (GraphObject graph)
-      found None is live = absurd (cc)
-      found (Some (GraphObject g)) is live = let same : g ≡ graph = cc in live ∙ ap (λ (x : GraphValue). Some (GraphObject x)) same
-      found (Some other) is live = absurd (cc)
+  graph_held graph e = grind (arith, held_if_live c.objects name h.names)
 
   -- so each cell that they name holds something, under a name that was given
   pub nodes_find : (nodes : List Node) → option_map nodes_in (object_held c.objects name) ≡ Some nodes → (cell : Cell) → IsNamed nodes cell → IsSome (object_held c.objects cell.name) × (cell.name < c.next)
   nodes_find nodes e cell named =
-      of_cell (object_held c.objects cell.name) ((cells_stand c.objects name nodes (stood (object_held c.objects name) e (named_has (λ n x. All (OperandsStand c.objects n) (nodes_in x)) c.objects name h.nodes))).found named.0 cell named.1 named.2)
-      (named_has (λ n x. n < c.next) c.objects cell.name h.below)
-    where
-      stood : (o : Option ObjectValue) → option_map nodes_in o ≡ Some nodes → IfSome o (λ x. All (OperandsStand c.objects name) (nodes_in x)) → All (OperandsStand c.objects name) nodes
-      stood None is stand = absurd (cc)
-      stood (Some x) is stand = let same : nodes_in x ≡ nodes = cc in subst (All (OperandsStand c.objects name)) same stand
-
-      of_cell : (o : Option ObjectValue) → option_map operand_of (option_and_then (in_slot cell.slot) o) ≡ Some (operand_held c.objects cell) → IfSome o (λ x. cell.name < c.next) → IsSome o × (cell.name < c.next)
-      of_cell None is below = absurd (cc)
-      of_cell (Some x) is below = (refl, below)
+      let stood : All (OperandsStand c.objects name) nodes =
+      of_some nodes_in (All (OperandsStand c.objects name)) (object_held c.objects name) nodes e
+      (named_has (λ n x. All (OperandsStand c.objects n) (nodes_in x)) c.objects name h.nodes) in
+      grind (arith, (cells_stand c.objects name nodes stood).found named.0 cell named.1 named.2, named_has (λ n x. n < c.next) c.objects cell.name h.below)
 
 -- each cell that the nodes of a graph name is the same operand as long as the graph has these nodes
 module _ (limits : Allowance) (c later : Context) (requests : List Request) (name : ℕ) (nodes : List Node) (is : IsLater limits c requests later)
@@ -121,20 +98,27 @@ module _ (limits : Allowance) (c later : Context) (requests : List Request) (nam
       let given = nodes_find limits c name is.keeps nodes was cell named in
       operand_stays c.objects later.objects cell (skeletons_stay limits c later requests cell.name is given.1) there.0
 
--- the verdict on a graph whose nodes stay stays
+-- the verdict on its nodes stays, within any work bytes
+pub verdict_stays_held : (limits : Allowance) (c later : Context) (requests : List Request) (name : ℕ) (nodes : List Node) (work : ℕ) → IsLater limits c requests later
+    → option_map nodes_in (object_held c.objects name) ≡ Some nodes → option_map nodes_in (object_held later.objects name) ≡ Some nodes
+    → verdict work (operand_held later.objects) nodes ≡ verdict work (operand_held c.objects) nodes
+verdict_stays_held limits c later requests name nodes work is was now =
+    verdict_alike nodes (operand_held later.objects) (operand_held c.objects)
+    (held_alike nodes c.objects later.objects (named_stay limits c later requests name nodes is was now)) work
+
+-- so does that on a graph whose nodes stay
 pub verdict_stays : (limits : Allowance) (c later : Context) (requests : List Request) (name : ℕ) (before after : GraphValue) → IsLater limits c requests later
     → All (λ request. changes_nodes request name ≡ false) requests → graph_named c.objects name ≡ Ok before → graph_named later.objects name ≡ Ok after
     → graph_verdict limits later.objects after ≡ graph_verdict limits c.objects before
 verdict_stays limits c later requests name before after is leave was now =
     let nodes = nodes_of after in
-    let then = later_keeps limits c later requests is in
-    let known : name < c.next = subst (λ (o : Option ObjectValue). IfSome o (λ x. name < c.next)) (graph_held limits c name is.keeps before was) (named_has (λ n x. n < c.next) c.objects name is.keeps.below) in
+    let held_before = graph_held limits c name is.keeps before was in
+    let held_after = graph_held limits later name (later_keeps limits c later requests is) after now in
+    let known : name < c.next = grind (arith, held_before, named_has (λ n x. n < c.next) c.objects name is.keeps.below) in
     let stay : option_map nodes_in (object_held c.objects name) ≡ Some nodes =
-    subst (λ (o : Option ObjectValue). IfSome o (λ x. option_map nodes_in (object_held c.objects name) ≡ Some (nodes_in x))) (graph_held limits later name then after now) (nodes_stay limits c later requests name is leave known) in
-    let same : nodes_of before ≡ nodes = (let both = sym (ap (option_map nodes_in) (graph_held limits c name is.keeps before was)) ∙ stay in cc) in
-    verdict_alike nodes (operand_held later.objects) (operand_held c.objects)
-    (held_alike nodes c.objects later.objects
-    (named_stay limits c later requests name nodes is stay (ap (option_map nodes_in) (graph_held limits later name then after now)))) limits.work
+    grind (arith, held_after, nodes_stay limits c later requests name is leave known) in
+    let same : nodes_of before ≡ nodes = grind (arith, held_before, stay) in
+    verdict_stays_held limits c later requests name nodes limits.work is stay (ap (option_map nodes_in) held_after)
     ∙ ap (verdict limits.work (operand_held c.objects)) (sym same)
 
 -- a graph that is ready to run stays so while its nodes stay
@@ -143,19 +127,7 @@ pub ready_stays : (limits : Allowance) (c later : Context) (requests : List Requ
     → IsSome (object_held later.objects name) → IsReady c.objects nodes v → IsReady later.objects nodes v
 ready_stays limits c later requests name nodes v is leave known was there ready =
     ready_alike nodes c.objects later.objects
-    (named_stay limits c later requests name nodes is was (kept (object_held later.objects name) (nodes_stay limits c later requests name is leave known) there)) v ready
-  where
-    kept : (o : Option ObjectValue) → IfSome o (λ x. option_map nodes_in (object_held c.objects name) ≡ Some (nodes_in x)) → IsSome o → option_map nodes_in o ≡ Some nodes
-    kept None stayed some = absurd (cc)
-    kept (Some x) stayed some = sym stayed ∙ was
-
--- so does its verdict, within any work bytes
-pub verdict_stays_held : (limits : Allowance) (c later : Context) (requests : List Request) (name : ℕ) (nodes : List Node) (work : ℕ) → IsLater limits c requests later
-    → option_map nodes_in (object_held c.objects name) ≡ Some nodes → option_map nodes_in (object_held later.objects name) ≡ Some nodes
-    → verdict work (operand_held later.objects) nodes ≡ verdict work (operand_held c.objects) nodes
-verdict_stays_held limits c later requests name nodes work is was now =
-    verdict_alike nodes (operand_held later.objects) (operand_held c.objects)
-    (held_alike nodes c.objects later.objects (named_stay limits c later requests name nodes is was now)) work
+    (named_stay limits c later requests name nodes is was (grind (arith, nodes_stay limits c later requests name is leave known, there))) v ready
 
 -- through one request, for whoever keeps what was verified
 pub ready_after_one : (limits : Allowance) (c later : Context) (request : Request) (name : ℕ) (nodes : List Node) (v : Verified) → KeepsLimits limits c → IsRequest request
@@ -163,4 +135,4 @@ pub ready_after_one : (limits : Allowance) (c later : Context) (request : Reques
     → IsSome (object_held later.objects name) → IsReady c.objects nodes v → IsReady later.objects nodes v
 ready_after_one limits c later request name nodes v h is e leaves known was there ready =
     ready_stays limits c later (request ∷ []) name nodes v (after_one limits c later request h is e)
-    (All-cons (λ r. changes_nodes r name ≡ false) request [] leaves (All-nil (λ r. changes_nodes r name ≡ false))) known was there ready
+    (All-replicate (λ r. changes_nodes r name ≡ false) 1 request leaves) known was there ready

@@ -1,16 +1,13 @@
 -- A verdict, and how a graph runs, depend on what the cells that its nodes name are, and on nothing else.
-use Rattle.std.proofs.Common.{◌≡◌, ℕ, zero, suc, inl, inr, true, cond, List, [], ◌∷◌, length, Option, Some, None, refl, sym, ap, subst, ◌∙◌, arith, All, Bool, not, ◌&&◌, ◌||◌, nat_le, sum_by, if◌then◌else◌, unwrap_or}
-use Rattle.client_laws.proofs.Common.{filter, flat_map, option_or, option_map, or_right, All-head, All-tail, All-weaker, Kind, Node, Cell, parameters, inputs, outputs, operands, Outline, Named, held, Operand, Image, Delay, Verified, Verdict, MultipleWriters, has_cycle, reads, writes, feeds, is_written, In, AllIn, operand_of, operands_of, is_virtual, virtual_bytes, operand_outline, written_outline, outlines, as_known, resolved, rounds, node_fault, is_loose, reads_loose, adds_to_virtual, has_loose_end, first_fault, virtual_outputs, work_bytes, verdict, In-left, In-right, In-append, AllIn-permutation_back, names_cell, StandsFor, operand_held, IsReady, All-from_In, In-from_All, named_by_input, named_by_output}
+use Rattle.std.proofs.Common.{◌≡◌, ℕ, zero, suc, inl, inr, true, List, [], ◌∷◌, length, Some, refl, sym, ap, subst, ◌∙◌, arith, All, Bool, ◌&&◌, sum_by, unwrap_or, not, ◌||◌}
+use Rattle.client_laws.proofs.Common.{filter, flat_map, option_map, option_or, or_right, All-tail, All-weaker, Kind, Node, Cell, parameters, inputs, outputs, operands, Outline, Named, held, Operand, Delay, Verified, reads, writes, is_written, In, AllIn, operand_of, is_virtual, virtual_bytes, operand_outline, written_outline, outlines, as_known, resolved, rounds, reads_loose, adds_to_virtual, has_loose_end, first_fault, virtual_outputs, work_bytes, verdict, node_fault, is_loose, In-left, In-right, In-append, AllIn-permutation_back, names_cell, StandsFor, operand_held, IsReady, All-from_In, In-from_All, named_by_input, named_by_output}
+use Rattle.graph_verify.specs.declared.operand.Operand.TheVariants.{Image}
 use Rattle.std.proofs.lemmas.List.Elements.{All-filter}
 use Rattle.std.proofs.lemmas.List.Sums.{sum_by-cons}
 use Rattle.vx_base.specs.Function.{accumulates}
-use Rattle.vx_base.specs.Outline.{filled}
 use Rattle.object_table.proofs.GraphLemmas.{any_alike}
 use Rattle.graph_verify.specs.declared.known.VirtualOutput.{VirtualOutput}
-use Rattle.graph_verify.specs.declared.verdict.Verdict.TheVariants.{InvalidGraph, InvalidLink, NoResources}
-use Rattle.graph_verify.specs.Outlines.{given_outline}
 use Rattle.graph_verify.specs.Rounds.{round}
-use Rattle.graph_verify.specs.Verdict.{two_writers}
 use Rattle.graph_verify.specs.Verified.{IsVerified}
 use Rattle.graph_verify.proofs.MemberLemmas.{In-from_filter, In-map, In-from_flat_map}
 use Rattle.graph_run.proofs.VerifiedLemmas.{same_operands}
@@ -19,16 +16,12 @@ use Rattle.graph_run.proofs.VerifiedLemmas.{same_operands}
 
 filter_alike : {X : Type 0} (p q : X → Bool) (xs : List X) → All (λ x. p x ≡ q x) xs → filter p xs ≡ filter q xs
 filter_alike p q [] h = refl
-filter_alike {X} p q (x ∷ xs) h =
-    ap (λ b. cond b (x ∷ filter p xs) (filter p xs)) (All-head (λ y. p y ≡ q y) x xs h)
-    ∙ ap (λ (l : List X). cond (q x) (x ∷ l) l) (filter_alike p q xs (All-tail (λ y. p y ≡ q y) x xs h))
+filter_alike p q (x ∷ xs) h = grind (arith, filter_alike p q xs (All-tail (λ y. p y ≡ q y) x xs h), h 0 x (omega arith))
 
 sum_alike : {X : Type 0} (f g : X → ℕ) (xs : List X) → All (λ x. f x ≡ g x) xs → sum_by f xs ≡ sum_by g xs
 sum_alike f g [] h = refl
 sum_alike f g (x ∷ xs) h =
-    let first = All-head (λ y. f y ≡ g y) x xs h in
-    let others = sum_alike f g xs (All-tail (λ y. f y ≡ g y) x xs h) in
-    sum_by-cons f x xs ∙ omega (arith, first, others) ∙ sym (sum_by-cons g x xs)
+    grind (arith, sum_alike f g xs (All-tail (λ y. f y ≡ g y) x xs h), h 0 x (omega arith), sum_by-cons f x xs, sum_by-cons g x xs)
 
 -- ---- nodes whose cells are the same operands
 
@@ -51,11 +44,8 @@ module _ (nodes : List Node) where
     round_alike : (ns : List Node) → ((n : Node) → In n ns → In n nodes) → (a b : Cell → Outline) → Alike a b → Alike (round writes (written_outline one) ns a) (round writes (written_outline other) ns b)
     round_alike [] are a b h cell named = h cell named
     round_alike (n ∷ ns) are a b h cell named =
-        let value : written_outline one n a cell ≡ written_outline other n b cell =
-        ap (λ o. filled (operand_outline o) (given_outline n.function (a n.in1))) (same cell named)
-        ∙ ap (λ o. filled (operand_outline (other cell)) (given_outline n.function o)) (h n.in1 (n, are n (inl refl), named_by_input n n.in1 (inl refl))) in
-        ap (λ o. if writes n cell then o else round writes (written_outline one) ns a cell) value
-        ∙ ap (λ o. if writes n cell then written_outline other n b cell else o) (round_alike ns (λ m i. are m (inr i)) a b h cell named)
+        let rest = round_alike ns (λ m i. are m (inr i)) a b h cell named in
+        rw (rest, same cell named, h n.in1 (n, are n (inl refl), named_by_input n n.in1 (inl refl))) refl
 
     rounds_alike : (k : ℕ) → Alike (rounds writes (written_outline one) nodes k (λ c. operand_outline (one c))) (rounds writes (written_outline other) nodes k (λ c. operand_outline (other c)))
     rounds_alike zero = λ cell named. ap operand_outline (same cell named)
@@ -70,35 +60,35 @@ module _ (nodes : List Node) where
     fault_alike : (ns : List Node) → ((n : Node) → In n ns → In n nodes) → first_fault (resolved one nodes) ns ≡ first_fault (resolved other nodes) ns
     fault_alike [] are = refl
     fault_alike (n ∷ ns) are =
-        ap (λ o. option_or (node_fault n.function o) (first_fault (resolved one nodes) ns))
-        (same_operands n (resolved one nodes) (resolved other nodes) (λ cell named. resolved_alike cell (n, are n (inl refl), named)))
-        ∙ ap (option_or (node_fault n.function (operands_of (resolved other nodes) n))) (fault_alike ns (λ m i. are m (inr i)))
+        rw (fault_alike ns (λ m i. are m (inr i)))
+        (ap (λ o. option_or (node_fault n.function o) (first_fault (resolved other nodes) ns))
+        (same_operands n (resolved one nodes) (resolved other nodes) (λ cell named. resolved_alike cell (n, are n (inl refl), named))))
 
     -- the same nodes read what no node writes
     reads_alike : (n : Node) → In n nodes → reads_loose one nodes n ≡ reads_loose other nodes n
     reads_alike n i =
         any_alike (is_loose one nodes) (is_loose other nodes) (inputs n)
-        (All-weaker IsNamed (λ cell. is_loose one nodes cell ≡ is_loose other nodes cell) (λ cell named. ap (λ o. is_virtual o && not (is_written nodes cell)) (same cell named)) (inputs n) (read_named n i))
+        (All-weaker IsNamed _ (λ cell named. ap (λ o. is_virtual o && not (is_written nodes cell)) (same cell named)) (inputs n) (read_named n i))
 
     -- the same nodes add to what is virtual
     adds_alike : (n : Node) → In n nodes → adds_to_virtual one n ≡ adds_to_virtual other n
     adds_alike n i =
         ap (λ b. accumulates n.function && b)
         (any_alike (λ cell. is_virtual (one cell)) (λ cell. is_virtual (other cell)) (outputs n)
-        (All-from_In (λ cell. is_virtual (one cell) ≡ is_virtual (other cell)) (outputs n) (λ cell j. ap is_virtual (same cell (n, i, named_by_output n cell j)))))
+        (All-from_In _ (outputs n) (λ cell j. ap is_virtual (same cell (n, i, named_by_output n cell j)))))
 
     -- the same nodes have loose ends
     loose_alike : has_loose_end one nodes ≡ has_loose_end other nodes
     loose_alike =
         any_alike (λ n. reads_loose one nodes n || adds_to_virtual one n) (λ n. reads_loose other nodes n || adds_to_virtual other n) nodes
-        (All-from_In (λ n. (reads_loose one nodes n || adds_to_virtual one n) ≡ (reads_loose other nodes n || adds_to_virtual other n)) nodes
+        (All-from_In _ nodes
         (λ n i. ap (λ b. b || adds_to_virtual one n) (reads_alike n i) ∙ ap (λ b. reads_loose other nodes n || b) (adds_alike n i)))
 
     -- the same nodes write the same virtual images
     virtual_alike : (ns : List Node) → AllIn ns nodes → virtual_outputs one ns ≡ virtual_outputs other ns
     virtual_alike ns are =
         filter_alike (λ cell. is_virtual (one cell)) (λ cell. is_virtual (other cell)) (flat_map outputs ns)
-        (All-weaker IsNamed (λ cell. is_virtual (one cell) ≡ is_virtual (other cell)) (λ cell named. ap is_virtual (same cell named)) (flat_map outputs ns) (written_named ns are))
+        (All-weaker IsNamed _ (λ cell named. ap is_virtual (same cell named)) (flat_map outputs ns) (written_named ns are))
 
     -- as many bytes are worked on
     work_alike : work_bytes one nodes ≡ work_bytes other nodes
@@ -111,17 +101,7 @@ module _ (nodes : List Node) where
         (All-filter (λ cell. is_virtual (other cell)) IsNamed (flat_map outputs nodes) (written_named nodes (λ n i. i))))
 
     pub verdict_alike : (work : ℕ) → verdict work one nodes ≡ verdict work other nodes
-    verdict_alike work =
-        ap (λ loose. by_parts loose (first_fault (resolved one nodes) nodes) (work_bytes one nodes)) loose_alike
-        ∙ ap (λ fault. by_parts (has_loose_end other nodes) fault (work_bytes one nodes)) (fault_alike nodes (λ n i. i))
-        ∙ ap (by_parts (has_loose_end other nodes) (first_fault (resolved other nodes) nodes)) work_alike
-      where
-        by_parts : Bool → Option Verdict → ℕ → Option Verdict
-        by_parts loose fault bytes =
-            if two_writers nodes then Some MultipleWriters
-            else (if has_cycle feeds nodes then Some InvalidGraph
-            else (if loose then Some InvalidLink
-            else option_or fault (if nat_le bytes work then None else Some NoResources)))
+    verdict_alike work = rw (loose_alike, fault_alike nodes (λ n i. i), work_alike) refl
 
     -- the same order and the same descriptions are found
     pub verified_alike : (v : Verified) → IsVerified one nodes v → IsVerified other nodes v

@@ -1,14 +1,15 @@
 -- What an object is as a run begins, and what the verdict took it for.
-use Rattle.std.proofs.Common.{◌≡◌, ◌⊎◌, inl, inr, ℕ, zero, suc, ◌≤◌, Bool, true, false, List, [], ◌∷◌, Option, Some, None, IfSome, refl, sym, subst, arith, is_some, unwrap_or}
-use Rattle.client_model.proofs.Common.{option_map, option_and_then, cond_both, Kind, Node, Cell, Description, parameters, IsNode, second_kind, ObjectValue, ImageObject, DelayObject, VirtualObject, IsObject, object_kind, Outline, in_slot, Operand, Image, operand_of, operand_kind, operand_format, stands_for, Suits, kind-operand}
+use Rattle.std.proofs.Common.{◌≡◌, ◌⊎◌, ℕ, zero, suc, ◌≤◌, Bool, true, List, [], ◌∷◌, Option, Some, None, IfSome, arith, is_some, unwrap_or}
+use Rattle.client_model.proofs.Common.{option_map, option_and_then, Kind, Node, Cell, Description, parameters, IsNode, second_kind, ObjectValue, IsObject, object_kind, Outline, in_slot, Operand, Image, operand_of, operand_kind, operand_format, stands_for, Suits, kind-operand, cond_both}
+use Rattle.vx_base.specs.Object.{VirtualObject}
 use Rattle.vx_base.specs.Outline.{closed, filled}
 use Rattle.vx_base.proofs.ImageLaws.{new_image_is}
 use Rattle.graph_verify.specs.declared.operand.Operand.TheVariants.{Delay}
 use Rattle.graph_verify.specs.Links.{writes}
 use Rattle.graph_verify.specs.Operand.{is_virtual as is_virtual_operand}
-use Rattle.graph_verify.specs.Outlines.{operand_outline, given_outline, written_outline, virtual_or_image, as_known}
+use Rattle.graph_verify.specs.Outlines.{operand_outline, given_outline, written_outline, as_known, virtual_or_image}
 use Rattle.graph_verify.specs.Rounds.{round as round_of, rounds as rounds_of}
-use Rattle.graph_run.specs.Graph.{begun_as, is_virtual_object}
+use Rattle.graph_run.specs.Graph.{is_virtual_object, begun_as}
 use Rattle.client_model.proofs.HoldLaws.{is_taken}
 use Rattle.client_model.proofs.NodeStepLaws.{CanGive}
 use Rattle.graph_run.proofs.BegunLaws.{begun_if}
@@ -26,9 +27,7 @@ filled_small a b h k = grind arith
 
 -- what is declared of an object is
 pub object_small : (object : Option ObjectValue) → IfSome object IsObject → IsSmall (operand_outline (unwrap_or (option_map operand_of object) Delay))
-object_small (Some (ImageObject image)) is = record { width = is.sides.0; height = is.sides.1 }
-object_small (Some (VirtualObject image)) is = grind arith
-object_small other is = record { width = tt; height = tt }
+object_small object is = grind arith
 
 -- so is what is known after rounds
 module _ (is : Cell → Operand) (small : (cell : Cell) → IsSmall (operand_outline (is cell))) where
@@ -55,21 +54,15 @@ begun_is_object (VirtualObject image) known true is small = of_closed (closed kn
     of_closed : (d : Option Description) → IfSome d (λ e. (e.width ≤ GREATEST_SIDE) × (e.height ≤ GREATEST_SIDE)) → IsObject (begun_as (VirtualObject image) (virtual_or_image known d))
     of_closed None sides = is
     of_closed (Some d) sides = new_image_is d.width d.height d.format sides.0 sides.1
-begun_is_object (VirtualObject image) known false is small = is
-begun_is_object other known true is small = is
-begun_is_object other known false is small = is
+begun_is_object other known written is small = grind arith
 
 -- what stands in a slot of it stays
 pub slot_as_begun : (k : ℕ) (object : ObjectValue) (written : Bool) (operand : Operand) → in_slot (Some k) (begun_if written object operand) ≡ in_slot (Some k) object
-slot_as_begun k (VirtualObject image) true (Image d) = refl
-slot_as_begun k (VirtualObject image) true operand = refl
-slot_as_begun k other true operand = refl
-slot_as_begun k other false operand = refl
+slot_as_begun k object written operand = grind arith
 
 -- and so does the image that stands there
 pub image_as_begun : (k : ℕ) (object : ObjectValue) (written : Bool) (operand : Operand) → option_map (λ x. begun_if written x operand) (in_slot (Some k) object) ≡ in_slot (Some k) object
-image_as_begun k (DelayObject images) written operand = grind arith
-image_as_begun k other written operand = refl
+image_as_begun k object written operand = grind arith
 
 -- ---- what the verdict takes an object for
 
@@ -79,25 +72,18 @@ Taken known actual = (known ≡ actual) ⊎ ((is_virtual_operand actual ≡ true
 
 pub taken_as_begun : (object : ObjectValue) (known : Outline) (written : Bool) → (is_virtual_object object ≡ true → written ≡ true)
     → Taken (as_known (operand_of object) known) (operand_of (begun_if written object (as_known (operand_of object) known)))
-taken_as_begun (VirtualObject image) known true h = grind arith
-taken_as_begun (VirtualObject image) known false h = let never = h refl in absurd (cc)
-taken_as_begun other known true h = inl refl
-taken_as_begun other known false h = inl refl
+taken_as_begun object known written h = grind arith
 
 -- an object that stands for a kind still does
 pub kind_as_begun : (object : ObjectValue) (written : Bool) (operand : Operand) (wanted : Kind) → is_taken wanted ≡ true → stands_for (object_kind object) wanted ≡ true
     → stands_for (operand_kind (operand_of (begun_if written object operand))) wanted ≡ true
-kind_as_begun (VirtualObject image) true (Image d) wanted taken h = grind (arith, is_taken)
-kind_as_begun (VirtualObject image) true operand wanted taken h = h
-kind_as_begun other true operand wanted taken h = subst (λ k. stands_for k wanted ≡ true) (sym (kind-operand other)) h
-kind_as_begun other false operand wanted taken h = subst (λ k. stands_for k wanted ≡ true) (sym (kind-operand other)) h
+kind_as_begun object written operand wanted taken h = grind (arith, is_taken, kind-operand)
 
 -- ---- nodes whose operands suit as the verdict takes them
 
 -- an image is taken for one
 taken_image : (known : Operand) (d : Description) → Taken known (Image d) → known ≡ Image d
-taken_image known d (inl e) = e
-taken_image known d (inr other) = let never = other.0 in absurd (cc)
+taken_image known d taken = grind arith
 
 -- a second input as it is taken and as it is, where there is one
 abbrev pub SecondTaken : Kind → Option Operand → Option Operand → Type 0

@@ -1,9 +1,13 @@
 -- What is held: what nodes of graphs use, and what they still find once the rest is gone.
-use Rattle.std.proofs.Common.{◌≡◌, ◌⊎◌, inl, inr, ℕ, suc, arith, Bool, true, false, cond, IsTrue, List, [], ◌∷◌, ◌++◌, get_or, Option, Some, None, refl, sym, ap, subst, ◌∙◌, rules, All, is_none, ◌==◌, ◌&&◌, not, find, filter, unwrap_or, eq-eqb, eqb-true}
-use Rattle.client_model.proofs.Common.{list_any, IsStrictlyIncreasing, option_map, option_and_then, option_or, and_parts, or_cases, or_right, All-nil, All-cons, All-append, All-filter, All-map, All-weaker, find-append, Function, Kind, Node, Numbered, Cell, parameters, operands, ObjectValue, GraphObject, VirtualObject, object_kind, in_slot, slot_kind, Named, object_held, held, skeleton, names_it, uses, is_used, is_held, still_held, nodes_in, is_kind, holds_nothing, kind_held, stands, NodesStand, names_of, All-from_map, held_by_name}
-use Rattle.std.proofs.lemmas.Bool.{and_from, and_right, both_ways, not_from_false, or_parts}
+use Rattle.std.proofs.Common.{◌≡◌, ◌⊎◌, inl, inr, ℕ, arith, Bool, true, false, IsTrue, List, [], ◌∷◌, ◌++◌, get_or, Option, Some, refl, sym, ap, subst, ◌∙◌, rules, All, is_none, ◌==◌, ◌&&◌, not, find, filter, unwrap_or, eq-eqb, eqb-true}
+use Rattle.client_model.proofs.Common.{IsStrictlyIncreasing, option_map, option_and_then, and_parts, or_cases, All-nil, All-cons, All-append, All-filter, All-map, All-tail, All-weaker, find-append, Function, Kind, Node, Numbered, Cell, parameters, operands, ObjectValue, GraphObject, object_kind, in_slot, Named, object_held, held, skeleton, names_it, uses, is_used, is_held, still_held, nodes_in, is_kind, holds_nothing, kind_held, stands, NodesStand, names_of, All-from_map, held_by_name}
+use Rattle.std.specs.List.{list_any}
+use Rattle.std.proofs.lemmas.Bool.{or_right}
+use Rattle.object_table.specs.Delay.{slot_kind}
+use Rattle.std.proofs.lemmas.Bool.{and_from, and_right, both_ways, not_from_false, or_left, or_parts}
 use Rattle.std.proofs.lemmas.List.Elements.{filter_passes}
 use Rattle.std.proofs.lemmas.List.Folds.{list_any_at, list_any_none}
+use Rattle.std.proofs.lemmas.Map.Views.{any-filter_same}
 use Rattle.vx_base.specs.declared.function.Function.TheVariants.{AndBits}
 use Rattle.vx_base.specs.declared.kind.Kind.TheVariants as kind
 use Rattle.client_model.specs.Operands.{is_of_other_graph}
@@ -11,22 +15,10 @@ use Rattle.object_table.proofs.SkeletonLaws.{slot_kind-skeleton, in_slot-skeleto
 
 -- ---- lists of which some elements are kept
 
-module _ {X : Type 0} (p q : X → Bool) where
-  -- an element is found as before, if all that pass are kept
-  find_kept : (xs : List X) → All (λ x. p x ≡ true → q x ≡ true) xs → find p (filter q xs) ≡ find p xs
-  find_kept [] h = refl
-  find_kept (x ∷ xs) h = either (p x) (q x) refl (h 0 x (omega arith)) (find_kept xs (λ k d below. h (suc k) d (omega arith)))
-    where
-      either : (b c : Bool) → p x ≡ b → (b ≡ true → c ≡ true) → find p (filter q xs) ≡ find p xs → find p (cond c (x ∷ filter q xs) (filter q xs)) ≡ cond b (Some x) (find p xs)
-      either true true passes kept rest = ap (λ b. cond b (Some x) (find p (filter q xs))) passes
-      either true false passes kept rest = let is = kept refl in absurd (cc)
-      either false true fails kept rest = ap (λ b. cond b (Some x) (find p (filter q xs))) fails ∙ rest
-      either false false fails kept rest = rest
-
-  -- so it is told whether one passes
-  any_kept : ((x : X) → p x ≡ true → q x ≡ true) → (xs : List X) → list_any p (filter q xs) ≡ list_any p xs
-  any_kept h [] = refl
-  any_kept h (x ∷ xs) = grind (arith, any_kept h xs)
+-- an element is found as before, if all that pass are kept
+find_kept : {X : Type 0} (p q : X → Bool) (xs : List X) → All (λ x. p x ≡ true → q x ≡ true) xs → find p (filter q xs) ≡ find p xs
+find_kept p q [] h = refl
+find_kept p q (x ∷ xs) h = grind (arith, find_kept p q xs (All-tail (λ y. p y ≡ true → q y ≡ true) x xs h), h 0 x (omega arith))
 
 -- what holds of each element that passes holds of each that is kept
 All-kept : {X : Type 0} (q : X → Bool) (P : X → Type 0) (xs : List X) → All (λ x. q x ≡ true → P x) xs → All P (filter q xs)
@@ -45,17 +37,13 @@ is_taken kind.Graph = false
 is_taken kind.VirtualImage = false
 is_taken other = true
 
-second_taken : (function : Function) → is_taken (unwrap_or (parameters function).second_input kind.Image) ≡ true
-second_taken AndBits = refl
-second_taken other = refl
-
-output_taken : (function : Function) → is_taken (parameters function).output ≡ true
-output_taken AndBits = refl
-output_taken other = refl
+parameters_taken : (function : Function) → (is_taken (unwrap_or (parameters function).second_input kind.Image) ≡ true) × (is_taken (parameters function).output ≡ true)
+parameters_taken AndBits = (refl, refl)
+parameters_taken other = (refl, refl)
 
 -- the kinds that a node's function has for its operands are such
 pub kinds_taken : (n : Node) → All (λ operand. is_taken operand.1 ≡ true) (operands n)
-kinds_taken n = grind (arith, All-cons, All-append, second_taken, output_taken, All-nil)
+kinds_taken n = grind (arith, All-cons, All-append, parameters_taken n.function, All-nil)
 
 -- ---- operands that stand
 
@@ -78,19 +66,7 @@ stands_on graph operand found =
     && (not (is_of_other_graph graph (option_and_then (in_slot operand.0.slot) found)) && not (is_none (option_and_then (in_slot operand.0.slot) found)))
 
 stands_by_skeleton : (graph : ℕ) (operand : Cell × Kind) (found : Option ObjectValue) → stands_on graph operand (option_map skeleton found) ≡ stands_on graph operand found
-stands_by_skeleton graph operand None = refl
-stands_by_skeleton graph operand (Some object) =
-    let slot = operand.0.slot in
-    ap (λ k. is_kind operand.1 k && tested (in_slot slot (skeleton object))) (slot_kind-skeleton slot object)
-    ∙ ap (λ b. is_kind operand.1 (slot_kind slot object) && b) (ap tested (in_slot-skeleton slot object) ∙ alike (in_slot slot object))
-  where
-    tested : Option ObjectValue → Bool
-    tested found = not (is_of_other_graph graph found) && not (is_none found)
-
-    alike : (found : Option ObjectValue) → tested (option_map skeleton found) ≡ tested found
-    alike None = refl
-    alike (Some (VirtualObject image)) = refl
-    alike (Some other) = refl
+stands_by_skeleton graph operand found = grind (arith, slot_kind-skeleton, in_slot-skeleton)
 
 -- a cell stands among other objects, where that of its name has the same skeleton
 pub stands-alike : (objects others : List Named) (graph : ℕ) (operand : Cell × Kind)
@@ -115,15 +91,8 @@ stands_still objects others graph operand same h = stands-alike others objects g
 -- so it does with one object more
 pub stands_more : (objects : List Named) (new : Named) (graph : ℕ) (operand : Cell × Kind) → IsTrue (stands objects graph operand) → IsTrue (stands (objects ++ new ∷ []) graph operand)
 stands_more objects new graph operand h =
-    let object_of : Option Named → Option ObjectValue = option_map (λ p. p.object) in
-    let cell = operand.0 in
-    stands_still objects (objects ++ new ∷ []) graph operand
-    (ap object_of (find-append (λ (p : Named). p.name == cell.name) objects (new ∷ [])) ∙ first (find (λ (p : Named). p.name == cell.name) objects) (stands_parts objects graph operand h).there) h
-  where
-    first : (found : Option Named) → is_none (option_and_then (in_slot operand.0.slot) (option_map (λ (p : Named). p.object) found)) ≡ false
-        → option_map (λ (p : Named). p.object) (option_or found (find (λ (p : Named). p.name == operand.0.name) (new ∷ []))) ≡ option_map (λ (p : Named). p.object) found
-    first None there = cc
-    first (Some p) there = refl
+    let there = (stands_parts objects graph operand h).there in
+    stands_still objects (objects ++ new ∷ []) graph operand (grind (arith, find-append, there)) h
 
 -- ---- graphs, which no node uses
 
@@ -179,7 +148,9 @@ used_by_live objects k d below live =
 module _ (objects : List Named) where
   -- what is used stays used, and what is held stays held
   used_still : (name : ℕ) → is_used (still_held objects) name ≡ is_used objects name
-  used_still name = grind (arith, any_kept, and_parts)
+  used_still name =
+      any-filter_same (λ o. o.live && uses o.object name) (is_held objects) true
+      (λ o uses_it. or_left o.live (is_used objects o.name) (and_parts o.live (uses o.object name) uses_it).0) objects
 
   pub held_still : All (λ o. IsTrue (is_held (still_held objects) o)) (still_held objects)
   held_still = grind (arith, All-weaker, used_still, filter_passes)

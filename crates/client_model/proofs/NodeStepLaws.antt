@@ -1,13 +1,17 @@
 -- A node that runs at once keeps the limits, and what is held: each output becomes an object of the kind, the size and the format that it
 -- had.
-use Rattle.std.proofs.Common.{◌≡◌, ℕ, Bool, true, false, IsTrue, List, get_or, [], map, Option, Some, None, IfSome, if◌then◌else◌, refl, sym, ap, subst, ◌∙◌, arith, All, ◌&&◌, is_some, is_none}
-use Rattle.client_model.proofs.Common.{list_any, option_map, option_and_then, option_or, and_parts, not-false, IfSome_then, All-nil, All-cons, All-append, Function, Kind, Node, Cell, Description, parameters, IsImage, description_of, IsNode, operands, second_kind, ObjectValue, ImageObject, ExtremesObject, IsObject, object_kind, Named, held, skeleton, Context, with_objects, Operand, Image, operand_of, operand_format, operand_kind, InvalidReference, InvalidType, Rejected, Empty, Allowance, is_unknown, holds_nothing, is_kind, kind_of, is_of_other_kind, stands_for, operands_refusal, KeepsLimits, kind_held, held_is, lasting, lasting_named, IsReplacement, images-last, skeletons-last, Suits, passed, kind-operand}
+use Rattle.std.proofs.Common.{◌≡◌, ℕ, Bool, true, false, IsTrue, List, get_or, [], map, Option, Some, None, IfSome, if◌then◌else◌, refl, sym, ap, subst, ◌∙◌, arith, All, is_some, is_none}
+use Rattle.client_model.proofs.Common.{option_map, option_and_then, not-false, and_parts, IfSome_then, All-nil, All-cons, All-append, Function, Kind, Node, Cell, Description, parameters, IsImage, description_of, IsNode, operands, second_kind, ObjectValue, ImageObject, ExtremesObject, IsObject, object_kind, Named, held, skeleton, Context, with_objects, Operand, Image, operand_of, operand_format, operand_kind, Empty, Allowance, holds_nothing, is_kind, kind_of, stands_for, operands_refusal, KeepsLimits, kind_held, held_is, lasting, lasting_named, IsReplacement, images-last, Suits, passed, kind-operand}
+use Rattle.std.specs.Option.{option_or}
+use Rattle.client_model.specs.declared.refusal.Refusal.TheVariants.{Rejected}
+use Rattle.client_model.specs.Operands.{is_unknown, is_of_other_kind}
+use Rattle.graph_run.proofs.LastingLemmas.{skeletons-last}
 use Rattle.vx_base.specs.declared.format.Format.{Format}
 use Rattle.vx_base.specs.declared.kind.Kind.TheVariants as kind
 use Rattle.vx_base.specs.Description.{same_size}
 use Rattle.vx_base.specs.Formats.{takes_formats}
 use Rattle.vx_base.specs.Function.{accumulates}
-use Rattle.vx_base.specs.Node.{is_node, has_amount, has_operands, all_named}
+use Rattle.vx_base.specs.Node.{is_node}
 use Rattle.vx_base.specs.Object.{DistributionObject}
 use Rattle.vx_base.specs.declared.output.Output.{Output}
 use Rattle.vx_base.specs.declared.output.Output.TheVariants.{First, Second}
@@ -17,7 +21,7 @@ use Rattle.object_table.specs.Named.{with_written}
 use Rattle.object_table.proofs.SkeletonLaws.{option_map-told}
 use Rattle.graph_verify.specs.declared.verdict.Verdict.{Verdict}
 use Rattle.graph_verify.specs.Verdict.{verdict_on}
-use Rattle.client_model.specs.declared.refusal.Refusal.TheVariants.{InvalidScope, InvalidValue, OptimizedAway}
+use Rattle.client_model.specs.declared.refusal.Refusal.TheVariants.{OptimizedAway}
 use Rattle.client_model.specs.Operands.{is_beyond}
 use Rattle.client_model.specs.Immediate.{operand_in, operand_if, operands_in, is_some_virtual, away_refusal, node_refusal, immediate}
 use Rattle.graph_run.proofs.CellLemmas.{Lasts-with_written}
@@ -57,15 +61,13 @@ pub record CanRunOn (look : Cell → Option Operand) (n : Node) : Type 0 where
 -- an output that suits beside a second input of the right kind can be given to
 pub suits_give : (function : Function) (first out : Operand) (second : Option Operand) → Suits function first (option_and_then operand_format second) out
     → IfSome second (λ o. (parameters function).second_input ≡ Some (operand_kind o)) → CanGive function first second out
-suits_give function (Image first) (Image out) second suits right = record { formats = suits.formats; size = suits.size; kind = right }
-suits_give function first out second suits right = tt
+suits_give function first out second suits right = grind (arith, Suits)
 
 -- ---- objects as operands
 
 -- a cell that may not be given, as an operand
 operand_if_held : (objects : List Named) (cell : Option Cell) → operand_if objects cell ≡ option_map operand_of (option_and_then (held objects) cell)
-operand_if_held objects None = refl
-operand_if_held objects (Some cell) = refl
+operand_if_held objects cell = grind arith
 
 -- ---- what a node writes
 
@@ -126,15 +128,11 @@ written_from_fits start objects n is_start is same can =
         (subst (λ out. CanGiveTo n.function (operand_in objects n.in1) (option_map operand_of second) out) (operand_alike start objects same cell)
         (subst (λ o. CanGiveTo n.function (operand_in objects n.in1) o (operand_in objects cell)) (operand_if_held objects n.in2) gives))
 
-pub written_by_fits : (objects : List Named) (n : Node) → All (λ o. IsObject o.object) objects → CanRunOn (operand_in objects) n → All (IsReplacement objects) (written_by n (held objects))
-written_by_fits objects n is can = written_from_fits objects objects n is is refl can
-
 -- ---- operands that nothing refuses
 
 -- where neither of two refuses, the first doesn't and the second doesn't
 pub neither : {R : Type 0} (first second : Option R) → option_or first second ≡ None → (first ≡ None) × (second ≡ None)
-neither None second h = (refl, h)
-neither (Some refusal) second h = cc
+neither first second h = grind arith
 
 -- an operand that isn't refused
 pub record Passes (scope : Option ℕ) (objects : List Named) (operand : Cell × Kind) : Type 0 where
@@ -144,28 +142,23 @@ pub record Passes (scope : Option ℕ) (objects : List Named) (operand : Cell ×
   pub there : holds_nothing objects operand.0 ≡ false
 
 pub operands_pass : (scope : Option ℕ) (objects : List Named) (all : List (Cell × Kind)) → operands_refusal scope objects all ≡ None → All (Passes scope objects) all
-operands_pass scope objects all h =
-    let known = passed (list_any (λ operand. is_unknown objects operand.0) all) InvalidReference _ h in
-    let of_kind = passed (list_any (is_of_other_kind objects) all) InvalidType _ known.1 in
-    let within = passed (list_any (λ operand. is_beyond scope objects operand.0) all) InvalidScope _ of_kind.1 in
-    let there = passed (list_any (λ operand. holds_nothing objects operand.0) all) InvalidValue _ within.1 in
-    λ k d below.
+operands_pass scope objects all h k d below =
+    let known = passed _ _ _ h in
+    let of_kind = passed _ _ _ known.1 in
+    let within = passed _ _ _ of_kind.1 in
+    let there = passed _ _ _ within.1 in
     record {
-      known = each_fails (λ operand. is_unknown objects operand.0) all known.0 k d below;
-      kind = each_fails (is_of_other_kind objects) all of_kind.0 k d below;
-      within = each_fails (λ operand. is_beyond scope objects operand.0) all within.0 k d below;
-      there = each_fails (λ operand. holds_nothing objects operand.0) all there.0 k d below;
+      known = each_fails _ all known.0 k d below;
+      kind = each_fails _ all of_kind.0 k d below;
+      within = each_fails _ all within.0 k d below;
+      there = each_fails _ all there.0 k d below;
     }
 
 -- ---- the operands of a node
 
 -- a node has a second input where its function has one
 pub second_there : (n : Node) → IsTrue (is_node n) → IsTrue (if is_some (parameters n.function).second_input then is_some n.in2 else is_none n.in2)
-second_there n shape =
-    let p = parameters n.function in
-    let of_operands = and_parts (has_amount p n.policy n.amount) (has_operands p n && all_named n) shape in
-    let there = and_parts (has_operands p n) (all_named n) of_operands.1 in
-    (and_parts (if is_some p.second_input then is_some n.in2 else is_none n.in2) _ there.0).0
+second_there n shape = (and_parts _ _ (and_parts _ _ (and_parts _ _ shape).1).0).0
 
 -- an object that stands for a kind is of that kind, if it is no virtual image
 pub stands_for_equal : (a wanted : Kind) → stands_for a wanted ≡ true → (a ≡ kind.VirtualImage → ⊥) → wanted ≡ a
@@ -181,8 +174,7 @@ second_right look n node h = grind (arith, second_there n node.shape)
 
 -- where nothing is rejected, the verdict is none
 pub not_rejected : (verdict : Option Verdict) → option_map Rejected verdict ≡ None → verdict ≡ None
-not_rejected None h = refl
-not_rejected (Some verdict) h = cc
+not_rejected verdict h = grind arith
 
 -- what a node by itself needs of an operand
 pub record IsOwn (objects : List Named) (operand : Cell × Kind) : Type 0 where
@@ -196,8 +188,7 @@ of_wanted objects operand h = grind (arith, held_kind objects operand.0)
 -- where both suit, both can be given to
 both_give : (function : Function) (first : Option ObjectValue) (second out1 out2 : Option Operand) → IfSome second (λ o. (parameters function).second_input ≡ Some (operand_kind o))
     → IfSome first (BothSuit function (option_and_then operand_format second) out1 out2) → CanGiveTo function (option_map operand_of first) second out1 × CanGiveTo function (option_map operand_of first) second out2
-both_give function None second out1 out2 right suit = (tt, tt)
-both_give function (Some a) second out1 out2 right suit = grind (arith, IfSome_then, out1, suits_give, right, out2)
+both_give function first second out1 out2 right suit = grind (arith, suits_give, right)
 
 -- a node that isn't refused can give to its outputs
 not_refused : (limits : Allowance) (c : Context) (n : Node) → KeepsLimits limits c → IsNode n → node_refusal c.objects n ≡ None → CanRunOn (operand_in c.objects) n
@@ -222,4 +213,5 @@ immediate_keeps limits c n h is =
     let written = written_by n (held c.objects) in
     unless_keeps limits c (node_refusal c.objects n) Empty (with_objects c (with_written c.objects written))
     (λ allowed. alike_leaves limits (λ name. false) c h (with_written c.objects written)
-    (Lasts-with_written c.objects written h.names h.objects (written_by_fits c.objects n h.objects (not_refused limits c n h is allowed))))
+    (Lasts-with_written c.objects written h.names h.objects
+    (written_from_fits c.objects c.objects n h.objects h.objects refl (not_refused limits c n h is allowed))))

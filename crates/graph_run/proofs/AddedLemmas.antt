@@ -1,14 +1,13 @@
 -- Images of the client's to which bands are added.
-use Rattle.std.proofs.Common.{◌≡◌, ℕ, ℤ, pos, ◌+◌, ◌-◌, ◌*◌, ◌<◌, ◌≤◌, Bool, true, false, List, ◌++◌, length, take, drop, get_or, ◌⊎◌, inl, inr, Option, Some, None, refl, sym, ap, subst, ◌∙◌, arith, ◌&&◌, ◌==◌, option_map, length-append, length-take-le, take_all, eqb-true, drop-drop, drop_at, get_or-drop, get_or-take}
-use Rattle.graph_run.proofs.Common.{nat_tests, mul-le-mul_right, and_parts, S16, Node, IsNode, First, Description, sample_count, Rectangle, Stage, scene, IsWithinRows, with_band, image_value, accumulates, ImageValue, IsImage, image_over, description_of, band, at, ObjectValue, ImageObject, formula_of_two, length-band, IsInRows, Named, Cell, image_held, HoldsImage, part_of, first_right, end_right, part_is, stands_fewer, reach, Strip, lasting, added_to, cases_lt, inside, meet_of, above, whole_band, accumulated_image_is, at-part, band_moved, part_stands, node_right, rows_in, CanAdd, band_seen, rows_from, sum_made, with_sums}
+use Rattle.std.proofs.Common.{◌≡◌, ℕ, ℤ, pos, ◌+◌, ◌-◌, ◌*◌, ◌<◌, ◌≤◌, Bool, true, false, List, ◌++◌, length, take, drop, get_or, ◌⊎◌, inl, inr, Some, None, refl, sym, ap, ◌∙◌, arith, ◌&&◌, ◌==◌, option_map, length-append, length-take-le, take_all, eqb-true, drop-drop, drop_at, get_or-drop, get_or-take}
+use Rattle.graph_run.proofs.Common.{nat_tests, mul-le-mul_right, and_parts, cases_lt, S16, Node, IsNode, First, Description, sample_count, Rectangle, inside, meet_of, Stage, scene, IsWithinRows, with_band, CanAdd, band_seen, rows_from, sum_made, with_sums, image_value, accumulates, ImageValue, IsImage, image_over, description_of, band, at, ImageObject, formula_of_two, length-band, IsInRows, rows_in, Named, Cell, image_held, HoldsImage, part_of, first_right, end_right, part_is, stands_fewer, at-part, band_moved, part_stands, reach, Strip, added_to, whole_band, accumulated_image_is, node_right}
 use Rattle.graph_run.specs.Bands.{seen}
 use Rattle.std.proofs.Math.ListN.{get_or-append}
 use Rattle.std.proofs.lemmas.List.{get_or-append_right}
 use Rattle.vx_base.proofs.ImageLaws.{at-made_outside}
 use Rattle.node_rows.specs.Parts.{StandsFor, rows_of}
 use Rattle.node_rows.proofs.PartLaws.{meet_inside}
-use Rattle.graph_run.proofs.CellLemmas.{IsReplacement, held_image}
-use Rattle.graph_run.proofs.LastingLemmas.{images-last}
+use Rattle.graph_run.proofs.CellLemmas.{IsReplacement}
 use Rattle.graph_run.proofs.PartSeenLemmas.{band_part}
 use Rattle.graph_run.proofs.SeenLemmas.{seen_image, with_band_is}
 use Rattle.graph_run.proofs.SumLemmas.{sums_image, sums_second}
@@ -51,33 +50,14 @@ module _ (strip : Strip) (part old : ImageValue) (wide : part.width ≡ old.widt
 
   -- above the band and below it the samples are those that were there
   at_above : (x y : ℕ) → x < old.width → y < start → at (with_band strip part old) x y ≡ at old x y
-  at_above x y a b =
-      let k = y * old.width + x in
-      let here : k < start * old.width = above old.width start x y a b in
-      get_or-append (first ++ middle) last (pos 0) k (omega (arith, here, both_long, spread start count old.width))
-      ∙ get_or-append first middle (pos 0) k (omega (arith, here, first_long))
-      ∙ get_or-take (start * old.width) old.samples k (pos 0) here
+  at_above x y a b = grind (arith, get_or-append, both_long, first_long, get_or-take)
 
   at_below : (x j : ℕ) → at (with_band strip part old) x (start + count + j) ≡ at old x (start + count + j)
-  at_below x j =
-      let k = (start + count + j) * old.width + x in
-      let before = (start + count) * old.width in
-      let here : before ≤ k = omega (arith, spread (start + count) j old.width) in
-      get_or-append_right (first ++ middle) last before k (pos 0) both_long here
-      ∙ get_or-drop before old.samples (k - before) (pos 0)
-      ∙ ap (λ n. get_or old.samples n (pos 0)) {x = before + (k - before)} {y = k} (omega (arith, here))
+  at_below x j = grind (arith, get_or-append_right, both_long, get_or-drop)
 
   -- in the band they are the part's
   at_band : (x j : ℕ) → x < old.width → j < count → at (with_band strip part old) x (start + j) ≡ at part x (from + j)
-  at_band x j a b =
-      let k = (start + j) * old.width + x in
-      let below : k < (start + count) * old.width = above old.width (start + count) x (start + j) a (omega (arith, b)) in
-      let more = spread start j old.width in
-      get_or-append (first ++ middle) last (pos 0) k (omega (arith, below, both_long))
-      ∙ get_or-append_right first middle (start * old.width) k (pos 0) first_long (omega (arith, more))
-      ∙ ap (λ n. get_or middle n (pos 0)) {x = k - start * old.width} {y = j * old.width + x} (omega (arith, more))
-      ∙ ap (λ w. get_or (band w from count (at part)) (j * w + x) (pos 0)) (sym wide)
-      ∙ at-part from count part x j (omega (arith, a, wide)) b
+  at_band x j a b = grind (arith, get_or-append, both_long, get_or-append_right, first_long, at-part)
 
   -- the rows below are those that were there
   drop_below : drop ((start + count) * old.width) (with_band strip part old).samples ≡ last
@@ -100,10 +80,7 @@ module _ (strip : Strip) (within : IsWithinRows strip) (n : Node) (part old : Im
   made_is = accumulated_image_is n S16 part node is First rows sums rows_are
 
   described : description_of made ≡ record { width = old.width; height = strip.rows.count; format = old.format }
-  described =
-      ap (λ w. let d : Description = record { width = w; height = part.height; format = S16 } in d) wide
-      ∙ ap (λ h. let d : Description = record { width = old.width; height = h; format = S16 } in d) high
-      ∙ ap (λ f. let d : Description = record { width = old.width; height = strip.rows.count; format = f } in d) (sym format)
+  described = grind arith
 
   end_fits : strip.band.start + strip.band.count ≤ old.height
   end_fits = omega (arith, within.below, room)
@@ -153,11 +130,7 @@ module _ (strip : Strip) (within : IsWithinRows strip) (n : Node) (part old : Im
 
   -- as much lasts of it
   pub added_replaces : (l : List Named) (c : Cell) → HoldsImage l c → image_held l c ≡ old → IsReplacement l (c, ImageObject (with_sums strip made old))
-  added_replaces l c here held_is =
-      record {
-        is_object = with_sums_is;
-        lasts = ap (option_map lasting) (held_image l c here) ∙ ap (λ (i : ImageValue). Some (lasting (ImageObject i))) held_is ∙ ap Some (sym (images-last (with_sums strip made old) old refl));
-      }
+  added_replaces l c here held_is = grind (arith, with_sums_is)
 
 -- the band's rows of what is lent to a kernel, among all samples of the image
 module _ (strip : Strip) (within : IsWithinRows strip) (out : ImageValue) (is : IsImage out) (room : IsInRows out.height strip.rows) where
@@ -208,18 +181,11 @@ module _ (strip : Strip) (s : Stage) (n : Node) (output : Cell) (within : IsWith
 -- the same image from row y on
 from_parts : (y : ℕ) (i b : ImageValue) → Some (rows_from y (ImageObject i)) ≡ Some (rows_from y (ImageObject b))
     → (description_of i ≡ description_of b) × (i.valid ≡ b.valid) × (drop (y * i.width) i.samples ≡ drop (y * b.width) b.samples)
-from_parts y i b e = (ap (λ o. description_of (image_in o)) e, ap (λ o. (image_in o).valid) e, ap (λ o. (image_in o).samples) e)
-  where
-    image_in : Option ObjectValue → ImageValue
-    image_in (Some (ImageObject image)) = image
-    image_in other = i
+from_parts y i b e = grind arith
 
 parts_from : (y : ℕ) (i b : ImageValue) → description_of i ≡ description_of b → i.valid ≡ b.valid → drop (y * i.width) i.samples ≡ drop (y * b.width) b.samples
     → Some (rows_from y (ImageObject i)) ≡ Some (rows_from y (ImageObject b))
-parts_from y i b d v s =
-    ap (λ (e : Description). Some (ImageObject (image_over e i.valid (drop (y * i.width) i.samples)))) d
-    ∙ ap (λ r. Some (ImageObject (image_over (description_of b) r (drop (y * i.width) i.samples)))) v
-    ∙ ap (λ zs. Some (ImageObject (image_over (description_of b) b.valid zs))) s
+parts_from y i b d v s = grind arith
 
 module _ (strip : Strip) (within : IsWithinRows strip) (old before : ImageValue) (kept : Some (rows_from strip.band.start (ImageObject old)) ≡ Some (rows_from strip.band.start (ImageObject before))) where
   abbrev begin : ℕ
@@ -236,32 +202,16 @@ module _ (strip : Strip) (within : IsWithinRows strip) (old before : ImageValue)
 
   -- a sample of row y among those from the band on
   moved : (i : ImageValue) (x j : ℕ) → at i x (begin + j) ≡ get_or (drop (begin * i.width) i.samples) (j * i.width + x) (pos 0)
-  moved i x j =
-      ap (λ k. get_or i.samples k (pos 0)) {x = (begin + j) * i.width + x} {y = begin * i.width + (j * i.width + x)} (omega (arith, spread begin j i.width))
-      ∙ sym (get_or-drop (begin * i.width) i.samples (j * i.width + x) (pos 0))
+  moved i x j = grind (arith, get_or-drop)
 
   -- they are those that were there before the run
   at_same : (x y : ℕ) → begin ≤ y → at old x y ≡ at before x y
-  at_same x y b =
-      let here = shift begin y b in
-      let j = y - begin in
-      ap (at old x) here ∙ moved old x j
-      ∙ ap (λ zs. get_or zs (j * old.width + x) (pos 0)) same.2
-      ∙ ap (λ w. get_or (drop (begin * before.width) before.samples) (j * w + x) (pos 0)) same_width
-      ∙ sym (moved before x j) ∙ ap (at before x) (sym here)
+  at_same x y b = grind (arith, moved old x (y - begin), moved before x (y - begin))
 
   module _ (room : IsInRows old.height strip.rows) where
     -- so the rows that are seen stand for those
     rows_stand : StandsFor strip.rows.start strip.rows.count begin end (part_of strip.rows.start strip.rows.count old) before
-    rows_stand =
-        let own = stands_fewer strip.rows.start strip.rows.count strip.rows.start begin end (strip.rows.start + strip.rows.count) (part_of strip.rows.start strip.rows.count old) old within.above within.below
-        (part_stands strip.rows.start strip.rows.count old room) in
-        record {
-          description = ap (λ (d : Description). let e : Description = record { width = d.width; height = strip.rows.count; format = d.format } in e) same.0;
-          rows = (own.rows.0, own.rows.1, omega (arith, room, ap (λ (d : Description). d.height) same.0));
-          valid = λ x y a b. own.valid x y a b ∙ ap (λ r. inside r x y) same.1;
-          samples = λ x y left a b. own.samples x y (omega (arith, left, same_width)) a b ∙ at_same x y a;
-        }
+    rows_stand = grind (arith, part_stands strip.rows.start strip.rows.count old room, stands_fewer, part_stands, same_width, at_same)
 
     -- and the sums for what comes in the end
     module _ (n : Node) (part a : ImageValue) (is : IsImage part) (image : IsImage a) (before_is : IsImage before) (stands : StandsFor strip.rows.start strip.rows.count begin end part a) (near : reach n.function None ≡ Some 0) where

@@ -1,10 +1,9 @@
 -- What nodes find on a stage, beside what they would find if each virtual image were an image of its own from the beginning.
 use Rattle.std.proofs.Common.{◌≡◌, ℕ, true, false, eqb, List, [], ◌∷◌, ◌++◌, map, Option, Some, None, ◌⊎◌, inl, inr, refl, sym, ap, subst, ◌∙◌, arith, ◌==◌, ◌||◌, All, if◌then◌else◌, option_map, option_and_then, eqb-true, eq-eqb}
-use Rattle.graph_run.proofs.Common.{flat_map, cases_Bool, or_left, or_right, or_cases, false_from_ne_true, list_any-append, Node, Output, First, Second, VirtualImage, Cell, Description, accumulates, ImageValue, description_of, IsNode, operands, outputs, ObjectValue, ImageObject, VirtualObject, object_kind, node_output, written_in, written_by, in_slot, with_slot, Named, object_held, held, with_object, with_written, VirtualOutput, Operand, Image, Verified, writes, feeds, is_written, has_twice, In, AllIn, operand_of, is_virtual, resolved, two_writers, same_cell-refl, In-outputs, two_writers-permutation, In-left, In-right, In-append, In-from_any, any-from_In, AllIn-permutation, AllIn-permutation_back, is_used, begun, one_by_one, HoldsOperand, IsReady, names_cell, CellsStand, operand_held, label_of, HoldsKind, CanRunNow}
+use Rattle.graph_run.proofs.Common.{flat_map, cases_Bool, or_left, or_right, or_cases, false_from_ne_true, list_any-append, Node, Output, First, Second, VirtualImage, Cell, Description, accumulates, ImageValue, description_of, IsNode, operands, outputs, ObjectValue, ImageObject, VirtualObject, node_output, written_in, written_by, in_slot, with_slot, Named, object_held, held, with_object, with_written, VirtualOutput, Operand, Image, Verified, writes, feeds, is_written, has_twice, In, AllIn, operand_of, is_virtual, resolved, two_writers, same_cell-refl, In-outputs, two_writers-permutation, In-left, In-right, In-append, In-from_any, any-from_In, AllIn-permutation, AllIn-permutation_back, is_used, begun, one_by_one, HoldsOperand, IsReady, names_cell, CellsStand, operand_held, label_of, HoldsKind, CanRunNow}
 use Rattle.graph_verify.specs.Links.{reads}
 use Rattle.graph_run.specs.Operands.{StandsFor}
 use Rattle.std.proofs.lemmas.Grind.{flat_map-append}
-use Rattle.vx_base.specs.declared.kind.Kind.TheVariants as kind
 use Rattle.graph_verify.specs.Order.{InTurn}
 use Rattle.graph_verify.proofs.LinkLemmas.{feeds_is, once_across}
 use Rattle.graph_run.proofs.BegunLaws.{begun_under, object_held-begun, labels-begun}
@@ -32,10 +31,7 @@ written_alike (w ∷ ws) one other name same =
 written_whole : (ws : List (Cell × ObjectValue)) (one other : List Named) (w : Cell × ObjectValue) → In w ws → (name : ℕ) → w.0 ≡ whole name → (a b : ObjectValue)
     → object_held one name ≡ Some a → object_held other name ≡ Some b → object_held (with_written one ws) name ≡ object_held (with_written other ws) name
 written_whole [] one other w i name at a b here there = absurd i
-written_whole (v ∷ ws) one other w (inl same) name at a b here there =
-    let cell : v.0 ≡ whole name = ap (λ (x : Cell × ObjectValue). x.0) (sym same) ∙ at in
-    written_alike ws (with_object one v.0 v.1) (with_object other v.0 v.1) name
-    (grind (arith, object_held-with_object one v.0 v.1 name, object_held-with_object other v.0 v.1 name, eq-eqb name name refl))
+written_whole (v ∷ ws) one other w (inl same) name at a b here there = grind (arith, written_alike, object_held-with_object, eq-eqb)
 written_whole (v ∷ ws) one other w (inr i) name at a b here there =
     let change : ObjectValue → ObjectValue = λ x. if eqb name v.0.name then with_slot v.0.slot v.1 x else x in
     written_whole ws (with_object one v.0 v.1) (with_object other v.0 v.1) w i name at (change a) (change b)
@@ -81,11 +77,7 @@ AsOutput n a b = (a ≡ b) ⊎ (AreImages a b × (accumulates n.function ≡ fal
 module _ (n : Node) (one other : Cell → Option ObjectValue) (a : ImageValue) (first : one n.in1 ≡ Some (ImageObject a)) (reads_one : one n.in1 ≡ other n.in1)
     (reads_other : option_and_then one n.in2 ≡ option_and_then other n.in2) where
   written_in_alike : (output : Output) (cell : Option Cell) → ((c : Cell) → cell ≡ Some c → AsOutput n (one c) (other c)) → written_in n output cell one one ≡ written_in n output cell other other
-  written_in_alike output None alike = refl
-  written_in_alike output (Some c) alike = elim (alike c refl) [
-    | inl same ↦ grind (arith, same)
-    | inr h ↦ grind (arith, h.0.is_one, h.0.is_other, h.0.same, h.1)
-  ]
+  written_in_alike output z1 alike = grind arith
 
   same_written : ((c : Cell) → writes n c ≡ true → AsOutput n (one c) (other c)) → written_by n one ≡ written_by n other
   same_written alike = grind (arith, written_in_alike, first_output, second_output)
@@ -109,8 +101,7 @@ pub record StandsAs (here : List Named) (o : VirtualOutput) : Type 0 where
 
 -- what holds a virtual image is virtual as an operand, or nothing
 virtual_operand : (slot : Option ℕ) (image : VirtualImage) (operand : Operand) → option_map operand_of (in_slot slot (VirtualObject image)) ≡ Some operand → is_virtual operand ≡ true
-virtual_operand None image operand e = let same : operand_of (VirtualObject image) ≡ operand = cc in ap is_virtual (sym same)
-virtual_operand (Some k) image operand e = absurd (cc)
+virtual_operand z0 image operand e = grind arith
 
 -- what is an image as an operand is an image
 image_of_operand : (found : Option ObjectValue) (d : Description) → option_map operand_of found ≡ Some (Image d)
@@ -138,9 +129,6 @@ module _ (objects : List Named) (nodes : List Node) (v : Verified) (h : IsReady 
   -- each virtual image is an image of its own
   abbrev pub begin : List Named
   begin = map (begun known nodes) objects
-
-  work : ℕ
-  work = h.runs.0
 
   -- as the run begins
   pub begins : Agrees outs [] v.steps.items objects begin
@@ -283,10 +271,7 @@ module _ (objects : List Named) (nodes : List Node) (v : Verified) (h : IsReady 
           (In-from_All (λ m. All (λ operand. StandsFor (is operand.0) operand.1) (operands m)) nodes h.kinds n in_nodes) here_found
 
       first_image : (a : ImageValue) × (held here n.in1 ≡ Some (ImageObject a))
-      first_image = of_kind (held here n.in1) (of_operands (HoldsKind here) n can_run_here.kinds).in1
-        where
-          of_kind : (found : Option ObjectValue) → option_map object_kind found ≡ Some kind.Image → (a : ImageValue) × (found ≡ Some (ImageObject a))
-          of_kind x e = grind arith
+      first_image = grind (arith, of_operands (HoldsKind here) n can_run_here.kinds)
 
       pub written_same : written_by n (held here) ≡ written_by n (held ideal)
       written_same =

@@ -1,6 +1,6 @@
 -- Bands of what nodes make of parts, as values.
 use Rattle.std.proofs.Common.{◌≡◌, ◌≤◌, ◌+◌, ◌-◌, ◌*◌, ℕ, ◌++◌, take, drop, length, Option, Some, refl, sym, ap, ◌∙◌, arith, take_all, length-append, length-take-le}
-use Rattle.graph_run.proofs.Common.{take-append-le, Description, ImageValue, IsImage, description_of, band, at, ObjectValue, ImageObject, band-append, length-band, first_right, end_right, Strip, IsWithinRows, with_band, RowsAreAs, whole_band, band_moved}
+use Rattle.graph_run.proofs.Common.{mul-le-mul_right, take-append-le, Description, ImageValue, IsImage, description_of, band, at, ObjectValue, ImageObject, band-append, length-band, first_right, end_right, Strip, IsWithinRows, with_band, RowsAreAs, whole_band, band_moved}
 use Rattle.node_rows.specs.Parts.{StandsFor}
 
 -- ---- how far rows are right
@@ -69,22 +69,16 @@ module _ (strip : Strip) (part old final : ImageValue) (within : IsWithinRows st
       let first = take (start * old.width) old.samples in
       let middle = band old.width (start - strip.rows.start) count (at part) in
       let last = drop ((start + count) * old.width) old.samples in
-      let fit : start * old.width ≤ old.height * old.width = mul_le start old.height old.width (omega (arith, fits, high)) in
+      let fit : start * old.width ≤ old.height * old.width = mul-le-mul_right old.width (omega (arith, fits, high)) in
       let first_long : length first ≡ start * old.width = length-take-le (start * old.width) old.samples (omega (arith, fit, size)) in
       let middle_long : length middle ≡ count * old.width = length-band old.width (start - strip.rows.start) count (at part) in
-      let long : length (first ++ middle) ≡ (start + count) * old.width = length-append first middle ∙ sums first_long middle_long in
+      let long : length (first ++ middle) ≡ (start + count) * old.width = omega (arith, length-append first middle, first_long, middle_long) in
       ap (λ n. take ((start + count) * n) (first ++ middle ++ last)) (sym wide)
       ∙ take-append-le ((start + count) * old.width) (first ++ middle) last (omega (arith, long))
       ∙ take_all ((start + count) * old.width) (first ++ middle) (omega (arith, long))
       ∙ ap (λ l. l ++ middle) (ap (λ n. take (start * n) old.samples) wide ∙ before)
       ∙ ap (λ l. take (start * final.width) final.samples ++ l) band_right
       ∙ sym (rows_after final start count is fits)
-    where
-      mul_le : (a b n : ℕ) → a ≤ b → a * n ≤ b * n
-      mul_le a b n less = grind (arith, less)
-
-      sums : {a b : ℕ} → a ≡ start * old.width → b ≡ count * old.width → a + b ≡ (start + count) * old.width
-      sums e f = grind (arith, e, f)
 
 -- ---- images of which rows are alike
 

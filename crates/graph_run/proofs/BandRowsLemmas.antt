@@ -51,10 +51,5 @@ module _ {X : Type 0} (start count stop len : ℕ) (front to back rest items : L
   pub stand_among : (value : X → ℤ) (old made : List ℤ) (from : ℕ) → map value items ≡ old → map value to ≡ made → start ≡ from
       → map value (take len ((front ++ (to ++ back)) ++ drop (length (front ++ (to ++ back))) items)) ≡ (take from old ++ made) ++ drop stop old
   stand_among value old made from were are at =
-      ap (map value) among_others
-      ∙ map-append value (take start items) (to ++ drop stop items)
-      ∙ ap (λ l. map value (take start items) ++ l) (map-append value to (drop stop items))
-      ∙ ap (λ l. l ++ (map value to ++ map value (drop stop items))) (sym (take-map value start items) ∙ ap (take start) were ∙ ap (λ n. take n old) at)
-      ∙ ap (λ l. take from old ++ (map value to ++ l)) (sym (drop-map value stop items) ∙ ap (drop stop) were)
-      ∙ ap (λ l. take from old ++ (l ++ drop stop old)) are
-      ∙ sym (append_assoc (take from old) made (drop stop old))
+      rw (among_others, map-append value (take start items) (to ++ drop stop items), map-append value to (drop stop items), ← take-map value start items, ← drop-map value stop items, were, are, at)
+      (sym (append_assoc (take from old) made (drop stop old)))

@@ -66,15 +66,11 @@ kept_virtual o p = p
 
 pub object_held-forgotten : (before after : List Named) → map label_of before ≡ map label_of after → (name : ℕ)
     → object_held (forgotten before after) name ≡ kept_virtual (object_held before name) (object_held after name)
-object_held-forgotten (o ∷ before) (p ∷ after) labels name =
-    let rest : map label_of before ≡ map label_of after = cc in
-    grind (arith, object_held-forgotten before after rest name, cases_Bool (is_virtual_object o.object), cases_Bool (eqb o.name name))
+object_held-forgotten (o ∷ before) (p ∷ after) labels name = grind (arith, object_held-forgotten before after (cc) name)
 object_held-forgotten x y labels name = grind arith
 
 pub labels-forgotten : (before after : List Named) → map label_of before ≡ map label_of after → map label_of (forgotten before after) ≡ map label_of after
-labels-forgotten (o ∷ before) (p ∷ after) labels =
-    let rest : map label_of before ≡ map label_of after = cc in
-    grind (arith, labels-forgotten before after rest, cases_Bool (is_virtual_object o.object))
+labels-forgotten (o ∷ before) (p ∷ after) labels = grind (arith, labels-forgotten before after (cc))
 labels-forgotten x y labels = grind arith
 
 -- nothing changes as the run ends

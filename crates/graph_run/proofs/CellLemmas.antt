@@ -10,8 +10,7 @@ use Rattle.graph_run.proofs.LastingLemmas.{skeletons-last, lasting-with_slot, ce
 
 -- two slots of one object
 other_slot : (j k : Option ℕ) (new object : ObjectValue) → TwoSlots j k → in_slot j (with_slot k new object) ≡ in_slot j object
-other_slot (Some j) (Some k) new object apart = with_slot_beside j k new object apart
-other_slot j k new object apart = absurd apart
+other_slot j k new object apart = grind (arith, with_slot_beside)
 
 module _ (objects : List Named) (q : Cell) where
   -- what stands apart stays
@@ -22,15 +21,13 @@ module _ (objects : List Named) (q : Cell) where
   object_beside p new apart = ap (λ o. unwrap_or o (ImageObject (new_image 0 0 U8))) (beside p new apart)
 
   pub object_if_beside : (p : Option Cell) (new : ObjectValue) → IfSome p (λ c. AreApart c q) → option_map (cell_object (with_object objects q new)) p ≡ option_map (cell_object objects) p
-  object_if_beside None new apart = refl
-  object_if_beside (Some p) new apart = ap Some (object_beside p new apart)
+  object_if_beside z0 new apart = grind (arith, object_beside)
 
   pub holds_beside : (p : Cell) (new : ObjectValue) → AreApart p q → Holds objects p → Holds (with_object objects q new) p
   holds_beside p new apart h = subst (λ (o : Option ObjectValue). IsTrue (is_some o)) (sym (beside p new apart)) h
 
   pub hold_beside : (p : Option Cell) (new : ObjectValue) → IfSome p (λ c. AreApart c q) → IfSome p (Holds objects) → IfSome p (Holds (with_object objects q new))
-  hold_beside None new apart h = tt
-  hold_beside (Some p) new apart h = holds_beside p new apart h
+  hold_beside z0 new apart h = grind (arith, holds_beside)
 
   pub image_beside : (p : Cell) (new : ObjectValue) → AreApart p q → HoldsImage objects p → HoldsImage (with_object objects q new) p
   image_beside p new apart h = ap (option_map object_kind) (beside p new apart) ∙ h

@@ -1,6 +1,7 @@
 -- A slot that another image claims.
 use Rattle.std.proofs.Common.{◌≡◌, ◌≢◌, ℕ, zero, suc, ◌⊎◌, true, List, [], ◌∷◌, get_or, set, Option, Some, None, IfSome, refl, sym, ap, subst, ◌∙◌, arith, All, ◌==◌, if◌then◌else◌, slice_get, take, option_map, option_and_then, eqb-true, eq-eqb, length-take-le}
-use Rattle.graph_run.proofs.Common.{with_item, cases_Bool, eqb-false, nat_tests, All-nil, All-cons, All-head, All-tail, All-set, All-take, slice_get-get_or, VirtualImage, IsDescription, sample_count, IsImage, ObjectValue, ImageObject, VirtualObject, IsObject, values, samples_format, IsSample, Named, object_held, object_held_has, VirtualOutput, Slot, Stage, is_named, standing_image, standing, shown_as, slot_of, holder_at, HoldsVirtual, HasRoomFor, IsStage, claimed}
+use Rattle.graph_run.proofs.Common.{with_item, cases_Bool, nat_tests, All-nil, All-cons, All-head, All-tail, All-set, All-take, slice_get-get_or, VirtualImage, IsDescription, sample_count, IsImage, ObjectValue, ImageObject, VirtualObject, IsObject, values, samples_format, IsSample, Named, object_held, object_held_has, VirtualOutput, Slot, Stage, is_named, standing_image, standing, shown_as, slot_of, holder_at, HoldsVirtual, HasRoomFor, IsStage, claimed}
+use Rattle.std.proofs.lemmas.Bool.{eqb-false}
 use Rattle.graph_run.specs.Stage.{shown}
 use Rattle.vx_base.specs.Picture.{PictureValue, IsPicture}
 use Rattle.vx_base.proofs.PictureLaws.{pictured_image}
@@ -29,8 +30,7 @@ shown_is : (name : ℕ) (found : Option Slot) (image : VirtualImage) → IfSome 
 shown_is name y image standing is = grind arith
 
 shown_one : (slots : List Slot) (name : ℕ) (object : ObjectValue) → All IsStanding slots → IsObject object → IsObject (shown_as slots name object)
-shown_one slots name (VirtualObject image) standing is = shown_is name (slot_of slots name) image (found_has IsStanding slots name standing) is
-shown_one slots name other standing is = is
+shown_one slots name other standing is = grind (arith, shown_is, found_has)
 
 -- where images stand in slots, and what is held are objects, what is found are objects
 pub shown_are : (slots : List Slot) (l : List Named) → All IsStanding slots → All (λ o. IsObject o.object) l → All (λ o. IsObject o.object) (shown slots l)

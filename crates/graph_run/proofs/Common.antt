@@ -2,7 +2,7 @@
 pub use Rattle.buffer_plan.specs.Lives.{is_used}
 pub use Rattle.buffer_plan.specs.Places.{told}
 pub use Rattle.buffer_plan.specs.Plan.{IsPlan, PlanValue}
-pub use Rattle.graph_run.specs.Bands.{AreAreas, AreSeen, CanAdd, CanCount, CanLocate, CanSum, CanTally, HasHeight, HasPlaceIn, HasRows, HasRowsIn, IsAsFar, IsCounted, IsFinished, IsPartOf, IsSeen, IsStrip, IsWithinRows, RowsAreAs, RunsInBands, SeesParts, band_seen, banded, counted_above, counted_before, counter_of, counts, counts_rows, extremes_value, final_of, integrates, is_image_held, is_sum, is_target, is_virtual_name, located_before, located_too, made_in, made_seen, output_part, part_seen, reach_of, right_from, right_to, rows_beside, rows_from, seen_in, sum_made, tallied_too, tallies, tallies_rows, with_added, with_band, with_counted, with_integral, with_seen, with_sums}
+pub use Rattle.graph_run.specs.Bands.{AreAreas, AreSeen, CanAdd, CanCount, CanLocate, CanSum, CanTally, HasHeight, HasPlaceIn, HasRows, HasRowsIn, IsAsFar, IsCounted, IsFinished, IsPartOf, IsSeen, IsStrip, IsWithinRows, ReadsParts, RowsAreAs, RunsInBands, SeesParts, band_seen, banded, counted_above, counted_before, counter_of, counts, counts_rows, extremes_value, final_of, integrates, is_image_held, is_sum, is_target, is_virtual_name, located_before, located_too, made_in, made_seen, output_part, part_seen, reach_of, right_from, right_to, rows_beside, rows_from, seen_in, sum_made, tallied_too, tallies, tallies_rows, with_added, with_band, with_counted, with_integral, with_seen, with_sums}
 pub use Rattle.graph_run.specs.Graph.{begun, begun_as, forgotten, is_virtual_object, one_by_one, rounds_of_nodes, run_of_graph}
 pub use Rattle.graph_run.specs.Lasting.{Lasts, lasting, lasting_named}
 pub use Rattle.graph_run.specs.Operands.{CellsStand, HoldsOperand, IsReady, names_cell, operand_held}
@@ -42,7 +42,7 @@ pub use Rattle.image_core.specs.declared.band.Band.{Band}
 pub use Rattle.image_core.specs.declared.image_mut.ImageMut.{ImageMut}
 pub use Rattle.node_rows.proofs.PartLaws.{at-part, band_moved, part_is, part_stands, stands_fewer}
 pub use Rattle.node_rows.proofs.PartRowLaws.{node_right}
-pub use Rattle.node_rows.specs.Parts.{HasInputs, StandsBeside, end_right, first_right, part_of}
+pub use Rattle.node_rows.specs.Parts.{HasInputs, end_right, first_right, part_of}
 pub use Rattle.node_rows.specs.Reach.{matrix_in, reach}
 pub use Rattle.object_table.proofs.HeldLemmas.{All-from_map, HasObject, held_by_name, held_is, map-with_object, names_of, object_held-map, object_held_has}
 pub use Rattle.object_table.proofs.SkeletonLaws.{map-told}
@@ -54,13 +54,11 @@ pub use Rattle.object_table.specs.Object.{distribution_value, image_value, with_
 pub use Rattle.object_table.specs.Skeleton.{skeleton}
 pub use Rattle.object_table.specs.Table.{HoldsImage, IsUnder, cell_object, image_held, object_under}
 pub use Rattle.pixel_pool.specs.Pool.{blocks_of, lent_of}
-pub use Rattle.stat_kernels.proofs.NextRowLaws.{row_above}
-pub use Rattle.stat_kernels.specs.Counts.{added}
 pub use Rattle.stat_kernels.specs.Located.{added_extremes}
 pub use Rattle.stat_kernels.specs.Part.{valid_in}
-pub use Rattle.stat_kernels.specs.Sums.{AreRowsOf, IsRowAbove, last_row}
+pub use Rattle.stat_kernels.specs.Sums.{AreRowsOf, last_row}
 pub use Rattle.std.proofs.Math.Nat.{mul-le-mul_right}
-pub use Rattle.std.proofs.lemmas.Bool.{and_from, and_parts, cases_Bool, cases_lt, eqb-false, false_from_ne_true, or_cases, or_left, or_parts, or_right}
+pub use Rattle.std.proofs.lemmas.Bool.{and_from, and_parts, cases_Bool, cases_lt, false_from_ne_true, not-true, or_cases, or_left, or_parts, or_right}
 pub use Rattle.std.proofs.lemmas.Bool.Decides.{nat_tests}
 pub use Rattle.std.proofs.lemmas.Int.{ints}
 pub use Rattle.std.proofs.lemmas.List.{drop-map, drop_all, drop_more, get_or-map, length-map, map-append, take-append-le, take-map, take_more}
@@ -73,7 +71,7 @@ pub use Rattle.std.specs.List.{AllPairs, flat_map, list_all, list_any, range_wit
 pub use Rattle.std.specs.List.Sorted.{IsStrictlyIncreasing}
 pub use Rattle.std.specs.Option.{option_or}
 pub use Rattle.std.specs.Vec.{with_item}
-pub use Rattle.vx_base.proofs.ImageLaws.{above, whole_band}
+pub use Rattle.vx_base.proofs.ImageLaws.{whole_band}
 pub use Rattle.vx_base.proofs.NodeLaws.{accumulated_image_is, node_image_is}
 pub use Rattle.vx_base.proofs.TableLaws.{band-append, length-band, length-table}
 pub use Rattle.vx_base.specs.Cell.{Cell, cell_of, same_cell, same_slot}
@@ -95,7 +93,7 @@ pub use Rattle.vx_base.specs.declared.extremes.Extremes.{Extremes}
 pub use Rattle.vx_base.specs.declared.format.Format.{Format}
 pub use Rattle.vx_base.specs.declared.format.Format.TheVariants.{S16, U32, U8}
 pub use Rattle.vx_base.specs.declared.function.Function.{Function}
-pub use Rattle.vx_base.specs.declared.function.Function.TheVariants.{Integral, NotBits, Sobel}
+pub use Rattle.vx_base.specs.declared.function.Function.TheVariants.{Sobel}
 pub use Rattle.vx_base.specs.declared.kind.Kind.{Kind}
 pub use Rattle.vx_base.specs.declared.node.Node.{Node}
 pub use Rattle.vx_base.specs.declared.numbered.Numbered.{Numbered}

@@ -1,6 +1,7 @@
 -- Nodes that count bands of rows, and what they count.
-use Rattle.std.proofs.Common.{◌≢◌, ◌≡◌, ℕ, ℤ, ◌+◌, ◌-◌, ◌^◌, ◌<◌, ◌≤◌, Bool, true, false, List, [], ◌∷◌, length, replicate, slice_index, Option, Some, None, inl, inr, refl, sym, ap, ◌∙◌, arith, ◌==◌, ◌&&◌, if◌then◌else◌, nat_le, nat_lt, IsTrue, is_some, is_none, ◌||◌, option_map, option_and_then, subst, eqb-true, find}
-use Rattle.graph_run.proofs.Common.{cases_Bool, and_parts, nat_tests, BinsValue, histogram, Format, U8, U32, takes_formats, Function, Node, IsNode, parameters, In, Rectangle, ImageValue, IsImage, at, all_rows, ObjectValue, object_kind, Cell, cell_of, Named, object_held, in_slot, lasting, skeleton, length-map-range_with_len, Strip, IsWithinRows, counts, counts_rows, DistributionObject, DistributionValue, ExtremesObject, Extremes, added_extremes, inside, extremes, valid_samples, added, valid_in, band_seen, counted_above, counted_before, extremes_value, located_before, located_too, tallied_too, tallies, tallies_rows}
+use Rattle.std.proofs.Common.{◌≢◌, ◌≡◌, ℕ, ℤ, ◌+◌, ◌-◌, ◌^◌, ◌<◌, ◌≤◌, Bool, true, false, List, [], ◌∷◌, length, replicate, slice_index, Option, Some, None, inl, inr, refl, sym, ap, ◌∙◌, arith, ◌==◌, ◌&&◌, if◌then◌else◌, nat_le, nat_lt, IsTrue, option_map, option_and_then, unwrap_or, subst, eqb-true, find}
+use Rattle.graph_run.proofs.Common.{cases_Bool, and_parts, nat_tests, BinsValue, histogram, extremes, valid_samples, Format, U8, U32, takes_formats, Function, Node, IsNode, parameters, In, Rectangle, inside, ImageValue, IsImage, at, all_rows, ObjectValue, object_kind, DistributionObject, DistributionValue, ExtremesObject, cell_of, Named, object_held, in_slot, lasting, skeleton, length-map-range_with_len, Strip, IsWithinRows, counts, counts_rows, band_seen, counted_above, counted_before, extremes_value, located_before, located_too, tallied_too, tallies_rows, Extremes, added_extremes, valid_in, distribution_value}
+use Rattle.stat_kernels.specs.Counts.{added}
 use Rattle.vx_base.specs.declared.function.Function.TheVariants.{Histogram}
 use Rattle.vx_base.specs.declared.kind.Kind.TheVariants as kind
 use Rattle.vx_base.specs.Object.{IsDistribution, no_extremes}
@@ -15,63 +16,35 @@ use Rattle.graph_run.proofs.RunLemmas.{has_of_node}
 
 -- ---- who counts
 
-pub counts_other : (n : Node) → counts n ≡ true → (parameters n.function).output ≢ kind.Image
-counts_other n does = by_function n.function does
-  where
-    by_function : (f : Function) → counts_rows f ≡ true → (parameters f).output ≢ kind.Image
-    by_function f is = grind arith
+pub counts_other : (f : Function) → counts_rows f ≡ true → (parameters f).output ≢ kind.Image
+counts_other f is = grind arith
 
-pub tallies_output : (n : Node) → tallies n ≡ true → (parameters n.function).output ≡ kind.Distribution
-tallies_output n does = by_function n.function does
-  where
-    by_function : (f : Function) → tallies_rows f ≡ true → (parameters f).output ≡ kind.Distribution
-    by_function f is = grind arith
+pub tallies_output : (f : Function) → tallies_rows f ≡ true → (parameters f).output ≡ kind.Distribution
+tallies_output f is = grind arith
 
-pub tallies_not : (n : Node) → (n.function ≡ Histogram → ⊥) → tallies n ≡ false
-tallies_not n other = by_function n.function other
-  where
-    by_function : (f : Function) → (f ≡ Histogram → ⊥) → tallies_rows f ≡ false
-    by_function Histogram not = absurd (not refl)
-    by_function f not = refl
+pub tallies_not : (f : Function) → (f ≡ Histogram → ⊥) → tallies_rows f ≡ false
+tallies_not Histogram not = absurd (not refl)
+tallies_not f not = refl
 
-pub locates_output : (n : Node) → counts n ≡ true → tallies n ≡ false → (parameters n.function).output ≡ kind.Extremes
-locates_output n does other = by_function n.function does other
-  where
-    by_function : (f : Function) → counts_rows f ≡ true → tallies_rows f ≡ false → (parameters f).output ≡ kind.Extremes
-    by_function f is not = grind arith
+pub locates_output : (f : Function) → counts_rows f ≡ true → tallies_rows f ≡ false → (parameters f).output ≡ kind.Extremes
+locates_output f is not = grind arith
 
 -- what they read
-pub tallies_bytes : (n : Node) → tallies n ≡ true → (a : Format) (second out : Option Format) → IsTrue (takes_formats n.function a second out) → a ≡ U8
-tallies_bytes n does a second out takes = by_function n.function does takes
-  where
-    by_function : (f : Function) → tallies_rows f ≡ true → IsTrue (takes_formats f a second out) → a ≡ U8
-    by_function f is takes_it = grind arith
+pub tallies_bytes : (f : Function) → tallies_rows f ≡ true → (a : Format) (second out : Option Format) → IsTrue (takes_formats f a second out) → a ≡ U8
+tallies_bytes f is a second out takes = grind arith
 
-pub locates_short : (n : Node) → counts n ≡ true → tallies n ≡ false → (a : Format) (second out : Option Format) → IsTrue (takes_formats n.function a second out) → a ≢ U32
-locates_short n does other a second out takes = by_function n.function does other takes
-  where
-    by_function : (f : Function) → counts_rows f ≡ true → tallies_rows f ≡ false → IsTrue (takes_formats f a second out) → a ≢ U32
-    by_function f is not takes_it = grind arith
+pub locates_short : (f : Function) → counts_rows f ≡ true → tallies_rows f ≡ false → (a : Format) (second out : Option Format) → IsTrue (takes_formats f a second out) → a ≢ U32
+locates_short f is not a second out takes = grind arith
 
 pub counts_once : (n : Node) → IsNode n → counts n ≡ true → n.out2 ≡ None
-counts_once n node does = of_test n.out1 n.out2 (ap (λ b. if b then (is_some n.out1 || is_some n.out2) else (is_some n.out1 && is_none n.out2)) (sym (one n.function does)) ∙ (and_parts _ _ (has_of_node n node.shape)).1)
-  where
-    of_test : (a b : Option Cell) → (is_some a && is_none b) ≡ true → b ≡ None
-    of_test a b e = grind arith
-
-    one : (f : Function) → counts_rows f ≡ true → (parameters f).output_pair ≡ false
-    one f is = grind arith
+counts_once n node does = grind (arith, has_of_node, and_parts)
 
 -- a distribution of which as much lasts as of another
 pub distribution_lasts : (now final : Option ObjectValue) (e : DistributionValue) → final ≡ Some (DistributionObject e) → option_map skeleton now ≡ option_map skeleton final
     → (d : DistributionValue) × (now ≡ Some (DistributionObject d)) × (d.bins ≡ e.bins)
 distribution_lasts (Some (DistributionObject d)) final e at same =
     let bins : Some (DistributionObject (record { bins = d.bins; counts = [] })) ≡ Some (DistributionObject (record { bins = e.bins; counts = [] })) = same ∙ ap (option_map skeleton) at in
-    (d, refl, ap bins_in bins)
-  where
-    bins_in : Option ObjectValue → BinsValue
-    bins_in (Some (DistributionObject x)) = x.bins
-    bins_in other = d.bins
+    (d, refl, ap (λ o. (distribution_value (unwrap_or o (DistributionObject d))).bins) bins)
 distribution_lasts x final e at same =
     let other : option_map skeleton x ≡ Some (DistributionObject (record { bins = e.bins; counts = [] })) = same ∙ ap (option_map skeleton) at in
     absurd (grind (arith, other))
@@ -84,23 +57,19 @@ extremes_of_kind x e = grind arith
 
 pub extremes_last : (now final : Option ObjectValue) (e : Extremes) → final ≡ Some (ExtremesObject e) → option_map skeleton now ≡ option_map skeleton final
     → (d : Extremes) × (now ≡ Some (ExtremesObject d))
-extremes_last now final e at same = extremes_of_kind now (by_skeleton now (same ∙ ap (option_map skeleton) at))
-  where
-    by_skeleton : (x : Option ObjectValue) → option_map skeleton x ≡ Some (ExtremesObject no_extremes) → option_map object_kind x ≡ Some kind.Extremes
-    by_skeleton x f = grind (arith, f)
+extremes_last now final e at same =
+    let left : option_map skeleton now ≡ Some (ExtremesObject no_extremes) = same ∙ ap (option_map skeleton) at in extremes_of_kind now (grind (arith, left))
 
 -- the first of a list that passes a test
 pub find_some : (p : Node → Bool) (n : Node) (l : List Node) → find p l ≡ Some n → In n l × (p n ≡ true)
 find_some p n [] found = absurd (cc)
 find_some p n (m ∷ l) found = elim (cases_Bool (p m)) [
   | inl passes ↦
-      (let same : m ≡ n = some_same (ap (λ b. if b then Some m else find p l) (sym passes) ∙ found) in
+      (let some : Some m ≡ Some n = ap (λ b. if b then Some m else find p l) (sym passes) ∙ found in
+      let same : m ≡ n = cc in
       (inl (sym same), ap p (sym same) ∙ passes))
   | inr fails ↦ (let rest = find_some p n l (ap (λ b. if b then Some m else find p l) (sym fails) ∙ found) in (inr rest.0, rest.1))
 ]
-  where
-    some_same : {a b : Node} → Some a ≡ Some b → a ≡ b
-    some_same e = cc
 
 pub find_none : (p : Node → Bool) (n : Node) (l : List Node) → find p l ≡ None → In n l → p n ≡ false
 find_none p n [] none i = absurd i
@@ -122,15 +91,7 @@ record IsInside (r : Rectangle) (x y : ℕ) : Type 0 where
 
 inside_parts : (r : Rectangle) (x y : ℕ) → inside r x y ≡ true → IsInside r x y
 inside_parts r x y is =
-    let parts = and_parts (nat_le r.x0 x && nat_lt x r.x1) (nat_le r.y0 y && nat_lt y r.y1) is in
-    let across = and_parts (nat_le r.x0 x) (nat_lt x r.x1) parts.0 in
-    let down = and_parts (nat_le r.y0 y) (nat_lt y r.y1) parts.1 in
-    record {
-      left = grind (arith, nat_tests, across.0);
-      right = grind (arith, nat_tests, across.1);
-      top = grind (arith, nat_tests, down.0);
-      bottom = grind (arith, nat_tests, down.1);
-    }
+    record { left = grind (arith, nat_tests, is); right = grind (arith, nat_tests, is); top = grind (arith, nat_tests, is); bottom = grind (arith, nat_tests, is) }
 
 inside_from : (r : Rectangle) (x y : ℕ) → r.x0 ≤ x → x < r.x1 → r.y0 ≤ y → y < r.y1 → inside r x y ≡ true
 inside_from r x y a b c d = grind (arith, nat_tests, a, b, c, d)
@@ -138,9 +99,7 @@ inside_from r x y a b c d = grind (arith, nat_tests, a, b, c, d)
 -- a row whose first place is valid, and one whose first isn't
 row_some : (r : Rectangle) (y : ℕ) → inside r r.x0 y ≡ true → row_of r y ≡ row_places r.x0 (r.x1 - r.x0) y
 row_some r y is =
-    let here = inside_parts r r.x0 y is in
-    let tests : (nat_le r.y0 y && nat_lt y r.y1) ≡ true = grind (arith, nat_tests, here.top, here.bottom) in
-    ap (λ b. if b then row_places r.x0 (r.x1 - r.x0) y else []) tests
+    ap (λ b. if b then row_places r.x0 (r.x1 - r.x0) y else []) (and_parts (nat_le r.x0 r.x0 && nat_lt r.x0 r.x1) (nat_le r.y0 y && nat_lt y r.y1) is).1
 
 row_none : (r : Rectangle) (y : ℕ) → inside r r.x0 y ≡ false → row_of r y ≡ []
 row_none r y not = elim (cases_Bool (nat_le r.y0 y && nat_lt y r.y1)) [
@@ -208,9 +167,6 @@ module _ (strip : Strip) (within : IsWithinRows strip) (from to : ℕ) (part ima
   pub band_alike : valid_samples (valid_in (band_seen strip) part) ≡ valid_samples (valid_in (rows_at start count) image)
   band_alike = band_lowered.samples_same
 
-  pub band_histogram : (b : BinsValue) → histogram b (valid_in (band_seen strip) part) ≡ histogram b (valid_in (rows_at start count) image)
-  band_histogram b = ap (tallies_of b) band_alike
-
   -- so are all that were counted before and are now
   all_counted : (b : BinsValue) → added (histogram b (valid_in (all_rows start) image)) (histogram b (valid_in (rows_at start count) image)) ≡ histogram b (valid_in (all_rows (start + count)) image)
   all_counted b =
@@ -221,27 +177,14 @@ module _ (strip : Strip) (within : IsWithinRows strip) (from to : ℕ) (part ima
     -- the counts that the band's are added to are those of the rows above
     pub before_is : counted_before strip d ≡ histogram e.bins (valid_in (all_rows start) image)
     before_is = elim (cases_Bool (start == 0)) [
-      | inl first ↦
-          ap (λ b. if b then replicate d.bins.bins 0 else d.counts) first
-          ∙ ap (λ (b : BinsValue). replicate b.bins 0) bins
-          ∙ sym (none_counted e.bins image 0)
-          ∙ ap (λ y. histogram e.bins (valid_in (all_rows y) image)) (sym (eqb-true start 0 first))
+      | inl first ↦ rw (first, bins, eqb-true start 0 first) (sym (none_counted e.bins image 0))
       | inr later ↦
           ap (λ b. if b then replicate d.bins.bins 0 else d.counts) later
-          ∙ ap counts_of (counted (grind (arith, nat_tests, later)))
+          ∙ ap (λ x. (distribution_value x).counts) (counted (grind (arith, nat_tests, later)))
     ]
-      where
-        counts_of : ObjectValue → List ℕ
-        counts_of (DistributionObject x) = x.counts
-        counts_of other = []
 
     pub too_is : tallied_too strip part (DistributionObject d) ≡ counted_above (start + count) n image (DistributionObject e)
-    too_is =
-        let more : BinsValue → List ℕ = λ b. histogram b (valid_in (band_seen strip) part) in
-        ap (λ l. DistributionObject (record { bins = d.bins; counts = added l (more d.bins) })) before_is
-        ∙ ap (λ b. DistributionObject (record { bins = b; counts = added (histogram e.bins (valid_in (all_rows start) image)) (more b) })) bins
-        ∙ ap (λ l. DistributionObject (record { bins = e.bins; counts = added (histogram e.bins (valid_in (all_rows start) image)) l })) (band_histogram e.bins)
-        ∙ ap (λ l. DistributionObject (record { bins = e.bins; counts = l })) (all_counted e.bins)
+    too_is = rw (before_is, bins, ap (tallies_of e.bins) band_alike, all_counted e.bins) refl
 
     -- no count passes 32 bits
     pub counts_fit : (k : ℕ) → slice_index (counted_before strip d) k + length (valid_samples (valid_in (band_seen strip) part)) < 2 ^ 32
@@ -258,9 +201,7 @@ module _ (strip : Strip) (within : IsWithinRows strip) (from to : ℕ) (part ima
     -- the extremes that the band's are added to are those of the rows above
     pub found_before : located_before strip d ≡ extremes (valid_in (all_rows start) image)
     found_before = elim (cases_Bool (start == 0)) [
-      | inl first ↦
-          ap (λ b. if b then no_extremes else d) first ∙ sym (none_located image 0)
-          ∙ ap (λ y. extremes (valid_in (all_rows y) image)) (sym (eqb-true start 0 first))
+      | inl first ↦ rw (first, eqb-true start 0 first) (sym (none_located image 0))
       | inr later ↦ ap (λ b. if b then no_extremes else d) later ∙ ap extremes_value (counted (grind (arith, nat_tests, later)))
     ]
 
@@ -295,8 +236,7 @@ tallied_replaces l output strip part d there is =
     }
   where
     before_size : (first : Bool) → length (if first then replicate d.bins.bins 0 else d.counts) ≡ d.bins.bins
-    before_size true = length-replicate d.bins.bins 0
-    before_size false = is.size
+    before_size first = grind (arith, length-replicate, is)
 
 -- so are extremes
 pub located_replaces : (l : List Named) (output : ℕ) (strip : Strip) (part : ImageValue) (x : ObjectValue) → option_map object_kind (object_held l output) ≡ Some kind.Extremes

@@ -1,6 +1,6 @@
 -- What a graph that runs in bands leaves in the end, cell by cell.
-use Rattle.std.proofs.Common.{◌≡◌, ℕ, Bool, true, false, eqb, List, [], ◌∷◌, ◌++◌, map, length, Option, Some, None, inl, inr, refl, sym, ap, subst, ◌∙◌, arith, ◌==◌, ◌&&◌, ◌||◌, not, if◌then◌else◌, IsTrue, is_some, is_none, All, IfSome, unwrap_or, option_map, option_and_then, eqb-true, eq-eqb}
-use Rattle.graph_run.proofs.Common.{IsStrictlyIncreasing, cases_Bool, and_parts, or_left, or_right, false_from_ne_true, and_from, Format, S16, U8, Kind, Node, Output, First, Second, VirtualImage, Cell, cell_of, Description, IsDescription, parameters, accumulates, ImageValue, IsImage, new_image, description_of, from_two, formula_of_two, added_to, AreApart, RunsTo, object_held_has, names_of, held_by_name, IsNode, is_node, given, outputs, operands, second_kind, ObjectValue, ImageObject, VirtualObject, IsObject, object_kind, object_format, beside_first, image_of_one, node_image, node_output, written_to, written_in, written_from, written_by, takes_formats, SecondHasSize, in_slot, Named, object_held, held, with_written, image_value, cell_object, image_held, HoldsImage, map-told, VirtualOutput, Operand, Image, Delay, Verified, writes, is_written, In, AllIn, operand_of, resolved, In-from_same, same-from_In, one_writer, In-left, In-right, In-append, In-from_any, any-from_In, In-from_map, AllIn-permutation, AllIn-permutation_back, CanRun, HasInputs, reach, matrix_in, RunsInBands, HasHeight, final_of, is_target, is_virtual_name, banded, counts, counter_of, reach_of, rows_beside, begun_as, begun, forgotten, is_virtual_object, one_by_one, rounds_of_nodes, run_of_graph, Lasts, HoldsOperand, names_cell, CellsStand, operand_held, Solves, label_of, HoldsVirtual, HoldsKind, CanRunNow, DistributionObject, ExtremesObject, integral, integrates, is_sum, tallies}
+use Rattle.std.proofs.Common.{◌≡◌, ℕ, Bool, true, false, eqb, List, [], ◌∷◌, ◌++◌, map, Option, Some, None, inl, inr, refl, sym, ap, subst, ◌∙◌, arith, ◌==◌, ◌&&◌, ◌||◌, not, if◌then◌else◌, IsTrue, is_some, is_none, All, IfSome, unwrap_or, option_map, option_and_then, eqb-true, eq-eqb}
+use Rattle.graph_run.proofs.Common.{IsStrictlyIncreasing, cases_Bool, and_parts, or_left, or_right, false_from_ne_true, and_from, Format, S16, U8, Kind, Node, Output, First, Second, VirtualImage, Cell, cell_of, Description, IsDescription, parameters, accumulates, ImageValue, IsImage, new_image, description_of, from_two, formula_of_two, added_to, AreApart, RunsTo, object_held_has, names_of, held_by_name, IsNode, is_node, given, outputs, operands, second_kind, ObjectValue, ImageObject, VirtualObject, IsObject, object_kind, object_format, DistributionObject, ExtremesObject, beside_first, node_image, node_output, written_to, written_in, written_from, written_by, takes_formats, SecondHasSize, in_slot, Named, object_held, held, with_object, with_written, image_value, cell_object, image_held, HoldsImage, map-told, VirtualOutput, Operand, Image, Delay, Verified, writes, is_written, In, AllIn, operand_of, resolved, In-from_same, same-from_In, one_writer, In-left, In-right, In-append, In-from_any, any-from_In, In-from_map, AllIn-permutation, AllIn-permutation_back, CanRun, HasInputs, reach, matrix_in, RunsInBands, HasHeight, final_of, is_target, is_virtual_name, banded, counts, counter_of, reach_of, rows_beside, integrates, is_sum, tallies, begun_as, begun, forgotten, is_virtual_object, one_by_one, run_of_graph, Lasts, HoldsOperand, names_cell, CellsStand, operand_held, Solves, label_of, HoldsVirtual, HoldsKind, CanRunNow, integral}
 use Rattle.graph_verify.specs.Links.{reads}
 use Rattle.graph_run.specs.Operands.{StandsFor}
 use Rattle.vx_base.specs.declared.kind.Kind.TheVariants as kind
@@ -10,9 +10,9 @@ use Rattle.graph_verify.specs.Operand.{is_virtual as is_virtual_operand}
 use Rattle.graph_run.proofs.CellLemmas.{held_whole, kind_there, there_is, holds_there, one_cell}
 use Rattle.graph_run.proofs.AgreeLemmas.{begin, begins, written_before}
 use Rattle.graph_run.proofs.BegunLaws.{both_held, kept_virtual, labels-begun, labels-forgotten, object_held-forgotten, object_held-unwritten, virtual_as_operand}
-use Rattle.vx_base.specs.Statistics.{sums_in}
 use Rattle.graph_run.proofs.CountLemmas.{counts_other, distribution_of_kind, extremes_of_kind, locates_output, tallies_output, find_none, find_some}
 use Rattle.graph_run.proofs.FoundLemmas.{OfOperands, of_operands}
+use Rattle.graph_run.proofs.HeldLaws.{object_held-with_object}
 use Rattle.graph_run.proofs.LastingLemmas.{Lasts-trans, Lasts-names}
 use Rattle.graph_run.proofs.LinkLaws.{All-from_In, In-from_All, reads_first, reads_second}
 use Rattle.graph_run.proofs.NameLaws.{Rising, by_names, rising}
@@ -98,7 +98,16 @@ counted_in_cell n which c now old second a x first there again written =
     let made : now c ≡ Some (node_output n which (ImageObject a) second x) = written (c, node_output n which (ImageObject a) second x) (rw (first, there) (inl refl)) in
     made ∙ ap Some (sym again) ∙ ap (option_map (node_output n First (ImageObject a) None)) (sym made)
 
+-- an object in place of what a cell holds as a whole
+pub object_set : (l : List Named) (c : Cell) (old new : ObjectValue) → c.slot ≡ None → object_held l c.name ≡ Some old → object_held (with_object l c new) c.name ≡ Some new
+object_set l c old new whole at = grind (arith, object_held-with_object l c new c.name, eq-eqb c.name c.name refl, whole, at)
+
 -- ---- outputs
+
+-- what holds of each value that may be there holds of the one that is
+pub of_each : {A : Type 0} (P : A → Type 0) (o : Option A) → ((x : A) → o ≡ Some x → P x) → IfSome o P
+of_each P None each = tt
+of_each P (Some x) each = each x refl
 
 pub of_given : (P : Cell → Type 0) (cell : Option Cell) → IfSome cell P → (c : Cell) → In c (given cell) → P c
 of_given P None holds c i = absurd i
@@ -112,7 +121,7 @@ one_of_two true None None e = absurd (cc e)
 one_of_two false None None e = absurd (cc e)
 
 -- each node has an output
-has_output : (n : Node) → is_node n ≡ true → (c : Cell) × In c (outputs n)
+pub has_output : (n : Node) → is_node n ≡ true → (c : Cell) × In c (outputs n)
 has_output n shape = one_of_two (parameters n.function).output_pair n.out1 n.out2 (and_parts _ _ (has_of_node n shape)).1
 
 same_height : (first out : ObjectValue) → object_kind first ≡ kind.Image → object_kind out ≡ kind.Image → SecondHasSize (image_value first) (Some out)
@@ -124,21 +133,21 @@ same_height first out k l size = grind arith
 
 -- a client's image that isn't a target isn't written
 not_target : (written virtual : Bool) → (written && not virtual) ≡ false → virtual ≡ false → written ≡ false
-not_target true true none real = absurd (cc)
-not_target true false none real = absurd (cc)
-not_target false virtual none real = refl
+not_target written virtual none real = grind arith
+
+pub and_false : (a b : Bool) → b ≡ true → (a && not b) ≡ false
+and_false a b e = grind arith
 
 -- a virtual image stands in no slot
 virtual_whole : (slot : Option ℕ) (image : VirtualImage) (operand : Operand) → option_map operand_of (in_slot slot (VirtualObject image)) ≡ Some operand → ◌≡◌ {A = Option ℕ} slot None
-virtual_whole None image operand e = refl
-virtual_whole (Some k) image operand e = absurd (cc)
+virtual_whole slot image operand e = grind (arith, e)
 
-described_as : (found : Option ObjectValue) (d : Description) → option_map operand_of found ≡ Some (Image d) → description_of (image_value (unwrap_or found (ImageObject (new_image 0 0 U8)))) ≡ d
+described_as : (found : Option ObjectValue) (d : Description) → option_map operand_of found ≡ Some (Image d)
+    → (description_of (image_value (unwrap_or found (ImageObject (new_image 0 0 U8)))) ≡ d) × (object_kind (unwrap_or found (ImageObject (new_image 0 0 U8))) ≡ kind.Image)
 described_as x d e = grind arith
 
 kept_real : (o p : Option ObjectValue) → ((x : ObjectValue) → o ≡ Some x → is_virtual_object x ≡ false) → kept_virtual o p ≡ p
-kept_real (Some x) (Some y) real = let plain = real x refl in rw plain refl
-kept_real o p real = grind arith
+kept_real x y real = grind (arith, real)
 
 virtual_end : (written virtual : Bool) (o p : Option ObjectValue) (image : VirtualImage) (y : ObjectValue) → virtual ≡ true → o ≡ Some (VirtualObject image) → p ≡ Some y
     → (if written && not virtual then p else o) ≡ kept_virtual o p
@@ -147,14 +156,8 @@ virtual_end written virtual o p image y yes_virtual at there = grind (arith, cas
 kept_same : (o : Option ObjectValue) → kept_virtual o o ≡ o
 kept_same x = grind arith
 
-second_matrix : (there now : Option ObjectValue) (x : ObjectValue) → now ≡ Some x → there ≡ now → matrix_in (Some x) ≡ matrix_in there
-second_matrix there now x at same = ap matrix_in (sym at ∙ sym same)
-
 no_matrix_virtual : (slot : Option ℕ) (image : VirtualImage) → matrix_in (in_slot slot (VirtualObject image)) ≡ None
 no_matrix_virtual z image = grind arith
-
-described_kind : (found : Option ObjectValue) (d : Description) → option_map operand_of found ≡ Some (Image d) → object_kind (unwrap_or found (ImageObject (new_image 0 0 U8))) ≡ kind.Image
-described_kind x d e = grind arith
 
 no_matrix_image : (x : ObjectValue) → object_kind x ≡ kind.Image → matrix_in (Some x) ≡ None
 no_matrix_image x e = grind arith
@@ -215,19 +218,12 @@ module _ (objects : List Named) (nodes : List Node) (v : Verified) (height besid
   pub final_names : IsStrictlyIncreasing (names_of final)
   final_names = names_by_labels final final_labels
 
-  -- what is virtual, and written, is an output
-  virtual_is_output : (o : Named) → In o objects → is_written nodes (cell_of o.name) ≡ true → (image : VirtualImage) → o.object ≡ VirtualObject image
-      → (q : VirtualOutput) × In q outs × (cell_of o.name ≡ q.cell)
-  virtual_is_output o i w image same =
-      let there : object_held objects o.name ≡ Some o.object = In-from_All (λ (p : Named). object_held objects p.name ≡ Some p.object) objects (held_by_name objects r.names) o i in
-      in_outputs is nodes v r.ready.verified (cell_of o.name) w
-      (ap is_virtual_operand (own_operand objects o.name o.object there ∙ ap operand_of same))
-
   begun_is : (o : Named) → In o objects → IsObject (begun known nodes o).object
   begun_is o i =
       begun_object (is_written nodes (cell_of o.name)) o (known (cell_of o.name)) (In-from_All (λ (p : Named). IsObject p.object) objects r.are_objects o i)
       (λ w image d same found.
-      let output = virtual_is_output o i w image same in
+      let there : object_held objects o.name ≡ Some o.object = In-from_All (λ (p : Named). object_held objects p.name ≡ Some p.object) objects (held_by_name objects r.names) o i in
+      let output = in_outputs is nodes v r.ready.verified (cell_of o.name) w (ap is_virtual_operand (own_operand objects o.name o.object there ∙ ap operand_of same)) in
       let known_so : Image d ≡ Image output.0.desc = sym found ∙ ap known output.2 ∙ output_known is nodes v r.ready.verified output.0 output.1 in
       let desc : output.0.desc ≡ d = cc in
       subst IsDescription desc (In-from_All (λ (p : VirtualOutput). IsDescription p.desc) outs r.described output.0 output.1))
@@ -270,29 +266,17 @@ module _ (objects : List Named) (nodes : List Node) (v : Verified) (height besid
   pub final_can : (n : Node) → In n steps → CanRunNow final n
   final_can n i = can_at steps in_nodes n (in_nodes n i)
 
-  pub final_first : (n : Node) → In n steps → IfSome n.out1 (RunsTo final n)
-  final_first n i = runs_first n final final_are (final_can n i)
-
-  pub final_second : (n : Node) → In n steps → IfSome n.out2 (RunsTo final n)
-  final_second n i = runs_second n final final_are (final_can n i)
-
   pub final_apart : (n : Node) → In n steps → IfSome n.out1 (λ a. IfSome n.out2 (λ b. AreApart b a))
   final_apart n i = two_outputs n final final_are (final_can n i)
 
   -- ---- what outputs hold
 
-  first_solves : Solves nodes first_objects (rounds_of_nodes nodes (length nodes) first_objects)
-  first_solves =
-      rounds_are_solution nodes first_objects graph_can.one_writer graph_can.no_cycle
-      (no_delay known nodes first_objects (begun_stands work is nodes graph_can objects r.ready.cells))
-
   final_solves : Solves nodes first_objects final
   final_solves =
+      let none = no_delay known nodes first_objects (begun_stands work is nodes graph_can objects r.ready.cells) in
       subst (λ l. Solves nodes first_objects l)
-      (order_gives_rounds nodes steps first_objects r.ready.verified.order graph_can.one_writer
-      (pairs_of first_objects (names_by_labels first_objects (labels-begun known nodes objects)))
-      (no_delay known nodes first_objects (begun_stands work is nodes graph_can objects r.ready.cells)))
-      first_solves
+      (order_gives_rounds nodes steps first_objects r.ready.verified.order graph_can.one_writer (pairs_of first_objects (names_by_labels first_objects (labels-begun known nodes objects))) none)
+      (rounds_are_solution nodes first_objects graph_can.one_writer graph_can.no_cycle none)
 
   pub writes_images : (n : Node) → In n steps → counts n ≡ false → (parameters n.function).output ≡ kind.Image
   writes_images n i no_count = In-from_All (λ m. counts m ≡ false → (parameters m.function).output ≡ kind.Image) steps r.images n i no_count
@@ -320,10 +304,7 @@ module _ (objects : List Named) (nodes : List Node) (v : Verified) (height besid
       let format : b.0.format ≡ (image_held final c).format =
       sym (format-node_image n which b.0.format a.0 (option_and_then (held final) n.in2)) ∙ ap (λ (m : ImageValue). m.format) (sym (image_there final c image made)) in
       let first : a.0 ≡ image_held final n.in1 = sym (image_there final n.in1 a.0 a.1) in
-      made
-      ∙ ap (λ f. Some (ImageObject (node_image n which f a.0 (option_and_then (held final) n.in2)))) format
-      ∙ ap (λ m. Some (ImageObject (node_image n which (image_held final c).format m (option_and_then (held final) n.in2)))) first
-      ∙ ap (λ s. Some (ImageObject (node_image n which (image_held final c).format (image_held final n.in1) s))) (held_second n i)
+      rw (← format, ← first, ← held_second n i) made
 
   all_made : (n : Node) → In n steps → (w : Cell × ObjectValue) → In w (written_from (held first_objects) n (held final)) → held final w.0 ≡ Some w.1
   all_made n i w j =
@@ -349,10 +330,10 @@ module _ (objects : List Named) (nodes : List Node) (v : Verified) (height besid
       let a = image_of_kind (held final n.in1) (of_final n i).in1 in
       elim (cases_Bool (tallies n)) [
         | inl bins ↦
-            (let d = distribution_of_kind (held first_objects c) (old ∙ ap Some (tallies_output n bins)) in
+            (let d = distribution_of_kind (held first_objects c) (old ∙ ap Some (tallies_output n.function bins)) in
             counted_in_cell n which c (held final) (held first_objects c) (option_and_then (held final) n.in2) a.0 (DistributionObject d.0) a.1 d.1 refl written)
         | inr other ↦
-            (let e = extremes_of_kind (held first_objects c) (old ∙ ap Some (locates_output n does other)) in
+            (let e = extremes_of_kind (held first_objects c) (old ∙ ap Some (locates_output n.function does other)) in
             counted_in_cell n which c (held final) (held first_objects c) (option_and_then (held final) n.in2) a.0 (ExtremesObject e.0) a.1 e.1 refl written)
       ]
       ∙ ap (λ m. option_map (node_output n First (ImageObject m) None) (held final c)) (sym (image_there final n.in1 a.0 a.1))
@@ -388,8 +369,8 @@ module _ (objects : List Named) (nodes : List Node) (v : Verified) (height besid
 
   pub runs_to : (n : Node) → In n steps → (c : Cell) → In c (outputs n) → RunsTo final n c
   runs_to n i c j = elim (In-append c (given n.out1) (given n.out2) j) [
-    | inl one ↦ of_given (RunsTo final n) n.out1 (final_first n i) c one
-    | inr other ↦ of_given (RunsTo final n) n.out2 (final_second n i) c other
+    | inl one ↦ of_given (RunsTo final n) n.out1 (runs_first n final final_are (final_can n i)) c one
+    | inr other ↦ of_given (RunsTo final n) n.out2 (runs_second n final final_are (final_can n i)) c other
   ]
 
   pub is_node_of : (n : Node) → In n steps → IsNode n
@@ -437,12 +418,11 @@ module _ (objects : List Named) (nodes : List Node) (v : Verified) (height besid
   -- no node reads a client's image that a node writes
   pub real_read : (n : Node) → In n steps → (cell : Cell) → reads n cell ≡ true → is_virtual_name v cell.name ≡ false
       → (object_held final cell.name ≡ object_held objects cell.name) × (is_target v cell.name ≡ false)
-  real_read n i cell read real = (real_same cell.name real none, none)
-    where
-      none : is_target v cell.name ≡ false
-      none = false_from_ne_true (is_target v cell.name) (λ target.
-          let writer = In-from_any (λ m. writes m (cell_of cell.name)) steps (and_parts (is_written steps (cell_of cell.name)) (not (is_virtual_name v cell.name)) target).0 in
-          r.apart n writer.0 cell (cell_of cell.name) i writer.1 read writer.2 real refl)
+  real_read n i cell read real =
+      let none : is_target v cell.name ≡ false = false_from_ne_true (is_target v cell.name) (λ target.
+      let writer = In-from_any (λ m. writes m (cell_of cell.name)) steps (and_parts (is_written steps (cell_of cell.name)) (not (is_virtual_name v cell.name)) target).0 in
+      r.apart n writer.0 cell (cell_of cell.name) i writer.1 read writer.2 real refl) in
+      (real_same cell.name real none, none)
 
   -- ---- virtual images
 
@@ -451,7 +431,7 @@ module _ (objects : List Named) (nodes : List Node) (v : Verified) (height besid
   writer_plain n i o j w = false_from_ne_true (counts n) (λ does.
       let stands : StandsFor (Image o.desc) (parameters n.function).output =
       subst (λ operand. StandsFor operand (parameters n.function).output) (output_known is nodes v r.ready.verified o j) (final_stands.kinds n o.cell (in_nodes n i) w) in
-      counts_other n does (sym stands))
+      counts_other n.function does (sym stands))
 
   pub virtual_here : (o : VirtualOutput) → In o outs
       → (o.cell ≡ cell_of o.cell.name) × HoldsVirtual objects o.cell.name × (description_of (image_held final o.cell) ≡ o.desc) × (o.desc.height ≡ height) × (is_written steps o.cell ≡ true)
@@ -461,7 +441,7 @@ module _ (objects : List Named) (nodes : List Node) (v : Verified) (height besid
       let j = in_steps n writer.1 in
       let out = In-from_same o.cell (outputs n) writer.2 in
       let known_as : known o.cell ≡ Image o.desc = output_known is nodes v r.ready.verified o i in
-      let desc = described_as (held final o.cell) o.desc (found_in_the_end n j o.cell (or_right (reads n o.cell) (writes n o.cell) writer.2) ∙ ap Some known_as) in (
+      let desc = (described_as (held final o.cell) o.desc (found_in_the_end n j o.cell (or_right (reads n o.cell) (writes n o.cell) writer.2) ∙ ap Some known_as)).0 in (
         output_whole objects nodes v work r.ready.verified r.ready.runs.1 o i,
         ap (option_map object_kind) (output_object objects nodes v work r.ready.verified r.ready.runs.1 o i).1.1,
         desc,
@@ -625,15 +605,12 @@ module _ (objects : List Named) (nodes : List Node) (v : Verified) (height besid
       let runs = (runs_to n i c j).runs in
       let there : cell_object final c ≡ ImageObject image = ap (λ o. unwrap_or o (ImageObject (new_image 0 0 U8))) made ∙ ap ImageObject (sym (image_there final c _ made)) in
       let takes = subst (λ o. IsTrue (takes_formats n.function a.format (option_and_then object_format (option_map (cell_object final) n.in2)) (object_format o))) there runs.formats in
-      sym (held_whole final c (out_whole n i c j)) ∙ made
-      ∙ ap (λ o. Some (ImageObject (node_image n First image.format a o))) second
-      ∙ ap (λ f. Some (ImageObject (image_of_one f n First image.format a))) (integral_is n.function does)
-      ∙ ap (λ f. Some (ImageObject (sums_in f a))) (integral_formats n does a.format _ image.format takes).1
+      sym (held_whole final c (out_whole n i c j)) ∙ made ∙ rw (second, integral_is n.function does, (integral_formats n does a.format _ image.format takes).1) refl
 
   -- who writes an image counts nothing
   pub image_writer : (n : Node) → In n steps → (c : Cell) → writes n c ≡ true → HoldsImage final c → counts n ≡ false
   image_writer n i c w image = false_from_ne_true (counts n) (λ does.
-      counts_other n does (sym (runs_to n i c (In-from_same c (outputs n) w)).runs.out_kind ∙ kind_there final (c, kind.Image) image))
+      counts_other n.function does (sym (runs_to n i c (In-from_same c (outputs n) w)).runs.out_kind ∙ kind_there final (c, kind.Image) image))
 
   -- ---- the end
 
@@ -679,14 +656,14 @@ module _ (objects : List Named) (nodes : List Node) (v : Verified) (height besid
     | inl virtual ↦
         (let output = virtual_cell n (in_nodes n i) c (or_left (reads n c) (writes n c) read) virtual in
         let object = virtual_held c.name virtual in
-        let image = described_kind (held final c) output.0.desc
+        let image = described_as (held final c) output.0.desc
         (found_in_the_end n i c (or_left (reads n c) (writes n c) read) ∙ ap (λ d. Some (known d)) output.2 ∙ ap Some (output_known is nodes v r.ready.verified output.0 output.1)) in
-        no_matrix_image (cell_object final c) image
+        no_matrix_image (cell_object final c) image.1
         ∙ sym (ap (λ o. matrix_in (option_and_then (in_slot c.slot) o)) object.1 ∙ no_matrix_virtual c.slot object.0))
     | inr real ↦
-        second_matrix (held objects c) (held final c) (cell_object final c)
-        (there_is final c (holds_there final (c, second_kind n) (subst (λ o. IfSome o (λ d. HoldsKind final (d, second_kind n))) at (of_final n i).in2)))
-        (ap (option_and_then (in_slot c.slot)) (sym (real_read n i c read real).0))
+        ap matrix_in
+        (sym (there_is final c (holds_there final (c, second_kind n) (subst (λ o. IfSome o (λ d. HoldsKind final (d, second_kind n))) at (of_final n i).in2)))
+        ∙ ap (option_and_then (in_slot c.slot)) (real_read n i c read real).0)
   ]
     where
       read : reads n c ≡ true

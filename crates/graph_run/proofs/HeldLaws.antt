@@ -1,9 +1,7 @@
 -- What cells hold after objects are written to some of them.
-use Rattle.std.proofs.Common.{◌≡◌, ℕ, Bool, true, false, ◌&&◌, if◌then◌else◌, eqb, List, [], ◌∷◌, ◌++◌, map, refl, sym, ap, subst, ◌∙◌, inl, inr, Option, Some, None, arith, rules, option_map, option_and_then, eqb-true}
-use Rattle.graph_run.proofs.Common.{cases_Bool, eqb-false, Cell, same_slot, same_cell, ObjectValue, ImageObject, object_kind, in_slot, with_slot, image_value, Named, object_held, held, with_object, with_written, image_of_kind, with_slot_there, with_slot_beside, In, form_of, form_held, label_of, same_cell-true, option_or}
-use Rattle.vx_base.specs.declared.kind.Kind.TheVariants as kind
-use Rattle.object_table.proofs.SlotLemmas.{slot_has_image}
-use Rattle.graph_run.proofs.ObjectLaws.{is_delay, shown, is_delay-form, kind-form, form-shown, no_slot}
+use Rattle.std.proofs.Common.{◌≡◌, ℕ, Bool, true, false, ◌&&◌, if◌then◌else◌, eqb, List, [], ◌∷◌, ◌++◌, map, refl, ap, ◌∙◌, Option, Some, None, arith, rules, option_map, option_and_then, eqb-true}
+use Rattle.graph_run.proofs.Common.{cases_Bool, Cell, same_slot, same_cell, ObjectValue, object_kind, in_slot, with_slot, Named, object_held, held, with_object, with_written, with_slot_there, with_slot_beside, In, form_of, form_held, label_of, same_cell-true, option_or}
+use Rattle.graph_run.proofs.ObjectLaws.{is_delay, shown, form-shown}
 
 -- what is seen of what a cell holds
 abbrev pub seen : List Named → Cell → Option ObjectValue
@@ -18,8 +16,7 @@ pub or_assoc : {X : Type 0} (o p q : Option X) → option_or (option_or o p) q �
 or_assoc x p q = grind arith
 
 pub form-seen : (o : Option ObjectValue) → option_map form_of (option_map shown o) ≡ option_map form_of o
-form-seen None = refl
-form-seen (Some x) = ap {B = Option ObjectValue} Some (form-shown x)
+form-seen z0 = grind arith
 
 pub kind-form_seen : (o : Option ObjectValue) → option_map object_kind (option_map form_of o) ≡ option_map object_kind o
 kind-form_seen x = grind arith
@@ -31,27 +28,9 @@ pub record IsWrite (objects : List Named) (cell : Cell) (object : ObjectValue) :
   pub form : form_held objects cell ≡ Some (form_of object)
   pub whole : is_delay object ≡ false
 
-kind_of_form : (o : Option ObjectValue) (new : ObjectValue) → option_map form_of o ≡ Some (form_of new) → option_map object_kind o ≡ Some (object_kind new)
-kind_of_form o new f = sym (kind-form_seen o) ∙ ap (option_map object_kind) f ∙ ap Some (kind-form new)
-
-whole_stays : (j : ℕ) (new x : ObjectValue) → shown (with_slot (Some j) new x) ≡ shown x
-whole_stays j new x = grind arith
-
 slot_written : (k j : Option ℕ) (new x : ObjectValue) → option_map form_of (in_slot j x) ≡ Some (form_of new) → is_delay new ≡ false
     → option_map shown (in_slot k (with_slot j new x)) ≡ (if same_slot k j then Some (shown new) else option_map shown (in_slot k x))
-slot_written None None new x f d = refl
-slot_written (Some k) None new x f d = grind (arith, is_delay x, is_delay-form x, is_delay-form new, no_slot k new d)
-slot_written None (Some j) new x f d = ap {B = Option ObjectValue} Some (whole_stays j new x)
-slot_written (Some k) (Some j) new x f d = elim (cases_Bool (eqb k j)) [
-  | inl e ↦
-      (let image = slot_has_image j x (grind arith) in
-      let is : object_kind new ≡ kind.Image = let g = kind_of_form (in_slot (Some j) x) new f in cc in
-      let same : new ≡ ImageObject (image_value new) = image_of_kind new is in
-      let stands = with_slot_there (Some j) (image_value new) x image in
-      let written : in_slot (Some j) (with_slot (Some j) new x) ≡ Some new = subst (λ z. in_slot (Some j) (with_slot (Some j) z x) ≡ Some z) (sym same) stands in
-      rw e (ap (λ z. option_map shown (in_slot (Some z) (with_slot (Some j) new x))) (eqb-true k j e) ∙ ap (option_map shown) written))
-  | inr e ↦ rw e (ap (option_map shown) (with_slot_beside k j new x (eqb-false k j e)))
-]
+slot_written z0 z1 new x f d = grind (arith, with_slot_there, with_slot_beside)
 
 pub object_held-with_object : (objects : List Named) (cell : Cell) (new : ObjectValue) (name : ℕ)
     → object_held (with_object objects cell new) name ≡ option_map (λ x. if eqb name cell.name then with_slot cell.slot new x else x) (object_held objects name)

@@ -1,6 +1,6 @@
 -- What lasts of objects as others are written in their places.
-use Rattle.std.proofs.Common.{◌≡◌, ℕ, List, [], ◌∷◌, Option, Some, None, map, get_or, drop, refl, sym, ap, subst, ◌∙◌, arith, ◌==◌, option_map, option_and_then}
-use Rattle.graph_run.proofs.Common.{IsStrictlyIncreasing, cases_Bool, Node, Cell, Description, ImageValue, image_over, description_of, ObjectValue, ImageObject, DelayObject, empty, in_slot, with_slot, Named, object_held, held, skeleton, names_of, map-told, lasting, lasting_named, Lasts}
+use Rattle.std.proofs.Common.{◌≡◌, ℕ, List, [], ◌∷◌, Option, Some, None, map, drop, refl, sym, ap, subst, ◌∙◌, arith, option_map, option_and_then}
+use Rattle.graph_run.proofs.Common.{IsStrictlyIncreasing, Node, Cell, Description, ImageValue, image_over, description_of, ObjectValue, ImageObject, DelayObject, empty, in_slot, with_slot, Named, object_held, held, skeleton, names_of, map-told, lasting, lasting_named, Lasts}
 use Rattle.object_table.specs.Uses.{nodes_in}
 use Rattle.object_table.proofs.SkeletonLaws.{option_map-told, in_slot-skeleton, skeleton-with_slot}
 
@@ -41,8 +41,7 @@ images-last a b e = ap (λ (d : Description). let left : ObjectValue × List Nod
 
 -- an object in the place of one of which as much lasts
 pub lasting-with_slot : (slot : Option ℕ) (new object : ObjectValue) → option_map lasting (in_slot slot object) ≡ Some (lasting new) → lasting (with_slot slot new object) ≡ lasting object
-lasting-with_slot slot new object same =
-    grind (arith, skeleton-with_slot, skeletons-last, nodes-last)
+lasting-with_slot slot new object same = grind (arith, skeleton-with_slot)
 
 -- ---- of what is held
 
@@ -58,10 +57,7 @@ pub held-lasts : (old new : List Named) (name : ℕ) → map lasting_named new �
 held-lasts [] [] name same = refl
 held-lasts [] (p ∷ new) name same = absurd (cc)
 held-lasts (o ∷ old) [] name same = absurd (cc)
-held-lasts (o ∷ old) (p ∷ new) name same =
-    let first : lasting_named p ≡ lasting_named o = ap (λ l. get_or l 0 (lasting_named p)) same in
-    let here : lasting p.object ≡ lasting o.object = ap (λ (left : Lasting). let of_object : ObjectValue × List Node = (left.0.object, left.1) in of_object) first in
-    grind (arith, held-lasts old new name (ap (drop 1) same), cases_Bool (o.name == name), ap (λ (left : Lasting). left.0.name) first)
+held-lasts (o ∷ old) (p ∷ new) name same = grind (arith, held-lasts old new name (ap (drop 1) same))
 
 -- and in each cell
 pub cell-lasts : (old new : List Named) (cell : Cell) → map lasting_named new ≡ map lasting_named old → option_map lasting (held new cell) ≡ option_map lasting (held old cell)

@@ -17,7 +17,6 @@ same_at_each {X} (x ∷ xs) (y ∷ ys) h =
     ap (λ z. z ∷ xs) head ∙ ap (λ zs. y ∷ zs) (same_at_each xs ys (λ k. h (suc k)))
 
 image_seen : (o p : Option ImageValue) → option_map ImageObject o ≡ option_map ImageObject p → o ≡ p
-image_seen (Some x) (Some y) h = let e : x ≡ y = cc in ap {B = Option ImageValue} Some e
 image_seen o p h = grind arith
 
 unshown : (o p : Option ImageValue) → option_map shown (option_map ImageObject o) ≡ option_map shown (option_map ImageObject p) → option_map ImageObject o ≡ option_map ImageObject p

@@ -2,7 +2,7 @@
 use Rattle.std.proofs.Common.{◌≡◌, ◌≢◌, Bool, true, false, ◌||◌, if◌then◌else◌, List, [], ◌∷◌, refl, sym, ap, ◌∙◌, inl, inr, Option, Some, None, arith, option_map, option_and_then, ◌⊎◌}
 use Rattle.graph_run.proofs.Common.{cases_Bool, or_left, or_right, or_parts, Node, Output, First, Second, Cell, same_cell, outputs, ObjectValue, object_kind, node_output, written_to, written_in, written_from, Named, held, In, writes, has_twice, kind_in, form_of, form_held, In-append, same_cell-true, option_or}
 use Rattle.vx_base.specs.declared.kind.Kind.TheVariants as kind
-use Rattle.graph_run.proofs.ObjectLaws.{is_delay, shown, is_delay-form, not_delay, form-node_output, shown-node_output}
+use Rattle.graph_run.proofs.ObjectLaws.{is_delay, shown, is_delay-form, not_delay, form-node_output}
 use Rattle.graph_run.proofs.HeldLaws.{IsWrite, AreWrites, last_to, last_to-append, or_assoc}
 
 -- ---- what a node gives to a cell
@@ -40,7 +40,6 @@ output_of_again n output first before second other old same = grind arith
 
 shown-output_of : (n : Node) (output : Output) (first second old now : Option ObjectValue)
     → option_map shown (output_of n output first second old now) ≡ output_of n output (option_map shown first) (option_map shown second) (option_map shown old) (option_map shown now)
-shown-output_of n output (Some first) second (Some old) now = ap {B = Option ObjectValue} Some (shown-node_output n output first second old)
 shown-output_of n output first second old now = grind arith
 
 shown-and_then : (held : Cell → Option ObjectValue) (o : Option Cell) → option_map shown (option_and_then held o) ≡ option_and_then (λ d. option_map shown (held d)) o
@@ -57,7 +56,6 @@ shown-given_from start n held c = shown-given_to n held c (start c) (held c)
 
 -- a form stays
 pub form-output_of : (n : Node) (output : Output) (first second old now : Option ObjectValue) → option_map form_of now ≡ option_map form_of old → option_map form_of (output_of n output first second old now) ≡ option_map form_of old
-form-output_of n output (Some first) second (Some old) now h = ap {B = Option ObjectValue} Some (form-node_output n output first second old)
 form-output_of n output first second old now h = grind arith
 
 -- ---- the list of what a node writes

@@ -1,6 +1,6 @@
 -- What cells hold, as operands: as a graph begins to run, and as its nodes write.
-use Rattle.std.proofs.Common.{◌≡◌, ◌≢◌, ℕ, Bool, true, false, List, map, refl, sym, ap, subst, ◌∙◌, inl, inr, Option, Some, None, arith, ◌==◌, ◌||◌, not, if◌then◌else◌, option_to_list, slice_get, option_map, option_and_then}
-use Rattle.graph_run.proofs.Common.{list_all, list_any, cases_Bool, and_parts, or_cases, or_left, or_parts, or_right, Format, Function, Node, Output, VirtualImage, Cell, Description, same_size, parameters, accumulates, ImageValue, description_of, inputs, outputs, ObjectValue, ImageObject, DelayObject, VirtualObject, object_kind, image_of_one, node_image, beside_first, node_output, written_by, in_slot, Named, object_held, held, with_written, skeleton, Operand, Image, Operands, writes, is_written, In, operand_of, operand_kind, operand_format, are_of_one_size, is_virtual, operands_of, outlines, resolved, writes_twice, reads_own_output, node_fault, verdict_on, In-from_same, In-from_any, any-from_In, fails-from_In, In-map, In-right, runs_alone, CanRun, begun_as, begun, HoldsOperand, names_cell, CellsStand, WritesNo}
+use Rattle.std.proofs.Common.{◌≡◌, ◌≢◌, ℕ, Bool, true, false, List, map, refl, sym, ap, subst, ◌∙◌, inl, inr, Option, Some, None, arith, ◌||◌, not, if◌then◌else◌, option_to_list, option_map, option_and_then}
+use Rattle.graph_run.proofs.Common.{list_all, cases_Bool, or_cases, or_left, or_parts, or_right, Format, Function, Node, Output, VirtualImage, Cell, Description, parameters, accumulates, ImageValue, description_of, inputs, outputs, ObjectValue, VirtualObject, object_kind, node_image, node_output, written_by, in_slot, Named, object_held, held, with_written, skeleton, Operand, Image, Operands, writes, is_written, In, operand_of, operand_kind, operand_format, are_of_one_size, is_virtual, operands_of, outlines, resolved, writes_twice, reads_own_output, node_fault, verdict_on, In-from_same, In-from_any, any-from_In, fails-from_In, In-map, In-right, runs_alone, CanRun, begun, HoldsOperand, names_cell, CellsStand, WritesNo}
 use Rattle.graph_verify.specs.Links.{reads}
 use Rattle.graph_run.specs.Operands.{StandsFor}
 use Rattle.std.proofs.lemmas.List.Sums.{AllPass-from_list_all}
@@ -20,19 +20,10 @@ use Rattle.graph_run.proofs.ObjectLaws.{shown}
 
 -- ---- operands of objects
 
--- in a slot no image is virtual
-image_in_slot : (image : Option ImageValue) (declared : Outline) → option_map operand_of (option_map ImageObject image) ≢ Some (Virtual declared)
-image_in_slot x declared e = grind arith
-
 -- a cell that holds a virtual image has no slot
 pub virtual_there : (slot : Option ℕ) (x : ObjectValue) (declared : Outline) → option_map operand_of (in_slot slot x) ≡ Some (Virtual declared)
     → ◌≡◌ {A = Option ℕ} slot None × (v : VirtualImage) × (x ≡ VirtualObject v)
-virtual_there (Some k) (DelayObject images) declared e = absurd (image_in_slot (slice_get images k) declared e)
 virtual_there x y declared e = grind arith
-
--- what isn't virtual begins as it was
-real_begins : (slot : Option ℕ) (x : ObjectValue) (operand found : Operand) → option_map operand_of (in_slot slot x) ≡ Some operand → is_virtual operand ≡ false → in_slot slot (begun_as x found) ≡ in_slot slot x
-real_begins slot x operand found e real = grind arith
 
 pub outline_of_virtual : (operand : Operand) → is_virtual operand ≡ true → (declared : Outline) × (operand ≡ Virtual declared)
 outline_of_virtual operand h = grind arith
@@ -73,9 +64,7 @@ module _ (work : ℕ) (is : Cell → Operand) (nodes : List Node) (can : CanRun 
 
   -- what is virtual isn't added to
   pub adds_to_none : (n : Node) (c : Cell) → In n nodes → writes n c ≡ true → is_virtual (is c) ≡ true → accumulates n.function ≡ false
-  adds_to_none n c i w v =
-      let some : list_any (λ d. is_virtual (is d)) (outputs n) ≡ true = any-from_In (λ d. is_virtual (is d)) c (outputs n) (In-from_same c (outputs n) w) v in
-      grind (arith, (ends_met n i).1, some, cases_Bool (accumulates n.function))
+  adds_to_none n c i w v = grind (arith, In-from_same c (outputs n) w, ends_met n i)
 
   -- a virtual image that is read is written
   pub virtual_written : (n : Node) (c : Cell) → In n nodes → names_cell n c ≡ true → is_virtual (is c) ≡ true → is_written nodes c ≡ true
@@ -151,26 +140,17 @@ pub no_delay : (is : Cell → Operand) (nodes : List Node) (objects : List Named
 no_delay is nodes objects stand c w e = grind (arith, In-from_any, or_right, no_delay_written)
 
 -- what a node gives is of its first input's size, and of the format that is asked for
-described_one : (function : Function) (n : Node) (output : Output) (format : Format) (a : ImageValue) → description_of (image_of_one function n output format a) ≡ record { width = a.width; height = a.height; format = format }
-described_one function n output format a = grind arith
-
 pub described_node : (n : Node) (output : Output) (format : Format) (a : ImageValue) (second : Option ObjectValue) → description_of (node_image n output format a second) ≡ record { width = a.width; height = a.height; format = format }
-described_node n output format a None = described_one n.function n output format a
 described_node n output format a v = grind arith
-
-one_description : (a out : ImageValue) → same_size (description_of a) (description_of out) ≡ true → ◌≡◌ {A = Description} (record { width = a.width; height = a.height; format = out.format }) (description_of out)
-one_description a out same = grind (arith, and_parts (a.width == out.width) (a.height == out.height) same)
 
 -- an output of the first input's size stays the operand that it is
 output_kept : (n : Node) (output : Output) (first : ObjectValue) (second : Option ObjectValue) (out : ObjectValue) → are_of_one_size (operand_of first) (operand_of out) ≡ true
     → operand_of (node_output n output first second out) ≡ operand_of out
-output_kept n output (ImageObject a) second (ImageObject old) same = ap Image (described_node n output old.format a (beside_first n second (ImageObject old)) ∙ one_description a old same)
-output_kept n output first second out same = grind arith
+output_kept n output first second out same = grind (arith, described_node)
 
 given_kept : (n : Node) (output : Output) (first second out : Option ObjectValue) → ((x y : ObjectValue) → first ≡ Some x → out ≡ Some y → are_of_one_size (operand_of x) (operand_of y) ≡ true)
     → option_map operand_of (output_of n output first second out out) ≡ option_map operand_of out
-given_kept n output (Some x) second (Some y) h = ap Some (output_kept n output x second y (h x y refl refl))
-given_kept n output z second out h = grind arith
+given_kept n output z second out h = grind (arith, output_kept)
 
 operand-shown : (o : Option ObjectValue) → option_map operand_of (option_map shown o) ≡ option_map operand_of o
 operand-shown x = grind arith

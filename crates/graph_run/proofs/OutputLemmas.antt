@@ -1,13 +1,12 @@
 -- What nodes write to an output, whose samples are taken out, and put back once they are written.
-use Rattle.std.proofs.Common.{◌≡◌, ◌*◌, length, true, false, ℤ, List, Option, refl, ap, ◌∙◌, sym, [], Some, None, subst, arith, unsigned_abs, ◌==◌, IfSome, option_map}
-use Rattle.graph_run.proofs.Common.{length-map-range_with_len, ImageValue, IsImage, image_over, description_of, BinsValue, histogram, and_parts, Node, Format, Rectangle, empty, Description, same_size, ObjectValue, ImageObject, IsObject, object_kind, Output, image_of_one, node_image, beside_first, node_output, length-table, ImageMut, all_rows, HaveSameSize, written, Writes, all_written, CanRunTo, Holds, IsRead, RunsOn, RunsTo, image_value, with_samples, Kind, parameters, accumulates, Function, NotBits, Cell, Context, with_objects, Named, with_object, cell_object, image_held, HoldsImage, valid_samples}
+use Rattle.std.proofs.Common.{◌≡◌, ◌*◌, length, true, false, ℤ, List, Option, refl, ap, ◌∙◌, sym, [], Some, subst, arith, unsigned_abs, ◌==◌, IfSome, option_map}
+use Rattle.graph_run.proofs.Common.{length-map-range_with_len, ImageValue, IsImage, image_over, description_of, BinsValue, histogram, valid_samples, and_parts, Node, Format, Rectangle, empty, Description, same_size, ObjectValue, ImageObject, IsObject, object_kind, Output, node_image, beside_first, node_output, length-table, ImageMut, all_rows, HaveSameSize, written, Writes, all_written, CanRunTo, Holds, IsRead, RunsOn, RunsTo, image_value, with_samples, Kind, parameters, accumulates, Function, Cell, Context, with_objects, Named, with_object, cell_object, image_held, HoldsImage}
 use Rattle.graph_run.specs.Steps.{output_of}
 use Rattle.std.specs.List.{count_by}
 use Rattle.vx_base.specs.Statistics.{bin_of, is_bin}
 use Rattle.vx_base.proofs.ImageLaws.{same_parts}
 use Rattle.graph_run.proofs.OperandLaws.{described_node}
 use Rattle.vx_base.specs.declared.kind.Kind.TheVariants as kind
-use Rattle.vx_base.proofs.NodeLaws.{takes_no_distribution}
 use Rattle.graph_run.proofs.CellLemmas.{object_beside, object_if_beside, hold_beside, image_beside, with_object_twice, object_after, image_after, holds_image}
 
 -- there is a count for each bin
@@ -23,23 +22,13 @@ pub description_kept : (n : Node) (output : Output) (a : ImageValue) (second : O
 description_kept n output a second out h = grind (arith, described_node, same_description)
 
 -- and has a sample for each place
-sized_one : (function : Function) (n : Node) (output : Output) (format : Format) (a : ImageValue) → length (image_of_one function n output format a).samples ≡ a.height * a.width
-sized_one NotBits n output format a = length-table _ _ _
-sized_one function n output format a = length-table _ _ _
-
 sized_node : (n : Node) (output : Output) (format : Format) (a : ImageValue) (second : Option ObjectValue) → length (node_image n output format a second).samples ≡ a.height * a.width
-sized_node n output format a None = sized_one n.function n output format a
-sized_node n output format a (Some (ImageObject b)) = length-table _ _ _
-sized_node n output format a (Some second) = length-table _ _ _
+sized_node n output format a z4 = grind (arith, length-table)
 
 -- what is written to all rows of an output is what the node gives
 pub all_written_is : (n : Node) (which : Output) (a : ImageValue) (second : Option ObjectValue) (old new : ImageMut) → old.rows ≡ all_rows old.desc.height → HaveSameSize (written old) a
     → Writes (node_image n which old.desc.format a second) old new → written new ≡ node_image n which old.desc.format a second
-all_written_is n which a second old new all size is =
-    let d = described_node n which old.desc.format a second in
-    all_written (node_image n which old.desc.format a second) old new
-    (all ∙ ap (λ (e : Description). all_rows e.height) (sym (description_kept n which a second (written old) size)))
-    (sized_node n which old.desc.format a second ∙ ap (λ (e : Description). e.height * e.width) (sym d)) is
+all_written_is n which a second old new all size is = grind (arith, sized_node n which old.desc.format a second, all_written)
 
 -- samples that a node has written, with the rectangle beside them
 module _ (n : Node) (output : Output) (a : ImageValue) (second : Option ObjectValue) (d : Description) (old : ImageValue) (area : Rectangle) (samples : List ℤ)
@@ -65,12 +54,10 @@ of_images n output other second b h i = grind arith
 
 -- a kernel can run where an output is an image
 pub can_run : (n : Node) (first : ObjectValue) (second : Option ObjectValue) (out : ObjectValue) → RunsOn n first second out → object_kind out ≡ kind.Image → CanRunTo n (image_value first) second (image_value out)
-can_run n first second (ImageObject b) runs e = record { node = runs.node; kind = runs.second_kind; formats = runs.formats; size = runs.out_size; second_size = runs.second_size }
-can_run n first second other runs e = cc
+can_run n first second other runs e = grind arith
 
 -- what a function reads beside its first input can be lent to a kernel
 pub is_read : (function : Function) (k : Kind) → (parameters function).second_input ≡ Some k → IsRead k
-is_read function kind.Distribution e = absurd (takes_no_distribution function e)
 is_read function y e = grind arith
 
 -- a node's output that is an image, in a cell

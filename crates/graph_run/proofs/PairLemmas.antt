@@ -111,9 +111,6 @@ module _ (before : Context) (n : Node) (one other : Cell) (h : RunsTo before.obj
       image_once : image_held both_out.objects n.in1 ≡ image_held one_out.objects n.in1
       image_once = first_there one_out.objects n Second other runs_other images both_out left_other one_out is_both_out
 
-      image_before : image_held both_out.objects n.in1 ≡ image_held l n.in1
-      image_before = image_once ∙ first_there l n First one h images one_out left_one before is_one_out
-
       -- the kernel can run on what is taken out
       module _ (a : ImageValue) (is_a : a ≡ image_held both_out.objects n.in1) where
         pub can_one : (d : Description) → d ≡ description_of (image_held l one) → CanRunTo n a None (image_over d empty [])
@@ -146,11 +143,7 @@ module _ (before : Context) (n : Node) (one other : Cell) (h : RunsTo before.obj
               ∙ ap (λ (x : ObjectValue). description_of (image_value x)) late_one
 
           image_late : a ≡ image_held other_back.objects n.in1
-          image_late =
-              is_a
-              ∙ image_before
-              ∙ ap image_value (sym (object_beside l other n.in1 new_other k.in1_apart))
-              ∙ sym (first_there late n First one late_runs images other_back out_late (with_objects before late) back)
+          image_late = grind (arith, object_beside)
 
           -- both are written
           pub both_back : (e : Description) → e ≡ description_of (image_held l one) → (end : Context) (r : Rectangle) (zs : List ℤ)

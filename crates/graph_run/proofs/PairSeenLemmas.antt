@@ -1,11 +1,11 @@
 -- Nodes that write two outputs at once by the rows that they see: the samples of both are taken out, and put back once they are written.
 use Rattle.std.proofs.Common.{◌≡◌, ℕ, ℤ, List, [], take, None, refl, sym, ap, ◌∙◌, option_map}
-use Rattle.graph_run.proofs.Common.{Sobel, Node, First, Second, Cell, Description, sample_count, ImageValue, IsImage, image_over, description_of, ObjectValue, ImageObject, node_image, Rectangle, empty, Band, Context, with_objects, Named, with_object, image_value, with_samples, cell_object, image_held, HoldsImage, Stage, HasRows, SeesParts, scene, slot_of, Resized, AreApart, CanRunTo}
+use Rattle.graph_run.proofs.Common.{Sobel, Node, First, Second, Cell, Description, sample_count, ImageValue, image_over, description_of, ObjectValue, ImageObject, node_image, Rectangle, empty, Band, Context, with_objects, Named, with_object, image_value, with_samples, cell_object, image_held, HoldsImage, Stage, SeesParts, ReadsParts, scene, slot_of, Resized, AreApart, CanRunTo}
 use Rattle.graph_run.specs.Bands.{part_made, seen}
 use Rattle.graph_run.proofs.CellLemmas.{image_after, image_beside, object_after, object_beside, with_object_twice}
 use Rattle.graph_run.proofs.PairLemmas.{in_any_order, reads_one}
 use Rattle.graph_run.proofs.RunLemmas.{apart_back}
-use Rattle.graph_run.proofs.SeenLemmas.{as_high, first_image, first_rows, first_there, is_part, left_described, part_put, runs_there, seen_there, still_made, still_sees, takes_back}
+use Rattle.graph_run.proofs.SeenLemmas.{as_high, inputs_there, is_part, left_described, part_put, runs_there, seen_there, still_made, still_sees, takes_back}
 use Rattle.graph_run.proofs.StepLemmas.{Alike, resized_alike}
 
 module _ (rows : Band) (s : Stage) (n : Node) (one other : Cell) (h : SeesParts rows s n one) (k : SeesParts rows s n other) (apart : AreApart other one) where
@@ -43,14 +43,8 @@ module _ (rows : Band) (s : Stage) (n : Node) (one other : Cell) (h : SeesParts 
       alike_too : (name : ℕ) → Alike (slot_of t.slots.items name) (slot_of u.slots.items name)
       alike_too name = resized_alike t u other.name 0 changed name
 
-      pub reads_there : HoldsImage (scene u).objects n.in1
-      reads_there = first_there rows t n other sees_other u left_other both_taken alike_too
-
-      pub reads_image : IsImage (image_held (scene u).objects n.in1)
-      reads_image = first_image rows t n other sees_other u left_other both_taken alike_too
-
-      pub reads_rows : HasRows rows u n.in1
-      reads_rows = first_rows rows t n other sees_other u left_other both_taken alike_too
+      pub inputs_read : ReadsParts rows u n
+      inputs_read = inputs_there rows t n other sees_other u left_other both_taken alike_too
 
       pub takes_other : HoldsImage (scene u).objects other
       takes_other = takes_back rows t n other sees_other u left_other both_taken alike_too
@@ -65,11 +59,9 @@ module _ (rows : Band) (s : Stage) (n : Node) (one other : Cell) (h : SeesParts 
         is_a_once : ImageObject a ≡ seen rows t n.in1
         is_a_once = is_a ∙ seen_there rows t n other sees_other u left_other both_taken alike_too n.in1 sees_other.in1_apart
 
-        same_other : cell_object (scene t).objects other ≡ cell_object l other
-        same_other = ap (λ (c : Context). cell_object c.objects other) taken ∙ object_beside l one other (ImageObject left_one) apart
-
         high : out_other.height ≡ rows.count
-        high = ap (λ (o : ObjectValue). (image_value o).height) same_other ∙ high_other
+        high =
+            ap (λ (o : ObjectValue). (image_value o).height) (ap (λ (c : Context). cell_object c.objects other) taken ∙ object_beside l one other (ImageObject left_one) apart) ∙ high_other
 
         -- the kernel can run on what is taken out
         pub can_one : (d : Description) → d ≡ description_of out_one → CanRunTo n a None (image_over d empty [])

@@ -1,12 +1,11 @@
 -- Parts of virtual images that claim their slots: what stands there then.
 use Rattle.std.proofs.Common.{◌≡◌, ◌≢◌, ℕ, zero, suc, ◌+◌, ◌*◌, ◌/◌, ◌<◌, ◌≤◌, true, false, List, [], ◌∷◌, ◌++◌, map, take, length, get_or, set, Some, None, inr, refl, sym, ap, subst, ◌∙◌, arith, mul_comm, le-div_iff_mul-le, ◌==◌, ◌&&◌, IsTrue, slice_get, IfSome}
 use Rattle.graph_run.proofs.Common.{AllPairs, nat_tests, length-map, get_or-map, All-map, All-push, mul-le-mul_right, IfSome_then, Node, Cell, same_cell, Description, IsDescription, is_side, sample_count, same_format, Format, Named, object_held, VirtualOutput, writes, is_written, In, In-filter, In-from_filter, In-map, In-from_map, is_used, PlanValue, Slot, output_part, place_of, strip_plan, plan_in, most_rows, room_of, AreEmpty, AreShared, claimed_at, holder_at, HoldsVirtual, slot_of, AreVirtual}
-use Rattle.buffer_plan.specs.Slots.{of_format}
+use Rattle.buffer_plan.specs.Slots.{of_format, live_images}
 use Rattle.graph_run.specs.Stage.{shown}
 use Rattle.std.proofs.lemmas.List.{take_more_set}
 use Rattle.graph_verify.proofs.MemberLemmas.{any-map}
 use Rattle.buffer_plan.specs.Lives.{is_live}
-use Rattle.buffer_plan.specs.Slots.{live_images}
 use Rattle.graph_run.specs.declared.bands.Bands.{Bands}
 use Rattle.graph_run.proofs.AgreeLemmas.{Keeps}
 use Rattle.graph_run.proofs.SceneLemmas.{IsItsTurn, StandsIn, first_claims, second_claims, slot_kept, found_kept, stands_there, stands_in}
@@ -43,11 +42,13 @@ module _ (count : ℕ) (outs : List VirtualOutput) where
   parts_virtual l virtual =
       record { apart = parts_apart virtual.apart; held = All-map (λ (o : VirtualOutput). HoldsVirtual l o.cell.name) (output_part count) outs virtual.held }
 
+  -- what holds of the part of each image holds of each part
+  of_parts : (P : VirtualOutput → Type 0) → ((o : VirtualOutput) → In o outs → P (output_part count o)) → (a : VirtualOutput) → In a parts → P a
+  of_parts P each a i = let from = In-from_map (output_part count) a outs i in subst P (sym from.2) (each from.0 from.1)
+
   -- no part is of a cell of which no image is
   pub other_cells : (cell : Cell) → ((o : VirtualOutput) → In o outs → o.cell ≢ cell) → (a : VirtualOutput) → In a parts → a.cell ≢ cell
-  other_cells cell others a i same =
-      let from = In-from_map (output_part count) a outs i in
-      others from.0 from.1 (ap (λ (o : VirtualOutput). o.cell) (sym from.2) ∙ same)
+  other_cells cell others = of_parts (λ (o : VirtualOutput). o.cell ≢ cell) others
 
   -- a part that is live is of an image that is
   live_part : (steps : List Node) (format : Format) (step : ℕ) (a : VirtualOutput) → In a (live_images steps parts format step)
@@ -77,13 +78,9 @@ module _ (count : ℕ) (outs : List VirtualOutput) where
               (slots.valid format step one.0 other.0 one.1 other.1
               (ap (λ (o : VirtualOutput). p.slot_of o.cell) (sym one.2) ∙ same ∙ ap (λ (o : VirtualOutput). p.slot_of o.cell) other.2))
               ∙ sym other.2;
-          below = λ a i.
-              let from = In-from_map (output_part count) a outs i in
-              subst (λ (o : VirtualOutput). IfSome (p.slot_of o.cell) (λ k. k < p.slot_count o.desc.format)) (sym from.2) (slots.below from.0 from.1);
-          room = λ a i.
-              let from = In-from_map (output_part count) a outs i in
-              subst (λ (o : VirtualOutput). IfSome (p.slot_of o.cell) (λ k. sample_count o.desc ≤ p.slot_samples o.desc.format k / height * most)) (sym from.2)
-              (IfSome_then (p.slot_of from.0.cell) (slots.room from.0 from.1) (λ k room. less from.0 from.1 (p.slot_samples from.0.desc.format k) room));
+          below = of_parts (λ (o : VirtualOutput). IfSome (p.slot_of o.cell) (λ k. k < p.slot_count o.desc.format)) slots.below;
+          room = of_parts (λ (o : VirtualOutput). IfSome (p.slot_of o.cell) (λ k. sample_count o.desc ≤ p.slot_samples o.desc.format k / height * most))
+              (λ o i. IfSome_then (p.slot_of o.cell) (slots.room o i) (λ k room. less o i (p.slot_samples o.desc.format k) room));
         }
       where
         less : (o : VirtualOutput) → In o outs → (n : ℕ) → sample_count o.desc ≤ n → count * o.desc.width ≤ n / height * most
@@ -94,7 +91,7 @@ module _ (count : ℕ) (outs : List VirtualOutput) where
     part_turn p before after n turn =
         record {
           slots = part_slots (before ++ n ∷ after) p turn.slots;
-          itself = λ a i. let from = In-from_map (output_part count) a outs i in subst (λ (o : VirtualOutput). o.cell ≡ whole o.cell.name) (sym from.2) (turn.itself from.0 from.1);
+          itself = of_parts (λ (o : VirtualOutput). o.cell ≡ whole o.cell.name) turn.itself;
           once = turn.once;
         }
 
@@ -125,8 +122,7 @@ part_sides count d is some low = grind (arith, nat_tests, is.width, is.height, s
 pub part_made : (count width : ℕ) (format : Format) (o : VirtualOutput) (d : Description) → d ≡ record { width = width; height = count; format = format } → width ≡ o.desc.width → format ≡ o.desc.format
     → output_at o.cell d ≡ output_part count o
 part_made count width format o d is wide alike =
-    ap (output_at o.cell) (is ∙ ap (λ (w : ℕ). let e : Description = record { width = w; height = count; format = format } in e) wide
-    ∙ ap (λ (f : Format). let e : Description = record { width = o.desc.width; height = count; format = f } in e) alike)
+    let same : d ≡ record { width = o.desc.width; height = count; format = o.desc.format } = cc in ap (output_at o.cell) same
 
 -- ---- slots once both outputs of a node have claimed theirs
 

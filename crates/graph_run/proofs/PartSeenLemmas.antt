@@ -1,6 +1,6 @@
 -- Rows of images that nodes see, as images of their own.
-use Rattle.std.proofs.Common.{◌≡◌, ℕ, ℤ, ◌+◌, ◌-◌, ◌*◌, ◌≤◌, false, List, map, length, take, drop, Option, Some, None, sym, ap, subst, ◌∙◌, arith, zero-add, IsSome, position, drop_at, take_at}
-use Rattle.graph_run.proofs.Common.{length-map, take-map, drop-map, Format, Description, Rectangle, ImageValue, IsImage, image_over, description_of, band, at, ObjectValue, ImageObject, object_kind, band-append, length-band, Band, IsInRows, Cell, Named, object_held, image_value, cell_object, HoldsImage, image_of_kind, part_of, part_is, Slot, Stage, HasRowsIn, part_seen, seen_in, is_virtual_object, is_named, slot_of, IsArranged}
+use Rattle.std.proofs.Common.{◌≡◌, ℕ, ℤ, ◌+◌, ◌-◌, ◌*◌, ◌≤◌, false, List, map, length, take, drop, Option, Some, None, refl, sym, ap, subst, ◌∙◌, arith, zero-add, position, drop_at, take_at}
+use Rattle.graph_run.proofs.Common.{mul-le-mul_right, length-map, take-map, drop-map, Format, Description, Rectangle, ImageValue, IsImage, image_over, description_of, band, at, ObjectValue, ImageObject, object_kind, band-append, length-band, Band, IsInRows, Cell, Named, object_held, image_value, cell_object, HoldsImage, image_of_kind, part_of, part_is, Slot, Stage, HasRowsIn, part_seen, seen_in, is_virtual_object, is_named, slot_of, IsArranged}
 use Rattle.vx_base.specs.declared.kind.Kind.TheVariants as kind
 use Rattle.vx_base.proofs.ImageLaws.{samples_are_band}
 use Rattle.node_rows.specs.Parts.{rows_of}
@@ -34,12 +34,11 @@ rows_lent value xs image rows from to is room same first last =
     ∙ ap (take (rows.count * image.width)) (sym (drop-map value (rows.start * image.width) xs) ∙ ap (drop (rows.start * image.width)) (same ∙ sym (samples_are_band image.samples image.width image.height is.size)))
     ∙ band_part image.width image.height rows.start rows.count (at image) room
 
--- whole rows end within all
-rows_fit : (width height start count : ℕ) → start + count ≤ height → start * width + count * width ≤ height * width
-rows_fit width height start count room = parted (height - start - count) (omega arith)
-  where
-    parted : (rest : ℕ) → height ≡ start + count + rest → start * width + count * width ≤ height * width
-    parted rest e = let more : height * width ≡ (start + count + rest) * width = ap (λ n. n * width) e in omega (arith, more)
+-- a slice of samples, so many from a place on, that is lent as rows of an image
+pub record IsLent {T : Type 0} (value : T → ℤ) (xs : List T) (image : ImageValue) (rows : Band) (d : Description) (valid : Rectangle) (first count : ℕ) : Type 0 where
+  pub within : first + count ≤ length xs
+  pub part : image_over d valid (map value (take (first + count - first) (drop first xs))) ≡ part_of rows.start rows.count image
+  pub is : IsImage (image_over d valid (map value (take (first + count - first) (drop first xs))))
 
 -- a slice of whole rows of an image's samples, with these rows' description and rectangle
 module _ {T : Type 0} (value : T → ℤ) (xs : List T) (image : ImageValue) (rows : Band) (desc d : Description) (w side width s n : ℕ) (f : Format) (area valid : Rectangle)
@@ -55,29 +54,25 @@ module _ {T : Type 0} (value : T → ℤ) (xs : List T) (image : ImageValue) (ro
   count_is : n * width ≡ rows.count * image.width
   count_is = ap (λ k. k * width) n_is ∙ ap (λ k. rows.count * k) wide
 
-  pub ends_within : s * width + n * width ≤ length xs
-  ends_within =
-      let long : length xs ≡ image.height * image.width = sym (length-map xs value) ∙ ap length same ∙ is.size in
-      omega (arith, long, from_is, count_is, rows_fit image.width image.height rows.start rows.count room)
-
   described : d ≡ record { width = image.width; height = rows.count; format = image.format }
-  described =
-      d_is
-      ∙ ap (λ k. let e : Description = record { width = k; height = rows.count; format = f } in e) (w_is ∙ ap (λ (e : Description). e.width) desc_is)
-      ∙ ap (λ k. let e : Description = record { width = image.width; height = rows.count; format = k } in e) (f_is ∙ ap (λ (e : Description). e.format) desc_is)
+  described = cc
 
   abbrev lent : List ℤ
   lent = map value (take (s * width + n * width - s * width) (drop (s * width) xs))
 
-  pub part_lent : image_over d valid lent ≡ part_of rows.start rows.count image
+  part_lent : image_over d valid lent ≡ part_of rows.start rows.count image
   part_lent =
-      ap (λ e. image_over e valid lent) described
-      ∙ ap (λ r. image_over (record { width = image.width; height = rows.count; format = image.format }) r lent) (valid_is ∙ ap (rows_of rows.start rows.count) area_is)
-      ∙ ap (λ zs. image_over (record { width = image.width; height = rows.count; format = image.format }) (rows_of rows.start rows.count image.valid) zs)
-      (rows_lent value xs image rows (s * width) (s * width + n * width) is room same from_is (ap (λ k. s * width + k) count_is))
+      let samples = rows_lent value xs image rows (s * width) (s * width + n * width) is room same from_is (ap (λ k. s * width + k) count_is) in
+      rw (described, valid_is, area_is, samples) refl
 
-  pub lent_is : IsImage (image_over d valid lent)
-  lent_is = subst IsImage (sym part_lent) (part_is rows.start rows.count image is room)
+  pub rows_are_lent : IsLent value xs image rows d valid (s * width) (n * width)
+  rows_are_lent =
+      let long : length xs ≡ image.height * image.width = sym (length-map xs value) ∙ ap length same ∙ is.size in
+      record {
+        within = omega (arith, long, from_is, count_is, mul-le-mul_right image.width room);
+        part = part_lent;
+        is = subst IsImage (sym part_lent) (part_is rows.start rows.count image is room);
+      }
 
 -- ---- objects
 
@@ -95,11 +90,8 @@ pub held_kind : (objects : List Named) (cell : Cell) → HoldsImage objects cell
 held_kind objects cell there = kind_there objects (cell, kind.Image) there
 
 -- what stands in a slot is seen as it is
-in_slot_seen : (rows : Band) (found : Option Slot) (object : ObjectValue) → IsSome found → seen_in found rows object ≡ object
-in_slot_seen rows found object some = grind (arith, some)
-
 pub stands_seen : (rows : Band) (slots : List Slot) (name k : ℕ) (object : ObjectValue) → position (λ t. is_named name t.holder) slots ≡ Some k → seen_in (slot_of slots name) rows object ≡ object
-stands_seen rows slots name k object at = in_slot_seen rows (slot_of slots name) object (placed_found (λ t. is_named name t.holder) slots k at)
+stands_seen rows slots name k object at = grind (arith, placed_found (λ t. is_named name t.holder) slots k at)
 
 -- what is seen depends on a slot only by whether there is one
 pub seen_alike : (one other : Option Slot) → Alike one other → (rows : Band) (object : ObjectValue) → seen_in one rows object ≡ seen_in other rows object

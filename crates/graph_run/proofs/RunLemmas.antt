@@ -1,6 +1,6 @@
 -- Nodes on what their cells hold, and what they write.
-use Rattle.std.proofs.Common.{◌≡◌, ◌≢◌, ℕ, Bool, true, false, List, [], ◌∷◌, ◌++◌, Option, Some, None, refl, sym, ap, subst, ◌∙◌, arith, rules, All, ◌==◌, ◌&&◌, is_some, is_none, unwrap_or, if◌then◌else◌, IfSome, option_to_list, option_map, option_and_then, eq-eqb}
-use Rattle.graph_run.proofs.Common.{list_any, list_all, IsStrictlyIncreasing, list_any-append, and_parts, or_parts, Function, Output, First, Second, Kind, Node, Cell, same_cell, cell_of, Description, same_size, parameters, accumulates, ImageValue, IsImage, description_of, extremes, IsNode, is_node, given, outputs, second_kind, ObjectValue, ImageObject, ExtremesObject, IsObject, object_kind, object_format, node_image, beside_first, node_output, written_in, written_by, SecondHasSize, Operands, Operand, has_twice, operand_of, operands_of, operand_format, are_of_one_size, writes_twice, reads_own_output, node_fault, Named, held, with_object, with_written, image_value, object_under, IsUnder, cell_object, image_held, names_of, held_is, lasting, Lasts, operand_held, Holds, AreApart, RunsOn, RunsTo, counted_in, with_output, HoldsKind, CanRunNow, node_image_is, DistributionObject, accumulated_image_is}
+use Rattle.std.proofs.Common.{◌≡◌, ◌≢◌, ℕ, Bool, true, false, List, [], ◌∷◌, ◌++◌, Option, Some, None, refl, sym, ap, subst, ◌∙◌, arith, rules, All, ◌&&◌, is_some, is_none, unwrap_or, if◌then◌else◌, IfSome, option_to_list, option_map, option_and_then, eq-eqb}
+use Rattle.graph_run.proofs.Common.{list_any, list_all, IsStrictlyIncreasing, list_any-append, and_parts, or_parts, Function, Output, First, Second, Kind, Node, Cell, same_cell, cell_of, parameters, accumulates, ImageValue, IsImage, extremes, IsNode, is_node, given, outputs, second_kind, ObjectValue, ImageObject, ExtremesObject, IsObject, object_kind, object_format, DistributionObject, node_image, beside_first, node_output, written_in, written_by, SecondHasSize, Operands, Operand, has_twice, operand_of, operands_of, operand_format, are_of_one_size, writes_twice, reads_own_output, node_fault, Named, held, with_object, with_written, image_value, object_under, cell_object, image_held, names_of, held_is, lasting, Lasts, operand_held, Holds, AreApart, RunsOn, RunsTo, counted_in, with_output, HoldsKind, CanRunNow, node_image_is, accumulated_image_is}
 use Rattle.graph_run.specs.Steps.{output_of}
 use Rattle.std.proofs.lemmas.List.Folds.{list_all-append}
 use Rattle.vx_base.specs.declared.kind.Kind.TheVariants as kind
@@ -32,23 +32,12 @@ no_image e = cc
 
 -- ---- the objects that a node reads and writes
 
-pub same_format : (object : ObjectValue) → operand_format (operand_of object) ≡ object_format object
-same_format other = grind arith
-
 pub same_formats : (second : Option ObjectValue) → option_and_then operand_format (option_map operand_of second) ≡ option_and_then object_format second
 same_formats x = grind arith
 
-swapped : (a b : Description) → same_size a b ≡ true → same_size b a ≡ true
-swapped a b e = grind (arith, and_parts (a.width == b.width) (a.height == b.height) e)
-
 -- an image of the size of another
 object_fits : (a : ImageValue) (object : ObjectValue) → are_of_one_size (operand_of (ImageObject a)) (operand_of object) ≡ true → SecondHasSize a (Some object)
-object_fits a (ImageObject b) e = swapped (description_of a) (description_of b) e
-object_fits a other e = tt
-
-second_fits : (a : ImageValue) (second : Option ObjectValue) → list_all (are_of_one_size (operand_of (ImageObject a))) (option_to_list (option_map operand_of second)) ≡ true → SecondHasSize a second
-second_fits a None e = tt
-second_fits a (Some object) e = object_fits a object (and_parts (are_of_one_size (operand_of (ImageObject a)) (operand_of object)) true e).0
+object_fits a other e = grind arith
 
 -- the cells of two lists, none of which a second input is
 in2_reads : (cell : Option Cell) (xs ys : List Cell) → list_any (λ a. list_any (same_cell a) (xs ++ ys)) (given cell) ≡ false
@@ -90,13 +79,11 @@ module _ (n : Node) where
       → object_kind first ≡ kind.Image → object_kind out ≡ (parameters n.function).output → IsObject first → IfSome second IsObject → IsObject out → IfSome second (λ object. (parameters n.function).second_input ≡ Some (object_kind object))
       → Suits n.function (operand_of first) (option_and_then operand_format (option_map operand_of second)) (operand_of out) → list_all (are_of_one_size (operand_of first)) (option_to_list (option_map operand_of second)) ≡ true
       → RunsOn n first second out
-  runs_on node (ImageObject a) second out h i is_first is_second is_out k suits sizes = grind (arith, same_formats, same_format, second_fits, object_fits)
-  runs_on node other second out h i is_first is_second is_out k suits sizes = cc
+  runs_on node other second out h i is_first is_second is_out k suits sizes = grind (arith, object_fits)
 
   -- a second input is what the function has there
   second_wanted : (objects : List Named) (cell : Option Cell) (s : Option Kind) → (if is_some s then is_some cell else is_none cell) ≡ true → IfSome cell (λ c. HoldsKind objects (c, unwrap_or s kind.Image))
       → IfSome (option_map (cell_object objects) cell) (λ object. s ≡ Some (object_kind object))
-  second_wanted objects (Some c) (Some s) has h = ap Some (sym (kind_there objects (c, s) h))
   second_wanted objects y s has h = grind arith
 
   -- what a node reads and writes, where its cells hold what its function has there
@@ -108,8 +95,7 @@ module _ (n : Node) where
     wanted = (parameters n.function).output
 
     if_there : (cell : Option Cell) (k : Kind) → IfSome cell (λ c. HoldsKind objects (c, k)) → option_map (operand_held objects) cell ≡ option_map operand_of (option_map (cell_object objects) cell)
-    if_there None k held = refl
-    if_there (Some c) k held = ap Some (operand_there objects c (holds_there objects (c, k) held))
+    if_there z0 k held = grind arith
 
     abbrev made : Operand → Option Operand → Option Operand → Option Operand → Operands
     made a b c d = record { in1 = a; in2 = b; out1 = c; out2 = d }
@@ -136,8 +122,7 @@ module _ (n : Node) where
     object_is cell is = subst (λ (o : Option ObjectValue). IfSome o IsObject) (there_is objects cell is) (held_is objects cell are)
 
     object_if_is : (cell : Option Cell) → IfSome cell (Holds objects) → IfSome (option_map (cell_object objects) cell) IsObject
-    object_if_is None is = tt
-    object_if_is (Some c) is = object_is c is
+    object_if_is z0 is = grind (arith, object_is)
 
     each : (cell : Option Cell) → IfSome cell (λ c. HoldsKind objects (c, wanted)) → list_any (same_cell n.in1) (given cell) ≡ false → list_any (λ a. list_any (same_cell a) (given cell)) (given n.in2) ≡ false
         → IfSome (option_map operand_of (option_map (cell_object objects) cell)) (Suits n.function (operand_of (cell_object objects n.in1)) (option_and_then operand_format (option_map operand_of (option_map (cell_object objects) n.in2)))) → IfSome cell (RunsTo objects n)
@@ -191,15 +176,12 @@ module _ (n : Node) where
         after x other r s e = grind arith
 
     second_held : (cell : Option Cell) (k : Kind) → IfSome cell (λ c. HoldsKind objects (c, k)) → option_and_then (held objects) cell ≡ option_map (cell_object objects) cell
-    second_held None k s = refl
-    second_held (Some c) k s = there_is objects c (holds_there objects (c, k) s)
+    second_held z0 k s = grind arith
 
     -- one of the outputs is written, where perhaps the other is written already
     written_one : (l : List Named) (which : Output) (cell : Option Cell) → IfSome cell (λ c. HoldsKind objects (c, wanted)) → IfSome cell (λ c. output_of l n which c ≡ output_of objects n which c)
         → with_written l (written_in n which cell (held objects) (held objects)) ≡ with_output l n which cell
-    written_one l which None s same = refl
-    written_one l which (Some c) s same =
-        grind (arith, there_is objects n.in1 (holds_there objects (n.in1, kind.Image) h.in1), holds_there objects (n.in1, kind.Image) h.in1, second_held n.in2 (second_kind n) h.in2, there_is objects c (holds_there objects (c, wanted) s), holds_there objects (c, wanted) s)
+    written_one l which z2 s same = grind (arith, holds_there objects (n.in1, kind.Image) h.in1, second_held n.in2 (second_kind n) h.in2)
 
     same_first : (cell : Option Cell) → IfSome cell (λ c. output_of objects n First c ≡ output_of objects n First c)
     same_first x = grind arith
@@ -239,9 +221,6 @@ module _ (l : List Named) (n : Node) (which : Output) (output : Cell) (runs : Ru
   module _ (k : Kind) (is : (parameters n.function).output ≡ k) (other : k ≢ kind.Image) where
     whole : output.slot ≡ None
     whole = whole_cell l output runs.out (λ image. other (sym (runs.runs.out_kind ∙ is) ∙ image))
-
-    pub under_kind : IsUnder l k output.name
-    under_kind = grind (arith, there_is l output runs.out)
 
     object_is_under : cell_object l output ≡ object_under l output.name
     object_is_under = ap (cell_object l) (sym (as_whole output whole)) ∙ under_whole l output.name

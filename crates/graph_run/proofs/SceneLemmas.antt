@@ -30,9 +30,7 @@ pub rooms_stay : (old new : List Slot) → map fixed new ≡ map fixed old → m
 rooms_stay old new same = map-told fixed room_of (λ f. (f.0, f.1)) (λ _. refl) new old same
 
 holders_stay : (old new : List Slot) → map fixed new ≡ map fixed old → (k : ℕ) → holder_at new k ≡ holder_at old k
-holders_stay old new same k =
-    let both : option_map fixed (slice_get new k) ≡ option_map fixed (slice_get old k) = sym (slice_get-map fixed new k) ∙ ap (λ l. slice_get l k) same ∙ slice_get-map fixed old k in
-    grind (arith, both)
+holders_stay old new same k = grind (arith, slice_get-map fixed new k, slice_get-map fixed old k)
 
 pub shared_stay : (p : PlanValue) (outs : List VirtualOutput) (old new : List Slot) → map fixed new ≡ map fixed old → AreShared p outs old → AreShared p outs new
 shared_stay p outs old new same shared =
@@ -58,8 +56,7 @@ forgotten-twice x now new labels one other = grind arith
 -- a virtual image stays where it was
 pub stays_virtual : (old now : List Named) → map label_of now ≡ map label_of old → forgotten old now ≡ now → (name : ℕ) (image : VirtualImage)
     → object_held old name ≡ Some (VirtualObject image) → object_held now name ≡ Some (VirtualObject image)
-stays_virtual old now labels kept name image at =
-    grind (arith, both_held, labels, object_held-forgotten)
+stays_virtual old now labels kept name image at = grind (arith, both_held, object_held-forgotten)
 
 pub outputs_stay : (old now : List Named) (outs : List VirtualOutput) → map label_of now ≡ map label_of old → forgotten old now ≡ now → AreVirtual old outs → AreVirtual now outs
 outputs_stay old now outs labels kept virtual =
@@ -115,8 +112,7 @@ module _ (outs : List VirtualOutput) (p : PlanValue) (before after : List Node) 
 
     -- what is as it would be stays so
     kept_name : (name : ℕ) → Keeps outs before (n ∷ after) name → (o : VirtualOutput) → In o outs → writes n o.cell ≡ true → o.cell.name ≢ name
-    kept_name name (inl none) o i w same = let some = name_of_output outs o i name (sym same) in cc
-    kept_name name (inr used) o i w same = turn.once o.cell w (ap (is_written before) (turn.itself o i ∙ ap whole same) ∙ used.0)
+    kept_name name z1 o i w same = grind (arith, name_of_output)
 
     kept_for : (name : ℕ) → Keeps outs before (n ∷ after) name → (is_output outs name ≡ false) ⊎ (is_used (n ∷ after) (whole name) ≡ true)
     kept_for name y = grind arith

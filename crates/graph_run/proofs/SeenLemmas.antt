@@ -1,6 +1,7 @@
 -- What nodes that see parts of images write: parts to slots, and bands to images of the client's.
 use Rattle.std.proofs.Common.{◌≡◌, ℕ, ℤ, ◌+◌, ◌-◌, ◌*◌, ◌≤◌, ◌<◌, pos, Bool, List, [], ◌∷◌, ◌++◌, length, take, drop, get_or, Option, Some, None, IfSome, refl, sym, ap, subst, ◌∙◌, arith, All, IsSome, position, option_map, length-append, length-take, length-drop, take_all}
-use Rattle.graph_run.proofs.Common.{IsStrictlyIncreasing, mul-le-mul_right, All-take, All-cons, All-nil, All-from_get_or, Format, Node, Output, First, Second, Cell, Description, sample_count, ImageValue, IsImage, image_over, description_of, band, at, ObjectValue, ImageObject, IsObject, object_kind, node_image, Rectangle, empty, IsSample, node_image_is, length-band, Band, IsInRows, Context, with_objects, Named, with_object, with_written, image_value, with_samples, cell_object, image_held, HoldsImage, part_of, part_is, Strip, Slot, Stage, seen_in, HasRowsIn, HasRows, SeesParts, IsWithinRows, with_band, made_in, made_seen, HasPlaceIn, IsSeen, lasting, Lasts, is_named, scene, slot_of, IsStage, IsArranged, Holds, IsRead, AreApart, CanRunTo, above}
+use Rattle.graph_run.proofs.Common.{IsStrictlyIncreasing, mul-le-mul_right, All-take, All-cons, All-nil, All-from_get_or, Format, Node, Output, First, Second, Cell, Description, sample_count, ImageValue, IsImage, image_over, description_of, band, at, ObjectValue, ImageObject, IsObject, object_kind, node_image, Rectangle, empty, IsSample, node_image_is, length-band, Band, IsInRows, Context, with_objects, Named, with_object, with_written, image_value, with_samples, cell_object, image_held, HoldsImage, part_of, part_is, Strip, Slot, Stage, seen_in, HasRowsIn, HasRows, SeesParts, IsWithinRows, with_band, made_in, made_seen, HasPlaceIn, IsSeen, ReadsParts, lasting, Lasts, is_named, scene, slot_of, IsStage, IsArranged, Holds, IsRead, AreApart, CanRunTo}
+use Rattle.vx_base.proofs.ImageLaws.{above}
 use Rattle.vx_base.specs.Rectangle.{whole}
 use Rattle.graph_run.specs.Bands.{seen, part_made}
 use Rattle.graph_run.specs.Stage.{Keeps}
@@ -8,7 +9,6 @@ use Rattle.std.proofs.lemmas.List.Elements.{All-append, All-drop, All-get_or}
 use Rattle.vx_base.specs.declared.desc.TheConstants.{GREATEST_SIDE}
 use Rattle.vx_base.specs.declared.kind.Kind.TheVariants as kind
 use Rattle.vx_base.proofs.ImageLaws.{index_of_place, inside_whole}
-use Rattle.graph_run.specs.Bands.{ReadsParts}
 use Rattle.graph_run.proofs.CellLemmas.{IsReplacement, held_image, object_beside, object_if_beside, hold_beside, image_beside, object_after, image_after, with_object_twice, Lasts-with_written}
 use Rattle.graph_run.proofs.LastingLemmas.{images-last}
 use Rattle.graph_run.proofs.OutputLemmas.{description_kept, stored_is}
@@ -19,9 +19,6 @@ use Rattle.graph_run.proofs.StepLemmas.{Alike, none_alike, slots_alike, kept_sta
 
 -- ---- a band among the samples of an image
 
-whole_rows : (width height count : ℕ) → count ≤ height → count * width ≤ height * width
-whole_rows width height count room = mul-le-mul_right width room
-
 -- samples are as many as before, where those of a band are others
 length-banded : (width height start count from : ℕ) (f : ℕ → ℕ → ℤ) (zs : List ℤ) → length zs ≡ height * width → start + count ≤ height
     → length (take (start * width) zs ++ band width from count f ++ drop ((start + count) * width) zs) ≡ length zs
@@ -29,7 +26,7 @@ length-banded width height start count from f zs long room =
     omega (
       arith,
       long,
-      whole_rows width height (start + count) room,
+      mul-le-mul_right width room,
       length-append (take (start * width) zs ++ band width from count f) (drop ((start + count) * width) zs),
       length-append (take (start * width) zs) (band width from count f),
       length-take (start * width) zs,
@@ -38,13 +35,9 @@ length-banded width height start count from f zs long room =
     )
 
 all_samples : (a : ImageValue) → IsImage a → All (IsSample a.format) a.samples
-all_samples a is = All-from_get_or (IsSample a.format) a.samples (pos 0) each
-  where
-    each : (k : ℕ) → k < length a.samples → IsSample a.format (get_or a.samples k (pos 0))
-    each k below =
-        let p = index_of_place a.width a.height k (omega (arith, is.size)) in
-        let P : ℕ → Type 0 = λ n. IsSample a.format (get_or a.samples n (pos 0)) in
-        subst P p.4 (is.sampled p.0 p.1 p.2 p.3)
+all_samples a is = All-from_get_or (IsSample a.format) a.samples (pos 0) (λ k below.
+    let p = index_of_place a.width a.height k (omega (arith, is.size)) in
+    subst (λ n. IsSample a.format (get_or a.samples n (pos 0))) p.4 (is.sampled p.0 p.1 p.2 p.3))
 
 -- samples of its format make an image that is wholly valid
 wholly_valid : (d : Description) (zs : List ℤ) → d.width ≤ GREATEST_SIDE → d.height ≤ GREATEST_SIDE → length zs ≡ d.height * d.width → All (IsSample d.format) zs
@@ -95,9 +88,7 @@ image_seen (Some s) rows object of_kind is has = is
 image_seen None rows object of_kind is has = absurd (cc)
 
 object_seen : (slot : Option Slot) (rows : Band) (object : ObjectValue) → IsObject object → (slot ≡ None → HasRowsIn rows object) → IsObject (seen_in slot rows object)
-object_seen None rows (ImageObject image) is has = part_is rows.start rows.count image is (has refl)
-object_seen (Some s) rows object is has = is
-object_seen None rows object is has = grind arith
+object_seen slot rows x is has = grind (arith, part_is, has)
 
 -- ---- a node's output, written by what the node sees
 
@@ -118,10 +109,7 @@ module _ (rows : Band) (s : Stage) (n : Node) (output : Cell) (h : SeesParts row
 
   -- so is what has its width and format and is as high
   pub as_target : (d part : Description) (width : ℕ) (format : Format) → d ≡ description_of out → width ≡ d.width → format ≡ d.format → part ≡ record { width = width; height = rows.count; format = format } → part ≡ target
-  as_target d part width format d_is wide of_format is =
-      is
-      ∙ ap (λ k. let e : Description = record { width = k; height = rows.count; format = format } in e) (wide ∙ ap (λ (e : Description). e.width) d_is)
-      ∙ ap (λ f. let e : Description = record { width = out.width; height = rows.count; format = f } in e) (of_format ∙ ap (λ (e : Description). e.format) d_is)
+  as_target d part width format d_is wide of_format is = rw (is, wide, of_format, d_is) refl
 
   -- ---- what the node makes of what it sees
 
@@ -161,7 +149,7 @@ module _ (rows : Band) (s : Stage) (n : Node) (output : Cell) (h : SeesParts row
     as_long = long ∙ ap sample_count d_is ∙ ap (λ (e : Description). out.height * e.width) (sym part_is)
 
     pub has_room : end * part.width ≤ length old
-    has_room = omega (arith, as_long, whole_rows part.width out.height end above_end)
+    has_room = omega (arith, as_long, mul-le-mul_right part.width above_end)
 
     pub band_count : (f : ℕ → ℕ → ℤ) (zs : List ℤ) → zs ≡ take (strip.band.start * part.width) old ++ band part.width start strip.band.count f ++ drop (end * part.width) old → length zs ≡ length old
     band_count f zs is = ap length is ∙ length-banded part.width out.height strip.band.start strip.band.count start f old as_long above_end
@@ -180,47 +168,26 @@ module _ (rows : Band) (s : Stage) (n : Node) (output : Cell) (h : SeesParts row
     rows_there : (cell : Cell) → AreApart cell output → HasRows rows s cell → HasRows rows t cell
     rows_there cell apart has none = subst (HasRowsIn rows) (sym (object_there cell apart)) (has (none_alike (slot_of s.slots.items cell.name) (slot_of t.slots.items cell.name) (alike cell.name) none))
 
-    -- the inputs stand where they stood
-    pub first_there : HoldsImage (scene t).objects n.in1
-    first_there = subst (λ (c : Context). HoldsImage c.objects n.in1) (sym taken) (image_beside objects output n.in1 (ImageObject left) h.in1_apart h.in1)
-
-    pub first_image : IsImage (image_held (scene t).objects n.in1)
-    first_image = subst (λ (o : ObjectValue). IsImage (image_value o)) (sym (object_there n.in1 h.in1_apart)) h.first
-
-    pub first_rows : HasRows rows t n.in1
-    first_rows = rows_there n.in1 h.in1_apart h.in1_rows
-
     second_there : option_map (cell_object (scene t).objects) n.in2 ≡ option_map (cell_object objects) n.in2
     second_there = ap (λ (c : Context). option_map (cell_object c.objects) n.in2) taken ∙ object_if_beside objects output n.in2 (ImageObject left) h.in2_apart
 
-    pub second_holds : IfSome n.in2 (Holds (scene t).objects)
-    second_holds = subst (λ (c : Context). IfSome n.in2 (Holds c.objects)) (sym taken) (hold_beside objects output n.in2 (ImageObject left) h.in2_apart h.in2)
-
-    pub second_is : IfSome (option_map (cell_object (scene t).objects) n.in2) IsObject
-    second_is = subst (λ (o : Option ObjectValue). IfSome o IsObject) (sym second_there) h.second
-
-    pub second_read : IfSome (option_map (cell_object (scene t).objects) n.in2) (λ object. IsRead (object_kind object))
-    second_read = subst (λ (o : Option ObjectValue). IfSome o (λ object. IsRead (object_kind object))) (sym second_there) h.second_kind
-
-    pub second_rows : IfSome n.in2 (HasRows rows t)
-    second_rows = each n.in2 h.in2_apart h.in2_rows
+    -- the inputs stand where they stood
+    pub inputs_there : ReadsParts rows t n
+    inputs_there =
+        record {
+          in1 = subst (λ (c : Context). HoldsImage c.objects n.in1) (sym taken) (image_beside objects output n.in1 (ImageObject left) h.in1_apart h.in1);
+          in2 = subst (λ (c : Context). IfSome n.in2 (Holds c.objects)) (sym taken) (hold_beside objects output n.in2 (ImageObject left) h.in2_apart h.in2);
+          first = subst (λ (o : ObjectValue). IsImage (image_value o)) (sym (object_there n.in1 h.in1_apart)) h.first;
+          second = subst (λ (o : Option ObjectValue). IfSome o IsObject) (sym second_there) h.second;
+          second_kind = subst (λ (o : Option ObjectValue). IfSome o (λ object. IsRead (object_kind object))) (sym second_there) h.second_kind;
+          some_rows = h.some_rows;
+          in1_rows = rows_there n.in1 h.in1_apart h.in1_rows;
+          in2_rows = each n.in2 h.in2_apart h.in2_rows;
+        }
       where
         each : (cell : Option Cell) → IfSome cell (λ c. AreApart c output) → IfSome cell (HasRows rows s) → IfSome cell (HasRows rows t)
         each None apart has = tt
         each (Some cell) apart has = rows_there cell apart has
-
-    pub inputs_there : ReadsParts rows t n
-    inputs_there =
-        record {
-          in1 = first_there;
-          in2 = second_holds;
-          first = first_image;
-          second = second_is;
-          second_kind = second_read;
-          some_rows = h.some_rows;
-          in1_rows = first_rows;
-          in2_rows = second_rows;
-        }
 
     second_seen : option_map (seen rows t) n.in2 ≡ option_map (seen rows s) n.in2
     second_seen = each n.in2 h.in2_apart
@@ -235,16 +202,16 @@ module _ (rows : Band) (s : Stage) (n : Node) (output : Cell) (h : SeesParts row
       still_sees =
           let there = object_there other apart in
           record {
-            in1 = first_there;
-            in2 = second_holds;
+            in1 = inputs_there.in1;
+            in2 = inputs_there.in2;
             out = subst (λ (c : Context). HoldsImage c.objects other) (sym taken) (image_beside objects output other (ImageObject left) apart k.out);
-            first = first_image;
-            second = second_is;
-            second_kind = second_read;
+            first = inputs_there.first;
+            second = inputs_there.second;
+            second_kind = inputs_there.second_kind;
             out_image = subst (λ (o : ObjectValue). IsImage (image_value o)) (sym there) k.out_image;
             some_rows = k.some_rows;
-            in1_rows = first_rows;
-            in2_rows = second_rows;
+            in1_rows = inputs_there.in1_rows;
+            in2_rows = inputs_there.in2_rows;
             in1_apart = k.in1_apart;
             in2_apart = k.in2_apart;
             can_run = rw (seen_there n.in1 h.in1_apart, second_seen, there) k.can_run;
@@ -262,12 +229,6 @@ module _ (rows : Band) (s : Stage) (n : Node) (output : Cell) (h : SeesParts row
 
     pub left_described : description_of (image_held (scene t).objects output) ≡ description_of left
     left_described = ap (λ (o : ObjectValue). description_of (image_value o)) left_there
-
-    put_there : (back : Context) (image : ImageValue) → back ≡ with_objects (scene t) (with_object (scene t).objects output (ImageObject image)) → back ≡ with_objects (scene s) (with_object objects output (ImageObject image))
-    put_there back image is =
-        is
-        ∙ ap (λ (c : Context). with_objects c (with_object c.objects output (ImageObject image))) taken
-        ∙ ap (with_objects (scene s)) (with_object_twice objects output (ImageObject left) image)
 
     -- what is lent to the kernel
     module _ (a : ImageValue) (b : Option ObjectValue) (is_first : ImageObject a ≡ seen rows t n.in1) (is_second : b ≡ option_map (seen rows t) n.in2) where
@@ -292,7 +253,10 @@ module _ (rows : Band) (s : Stage) (n : Node) (output : Cell) (h : SeesParts row
           (is : back ≡ with_objects (scene t) (with_object (scene t).objects output (with_samples (cell_object (scene t).objects output) area (take (sample_count (description_of (image_held (scene t).objects output))) zs)))) where
         put_so : back ≡ with_objects (scene s) (with_object objects output (ImageObject (image_over d area (take (sample_count d) zs))))
         put_so =
-            put_there back (image_over (description_of (image_held (scene t).objects output)) area (take (sample_count (description_of (image_held (scene t).objects output))) zs)) is
+            let now : ImageValue = image_over (description_of (image_held (scene t).objects output)) area (take (sample_count (description_of (image_held (scene t).objects output))) zs) in
+            is
+            ∙ ap (λ (c : Context). with_objects c (with_object c.objects output (ImageObject now))) taken
+            ∙ ap (with_objects (scene s)) (with_object_twice objects output (ImageObject left) now)
             ∙ ap (λ (e : Description). with_objects (scene s) (with_object objects output (ImageObject (image_over e area (take (sample_count e) zs))))) (left_described ∙ same ∙ sym d_is)
 
         -- a part
@@ -309,17 +273,9 @@ module _ (rows : Band) (s : Stage) (n : Node) (output : Cell) (h : SeesParts row
             → zs ≡ take (strip.band.start * part.width) old ++ band part.width (strip.band.start - strip.rows.start) strip.band.count (at image) ++ drop ((strip.band.start + strip.band.count) * part.width) old
             → back ≡ with_objects (scene s) (with_object objects output (ImageObject (record (with_band strip image out) { valid = area })))
         rows_put strip within room part part_is old long image old_is written =
-            let end = strip.band.start + strip.band.count in
-            let start = strip.band.start - strip.rows.start in
-            let banded : Description → List ℤ → List ℤ = λ e l. take (strip.band.start * e.width) l ++ band e.width start strip.band.count (at image) ++ drop (end * e.width) l in
             let same : old ≡ out.samples = sym (take_all (sample_count d) old (omega (arith, long))) ∙ old_is in
             let count = band_count strip within room d part d_is part_is old long (at image) zs written in
-            put_so
-            ∙ ap (λ (i : ImageValue). with_objects (scene s) (with_object objects output (ImageObject i)))
-            (ap (image_over d area) (take_all (sample_count d) zs (omega (arith, count, long)) ∙ written)
-            ∙ ap (λ (e : Description). image_over d area (banded e old)) part_is
-            ∙ ap (λ l. image_over d area (banded target l)) same
-            ∙ ap (λ (e : Description). image_over e area (banded target out.samples)) d_is)
+            put_so ∙ rw (take_all (sample_count d) zs (omega (arith, count, long)), written, part_is, same, d_is) refl
 
         -- a band of what the node makes
         pub band_put : (strip : Strip) (within : IsWithinRows strip) (room : IsInRows out.height strip.rows) (part : Description) (part_is : part ≡ target) (old : List ℤ) (long : length old ≡ sample_count d)
@@ -329,21 +285,16 @@ module _ (rows : Band) (s : Stage) (n : Node) (output : Cell) (h : SeesParts row
             ++ drop ((strip.band.start + strip.band.count) * part.width) old
             → back ≡ with_objects (scene s) (with_object objects output (ImageObject (with_band strip (part_made rows s n which output) out)))
         band_put strip within room part part_is old long old_is valid written =
-            let stands : Rectangle → ImageValue → Context = λ r image. with_objects (scene s) (with_object objects output (ImageObject (record (with_band strip image out) { valid = r }))) in
             rows_put strip within room part part_is old long (node_image n which part.format a b) old_is written
-            ∙ ap (λ (e : Description). stands area (node_image n which e.format a b)) part_is
-            ∙ ap (stands area) (made_there which out.format refl)
-            ∙ ap (λ r. stands r (part_made rows s n which output)) (valid ∙ ap (λ (e : Description). whole e.width e.height) d_is)
+            ∙ rw (part_is, made_there which out.format refl, valid, d_is) refl
 
 -- ---- an output, wherever it stands
 
 in_some : (x : Option Slot) (strip : Strip) (part old : ImageValue) → IsSome x → part ≡ made_in x strip part old
-in_some None strip part old some = absurd (cc)
-in_some (Some t) strip part old some = refl
+in_some x strip part old some = grind (arith, some)
 
 high_in : (x : Option Slot) (strip : Strip) (image : ImageValue) → IsSome x → HasPlaceIn x strip image → image.height ≡ strip.rows.count
-high_in None strip image some place = absurd (cc)
-high_in (Some t) strip image some place = place
+high_in x strip image some place = grind (arith, some)
 
 module _ (s : Stage) (name asked : ℕ) (same : asked ≡ name) (found : Option ℕ) (is : found ≡ position (λ t. is_named asked t.holder) s.slots.items) where
   abbrev has_name : Slot → Bool
@@ -426,9 +377,8 @@ module _ (strip : Strip) (s : Stage) (n : Node) (output : Cell) (sees : IsSeen s
       -- and becomes the same
       pub still_becomes : (what : Output) → made_seen strip t n what other ≡ made_seen strip s n what other
       still_becomes what =
-          ap (λ i. ImageObject (made_in (slot_of t.slots.items other.name) strip i (image_held (scene t).objects other))) (still_made strip.rows s n output sees.0 t made taken alike other apart that.0 what)
-          ∙ ap (λ (o : ObjectValue). ImageObject (made_in (slot_of t.slots.items other.name) strip (part_made strip.rows s n what other) (image_value o))) same
-          ∙ ap ImageObject (made_alike (slot_of t.slots.items other.name) (slot_of s.slots.items other.name) strip (part_made strip.rows s n what other) (image_held (scene s).objects other) (sym (alike other.name)))
+          rw (still_made strip.rows s n output sees.0 t made taken alike other apart that.0 what, same)
+          (ap ImageObject (made_alike (slot_of t.slots.items other.name) (slot_of s.slots.items other.name) strip (part_made strip.rows s n what other) (image_held (scene s).objects other) (sym (alike other.name))))
 
 -- a stage is one again once such objects are written
 pub written_stage : (s b : Stage) (written : List (Cell × ObjectValue)) → All (IsReplacement (scene s).objects) written → IsStage s → IsArranged b → Keeps s b
@@ -438,21 +388,21 @@ written_stage s b written may is arranged keeps now =
     kept_stage s b is arranged keeps
     (subst (λ (k : Context). Lasts (scene s).objects k.objects) (sym now) (Lasts-with_written (scene s).objects written names is.objects may))
 
+-- so it is once one is
+pub one_written : (s b : Stage) (output : Cell) (object : ObjectValue) → IsReplacement (scene s).objects (output, object) → IsStage s → IsArranged b → Keeps s b
+    → scene b ≡ with_objects (scene s) (with_object (scene s).objects output object) → IsStage b
+one_written s b output object may is arranged keeps now =
+    let May = IsReplacement (scene s).objects in written_stage s b ((output, object) ∷ []) (All-cons May (output, object) [] may (All-nil May)) is arranged keeps now
+
 module _ (strip : Strip) (s b : Stage) (n : Node) (within : IsWithinRows strip) (is : IsStage s) (arranged : IsArranged b) (keeps : Keeps s b) where
-  abbrev becomes : Output → Cell → Cell × ObjectValue
-  becomes which output = (output, made_seen strip s n which output)
-
-  abbrev May : Cell × ObjectValue → Type 0
-  May = IsReplacement (scene s).objects
-
   pub seen_stage : (output : Cell) → IsSeen strip s n output → (which : Output) → scene b ≡ with_objects (scene s) (with_object (scene s).objects output (made_seen strip s n which output)) → IsStage b
-  seen_stage output sees which now =
-      written_stage s b (becomes which output ∷ []) (All-cons May (becomes which output) [] (replaces strip s n output sees which within) (All-nil May)) is arranged keeps now
+  seen_stage output sees which now = one_written s b output (made_seen strip s n which output) (replaces strip s n output sees which within) is arranged keeps now
 
   pub both_stage : (one other : Cell) → IsSeen strip s n one → IsSeen strip s n other
       → scene b ≡ with_objects (scene s) (with_object (with_object (scene s).objects one (made_seen strip s n First one)) other (made_seen strip s n Second other)) → IsStage b
   both_stage one other sees sees_other now =
-      written_stage s b (becomes First one ∷ becomes Second other ∷ [])
-      (All-cons May (becomes First one) (becomes Second other ∷ []) (replaces strip s n one sees First within)
-      (All-cons May (becomes Second other) [] (replaces strip s n other sees_other Second within) (All-nil May)))
-      is arranged keeps now
+      let May = IsReplacement (scene s).objects in
+      let first : Cell × ObjectValue = (one, made_seen strip s n First one) in
+      let second : Cell × ObjectValue = (other, made_seen strip s n Second other) in
+      written_stage s b (first ∷ second ∷ [])
+      (All-cons May first (second ∷ []) (replaces strip s n one sees First within) (All-cons May second [] (replaces strip s n other sees_other Second within) (All-nil May))) is arranged keeps now

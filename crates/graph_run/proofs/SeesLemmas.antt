@@ -1,6 +1,7 @@
 -- What nodes see of cells in a strip, beside what the cells hold in the end.
 use Rattle.std.proofs.Common.{◌≡◌, ◌≢◌, ℕ, ◌+◌, ◌≤◌, true, List, [], Option, Some, None, ◌⊎◌, inl, inr, IfSome, refl, sym, ap, ◌∙◌, arith, ◌==◌, unwrap_or, option_map, option_and_then, eqb-true, eq-eqb}
-use Rattle.graph_run.proofs.Common.{and_parts, and_from, Node, Cell, Description, same_size, parameters, ImageValue, IsImage, description_of, image_over, ObjectValue, ImageObject, IsObject, object_kind, object_format, empty, Band, SecondHasSize, Named, held, image_value, cell_object, image_held, HoldsImage, StandsBeside, part_of, part_is, stands_fewer, Slot, Stage, seen_in, HasRowsIn, right_from, right_to, scene, slot_of, CanRunTo, Holds, IsRead, part_stands}
+use Rattle.graph_run.proofs.Common.{and_parts, and_from, Node, Cell, Description, same_size, parameters, ImageValue, IsImage, description_of, image_over, ObjectValue, ImageObject, IsObject, object_kind, object_format, empty, Band, SecondHasSize, Named, held, image_value, cell_object, image_held, HoldsImage, part_of, part_is, stands_fewer, part_stands, Slot, Stage, seen_in, HasRowsIn, right_from, right_to, scene, slot_of, CanRunTo, Holds, IsRead}
+use Rattle.node_rows.specs.Parts.{StandsBeside}
 use Rattle.vx_base.specs.declared.kind.Kind.TheVariants as kind
 use Rattle.node_rows.specs.Parts.{StandsFor}
 use Rattle.graph_run.proofs.OutputLemmas.{is_read}
@@ -71,74 +72,55 @@ SeesBeside rows from to slots now final cell = SeesImage rows from to slots now 
 
 -- as far as what is seen of an image goes, another object is seen as it is
 other_seen : (slot : Option Slot) (rows : Band) (object : ObjectValue) → object_kind object ≢ kind.Image → seen_in slot rows object ≡ object
-other_seen (Some s) rows object other = refl
-other_seen None rows (ImageObject image) other = absurd (other refl)
-other_seen None rows object other = grind arith
+other_seen slot rows x other = grind (arith, other)
 
 other_beside : (first count from to : ℕ) (object : ObjectValue) → object_kind object ≢ kind.Image → StandsBeside first count from to (Some object) (Some object)
-other_beside first count from to (ImageObject image) other = absurd (other refl)
-other_beside first count from to object other = grind arith
+other_beside first count from to x other = grind (arith, other)
 
 other_rows : (rows : Band) (object : ObjectValue) → object_kind object ≢ kind.Image → HasRowsIn rows object
-other_rows rows (ImageObject image) other = absurd (other refl)
-other_rows rows object other = grind arith
+other_rows rows x other = grind (arith, other)
 
 module _ (rows : Band) (from to : ℕ) (slots : List Slot) (now final : List Named) where
   abbrev seen_cell : Cell → ObjectValue
   seen_cell cell = seen_in (slot_of slots cell.name) rows (cell_object now cell)
 
-  beside_stands : (cell : Cell) → SeesBeside rows from to slots now final cell → StandsBeside rows.start rows.count from to (Some (seen_cell cell)) (Some (cell_object final cell))
-  beside_stands cell (inl s) = rw (s.seen_is, s.ends_as) s.stands
-  beside_stands cell (inr s) =
-      let now_is : cell_object now cell ≡ s.object = grind (arith, s.here) in
-      let final_is : cell_object final cell ≡ s.object = grind (arith, s.ends_as) in
-      let seen_is : seen_cell cell ≡ s.object = ap (seen_in (slot_of slots cell.name) rows) now_is ∙ other_seen (slot_of slots cell.name) rows s.object s.other in
-      rw (seen_is, final_is) (other_beside rows.start rows.count from to s.object s.other)
+  -- an input beside the first, if there is one: what it holds and what is seen of it, an object that the node's kernel reads as what it holds in
+  -- the end
+  pub record SeesSecond (second : Option Cell) : Type 0 where
+    pub stands : StandsBeside rows.start rows.count from to (option_map seen_cell second) (option_map (cell_object final) second)
+    pub holds : IfSome second (Holds now)
+    pub is : IfSome (option_map (cell_object now) second) IsObject
+    pub read : (n : Node) → IfSome (option_map (cell_object final) second) (λ object. (parameters n.function).second_input ≡ Some (object_kind object))
+        → IfSome (option_map (cell_object now) second) (λ object. IsRead (object_kind object))
+    pub seen : IfSome (option_map seen_cell second) IsObject
+    pub has_rows : IfSome second (λ cell. slot_of slots cell.name ≡ None → HasRowsIn rows (cell_object now cell))
 
-  -- of an input that is there
-  pub second_stands : (second : Option Cell) → IfSome second (SeesBeside rows from to slots now final)
-      → StandsBeside rows.start rows.count from to (option_map seen_cell second) (option_map (cell_object final) second)
-  second_stands None h = refl
-  second_stands (Some cell) h = beside_stands cell h
-
-  pub second_holds : (second : Option Cell) → IfSome second (SeesBeside rows from to slots now final) → IfSome second (Holds now)
-  second_holds None h = tt
-  second_holds (Some cell) (inl s) = grind (arith, s.here)
-  second_holds (Some cell) (inr s) = grind (arith, s.here)
-
-  pub second_is : (second : Option Cell) → IfSome second (SeesBeside rows from to slots now final) → IfSome (option_map (cell_object now) second) IsObject
-  second_is None h = tt
-  second_is (Some cell) (inl s) = image_is_object (held now cell) s.here s.here_is
+  pub sees_second : (second : Option Cell) → IfSome second (SeesBeside rows from to slots now final) → SeesSecond second
+  sees_second None h = record { stands = refl; holds = tt; is = tt; read = λ n wanted. tt; seen = tt; has_rows = tt }
+  sees_second (Some cell) (inl s) =
+      record {
+        stands = rw (s.seen_is, s.ends_as) s.stands;
+        holds = grind (arith, s.here);
+        is = image_is_object (held now cell) s.here s.here_is;
+        read = λ n wanted. grind (arith, s.here);
+        seen = rw s.seen_is s.part_is;
+        has_rows = s.has_rows;
+      }
     where
       image_is_object : (found : Option ObjectValue) → option_map object_kind found ≡ Some kind.Image → IsImage (image_value (unwrap_or found nothing)) → IsObject (unwrap_or found nothing)
       image_is_object x e f = grind arith
-  second_is (Some cell) (inr s) = grind (arith, s.here, s.is)
-
-  -- and read by the node's kernel, as what it holds in the end is
-  pub second_read : (second : Option Cell) → IfSome second (SeesBeside rows from to slots now final) → (n : Node)
-      → IfSome (option_map (cell_object final) second) (λ object. (parameters n.function).second_input ≡ Some (object_kind object))
-      → IfSome (option_map (cell_object now) second) (λ object. IsRead (object_kind object))
-  second_read None h n wanted = tt
-  second_read (Some cell) (inl s) n wanted = grind (arith, s.here)
-  second_read (Some cell) (inr s) n wanted =
+  sees_second (Some cell) (inr s) =
       let now_is : cell_object now cell ≡ s.object = grind (arith, s.here) in
       let final_is : cell_object final cell ≡ s.object = grind (arith, s.ends_as) in
-      rw now_is (is_read n.function (object_kind s.object) (wanted ∙ ap (λ o. Some (object_kind o)) final_is))
-
-  -- what is seen is an object
-  pub seen_is_object : (second : Option Cell) → IfSome second (SeesBeside rows from to slots now final) → IfSome (option_map seen_cell second) IsObject
-  seen_is_object None h = tt
-  seen_is_object (Some cell) (inl s) = rw s.seen_is s.part_is
-  seen_is_object (Some cell) (inr s) =
-      let now_is : cell_object now cell ≡ s.object = grind (arith, s.here) in
       let seen_is : seen_cell cell ≡ s.object = ap (seen_in (slot_of slots cell.name) rows) now_is ∙ other_seen (slot_of slots cell.name) rows s.object s.other in
-      rw seen_is s.is
-
-  pub second_rows : (second : Option Cell) → IfSome second (SeesBeside rows from to slots now final)
-      → IfSome second (λ cell. slot_of slots cell.name ≡ None → HasRowsIn rows (cell_object now cell))
-  second_rows None h = tt
-  second_rows (Some cell) (inl s) = s.has_rows
-  second_rows (Some cell) (inr s) = λ _. let now_is : cell_object now cell ≡ s.object = grind (arith, s.here) in rw now_is (other_rows rows s.object s.other)
+      record {
+        stands = rw (seen_is, final_is) (other_beside rows.start rows.count from to s.object s.other);
+        holds = grind (arith, s.here);
+        is = grind (arith, s.here, s.is);
+        read = λ n wanted. rw now_is (is_read n.function (object_kind s.object) (wanted ∙ ap (λ o. Some (object_kind o)) final_is));
+        seen = rw seen_is s.is;
+        has_rows = λ _. rw now_is (other_rows rows s.object s.other);
+      }
 
 -- ---- the rows of a strip
 

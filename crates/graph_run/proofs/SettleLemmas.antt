@@ -1,6 +1,6 @@
 -- Whether a graph runs in bands, and where its images are valid.
-use Rattle.std.proofs.Common.{◌≡◌, ◌≢◌, ℕ, zero, suc, ◌<◌, ◌+◌, ◌/◌, take, drop, Bool, true, false, List, ◌∷◌, ◌++◌, [], map, length, get_or, Option, Some, None, inl, inr, refl, sym, ap, subst, ◌∙◌, arith, ◌==◌, not, if◌then◌else◌, IsTrue, is_some, is_none, All, IfSome, slice_get, position, sum_by, unwrap_or, option_map, option_and_then, eqb-true, eq-eqb, take-append-drop, append_assoc, length-append}
-use Rattle.graph_run.proofs.Common.{list_any, IsStrictlyIncreasing, cases_Bool, and_parts, take_more, All-more, slice_get-get_or, Format, U8, Function, Kind, Node, Output, First, Second, Cell, same_slot, same_cell, ConvolutionValue, IsDescription, parameters, accumulates, ImageValue, new_image, given, inputs, outputs, second_kind, ObjectValue, ImageObject, IsObject, object_kind, image_of_one, node_image, Rectangle, window_valid, in_slot, Named, held, image_value, cell_object, image_held, HoldsImage, Verified, writes, In, resolved, In-from_same, In-append, In-right, In-from_any, any-from_In, fails-from_In, In-at, In-left, reach, matrix_in, RunsInBands, AreAreas, HasHeight, banded, counts, final_of, is_virtual_name, reach_of, rows_beside, operand_held, IsReady, SuitsBands, IsArea, HoldsKind, meet_of, integrates}
+use Rattle.std.proofs.Common.{◌≡◌, ◌≢◌, ℕ, zero, suc, ◌<◌, ◌+◌, ◌/◌, take, drop, true, false, List, ◌∷◌, ◌++◌, [], map, length, get_or, Option, Some, None, inl, inr, refl, sym, ap, subst, ◌∙◌, arith, ◌==◌, if◌then◌else◌, IsTrue, is_some, is_none, All, IfSome, slice_get, position, sum_by, unwrap_or, option_map, option_and_then, eqb-true, eq-eqb, take-append-drop, append_assoc, length-append}
+use Rattle.graph_run.proofs.Common.{list_any, IsStrictlyIncreasing, cases_Bool, and_parts, take_more, All-more, slice_get-get_or, Format, U8, Function, Kind, Node, Output, First, Second, Cell, same_slot, same_cell, ConvolutionValue, IsDescription, parameters, accumulates, ImageValue, new_image, given, inputs, outputs, second_kind, ObjectValue, ImageObject, IsObject, object_kind, image_of_one, node_image, Rectangle, meet_of, window_valid, in_slot, Named, held, image_value, cell_object, image_held, HoldsImage, Verified, writes, In, resolved, In-from_same, In-append, In-right, In-from_any, any-from_In, fails-from_In, In-at, In-left, matrix_in, RunsInBands, AreAreas, HasHeight, banded, counts, final_of, is_virtual_name, reach_of, rows_beside, integrates, operand_held, IsReady, SuitsBands, IsArea, HoldsKind}
 use Rattle.graph_verify.specs.Links.{reads}
 use Rattle.std.proofs.lemmas.List.{get_or_default}
 use Rattle.std.proofs.lemmas.List.Sums.{sum_by_more}
@@ -16,10 +16,6 @@ use Rattle.graph_run.proofs.StageLemmas.{placed, placed_passes}
 use Rattle.graph_run.proofs.SumLemmas.{sums_once}
 
 -- ---- names
-
-pub false_from_not : (b : Bool) → not b ≡ true → b ≡ false
-false_from_not true e = absurd (cc e)
-false_from_not false e = refl
 
 -- where no input has a name, no cell that a node reads has it
 pub unread : (steps : List Node) (name : ℕ) → list_any (λ n. list_any (λ c. c.name == name) (inputs n)) steps ≡ false
@@ -64,11 +60,8 @@ module _ (objects : List Named) (nodes : List Node) (v : Verified) (height besid
 
 -- ---- where what a node makes is valid
 
-pub valid_alone : (n : Node) (which : Output) (format : Format) (a : ImageValue) → (node_image n which format a None).valid ≡ area_alone n a.valid
-valid_alone n which format a = by_function n.function
-  where
-    by_function : (function : Function) → (image_of_one function n which format a).valid ≡ area_alone_of function n.border a.valid
-    by_function function = grind arith
+valid_alone : (f : Function) (n : Node) (which : Output) (format : Format) (a : ImageValue) → (image_of_one f n which format a).valid ≡ area_alone_of f n.border a.valid
+valid_alone f n which format a = grind arith
 
 valid_matrix : (n : Node) (which : Output) (format : Format) (a : ImageValue) (x : ObjectValue) (m : ConvolutionValue) → matrix_in (Some x) ≡ Some m
     → (node_image n which format a (Some x)).valid ≡ window_valid n.border (m.columns / 2) (m.rows / 2) a.valid
@@ -77,8 +70,7 @@ valid_matrix n which format a x m e = grind arith
 
 valid_other : (n : Node) (which : Output) (format : Format) (a : ImageValue) (x : ObjectValue) → matrix_in (Some x) ≡ None → object_kind x ≢ kind.Image
     → (node_image n which format a (Some x)).valid ≡ a.valid
-valid_other n which format a (ImageObject b) e other = absurd (other refl)
-valid_other n which format a x e other = grind arith
+valid_other n which format a x e other = grind (arith, other)
 
 -- what has the kind that a function wants, which isn't an image's, is no image
 not_image : (wanted : Option Kind) (found : Option ObjectValue) (second : Option Cell) (cell : Cell) → second ≡ Some cell → (if is_some wanted then is_some second else is_none second) ≡ true
@@ -136,51 +128,41 @@ module _ (objects : List Named) (nodes : List Node) (v : Verified) (height besid
         by_writer (Some k) at = written_area cell image k at
         by_writer None none = unwritten_area cell read none
 
+    first_at : (first : Rectangle) → first ≡ area_among objects before areas n.in1 → first ≡ (image_held final n.in1).valid
+    first_at first is = is ∙ area_right n.in1 (reads_first n) (final_lemmas.of_final objects nodes v height beside r n member).in1
+
     -- what the node makes is valid there
     all_valid : counts n ≡ false → accumulates n.function ≡ false → (area : Rectangle) → ((which : Output) (format : Format) → (node_image n which format (image_held final n.in1) (option_map (cell_object final) n.in2)).valid ≡ area)
         → All (λ c. (image_held final c).valid ≡ area) (outputs n)
     all_valid no_count plain area made = All-from_In (λ (c : Cell). (image_held final c).valid ≡ area) (outputs n) (λ c j. elim (In-append c (given n.out1) (given n.out2) j) [
-      | inl one ↦ output First n.out1 (final_lemmas.made_first objects nodes v height beside r n member no_count plain) c one
-      | inr other ↦ output Second n.out2 (final_lemmas.made_second objects nodes v height beside r n member no_count plain) c other
+      | inl one ↦ output First c (final_lemmas.of_given (final_lemmas.IsMade final n First) n.out1 (final_lemmas.made_first objects nodes v height beside r n member no_count plain) c one)
+      | inr other ↦ output Second c (final_lemmas.of_given (final_lemmas.IsMade final n Second) n.out2 (final_lemmas.made_second objects nodes v height beside r n member no_count plain) c other)
     ])
       where
-        output : (which : Output) (cell : Option Cell)
-            → IfSome cell (λ c. held final c ≡ Some (ImageObject (node_image n which (image_held final c).format (image_held final n.in1) (option_map (cell_object final) n.in2))))
-            → (c : Cell) → In c (given cell) → (image_held final c).valid ≡ area
-        output which cell holds c j =
-            let image : ImageValue = node_image n which (image_held final c).format (image_held final n.in1) (option_map (cell_object final) n.in2) in
-            let at : held final c ≡ Some (ImageObject image) =
-            final_lemmas.of_given (λ (d : Cell). held final d ≡ Some (ImageObject (node_image n which (image_held final d).format (image_held final n.in1) (option_map (cell_object final) n.in2)))) cell holds c j in
-            ap (λ (i : ImageValue). i.valid) (final_lemmas.image_there final c image at) ∙ made which (image_held final c).format
+        output : (which : Output) (c : Cell) → final_lemmas.IsMade final n which c → (image_held final c).valid ≡ area
+        output which c at = ap (λ (i : ImageValue). i.valid) (final_lemmas.image_there final c _ at) ∙ made which (image_held final c).format
 
     pub area_of_one : counts n ≡ false → accumulates n.function ≡ false → (first : Rectangle) → first ≡ area_among objects before areas n.in1 → n.in2 ≡ None → All (λ c. (image_held final c).valid ≡ area_alone n first) (outputs n)
     area_of_one no_count plain first is none =
-        let at : first ≡ (image_held final n.in1).valid = is ∙ area_right n.in1 (reads_first n) (final_lemmas.of_final objects nodes v height beside r n member).in1 in
         let second : option_map (cell_object final) n.in2 ≡ None = ap (option_map (cell_object final)) none in
         all_valid no_count plain (area_alone n first) (λ which format.
-        ap (λ o. (node_image n which format (image_held final n.in1) o).valid) second ∙ valid_alone n which format (image_held final n.in1) ∙ ap (area_alone n) (sym at))
+        ap (λ o. (node_image n which format (image_held final n.in1) o).valid) second ∙ valid_alone n.function n which format (image_held final n.in1) ∙ ap (area_alone n) (sym (first_at first is)))
 
     -- what it adds to is valid where that was, too
     pub area_of_sum : accumulates n.function ≡ true → (first area : Rectangle) → first ≡ area_among objects before areas n.in1 → IfSome n.out1 (λ cell. area ≡ meet_of first (image_held objects cell).valid)
         → All (λ c. (image_held final c).valid ≡ area) (outputs n)
     area_of_sum sums first area is found = All-from_In (λ (c : Cell). (image_held final c).valid ≡ area) (outputs n) (λ c j. elim (In-append c (given n.out1) (given n.out2) j) [
-      | inl one ↦ of_sum n.out1 (final_lemmas.summed_end objects nodes v height beside r n member sums) found c one (final_lemmas.out_whole objects nodes v height beside r n member c j)
+      | inl one ↦
+          of_sum c (final_lemmas.of_given (final_lemmas.IsSummed objects nodes v height beside r n) n.out1 (final_lemmas.summed_end objects nodes v height beside r n member sums) c one)
+          (final_lemmas.of_given (λ (d : Cell). area ≡ meet_of first (image_held objects d).valid) n.out1 found c one) (final_lemmas.out_whole objects nodes v height beside r n member c j)
       | inr other ↦ absurd (subst (λ o. In c (given o)) (sums_once n (final_lemmas.is_node_of objects nodes v height beside r n member) sums) other)
     ])
       where
-        at : first ≡ (image_held final n.in1).valid
-        at = is ∙ area_right n.in1 (reads_first n) (final_lemmas.of_final objects nodes v height beside r n member).in1
-
-        of_sum : (cell : Option Cell) → IfSome cell (final_lemmas.IsSummed objects nodes v height beside r n) → IfSome cell (λ c. area ≡ meet_of first (image_held objects c).valid)
-            → (c : Cell) → In c (given cell) → c.slot ≡ None → (image_held final c).valid ≡ area
-        of_sum None summed found c j none = absurd j
-        of_sum (Some d) summed found c (inr j) none = absurd j
-        of_sum (Some d) summed found c (inl same) none =
-            let whole : d.slot ≡ None = ap (λ (e : Cell). e.slot) (sym same) ∙ none in
-            ap (λ (e : Cell). (image_held final e).valid) same
-            ∙ ap (λ (i : ImageValue). i.valid) (final_lemmas.image_there final d _ (held_whole final d whole ∙ summed.ends))
-            ∙ ap (λ q. meet_of q summed.before.valid) (sym at)
-            ∙ ap (λ (i : ImageValue). meet_of first i.valid) (sym (final_lemmas.image_there objects d summed.before (held_whole objects d whole ∙ summed.there)))
+        of_sum : (c : Cell) → final_lemmas.IsSummed objects nodes v height beside r n c → area ≡ meet_of first (image_held objects c).valid → c.slot ≡ None → (image_held final c).valid ≡ area
+        of_sum c summed found none =
+            ap (λ (i : ImageValue). i.valid) (final_lemmas.image_there final c _ (held_whole final c none ∙ summed.ends))
+            ∙ ap (λ q. meet_of q summed.before.valid) (sym (first_at first is))
+            ∙ ap (λ (i : ImageValue). meet_of first i.valid) (sym (final_lemmas.image_there objects c summed.before (held_whole objects c none ∙ summed.there)))
             ∙ sym found
 
     module _ (no_count : counts n ≡ false) (plain : accumulates n.function ≡ false) (cell : Cell) (there : n.in2 ≡ Some cell) where
@@ -194,16 +176,12 @@ module _ (objects : List Named) (nodes : List Node) (v : Verified) (height besid
       pub area_of_two : (first second : Rectangle) → first ≡ area_among objects before areas n.in1 → second ≡ area_among objects before areas cell
           → (parameters n.function).second_input ≡ Some kind.Image → All (λ c. (image_held final c).valid ≡ meet_of first second) (outputs n)
       area_of_two first second is is_second wanted =
-          let at : first ≡ (image_held final n.in1).valid = is ∙ area_right n.in1 (reads_first n) (final_lemmas.of_final objects nodes v height beside r n member).in1 in
           let beside_at : second ≡ (image_held final cell).valid = is_second ∙ area_right cell (reads_second n cell there) (of_kind ∙ ap (λ o. Some (unwrap_or o kind.Image)) wanted) in
           let image = final_lemmas.image_of_kind (held final cell) (of_kind ∙ ap (λ o. Some (unwrap_or o kind.Image)) wanted) in
           let object : cell_object final cell ≡ ImageObject image.0 = ap (λ o. unwrap_or o (ImageObject (new_image 0 0 U8))) image.1 in
           let same : image_held final cell ≡ image.0 = final_lemmas.image_there final cell image.0 image.1 in
           all_valid no_count plain (meet_of first second) (λ which format.
-          with_second which format
-          ∙ ap (λ o. (node_image n which format (image_held final n.in1) (Some o)).valid) object
-          ∙ ap (λ (i : ImageValue). meet_of (image_held final n.in1).valid i.valid) (sym same)
-          ∙ ap (λ q. meet_of q (image_held final cell).valid) (sym at) ∙ ap (meet_of first) (sym beside_at))
+          with_second which format ∙ rw (object, ← same, ← first_at first is, ← beside_at) refl)
 
       -- the matrix is that of the client's object
       matrix_here : matrix_in (Some (cell_object final cell)) ≡ matrix_in (option_and_then (held objects) n.in2)
@@ -212,22 +190,20 @@ module _ (objects : List Named) (nodes : List Node) (v : Verified) (height besid
       pub area_by_matrix : (first : Rectangle) (m : ConvolutionValue) → first ≡ area_among objects before areas n.in1 → matrix_in (option_and_then (held objects) n.in2) ≡ Some m
           → All (λ c. (image_held final c).valid ≡ window_valid n.border (m.columns / 2) (m.rows / 2) first) (outputs n)
       area_by_matrix first m is matrix =
-          let at : first ≡ (image_held final n.in1).valid = is ∙ area_right n.in1 (reads_first n) (final_lemmas.of_final objects nodes v height beside r n member).in1 in
           all_valid no_count plain (window_valid n.border (m.columns / 2) (m.rows / 2) first) (λ which format.
           with_second which format
           ∙ valid_matrix n which format (image_held final n.in1) (cell_object final cell) m (matrix_here ∙ matrix)
-          ∙ ap (window_valid n.border (m.columns / 2) (m.rows / 2)) (sym at))
+          ∙ ap (window_valid n.border (m.columns / 2) (m.rows / 2)) (sym (first_at first is)))
 
       pub area_as_first : (first : Rectangle) → first ≡ area_among objects before areas n.in1 → matrix_in (option_and_then (held objects) n.in2) ≡ None
           → (parameters n.function).second_input ≢ Some kind.Image → All (λ c. (image_held final c).valid ≡ first) (outputs n)
       area_as_first first is none other =
-          let at : first ≡ (image_held final n.in1).valid = is ∙ area_right n.in1 (reads_first n) (final_lemmas.of_final objects nodes v height beside r n member).in1 in
           all_valid no_count plain first (λ which format.
           with_second which format
           ∙ valid_other n which format (image_held final n.in1) (cell_object final cell) (matrix_here ∙ none)
           (not_image (parameters n.function).second_input (held final cell) n.in2 cell there
           (and_parts _ _ (has_of_node n (final_lemmas.is_node_of objects nodes v height beside r n member).shape)).0 of_kind other)
-          ∙ sym at)
+          ∙ sym (first_at first is))
 
 -- ---- areas one after the other
 

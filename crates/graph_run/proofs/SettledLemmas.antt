@@ -1,6 +1,6 @@
 -- Areas that are set at the end of a run in bands, and what the run leaves then.
-use Rattle.std.proofs.Common.{◌≢◌, ◌≡◌, ℕ, ℤ, ◌+◌, ◌*◌, ◌≤◌, ◌<◌, Bool, true, false, eqb, List, [], ◌∷◌, ◌++◌, map, length, take, drop, get_or, Option, Some, None, ◌⊎◌, inl, inr, refl, sym, ap, subst, ◌∙◌, arith, ◌&&◌, not, if◌then◌else◌, All, IfSome, unwrap_or, option_map, option_and_then, eqb-true, eq-eqb, take_all}
-use Rattle.graph_run.proofs.Common.{skeleton, node_output, First, false_from_ne_true, cases_Bool, and_parts, and_from, take_more, slice_get-get_or, U8, Node, Cell, cell_of, Description, ImageValue, IsImage, image_over, new_image, description_of, outputs, given, ObjectValue, ImageObject, VirtualObject, IsObject, object_kind, Rectangle, Context, with_objects, in_slot, Named, object_held, held, with_object, image_value, with_samples, cell_object, image_held, HoldsImage, object_held_has, Operand, Verified, writes, is_written, In, resolved, In-from_same, same-from_In, In-left, In-right, In-append, In-from_any, any-from_In, In-at, RunsInBands, final_of, is_target, is_virtual_name, IsFinished, RowsAreAs, IsAsFar, IsCounted, counter_of, counts, AreAreas, is_image_held, begun, forgotten, is_virtual_object, run_of_graph, lasting, lasting_named, Lasts, operand_held, label_of, valid_in}
+use Rattle.std.proofs.Common.{◌≢◌, ◌≡◌, ℕ, ℤ, ◌+◌, ◌*◌, ◌≤◌, ◌<◌, true, false, eqb, List, [], ◌∷◌, ◌++◌, map, length, take, drop, get_or, Option, Some, None, inl, inr, refl, sym, ap, subst, ◌∙◌, arith, ◌&&◌, not, if◌then◌else◌, All, IfSome, unwrap_or, option_map, option_and_then, eqb-true, take_all}
+use Rattle.graph_run.proofs.Common.{skeleton, node_output, First, false_from_ne_true, not-true, cases_Bool, and_parts, and_from, take_more, slice_get-get_or, U8, Node, Cell, cell_of, Description, ImageValue, IsImage, image_over, new_image, description_of, outputs, given, ObjectValue, ImageObject, VirtualObject, IsObject, object_kind, Rectangle, Context, with_objects, in_slot, Named, object_held, held, with_object, image_value, with_samples, cell_object, image_held, HoldsImage, object_held_has, Operand, Verified, writes, is_written, In, resolved, In-from_same, same-from_In, In-left, In-right, In-append, In-from_any, any-from_In, In-at, RunsInBands, final_of, is_target, is_virtual_name, IsFinished, RowsAreAs, IsAsFar, IsCounted, counter_of, counts, AreAreas, is_image_held, begun, forgotten, is_virtual_object, run_of_graph, lasting, lasting_named, Lasts, operand_held, label_of, valid_in}
 use Rattle.vx_base.specs.declared.kind.Kind.TheVariants as kind
 use Rattle.graph_run.specs.Bands.{with_area_in, with_area}
 use Rattle.image_core.specs.Bands.{all_rows as rows_high}
@@ -10,7 +10,7 @@ use Rattle.graph_run.proofs.BegunLaws.{begun_stays}
 use Rattle.graph_run.proofs.CellLemmas.{there_is, object_after, image_after, with_object_twice, held_whole}
 use Rattle.graph_run.proofs.CountLemmas.{counts_other, find_none, find_some}
 use Rattle.graph_run.proofs.OutputLemmas.{image_of_object}
-use Rattle.graph_run.proofs.FinalLemmas.{final_are, final_lasts, out_height, out_whole, in_height, runs_to, counted_end, counted_real, counter_is, counter_none, cell_is_whole, output_of_name, in_the_end}
+use Rattle.graph_run.proofs.FinalLemmas.{and_false, object_set, of_each, final_are, final_lasts, out_height, out_whole, in_height, runs_to, counted_end, counted_real, counter_is, counter_none, cell_is_whole, output_of_name, in_the_end}
 use Rattle.graph_run.proofs.HeldLaws.{object_held-with_object, labels-with_object}
 use Rattle.graph_run.proofs.BandLemmas.{rows_of}
 use Rattle.graph_run.proofs.LastingLemmas.{held-lasts}
@@ -23,16 +23,9 @@ use Rattle.graph_run.proofs.VerifiedLemmas.{output_object, pairs_of}
 held_image : (found : Option ObjectValue) → is_image_held found ≡ true → (a : ImageValue) × (found ≡ Some (ImageObject a))
 held_image x e = grind arith
 
--- a cell as a whole
-whole_of : (output : Option Cell) (cell : Cell) → output ≡ Some cell → IfSome output (λ c. c.slot ≡ None) → cell.slot ≡ None
-whole_of output cell e whole = subst (λ (o : Option Cell). IfSome o (λ c. c.slot ≡ None)) e whole
-
 module _ (l : List Named) (cell : Cell) (whole : cell.slot ≡ None) (a : ImageValue) (at : object_held l cell.name ≡ Some (ImageObject a)) where
   held_at : held l cell ≡ Some (ImageObject a)
   held_at = held_whole l cell whole ∙ at
-
-  image_at : HoldsImage l cell
-  image_at = ap (option_map object_kind) held_at
 
   value_at : image_held l cell ≡ a
   value_at = ap (λ o. image_value (unwrap_or o (ImageObject (new_image 0 0 U8)))) held_at
@@ -45,13 +38,13 @@ module _ (before after : Context) (output : Option Cell) (all_whole : IfSome out
     (is : is_image_held (object_held before.objects cell.name) ≡ true)
     (taken : after ≡ with_objects before (with_object before.objects cell (with_samples (cell_object before.objects cell) (image_held before.objects cell).valid []))) where
   whole : cell.slot ≡ None
-  whole = whole_of output cell given_is all_whole
+  whole = subst (λ (o : Option Cell). IfSome o (λ c. c.slot ≡ None)) given_is all_whole
 
   found : (a : ImageValue) × (object_held before.objects cell.name ≡ Some (ImageObject a))
   found = held_image (object_held before.objects cell.name) is
 
   was : HoldsImage before.objects cell
-  was = image_at before.objects cell whole found.0 found.1
+  was = ap (option_map object_kind) (held_at before.objects cell whole found.0 found.1)
 
   abbrev desc : Description
   desc = description_of (image_held before.objects cell)
@@ -71,13 +64,7 @@ module _ (before after : Context) (output : Option Cell) (all_whole : IfSome out
   pub area_put : (back : Context) (area : Rectangle) (samples : List ℤ) → back ≡ with_objects after (with_object after.objects cell (with_samples (cell_object after.objects cell) area samples))
       → samples ≡ (image_held before.objects cell).samples → back ≡ with_objects before (with_area area output before.objects)
   area_put back area samples put same =
-      put
-      ∙ ap (λ (x : ObjectValue). with_objects after (with_object after.objects cell (with_samples x area samples))) left_there
-      ∙ ap (λ (t : Context). with_objects t (with_object t.objects cell (ImageObject (image_over desc area samples)))) taken
-      ∙ ap (with_objects before) (with_object_twice before.objects cell (ImageObject left) (image_over desc area samples))
-      ∙ ap (λ s. with_objects before (with_object before.objects cell (ImageObject (image_over desc area s)))) same
-      ∙ ap (with_objects before) (sym (area_at before.objects cell whole found.0 found.1 area))
-      ∙ ap (λ (o : Option Cell). with_objects before (with_area area o before.objects)) (sym given_is)
+      cc (put, left_there, taken, with_object_twice before.objects cell (ImageObject left) (image_over desc area samples), same, area_at before.objects cell whole found.0 found.1 area, given_is)
 
 -- ---- images that are as they will be but for their areas
 
@@ -110,8 +97,7 @@ all_rows y now final now_is final_is high as_final =
 
 -- what is no image has no area
 no_area : (area : Rectangle) (l : List Named) (c : Cell) (x : ObjectValue) → object_kind x ≢ kind.Image → with_area_in area l c (Some x) ≡ l
-no_area area l c (ImageObject image) other = absurd (other refl)
-no_area area l c x other = refl
+no_area area l c x other = grind (arith, other)
 
 -- what has a name is as it will be, an image but for its area
 abbrev IsNear : Option Node → Option ObjectValue → Option ObjectValue → Type 0
@@ -139,14 +125,9 @@ pub record AreSettled (v : Verified) (objects final : List Named) (done : List N
   near : AreNear v objects final now
   settled : (m : Node) (c : Cell) → In m done → In c (outputs m) → IsSet v final now c
 
--- ---- an object that stands in its cell as a whole
-
-module _ (now : List Named) (c : Cell) (whole : c.slot ≡ None) (a image : ImageValue) (at : object_held now c.name ≡ Some (ImageObject a)) where
-  stands_there : object_held (with_object now c (ImageObject image)) c.name ≡ Some (ImageObject image)
-  stands_there = grind (arith, object_held-with_object now c (ImageObject image) c.name, eq-eqb c.name c.name refl, whole, at)
-
-  others_stay : (name : ℕ) → eqb name c.name ≡ false → object_held (with_object now c (ImageObject image)) name ≡ object_held now name
-  others_stay name beside = grind (arith, object_held-with_object now c (ImageObject image) name, beside)
+-- under another name all is as it was
+others_stay : (now : List Named) (c : Cell) (image : ImageValue) (name : ℕ) → eqb name c.name ≡ false → object_held (with_object now c (ImageObject image)) name ≡ object_held now name
+others_stay now c image name beside = grind (arith, object_held-with_object now c (ImageObject image) name, beside)
 
 -- ---- objects as a run begins and ends
 
@@ -160,18 +141,9 @@ lasts_as_image x f e = grind arith
 no_rows : (width : ℕ) (l m : List ℤ) → take (0 * width) l ≡ take (0 * width) m
 no_rows width l m = let none : 0 * width ≡ 0 = omega arith in ap (λ n. take n l) none ∙ sym (ap (λ n. take n m) none)
 
-false_from_not : (b : Bool) → not b ≡ true → b ≡ false
-false_from_not true e = absurd (cc e)
-false_from_not false e = refl
-
 -- as much lasts of two objects as lasts of them by their skeletons
 skeletons_last : (now final : Option ObjectValue) → option_map lasting final ≡ option_map lasting now → option_map skeleton now ≡ option_map skeleton final
-skeletons_last None None same = refl
-skeletons_last (Some x) (Some y) same = sym (ap first_of_both same)
-  where
-    first_of_both : Option (ObjectValue × List Node) → Option ObjectValue
-    first_of_both o = option_map (λ l. l.0) o
-skeletons_last x y same = absurd (cc)
+skeletons_last x y same = grind (arith, same)
 
 none_yet : (now final : Option ObjectValue) (f : ImageValue) → final ≡ Some (ImageObject f) → option_map lasting final ≡ option_map lasting now → RowsAreAs 0 now final
 none_yet None final f is same = absurd (cc)
@@ -180,18 +152,15 @@ none_yet (Some x) final f is same =
     let image = lasts_as_image x f left in
     subst (λ o. RowsAreAs 0 (Some x) o) (sym is) (subst (λ y. RowsAreAs 0 (Some y) (Some (ImageObject f))) (sym image.1) (image.2, no_rows f.width image.0.samples f.samples))
 
--- what a run leaves is what was there, or what the nodes left
-in_forgotten : (before after : List Named) (x : Named) → In x (forgotten before after) → In x before ⊎ In x after
-in_forgotten [] after x i = inr i
-in_forgotten (o ∷ before) [] x i = inr i
-in_forgotten (o ∷ before) (p ∷ after) x (inl same) = elim (cases_Bool (is_virtual_object o.object)) [
-  | inl virtual ↦ inl (inl (same ∙ ap (λ b. if b then o else p) virtual))
-  | inr real ↦ inr (inl (same ∙ ap (λ b. if b then o else p) real))
+-- what holds of all that was there, and of all that the nodes left, holds of what a run leaves
+in_forgotten : (P : Named → Type 0) (before after : List Named) → ((x : Named) → In x before → P x) → ((x : Named) → In x after → P x) → (x : Named) → In x (forgotten before after) → P x
+in_forgotten P [] after old new x i = new x i
+in_forgotten P (o ∷ before) [] old new x i = new x i
+in_forgotten P (o ∷ before) (p ∷ after) old new x (inl same) = elim (cases_Bool (is_virtual_object o.object)) [
+  | inl virtual ↦ old x (inl (same ∙ ap (λ b. if b then o else p) virtual))
+  | inr real ↦ new x (inl (same ∙ ap (λ b. if b then o else p) real))
 ]
-in_forgotten (o ∷ before) (p ∷ after) x (inr i) = elim (in_forgotten before after x i) [
-  | inl old ↦ inl (inr old)
-  | inr new ↦ inr (inr new)
-]
+in_forgotten P (o ∷ before) (p ∷ after) old new x (inr i) = in_forgotten P before after (λ y j. old y (inr j)) (λ y j. new y (inr j)) x i
 
 -- as much lasts of what a run leaves as of what was there, if it does of what the nodes left beside what they began with
 pub forgotten_lasts : (is : Cell → Operand) (nodes : List Node) (objects after : List Named) → map lasting_named after ≡ map lasting_named (map (begun is nodes) objects)
@@ -277,6 +246,11 @@ module _ (objects : List Named) (nodes : List Node) (v : Verified) (height besid
       let at : object_held now c.name ≡ Some (VirtualObject object.0) = near.others c.name none ∙ ap (object_held objects) output.2 ∙ object.1 in
       ap (with_area_in area now c) at
 
+  -- of one cell
+  one_set : (c : Cell) (now : List Named) → IsSet v final now c → (d : Cell) → In d (c ∷ []) → IsSet v final now d
+  one_set c now is d (inl same) = subst (λ (e : Cell). IsSet v final now e) (sym same) is
+  one_set c now is d (inr k) = absurd k
+
   module _ (n : Node) (i : In n steps) (area : Rectangle) where
     -- a target is as it will be once it has its area
     target_set : counts n ≡ false → (now : List Named) → AreNear v objects final now → (c : Cell) → In c (outputs n) → (image_held final c).valid ≡ area → is_target v c.name ≡ true
@@ -287,11 +261,11 @@ module _ (objects : List Named) (nodes : List Node) (v : Verified) (height besid
           near =
               record {
                 labels = labels-with_object now c (ImageObject f) ∙ near.labels;
-                others = λ name none. others_stay now c whole was f there.there name (apart name none) ∙ near.others name none;
+                others = λ name none. others_stay now c f name (apart name none) ∙ near.others name none;
                 targets = near_again;
               };
           keeps = keeps_set;
-          makes = makes_set;
+          makes = one_set c new (λ _. set_there);
         })
       where
         whole : c.slot ≡ None
@@ -309,47 +283,38 @@ module _ (objects : List Named) (nodes : List Node) (v : Verified) (height besid
         was : ImageValue
         was = image_over (description_of f) there.area f.samples
 
-        right : f.valid ≡ area
-        right = ap (λ (k : ImageValue). k.valid) (sym (value_at final c whole f there.in_the_end)) ∙ valid
-
         new : List Named
         new = with_object now c (ImageObject f)
 
         becomes : with_area area (Some c) now ≡ new
-        becomes = ap (with_area_in area now c) there.there ∙ ap (λ (a : Rectangle). with_object now c (ImageObject (image_over (description_of f) a f.samples))) (sym right)
+        becomes = ap (with_area_in area now c) there.there ∙ ap (λ (a : Rectangle). with_object now c (ImageObject (image_over (description_of f) a f.samples)))
+            (sym valid ∙ ap (λ (k : ImageValue). k.valid) (value_at final c whole f there.in_the_end))
 
         set_there : object_held new c.name ≡ object_held final c.name
-        set_there = stands_there now c whole was f there.there ∙ sym there.in_the_end
+        set_there = object_set now c (ImageObject was) (ImageObject f) whole there.there ∙ sym there.in_the_end
 
         apart : (name : ℕ) → is_target v name ≡ false → eqb name c.name ≡ false
-        apart name none = elim (cases_Bool (eqb name c.name)) [
-          | inl e ↦ (let same : name ≡ c.name = eqb-true name c.name e in let target_too : is_target v name ≡ true = ap (is_target v) same ∙ target in absurd (cc))
-          | inr e ↦ e
-        ]
+        apart name none = false_from_ne_true (eqb name c.name) (λ e. let target_too : is_target v name ≡ true = ap (is_target v) (eqb-true name c.name e) ∙ target in cc)
 
         near_again : (name : ℕ) → is_target v name ≡ true → IsNear (counter_of v name) (object_held new name) (object_held final name)
         near_again name target_too = elim (cases_Bool (eqb name c.name)) [
           | inl e ↦
               subst (λ k. IsNear (counter_of v k) (object_held new k) (object_held final k)) (sym (eqb-true name c.name e))
               (subst (λ w. IsNear w (object_held new c.name) (object_held final c.name)) (sym plain)
-              (record { area = f.valid; image = f; there = stands_there now c whole was f there.there; in_the_end = there.in_the_end }))
-          | inr e ↦ subst (λ o. IsNear (counter_of v name) o (object_held final name)) (sym (others_stay now c whole was f there.there name e)) (near.targets name target_too)
+              (record { area = f.valid; image = f; there = object_set now c (ImageObject was) (ImageObject f) whole there.there; in_the_end = there.in_the_end }))
+          | inr e ↦ subst (λ o. IsNear (counter_of v name) o (object_held final name)) (sym (others_stay now c f name e)) (near.targets name target_too)
         ]
 
         keeps_set : (d : Cell) → IsSet v final now d → IsSet v final new d
         keeps_set d is target_too = elim (cases_Bool (eqb d.name c.name)) [
           | inl e ↦ subst (λ k. object_held new k ≡ object_held final k) (sym (eqb-true d.name c.name e)) set_there
-          | inr e ↦ others_stay now c whole was f there.there d.name e ∙ is target_too
+          | inr e ↦ others_stay now c f d.name e ∙ is target_too
         ]
-
-        makes_set : (d : Cell) → In d (c ∷ []) → IsSet v final new d
-        makes_set d (inl same) = subst (λ (e : Cell). IsSet v final new e) (sym same) (λ _. set_there)
-        makes_set d (inr k) = absurd k
 
     -- what a node counted has no area
     counted_set : counts n ≡ true → (now : List Named) → AreNear v objects final now → (c : Cell) → In c (outputs n) → NextNear v objects final now (with_area area (Some c) now) (c ∷ [])
     counted_set does now near c j =
-        subst (λ l. NextNear v objects final now l (c ∷ [])) (sym stays) (record { near = near; keeps = λ d is. is; makes = λ d k. elim k [ inl same ↦ subst (λ (e : Cell). IsSet v final now e) (sym same) (λ _. is) | inr none ↦ absurd none ] })
+        subst (λ l. NextNear v objects final now l (c ∷ [])) (sym stays) (record { near = near; keeps = λ d is. is; makes = one_set c now (λ _. is) })
       where
         target : is_target v c.name ≡ true
         target =
@@ -365,28 +330,20 @@ module _ (objects : List Named) (nodes : List Node) (v : Verified) (height besid
         stays =
             let runs = runs_to objects nodes v height beside r n i c j in
             ap (with_area_in area now c) (is ∙ sym (held_whole final c (out_whole objects nodes v height beside r n i c j)) ∙ there_is final c runs.out)
-            ∙ no_area area now c (cell_object final c) (λ image. counts_other n does (sym runs.runs.out_kind ∙ image))
+            ∙ no_area area now c (cell_object final c) (λ image. counts_other n.function does (sym runs.runs.out_kind ∙ image))
 
     image_set : counts n ≡ false → (now : List Named) → AreNear v objects final now → (c : Cell) → In c (outputs n) → (image_held final c).valid ≡ area → NextNear v objects final now (with_area area (Some c) now) (c ∷ [])
     image_set no_count now near c j valid = elim (cases_Bool (is_virtual_name v c.name)) [
       | inl virtual ↦
-          (let none : is_target v c.name ≡ false = ap (λ b. is_written steps (cell_of c.name) && not b) virtual ∙ never (is_written steps (cell_of c.name)) in
+          (let none : is_target v c.name ≡ false = and_false (is_written steps (cell_of c.name)) (is_virtual_name v c.name) virtual in
           subst (λ l. NextNear v objects final now l (c ∷ [])) (sym (virtual_stays now near c area virtual none))
-          (record { near = near; keeps = λ d is. is; makes = λ d k. of_virtual d k none }))
+          (record { near = near; keeps = λ d is. is; makes = one_set c now (λ target. absurd (cc)) }))
       | inr real ↦
           target_set no_count now near c j valid
           (and_from (is_written steps (cell_of c.name)) (not (is_virtual_name v c.name))
           (any-from_In (λ m. writes m (cell_of c.name)) n steps i
           (ap (writes n) (cell_is_whole objects nodes v height beside r n i c (same-from_In c (outputs n) j)) ∙ same-from_In c (outputs n) j)) (ap not real))
     ]
-      where
-        never : (b : Bool) → (b && false) ≡ false
-        never true = refl
-        never false = refl
-
-        of_virtual : (d : Cell) → In d (c ∷ []) → is_target v c.name ≡ false → IsSet v final now d
-        of_virtual d (inl same) none = λ target_too. let no : is_target v d.name ≡ false = ap (λ (e : Cell). is_target v e.name) same ∙ none in absurd (cc)
-        of_virtual d (inr k) none = absurd k
 
     cell_set : (now : List Named) → AreNear v objects final now → (c : Cell) → In c (outputs n) → (counts n ≡ false → (image_held final c).valid ≡ area)
         → NextNear v objects final now (with_area area (Some c) now) (c ∷ [])
@@ -442,11 +399,6 @@ module _ (objects : List Named) (nodes : List Node) (v : Verified) (height besid
         | inr none ↦ rw none (s.near.others name none)
       ])
 
-  -- outputs are cells as a whole
-  pub outputs_whole : (n : Node) → In n steps → (o : Option Cell) → ((c : Cell) → In c (given o) → In c (outputs n)) → IfSome o (λ c. c.slot ≡ None)
-  outputs_whole n i None each = tt
-  outputs_whole n i (Some c) each = out_whole objects nodes v height beside r n i c (each c (inl refl))
-
   -- the step of a place, and its area
   module _ (areas : List Rectangle) (are : AreAreas final steps areas) (k : ℕ) (n : Node) (area : Rectangle) (below : k < length areas) (step : n ≡ get_or steps k n) (its : area ≡ get_or areas k area) where
     within : k < length steps
@@ -456,10 +408,10 @@ module _ (objects : List Named) (nodes : List Node) (v : Verified) (height besid
     step_in = subst (λ m. In m steps) (sym step) (In-at steps k n within)
 
     pub first_whole : IfSome n.out1 (λ c. c.slot ≡ None)
-    first_whole = outputs_whole n step_in n.out1 (λ c j. In-left c (given n.out1) (given n.out2) j)
+    first_whole = of_each (λ (c : Cell). c.slot ≡ None) n.out1 (λ c e. out_whole objects nodes v height beside r n step_in c (In-left c (given n.out1) (given n.out2) (rw e (inl refl))))
 
     pub second_whole : IfSome n.out2 (λ c. c.slot ≡ None)
-    second_whole = outputs_whole n step_in n.out2 (λ c j. In-right c (given n.out1) (given n.out2) j)
+    second_whole = of_each (λ (c : Cell). c.slot ≡ None) n.out2 (λ c e. out_whole objects nodes v height beside r n step_in c (In-right c (given n.out1) (given n.out2) (rw e (inl refl))))
 
     pub step_settled : (now mid new : List Named) → mid ≡ with_area area n.out1 now → new ≡ with_area area n.out2 mid
         → AreSettled v objects final (take k steps) now → AreSettled v objects final (take (k + 1) steps) new
@@ -487,14 +439,11 @@ module _ (objects : List Named) (nodes : List Node) (v : Verified) (height besid
         kept = λ name target sum. refl;
       }
     where
-      final_image : (name : ℕ) → HoldsImage final (cell_of name) → (f : ImageValue) × (object_held final name ≡ Some (ImageObject f))
-      final_image name h = image_of (object_held final name) h
-
       of_writer : (name : ℕ) → is_target v name ≡ true → (w : Option Node) → counter_of v name ≡ w → option_map lasting (object_held final name) ≡ option_map lasting (object_held objects name)
           → IsAsFar w final 0 (object_held objects name) (object_held final name)
       of_writer name target None known lasts =
           let n = writer_of name target in
-          let image = final_image name (out_height objects nodes v height beside r n.0 n.1 (writer_plain name known n.0 n.1 n.2) (cell_of name) (In-from_same (cell_of name) (outputs n.0) n.2)).2 in
+          let image = image_of (object_held final name) (out_height objects nodes v height beside r n.0 n.1 (writer_plain name known n.0 n.1 n.2) (cell_of name) (In-from_same (cell_of name) (outputs n.0) n.2)).2 in
           none_yet (object_held objects name) (object_held final name) image.0 image.1 lasts
       of_writer name target (Some n) known lasts =
           record { lasts = skeletons_last (object_held objects name) (object_held final name) lasts; counted = λ some. absurd (omega (arith, some)) }
@@ -502,7 +451,7 @@ module _ (objects : List Named) (nodes : List Node) (v : Verified) (height besid
       begins_so : (name : ℕ) → is_target v name ≡ true → (w : Option Node) → counter_of v name ≡ w → IsAsFar w final 0 (object_held objects name) (object_held final name)
       begins_so name target w known =
           let parts = and_parts (is_written steps (cell_of name)) (not (is_virtual_name v name)) target in
-          let same = (begins objects nodes v r.ready).same name (inl (false_from_not (is_virtual_name v name) parts.1)) in
+          let same = (begins objects nodes v r.ready).same name (inl (not-true (is_virtual_name v name) parts.1)) in
           let lasts = held-lasts (begin objects nodes v r.ready) final name (final_lasts objects nodes v height beside r).lasting in
           of_writer name target w known (lasts ∙ ap (option_map lasting) (sym same))
 
@@ -515,10 +464,7 @@ module _ (objects : List Named) (nodes : List Node) (v : Verified) (height besid
       subst (λ l. Lasts objects l) (sym ended)
       (record {
         objects =
-            All-from_In (λ (o : Named). IsObject o.object) (forgotten objects final)
-            (λ o i. elim (in_forgotten objects final o i) [
-              | inl old ↦ In-from_All (λ (p : Named). IsObject p.object) objects r.are_objects o old
-              | inr new ↦ In-from_All (λ (p : Named). IsObject p.object) final (final_are objects nodes v height beside r) o new
-            ]);
+            let Are = λ (o : Named). IsObject o.object in
+            All-from_In Are (forgotten objects final) (in_forgotten Are objects final (In-from_All Are objects r.are_objects) (In-from_All Are final (final_are objects nodes v height beside r)));
         lasting = forgotten_lasts known nodes objects final (final_lasts objects nodes v height beside r).lasting;
       })

@@ -1,5 +1,5 @@
 -- Virtual images that claim their slots: what stands in slots before and after.
-use Rattle.std.proofs.Common.{◌≡◌, ◌≢◌, ℕ, true, false, List, [], ◌∷◌, ◌++◌, map, suc, Option, Some, None, ◌⊎◌, inl, inr, refl, sym, ap, subst, ◌∙◌, arith, ◌==◌, ◌||◌, find, slice_get, if◌then◌else◌, unwrap_or, option_map, option_and_then, eqb-true, eq-eqb, ne_eqb}
+use Rattle.std.proofs.Common.{◌≡◌, ◌≢◌, ℕ, true, false, List, [], ◌∷◌, ◌++◌, map, suc, Option, Some, None, ◌⊎◌, inl, inr, refl, sym, ap, subst, ◌∙◌, arith, ◌==◌, ◌||◌, find, slice_get, if◌then◌else◌, option_map, option_and_then, eqb-true, eq-eqb, ne_eqb}
 use Rattle.graph_run.proofs.Common.{AllPairs, cases_Bool, or_left, or_right, false_from_ne_true, list_any-append, slice_get-map, Node, Cell, same_cell, Description, VirtualOutput, Operand, Verified, IsVerified, written_description, writes, is_written, In, same_cell-refl, same_cell-true, any-from_In, Contains-from_In, is_used, PlanValue, Slot, slot_place, place_of, room_of, planned_rooms, AreShared, claimed_at, is_named, holder_at, claimed}
 use Rattle.graph_verify.specs.Links.{reads}
 use Rattle.graph_verify.proofs.KnownLemmas.{find_cases}
@@ -70,9 +70,7 @@ module _ (outs : List VirtualOutput) (p : PlanValue) (before after : List Node) 
 
     -- it stands in its place
     stands : holder_at next (place_of p o) ≡ Some o
-    stands =
-        let room = room_at_home (before ++ n ∷ after) outs p plan slots shared.rooms o i in
-        ap (option_and_then (λ (s : Slot). s.holder)) (at_home ∙ ap (option_map (claimed o)) room.there)
+    stands = grind (arith, room_at_home (before ++ n ∷ after) outs p plan slots shared.rooms o i)
 
     -- in each other place stands what stood there
     holders : (k : ℕ) (a : VirtualOutput) → holder_at next k ≡ Some a → ((k ≡ place_of p o) × (a ≡ o)) ⊎ (holder_at slots k ≡ Some a)
@@ -184,31 +182,21 @@ output_at cell d = record { cell = cell; desc = d }
 module _ (steps : List Node) (outs : List VirtualOutput) (p : PlanValue) (plan : HasSlots steps outs p) (apart : AllPairs (λ a b. a.cell.name ≢ b.cell.name) outs) where
   -- the output of its cell is found
   output_found : (o : VirtualOutput) → In o outs → find (λ q. same_cell q.cell o.cell) outs ≡ Some o
-  output_found o i = elim (find_cases (λ (q : VirtualOutput). same_cell q.cell o.cell) outs) [
-    | inl found ↦ found.1 ∙ ap (λ q. Some q) (one_of_name outs apart found.0 o found.2 i (ap (λ (c : Cell). c.name) (same_cell-true found.0.cell o.cell found.3)))
-    | inr none ↦ (let miss = none.1 o i in let hit = same_cell-refl o.cell in absurd (cc))
-  ]
+  output_found o i = grind (arith, find_cases, one_of_name)
 
   -- an output that has a slot can claim it
   pub output_can_claim : (slots : List Slot) → map room_of slots ≡ planned_rooms p → (o : VirtualOutput) → In o outs → (k : ℕ) → Some k ≡ p.slot_of o.cell
       → (at : ℕ) → at ≡ slot_place p o.desc.format k → (at ≡ place_of p o) × HasRoomAt at o slots
-  output_can_claim slots rooms o i k placed at is_at =
-      let place : at ≡ place_of p o = is_at ∙ ap (λ s. slot_place p o.desc.format (unwrap_or s 0)) placed in
-      (place, subst (λ n. HasRoomAt n o slots) (sym place) (room_at_home steps outs p plan slots rooms o i))
+  output_can_claim slots rooms o i k placed at is_at = grind (arith, room_at_home steps outs p plan slots rooms o i)
 
   -- what a slot is then
   pub claims_slot : (o : VirtualOutput) → In o outs → (at : ℕ) → at ≡ place_of p o → (output : Option Cell) → output ≡ Some o.cell → (k : ℕ) (slot : Option Slot)
       → (if k == at then option_map (claimed o) slot else slot) ≡ claimed_at p outs output k slot
-  claims_slot o i at place output is_cell k slot =
-      ap (λ n. if k == n then option_map (claimed o) slot else slot) place
-      ∙ sym (ap (λ f. claimed_if p f k slot) (output_found o i)) ∙ sym (ap (λ q. claimed_at p outs q k slot) is_cell)
+  claims_slot o i at place output is_cell k slot = grind (arith, output_found o i)
 
   -- none changes where no output is of a cell
   pub none_claims : (cell : Cell) → ((o : VirtualOutput) → In o outs → o.cell ≢ cell) → (output : Option Cell) → output ≡ Some cell → (k : ℕ) (slot : Option Slot) → slot ≡ claimed_at p outs output k slot
-  none_claims cell other output is_cell k slot = elim (find_cases (λ (q : VirtualOutput). same_cell q.cell cell) outs) [
-    | inl found ↦ absurd (other found.0 found.2 (same_cell-true found.0.cell cell found.3))
-    | inr none ↦ sym (ap (λ q. claimed_at p outs q k slot) is_cell ∙ ap (λ f. claimed_if p f k slot) none.0)
-  ]
+  none_claims cell other output is_cell k slot = grind (arith, find_cases)
 
   -- as where it has no slot
   pub unplaced : (cell : Cell) → None ≡ p.slot_of cell → (output : Option Cell) → output ≡ Some cell → (k : ℕ) (slot : Option Slot) → slot ≡ claimed_at p outs output k slot
@@ -217,19 +205,13 @@ module _ (steps : List Node) (outs : List VirtualOutput) (p : PlanValue) (plan :
   -- who claims stands in no other slot
   pub stands_nowhere_else : (slots : List Slot) → AreShared p outs slots → (o : VirtualOutput) → In o outs → (k : ℕ) (a : VirtualOutput) → holder_at slots k ≡ Some a
       → a.cell.name ≡ o.cell.name → k ≡ place_of p o
-  stands_nowhere_else slots shared o i k a at same =
-      let home = shared.homes k a at in
-      sym home.1 ∙ ap (place_of p) (one_of_name outs apart a o home.0 i same)
+  stands_nowhere_else slots shared o i k a at same = grind (arith, one_of_name outs apart a o (shared.homes k a at).0 i same)
 
 module _ (is : Cell → Operand) (nodes : List Node) (v : Verified) (how : IsVerified is nodes v) where
   -- a cell that is described is an output
   pub described_here : (cell : Cell) (d : Description) → Some d ≡ written_description is nodes cell → In (output_at cell d) v.virtual_outputs.items
-  described_here cell d described =
-      let output = described_output is nodes v how cell d (sym described) in
-      subst (λ (q : VirtualOutput). In q v.virtual_outputs.items) output.2 output.1
+  described_here cell d described = grind (arith, described_output is nodes v how cell d (sym described))
 
   -- no output is of a cell that isn't described
   pub undescribed : (cell : Cell) → None ≡ written_description is nodes cell → (o : VirtualOutput) → In o v.virtual_outputs.items → o.cell ≢ cell
-  undescribed cell none o i same =
-      let no : ◌≡◌ {A = Option Description} None (Some o.desc) = none ∙ ap (written_description is nodes) (sym same) ∙ output_described is nodes v how o i in
-      cc
+  undescribed cell none o i same = grind (arith, output_described is nodes v how o i)

@@ -1,6 +1,6 @@
 -- Slots of a plan: where they stand, what they have room for, and what is found in them.
-use Rattle.std.proofs.Common.{◌≡◌, ℕ, ◌+◌, ◌<◌, ◌≤◌, Bool, true, false, cond, List, [], ◌∷◌, ◌++◌, map, length, suc, Option, Some, None, ◌⊎◌, inl, inr, refl, sym, ap, subst, ◌∙◌, arith, IfSome, find, slice_get, is_some, unwrap_or, option_map, eq-eqb, length-append}
-use Rattle.graph_run.proofs.Common.{range_with_len, list_any, nat_tests, length-map-range_with_len, slice_get-map, slice_get-get_or, Format, U8, S16, U32, Cell, same_cell, sample_count, same_format, VirtualOutput, Node, In, same_cell-refl, any-from_In, In-filter, In-map, IsPlan, PlanValue, Slot, slot_place, place_of, room_of, planned_rooms, HasRoomFor}
+use Rattle.std.proofs.Common.{◌≡◌, ℕ, ◌+◌, ◌<◌, ◌≤◌, Bool, false, cond, List, [], ◌∷◌, ◌++◌, map, length, suc, Option, Some, None, ◌⊎◌, inl, inr, refl, sym, ap, subst, ◌∙◌, arith, IfSome, find, slice_get, is_some, unwrap_or, option_map, eq-eqb, length-append}
+use Rattle.graph_run.proofs.Common.{range_with_len, list_any, nat_tests, length-map-range_with_len, slice_get-map, slice_get-get_or, Format, Cell, same_cell, sample_count, same_format, VirtualOutput, Node, In, any-from_In, In-filter, In-map, IsPlan, PlanValue, Slot, slot_place, place_of, room_of, planned_rooms, HasRoomFor}
 use Rattle.std.specs.List.{filter}
 use Rattle.buffer_plan.specs.Slots.{of_format}
 use Rattle.std.proofs.lemmas.List.FromFn.{get_or-map-range_with_len}
@@ -17,9 +17,7 @@ module _ {X : Type 0} where
 
   get_right : (xs ys : List X) (n k : ℕ) → length xs ≡ n → slice_get (xs ++ ys) (n + k) ≡ slice_get ys k
   get_right [] ys n k long = let same : n + k ≡ k = omega (arith, long) in ap (slice_get ys) same
-  get_right (x ∷ xs) ys n k long =
-      let less : n + k ≡ suc (length xs + k) = omega (arith, long) in
-      ap (slice_get (x ∷ xs ++ ys)) less ∙ get_right xs ys (length xs) k refl
+  get_right (x ∷ xs) ys n k long = grind (arith, get_right xs ys (length xs) k refl)
 
   get_made : (f : ℕ → X) (n k : ℕ) → k < n → slice_get (map f (range_with_len 0 n)) k ≡ Some (f k)
   get_made f n k below =
@@ -59,9 +57,7 @@ module _ (p : PlanValue) where
   -- what a slot has room for
   planned_at : (format : Format) (k : ℕ) → k < p.slot_count format
       → slice_get (planned_rooms p) (slot_place p format k) ≡ Some (format, p.slot_samples format k)
-  planned_at U8 k below = grind (arith, get_left, long, length-append, made_at)
-  planned_at S16 k below = grind (arith, get_left, long, length-append, get_right, made_at)
-  planned_at U32 k below = grind (arith, get_right, long, length-append, made_at)
+  planned_at z0 k below = grind (arith, get_left, long, length-append, made_at, get_right)
 
   -- one slot stands at a place
   one_slot : (f g : Format) (j k : ℕ) → j < p.slot_count f → k < p.slot_count g → slot_place p f j ≡ slot_place p g k → (f ≡ g) × (j ≡ k)
@@ -113,20 +109,7 @@ planned_slots steps outs p plan = record { given = plan.given; valid = plan.vali
 
 module _ (steps : List Node) (outs : List VirtualOutput) (p : PlanValue) (plan : HasSlots steps outs p) where
   pub has_slot : (o : VirtualOutput) → In o outs → HasSlot p o
-  has_slot o i = of_slot (p.slot_of o.cell) refl
-    where
-      given : is_some (p.slot_of o.cell) ≡ true
-      given = plan.given o.cell ∙ any-from_In (λ (q : VirtualOutput). same_cell q.cell o.cell) o outs i (same_cell-refl o.cell)
-
-      of_slot : (slot : Option ℕ) → p.slot_of o.cell ≡ slot → HasSlot p o
-      of_slot None e = let no = subst (λ (s : Option ℕ). is_some s ≡ true) e given in absurd (cc)
-      of_slot (Some k) e =
-          record {
-            slot = k;
-            is = e;
-            below = subst (λ (s : Option ℕ). IfSome s (λ j. j < p.slot_count o.desc.format)) e (plan.below o i);
-            room = subst (λ (s : Option ℕ). IfSome s (λ j. sample_count o.desc ≤ p.slot_samples o.desc.format j)) e (plan.room o i);
-          }
+  has_slot o i = grind (arith, any-from_In)
 
   home_at : (o : VirtualOutput) (h : HasSlot p o) → place_of p o ≡ slot_place p o.desc.format h.slot
   home_at o h = ap (λ s. slot_place p o.desc.format (unwrap_or s 0)) h.is

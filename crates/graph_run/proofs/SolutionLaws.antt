@@ -1,6 +1,6 @@
 -- What the rounds give solves a graph, and nothing else does.
 use Rattle.std.proofs.Common.{◌≡◌, ◌≢◌, ◌<◌, true, false, List, length, map, sym, ap, subst, ◌∙◌, Option, Some, arith, All, option_map, option_and_then}
-use Rattle.graph_run.proofs.Common.{AllPairs, cases_Bool, Node, Output, Cell, ObjectValue, object_kind, written_from, Named, held, In, writes, feeds, two_writers, rounds_of_nodes, WritesNo, Solves, kind_in, form_of, label_of, any-from_In, one_writer}
+use Rattle.graph_run.proofs.Common.{AllPairs, Node, Output, Cell, ObjectValue, object_kind, written_from, Named, held, In, writes, feeds, two_writers, rounds_of_nodes, WritesNo, Solves, kind_in, form_of, label_of, any-from_In, one_writer}
 use Rattle.vx_base.specs.declared.kind.Kind.TheVariants as kind
 use Rattle.graph_verify.specs.Cycle.{has_cycle}
 use Rattle.graph_verify.specs.Rounds as cells
@@ -9,7 +9,7 @@ use Rattle.graph_run.specs.Solution.{ReadImages}
 use Rattle.graph_verify.proofs.SolutionLemmas as cell_solutions
 use Rattle.graph_run.proofs.LinkLaws.{All-from_In, In-from_All, unwritten, is_unwritten}
 use Rattle.graph_verify.proofs.NodeVerdictLemmas.{no_twice_each}
-use Rattle.graph_run.proofs.ObjectLaws.{is_delay, shown, is_delay-shown, not_delay, is_delay-form}
+use Rattle.graph_run.proofs.ObjectLaws.{shown}
 use Rattle.graph_run.proofs.HeldLaws.{seen, kind-form_seen}
 use Rattle.graph_run.proofs.NameLaws.{Rising, rising, same_objects}
 use Rattle.graph_run.proofs.NodeLaws.{output_at, output_of, given_to, given_from, form-output_of, shown-given_to, shown-given_from, given_holds, holds_given}
@@ -18,7 +18,6 @@ use Rattle.graph_run.proofs.ValueLaws.{given_first, reads_alone, given_same, sam
 
 -- what is seen of a cell that holds no delay as a whole is what it holds
 unshown : (o p : Option ObjectValue) → option_map object_kind p ≢ Some kind.Delay → option_map shown o ≡ option_map shown p → o ≡ p
-unshown (Some x) (Some y) whole h = grind (arith, shown x, shown y, is_delay y, not_delay y (λ k. whole (ap Some k)), is_delay x, is_delay-shown x, is_delay-shown y)
 unshown o p whole h = grind arith
 
 kinds_by_forms : (o p : Option ObjectValue) → option_map form_of o ≡ option_map form_of p → option_map object_kind o ≡ option_map object_kind p
@@ -79,7 +78,6 @@ same_given n output first second old now image forms = grind arith
 
 -- of a delay as a whole nothing is seen but that it is one
 same_seen : (o p : Option ObjectValue) → option_map form_of o ≡ option_map form_of p → (option_map object_kind p ≢ Some kind.Delay → o ≡ p) → option_map shown o ≡ option_map shown p
-same_seen (Some x) (Some y) forms h = grind (arith, cases_Bool (is_delay y), is_delay y, is_delay x, is_delay-form x, is_delay-form y)
 same_seen o p forms h = grind arith
 
 solution_seen : (nodes : List Node) (before after : List Named) → WritesNo kind.Delay nodes before → ReadImages nodes before → Solves nodes before after

@@ -1,6 +1,6 @@
 -- What nodes find of objects, where images stand in slots.
-use Rattle.std.proofs.Common.{◌≡◌, ◌≢◌, ℕ, zero, suc, ◌<◌, Bool, true, false, List, [], ◌∷◌, map, length, get_or, set, Option, Some, None, inl, inr, refl, sym, ap, ◌∙◌, arith, All, IsSome, ◌==◌, if◌then◌else◌, find, slice_get, position, option_map, option_and_then, eqb-true, ne_eqb}
-use Rattle.graph_run.proofs.Common.{cases_Bool, eqb-false, false_from_ne_true, nat_tests, All-head, All-tail, VirtualImage, Cell, cell_of, ObjectValue, ImageObject, VirtualObject, values, samples_format, in_slot, with_slot, Named, object_held, held, with_object, names_of, HasObject, object_held-map, VirtualOutput, Slot, is_virtual_object, is_named, standing_image, standing, shown_as, slot_of, holder_at, fixed, resized, cases_lt}
+use Rattle.std.proofs.Common.{◌≡◌, ◌≢◌, ℕ, zero, suc, ◌<◌, Bool, true, false, List, [], ◌∷◌, map, length, get_or, set, Option, Some, None, inl, inr, refl, sym, ap, ◌∙◌, arith, All, IsSome, if◌then◌else◌, find, slice_get, position, option_map, option_and_then, ne_eqb}
+use Rattle.graph_run.proofs.Common.{cases_Bool, false_from_ne_true, cases_lt, nat_tests, All-head, All-tail, VirtualImage, Cell, cell_of, ObjectValue, ImageObject, VirtualObject, values, samples_format, in_slot, with_slot, Named, object_held, held, with_object, names_of, HasObject, object_held-map, VirtualOutput, Slot, is_virtual_object, is_named, standing_image, standing, shown_as, slot_of, holder_at, fixed, resized}
 use Rattle.graph_run.specs.Stage.{shown}
 use Rattle.std.specs.List.{position_or_len}
 use Rattle.std.proofs.lemmas.List.Folds.{find_at}
@@ -21,13 +21,11 @@ held-shown slots l name = grind (arith, object_held-map)
 
 -- where the same slot has a name, the same is found under it
 pub shown_same : (a b : List Slot) (name : ℕ) (object : ObjectValue) → slot_of a name ≡ slot_of b name → shown_as a name object ≡ shown_as b name object
-shown_same a b name (VirtualObject image) same = ap (λ s. standing s (VirtualObject image)) same
-shown_same a b name other same = refl
+shown_same a b name other same = grind arith
 
 -- what stands in no slot is found as it is
 pub as_it_is : (slots : List Slot) (name : ℕ) (object : ObjectValue) → slot_of slots name ≡ None → shown_as slots name object ≡ object
-as_it_is slots name (VirtualObject image) none = ap (λ s. standing s (VirtualObject image)) none
-as_it_is slots name other none = refl
+as_it_is slots name other none = grind arith
 
 pub found_as_it_is : (slots : List Slot) (l : List Named) (name : ℕ) → slot_of slots name ≡ None → object_held (shown slots l) name ≡ object_held l name
 found_as_it_is slots l name none = grind (arith, held-shown slots l name, as_it_is slots name)
@@ -37,8 +35,7 @@ cell_as_it_is slots l cell none = ap (option_and_then (in_slot cell.slot)) (foun
 
 pub shown_nowhere : (slots : List Slot) → ((name : ℕ) → slot_of slots name ≡ None) → (l : List Named) → shown slots l ≡ l
 shown_nowhere slots none [] = refl
-shown_nowhere slots none (o ∷ l) =
-    ap (λ (x : ObjectValue). let p : Named = record o { object = x } in p ∷ shown slots l) (as_it_is slots o.name o.object (none o.name)) ∙ ap (λ (m : List Named). o ∷ m) (shown_nowhere slots none l)
+shown_nowhere slots none (o ∷ l) = grind (arith, shown_nowhere slots none l)
 
 -- so is what isn't virtual
 pub real_as_it_is : (slots : List Slot) (name : ℕ) (object : ObjectValue) → is_virtual_object object ≡ false → shown_as slots name object ≡ object
@@ -46,12 +43,8 @@ real_as_it_is slots name other real = grind arith
 
 -- ---- what is written to an object that isn't virtual
 
-slot_beside : (k : ℕ) (new : ObjectValue) (s : Option Slot) (image : VirtualImage) → with_slot (Some k) new (standing s (VirtualObject image)) ≡ standing s (VirtualObject image)
-slot_beside k new z image = grind arith
-
 slot_written : (slots : List Slot) (name : ℕ) (slot : Option ℕ) (new object : ObjectValue) → is_virtual_object new ≡ false
     → shown_as slots name (with_slot slot new object) ≡ with_slot slot new (shown_as slots name object)
-slot_written slots name (Some k) new (VirtualObject image) real = ap (shown_as slots name) (slot_beside k new None image) ∙ sym (slot_beside k new (slot_of slots name) image)
 slot_written slots name z new object real = grind arith
 
 -- it is found there
@@ -132,8 +125,7 @@ module _ (name : ℕ) (s : Slot) where
     pub set_fixed : samples_format new.samples ≡ samples_format s.samples → (slots : List Slot) (k : ℕ) → IsAlone slots name k s
         → map fixed (set slots k new) ≡ map (resized name (length (values new.samples))) (map fixed slots)
     set_fixed format [] k h = absurd h
-    set_fixed format (t ∷ slots) zero h =
-        grind (arith, h.0, h.1, none_resized slots name (length (values new.samples)) h.2)
+    set_fixed format (t ∷ slots) zero h = grind (arith, none_resized)
     set_fixed format (t ∷ slots) (suc k) h = rw h.0 (ap (λ fs. fixed t ∷ fs) (set_fixed format slots k h.1))
 
 -- ---- the first slot that has an image of a name
@@ -165,10 +157,5 @@ module _ (slots : List Slot) (name k : ℕ) (s new : Slot) (o : VirtualOutput) (
   pub shown-set : (l : List Named) → All (HasObject name (VirtualObject image)) l
       → shown (set slots k new) l ≡ with_object (shown slots l) (cell_of name) (ImageObject (standing_image o new))
   shown-set [] are = refl
-  shown-set (p ∷ l) are = elim (cases_Bool (p.name == name)) [
-    | inl e ↦
-        (let is : p.object ≡ VirtualObject image = All-head (HasObject name (VirtualObject image)) p l are (eqb-true p.name name e) in
-        grind (arith, shown-set l (All-tail (HasObject name (VirtualObject image)) p l are), found_new, eqb-true p.name name e, All-tail (HasObject name (VirtualObject image)) p l are))
-    | inr e ↦
-        (grind (arith, shown-set l (All-tail (HasObject name (VirtualObject image)) p l are), others p.name p.object (eqb-false p.name name e), eqb-false p.name name e, All-tail (HasObject name (VirtualObject image)) p l are))
-  ]
+  shown-set (p ∷ l) are =
+      grind (arith, shown-set l (All-tail (HasObject name (VirtualObject image)) p l are), All-head (HasObject name (VirtualObject image)) p l are, found_new, others)

@@ -38,9 +38,7 @@ module _ (s : Stage) (is : IsArranged s) (cell : Cell) (old new : ObjectValue) (
 
   -- virtual images have other names
   virtual_apart : (name : ℕ) → HoldsVirtual l name → name ≢ cell.name
-  virtual_apart name held same =
-      let there = virtual_there l name held in
-      grind (arith, there.1, same, found, real)
+  virtual_apart name held same = grind arith
 
   arranged : IsArranged (over s table)
   arranged = grind (arith, names-with_object, held_beside, virtual_apart)
@@ -92,11 +90,7 @@ module _ (s : Stage) (is : IsArranged s) (cell : Cell) where
       -- and they are its samples
       pub taken_held : (d : Description) (samples : Samples) → d ≡ description_of (image_held objects cell) → values samples ≡ (image_held objects cell).samples → IsImage (image_held (scene s).objects cell)
           → take (sample_count d) (values samples) ≡ (image_held (scene s).objects cell).samples
-      taken_held d samples desc same image =
-          let one : image_held objects cell ≡ image_held (scene s).objects cell = ap image_value (sym as_object) in
-          let all : values samples ≡ (image_held (scene s).objects cell).samples = same ∙ ap (λ (v : ImageValue). v.samples) one in
-          let count : length (values samples) ≡ sample_count d = ap length all ∙ image.size ∙ ap (λ (v : ImageValue). sample_count (description_of v)) (sym one) ∙ ap sample_count (sym desc) in
-          take_all (sample_count d) (values samples) (omega (arith, count)) ∙ all
+      taken_held d samples desc same image = grind (arith, as_object, take_all)
 
       pub held_set : (image : ImageValue) (table : Context) → table ≡ with_objects s.table (with_object objects cell (ImageObject image)) → (count : ℕ)
           → IsArranged (over s table) × (scene (over s table) ≡ with_objects (scene s) (with_object (scene s).objects cell (ImageObject image))) × Resized cell.name count s (over s table)
@@ -160,14 +154,11 @@ module _ (s : Stage) (is : IsArranged s) (cell : Cell) where
       -- samples of the slot are for the image
       pub for_slot : (d : Description) (samples : Samples) → IfSome t.holder (λ o. d ≡ o.desc) → samples_format samples ≡ samples_format t.samples → values samples ≡ values t.samples
           → IsImage (image_held (scene s).objects cell) → AreFor held_slots cell.name d samples
-      for_slot d samples of_desc same_format same_values image =
-          grind (arith, image_here, length-take, format_is, alone_found, alone, holder.1, of_desc, same_values)
+      for_slot d samples of_desc same_format same_values image = grind (arith, image_here, length-take, alone_found, alone)
 
       -- the first of them, one for each place, are its samples
       pub taken_here : (d : Description) (samples : Samples) → IfSome t.holder (λ o. d ≡ o.desc) → values samples ≡ values t.samples → take (sample_count d) (values samples) ≡ (image_held (scene s).objects cell).samples
-      taken_here d samples of_desc same =
-          let is_desc : d ≡ holder.0.desc = subst (λ (o : Option VirtualOutput). IfSome o (λ a. d ≡ a.desc)) holder.1 of_desc in
-          ap (take (sample_count d)) same ∙ ap (λ (e : Description). take (sample_count e) (values t.samples)) is_desc ∙ ap (λ (v : ImageValue). v.samples) (sym image_here)
+      taken_here d samples of_desc same = grind (arith, image_here)
 
       pub format_held : samples_format t.samples ≡ (image_held (scene s).objects cell).format
       format_held = format_is ∙ ap (λ (v : ImageValue). v.format) (sym image_here)

@@ -92,10 +92,7 @@ any_resized other name n [] = refl
 any_resized other name n (f ∷ fs) = grind (arith, any_resized other name n fs, cases_Bool (is_named name f.2))
 
 pub resized_alike : (a b : Stage) (name n : ℕ) → Resized name n a b → (other : ℕ) → Alike (slot_of a.slots.items other) (slot_of b.slots.items other)
-resized_alike a b name n change other =
-    some_named a.slots.items other
-    ∙ sym (ap (any_named other) change.slots ∙ any_resized other name n (map fixed a.slots.items))
-    ∙ sym (some_named b.slots.items other)
+resized_alike a b name n change other = grind (arith, some_named, any_resized)
 
 -- slots in which the same stands
 pub slots_alike : (a b : List Slot) → map fixed b ≡ map fixed a → (name : ℕ) → Alike (slot_of a name) (slot_of b name)
@@ -104,8 +101,7 @@ slots_alike a b same name = some_named a name ∙ ap (any_named name) (sym same)
 -- samples that were written are still for their image
 pub still_for : (a b : Stage) (name n cell : ℕ) (d e : Description) (samples written : Samples) → Resized name n a b → AreFor a.slots.items cell d samples → samples_format written ≡ samples_format samples
     → length (values written) ≡ length (values samples) → e ≡ d → AreFor b.slots.items cell e written
-still_for a b name n cell d e samples written change for format count same =
-    grind (arith, no_slot, any_resized, none_named)
+still_for a b name n cell d e samples written change for format count same = grind (arith, no_slot, any_resized, none_named)
 
 -- ---- what stays of a stage
 
@@ -127,9 +123,7 @@ first_same : (o p : Named) (old new : List Named) → map virtual_named (p ∷ n
 first_same o p old new same = (ap (λ l. get_or l 0 (virtual_named p)) same, ap (drop 1) same)
 
 pub forgotten_kept : (old new : List Named) → map virtual_named new ≡ map virtual_named old → forgotten old new ≡ new
-forgotten_kept (o ∷ old) (p ∷ new) same =
-    let parts = first_same o p old new same in
-    grind (arith, forgotten_kept old new parts.1, same_virtual o p parts.0, cases_Bool (is_virtual_object o.object))
+forgotten_kept (o ∷ old) (p ∷ new) same = grind (arith, forgotten_kept old new (first_same o p old new same).1)
 forgotten_kept x new same = grind arith
 
 -- what is held are objects, where what is found are, and virtual objects stay
@@ -157,14 +151,7 @@ kept_stays a b keeps = record { virtual = forgotten_kept a.table.objects b.table
 
 pub kept_stage : (a b : Stage) → IsStage a → IsArranged b → Keeps a b → Lasts (scene a).objects (scene b).objects → IsStage b
 kept_stage a b is arranged keeps lasts =
-    record {
-      names = arranged.names;
-      held = held_kept b.slots.items a.table.objects b.table.objects keeps.virtual is.held lasts.objects;
-      objects = lasts.objects;
-      room = room_kept a.slots.items b.slots.items keeps.slots is.room;
-      there = arranged.there;
-      apart = arranged.apart;
-    }
+    grind (arith, held_kept b.slots.items a.table.objects b.table.objects keeps.virtual is.held lasts.objects, room_kept a.slots.items b.slots.items keeps.slots is.room)
 
 -- a stage is arranged
 pub stage_arranged : (s : Stage) → IsStage s → IsArranged s

@@ -1,13 +1,12 @@
 -- A node that runs on the rows of a strip: what it sees, and what it makes.
-use Rattle.std.proofs.Common.{◌≡◌, ℕ, ◌+◌, ◌≤◌, List, [], ◌∷◌, ◌++◌, Option, Some, IfSome, sym, ap, subst, ◌∙◌, arith, IsTrue, is_some, sum_by, unwrap_or, option_map}
-use Rattle.graph_run.proofs.Common.{nat_tests, sum_by-append, Node, Output, Cell, Description, parameters, ImageValue, IsImage, ObjectValue, IsObject, node_image, Named, image_value, cell_object, image_held, HoldsImage, StandsBeside, HasInputs, first_right, end_right, reach, matrix_in, Strip, Stage, SeesParts, HasPlaceIn, IsSeen, IsStrip, rows_beside, right_from, right_to, scene, slot_of, RunsTo, node_right}
+use Rattle.std.proofs.Common.{◌≡◌, ℕ, ◌+◌, List, [], ◌∷◌, ◌++◌, Option, Some, IfSome, ap, ◌∙◌, arith, IsTrue, is_some, sum_by, unwrap_or, option_map}
+use Rattle.graph_run.proofs.Common.{nat_tests, sum_by-append, Node, Output, Cell, Description, parameters, ImageValue, IsImage, ObjectValue, IsObject, node_image, Named, image_value, cell_object, image_held, HoldsImage, HasInputs, first_right, end_right, reach, matrix_in, Strip, Stage, SeesParts, HasPlaceIn, IsSeen, IsStrip, rows_beside, right_from, right_to, scene, slot_of, RunsTo, node_right}
 use Rattle.graph_run.specs.Bands.{seen, part_made}
 use Rattle.vx_base.specs.declared.kind.Kind.TheVariants as kind
-use Rattle.node_rows.specs.Parts.{StandsFor}
 use Rattle.graph_run.proofs.FinalLemmas.{IsMade}
 use Rattle.graph_run.proofs.OutputLemmas.{can_run}
 use Rattle.graph_run.proofs.StepLemmas.{nothing}
-use Rattle.graph_run.proofs.SeesLemmas.{IsRightFor, SeesRight, SeesRightBeside, second_stands, second_holds, second_is, second_read, second_rows, parts_can_run}
+use Rattle.graph_run.proofs.SeesLemmas.{IsRightFor, SeesRight, SeesRightBeside, SeesSecond, sees_second, parts_can_run}
 
 -- an output that is an image, as wide as it is in the end, of the same format
 pub record HasPlace (strip : Strip) (s : Stage) (final : List Named) (cell : Cell) : Type 0 where
@@ -25,34 +24,31 @@ module _ (objects final : List Named) (height beside : ℕ) (strip : Strip) (is_
     abbrev seconds : Option ObjectValue
     seconds = option_map (cell_object final) n.in2
 
-    stands_beside : StandsBeside strip.rows.start strip.rows.count (right_from objects before strip.rows) (right_to objects height before strip.rows) (option_map (seen strip.rows s) n.in2) seconds
-    stands_beside = second_stands _ _ _ _ _ _ n.in2 second
+    beside_first : SeesSecond strip.rows (right_from objects before strip.rows) (right_to objects height before strip.rows) s.slots.items (scene s).objects final n.in2
+    beside_first = sees_second _ _ _ _ _ _ n.in2 second
 
     stands_first : IsRightFor objects height before strip.rows (image_value (seen strip.rows s n.in1)) (image_held final n.in1)
     stands_first = rw (first.seen_is, first.ends_as) first.stands
-
-    some_rows : 1 ≤ strip.rows.count
-    some_rows = omega (arith, is_strip.some, is_strip.within.above, is_strip.within.below)
 
     -- it can run
     sees_parts : SeesParts strip.rows s n c
     sees_parts =
         record {
           in1 = first.here;
-          in2 = second_holds _ _ _ _ _ _ n.in2 second;
+          in2 = beside_first.holds;
           out = out.here;
           first = first.here_is;
-          second = second_is _ _ _ _ _ _ n.in2 second;
-          second_kind = second_read _ _ _ _ _ _ n.in2 second n runs.runs.second_kind;
+          second = beside_first.is;
+          second_kind = beside_first.read n runs.runs.second_kind;
           out_image = out.is;
-          some_rows = some_rows;
+          some_rows = omega (arith, is_strip.some, is_strip.within.above, is_strip.within.below);
           in1_rows = first.has_rows;
-          in2_rows = second_rows _ _ _ _ _ _ n.in2 second;
+          in2_rows = beside_first.has_rows;
           in1_apart = runs.in1_apart;
           in2_apart = runs.in2_apart;
           can_run =
               parts_can_run n _ _ _ _ (image_value (seen strip.rows s n.in1)) (image_held final n.in1) (option_map (seen strip.rows s) n.in2) seconds (image_held final c) _
-              (can_run n (cell_object final n.in1) seconds (cell_object final c) runs.runs (runs.runs.out_kind ∙ images)) stands_first stands_beside
+              (can_run n (cell_object final n.in1) seconds (cell_object final c) runs.runs (runs.runs.out_kind ∙ images)) stands_first beside_first.stands
               (described (image_held (scene s).objects c) (image_held final c) out.wide out.format);
         }
       where
@@ -85,27 +81,11 @@ module _ (objects final : List Named) (height beside : ℕ) (strip : Strip) (is_
         made_stands =
             let far = reaches (reach n.function (matrix_in seconds)) near rows in
             let right = node_right n which (image_held final c).format (image_value (seen strip.rows s n.in1)) (image_held final n.in1) (rows_beside objects n) strip.rows.start strip.rows.count (right_from objects before strip.rows) (right_to objects height before strip.rows)
-            in1_is end_is stands_first (option_map (seen strip.rows s) n.in2) seconds seconds_are given far stands_beside in
-            stands_as right (ap (λ f. node_image n which f (image_value (seen strip.rows s n.in1)) (option_map (seen strip.rows s) n.in2)) (sym out.format)) (sym end_image) from_is to_is
+            in1_is end_is stands_first (option_map (seen strip.rows s) n.in2) seconds seconds_are given far beside_first.stands in
+            rw (end_image, out.format, ← from_is, ← to_is) right
           where
             from_is : first_right (rows_beside objects n) (right_from objects before strip.rows) ≡ right_from objects (before ++ n ∷ []) strip.rows
-            from_is = above (sum_by (rows_beside objects) before) (rows_beside objects n) strip.rows.start ∙ ap (λ t. first_right t strip.rows.start) (sym together)
-              where
-                above : (near far from : ℕ) → first_right far (first_right near from) ≡ first_right (near + far) from
-                above near far from = grind (arith, nat_tests)
+            from_is = grind (arith, nat_tests, together)
 
             to_is : end_right (rows_beside objects n) (image_held final n.in1).height (right_to objects height before strip.rows) ≡ right_to objects height (before ++ n ∷ []) strip.rows
-            to_is =
-                ap (λ h. end_right (rows_beside objects n) h (right_to objects height before strip.rows)) high
-                ∙ below (sum_by (rows_beside objects) before) (rows_beside objects n) height (strip.rows.start + strip.rows.count) is_strip.rows
-                ∙ ap (λ t. end_right t height (strip.rows.start + strip.rows.count)) (sym together)
-              where
-                below : (near far height to : ℕ) → to ≤ height → end_right far height (end_right near height to) ≡ end_right (near + far) height to
-                below near far height to less = grind (arith, nat_tests)
-
-            stands_as : {f g t u : ℕ} {a b : ImageValue} → StandsFor strip.rows.start strip.rows.count f t a b → {x y : ImageValue} → a ≡ x → b ≡ y → f ≡ g → t ≡ u → StandsFor strip.rows.start strip.rows.count g u x y
-            stands_as {f} {g} {t} {u} {a} {b} h {x} {y} one other from to =
-                subst (λ i. StandsFor strip.rows.start strip.rows.count g i x y) to
-                (subst (λ i. StandsFor strip.rows.start strip.rows.count i t x y) from
-                (subst (λ i. StandsFor strip.rows.start strip.rows.count f t x i) other
-                (subst (λ i. StandsFor strip.rows.start strip.rows.count f t i b) one h)))
+            to_is = grind (arith, nat_tests, together, high, is_strip.rows)

@@ -1,18 +1,16 @@
 -- The nodes of a graph on the rows of a strip, one after the other.
-use Rattle.std.proofs.Common.{◌≡◌, ◌≢◌, ℕ, ◌+◌, ◌≤◌, ◌<◌, Bool, true, false, List, [], ◌∷◌, ◌++◌, map, length, take, drop, get_or, Option, Some, None, ◌⊎◌, inl, inr, IfSome, refl, sym, ap, subst, ◌∙◌, arith, unwrap_or, ◌==◌, ◌||◌, ◌&&◌, not, sum_by, slice_get, if◌then◌else◌, option_map, option_and_then, take-append-drop, take_all, eqb-true}
-use Rattle.graph_run.proofs.Common.{take_more, drop_more, list_any-append, sum_by-append, cases_Bool, or_left, or_right, and_parts, and_from, false_from_ne_true, Node, First, Second, Cell, cell_of, same_cell, Description, ImageValue, IsImage, description_of, outputs, second_kind, ObjectValue, ImageObject, VirtualObject, IsObject, object_kind, with_objects, in_slot, Named, held, object_held, image_value, image_held, HoldsImage, VirtualOutput, Verified, accumulates, writes, is_written, In, is_used, PlanValue, IsPlan, Strip, Slot, Stage, AreSeen, RunsInBands, final_of, IsStrip, is_virtual_name, is_target, IsFinished, IsAsFar, CanCount, counter_of, counts, with_counted, RowsAreAs, IsPartOf, output_part, with_seen, rows_beside, AreShared, strip_plan, room_of, planned_rooms, AreEmpty, claimed_at, label_of, scene, slot_of, standing_image, IsStage, HoldsVirtual, virtual_named, AreVirtual, HoldsKind, map-told, same_cell-refl, same_cell-true, In-right, In-from_any, any-from_In, held_is, stands_fewer, CanAdd, CanSum, integrates, with_integral, is_sum, rows_from, with_added}
+use Rattle.std.proofs.Common.{◌≡◌, ◌≢◌, ℕ, ◌+◌, ◌≤◌, ◌<◌, Bool, true, false, List, [], ◌∷◌, ◌++◌, map, length, take, drop, get_or, Option, Some, None, inl, inr, IfSome, refl, sym, ap, subst, ◌∙◌, arith, unwrap_or, ◌||◌, ◌&&◌, not, sum_by, slice_get, if◌then◌else◌, option_map, option_and_then, take-append-drop, take_all}
+use Rattle.graph_run.proofs.Common.{take_more, drop_more, list_any-append, sum_by-append, cases_Bool, or_left, or_right, and_parts, and_from, false_from_ne_true, not-true, HasPlaceIn, AreSeen, RunsInBands, final_of, IsStrip, is_virtual_name, is_target, IsFinished, IsAsFar, CanCount, counter_of, counts, with_counted, RowsAreAs, IsPartOf, output_part, with_seen, rows_beside, CanAdd, CanSum, integrates, with_integral, is_sum, rows_from, with_added, Node, First, Second, Cell, cell_of, same_cell, Description, ImageValue, IsImage, description_of, outputs, second_kind, ObjectValue, ImageObject, VirtualObject, IsObject, object_kind, with_objects, in_slot, Named, held, object_held, image_value, image_held, HoldsImage, VirtualOutput, Verified, accumulates, writes, is_written, In, is_used, PlanValue, IsPlan, Strip, Slot, Stage, AreShared, strip_plan, room_of, planned_rooms, AreEmpty, claimed_at, label_of, scene, slot_of, standing_image, IsStage, HoldsVirtual, virtual_named, AreVirtual, HoldsKind, map-told, same_cell-refl, same_cell-true, In-right, In-from_any, any-from_In, held_is, stands_fewer}
 use Rattle.graph_verify.specs.Links.{reads}
-use Rattle.graph_run.specs.Bands.{after_node}
+use Rattle.graph_run.specs.Bands.{after_node, rows_by_now}
 use Rattle.graph_run.specs.Stage.{shown, Keeps}
 use Rattle.vx_base.specs.declared.kind.Kind.TheVariants as kind
-use Rattle.graph_run.specs.Bands.{rows_by_now}
 use Rattle.node_rows.proofs.PartLookLaws.{first_within, end_within}
 use Rattle.graph_run.proofs.BandLemmas.{right_above, right_below, rows_of}
 use Rattle.graph_run.proofs.AgreeLemmas.{written_once}
 use Rattle.graph_run.proofs.CellLemmas.{held_image, held_whole, one_cell}
 use Rattle.graph_run.proofs.ClaimLemmas.{virtual_there}
-use Rattle.graph_run.proofs.FinalLemmas.{added_real, adder_is, final_are, final_can, in_height, out_height, out_whole, counter_none, counter_is, counted_real, second_height, real_read, virtual_read, virtual_here, virtual_image}
-use Rattle.graph_run.proofs.FoundLemmas.{OfOperands, of_operands}
+use Rattle.graph_run.proofs.FinalLemmas.{and_false, of_each, added_real, adder_is, final_are, of_final, in_height, out_height, out_whole, output_of_name, counter_none, counter_is, counted_real, second_height, real_read, virtual_read, virtual_here, virtual_image}
 use Rattle.graph_run.proofs.LinkLaws.{All-from_In, In-from_All, reads_first, reads_second}
 use Rattle.graph_run.proofs.StageLemmas.{found_as_it_is}
 use Rattle.graph_run.proofs.PartClaimLemmas.{PartsClaimed, first_part_shared, parts_claimed}
@@ -22,6 +20,7 @@ use Rattle.graph_run.proofs.StepLemmas.{nothing, none_alike, slots_alike, forgot
 use Rattle.graph_run.proofs.SharingLemmas.{WereWritten, name_of_output}
 use Rattle.graph_run.proofs.SeesLemmas.{SeesRight, SeesRightBeside, sees_standing, sees_rows}
 use Rattle.graph_run.proofs.StripStepLemmas.{SeesInputs, IsOpen, IsToAdd, IsToCount, HasRun, has_added, has_counted, has_run, output_counts, has_summed, outputs_add, outputs_seen, outputs_sum}
+use Rattle.graph_run.proofs.StripLemmas.{HasPlace}
 use Rattle.graph_run.proofs.SumLemmas.{integral_no_count, sums_no_count}
 
 -- what is shown as an image and is virtual stands in a slot
@@ -35,12 +34,6 @@ stands_somewhere slots l name image virtual found = by_slot (slot_of slots name)
         let there = virtual_there l name virtual in
         let as_it_was : object_held (shown slots l) name ≡ Some (VirtualObject there.0) = found_as_it_is slots l name e ∙ there.1 in
         absurd (cc)
-
-and_false : (a b : Bool) → b ≡ true → (a && not b) ≡ false
-and_false a b e = grind arith
-
-not_true : (b : Bool) → not b ≡ true → b ≡ false
-not_true b e = grind arith
 
 none_or : (a b : Bool) → b ≡ false → (a || b) ≡ a
 none_or a b e = grind arith
@@ -121,12 +114,8 @@ module _ (objects : List Named) (nodes : List Node) (v : Verified) (height besid
             (end_within (sum_by (rows_beside objects) before) height (strip.rows.start + strip.rows.count))
       ]
 
-      -- what it can read in the end
-      can_read : OfOperands (HoldsKind final) n
-      can_read = of_operands (HoldsKind final) n (final_can objects nodes v height beside r n in_steps).kinds
-
       reads_beside : (cell : Cell) → n.in2 ≡ Some cell → SeesRightBeside objects final height before strip.rows s cell
-      reads_beside cell e = of_object (held final cell) refl (subst (λ (o : Option Cell). IfSome o (λ c. HoldsKind final (c, second_kind n))) e can_read.in2)
+      reads_beside cell e = of_object (held final cell) refl (subst (λ (o : Option Cell). IfSome o (λ c. HoldsKind final (c, second_kind n))) e (of_final objects nodes v height beside r n in_steps).in2)
         where
           rd : reads n cell ≡ true
           rd = reads_second n cell e
@@ -139,14 +128,12 @@ module _ (objects : List Named) (nodes : List Node) (v : Verified) (height besid
                 here = real_held cell rd (false_from_ne_true (is_virtual_name v cell.name) (λ virtual.
                     let from = virtual_read objects nodes v height beside r before after n parts cell rd virtual in
                     let image = virtual_image objects nodes v height beside r from.0 from.1 in
-                    other (kind_of object (ap (option_map object_kind) (sym there) ∙ ap (λ c. option_map object_kind (held final c)) from.2 ∙ image)))) ∙ there;
+                    let some : Some (object_kind object) ≡ Some kind.Image = ap (option_map object_kind) (sym there) ∙ ap (λ c. option_map object_kind (held final c)) from.2 ∙ image in
+                    other (cc))) ∙ there;
                 ends_as = there;
                 other = other;
                 is = subst (λ (o : Option ObjectValue). IfSome o IsObject) there (held_is final cell (final_are objects nodes v height beside r));
               })
-            where
-              kind_of : (x : ObjectValue) → option_map object_kind (Some x) ≡ Some kind.Image → object_kind x ≡ kind.Image
-              kind_of x f = grind arith
 
           of_object : (o : Option ObjectValue) → held final cell ≡ o → option_map object_kind (held final cell) ≡ Some (second_kind n)
               → SeesRightBeside objects final height before strip.rows s cell
@@ -159,14 +146,9 @@ module _ (objects : List Named) (nodes : List Node) (v : Verified) (height besid
       pub sees_inputs : SeesInputs objects nodes v height beside r strip is_strip before after n parts s
       sees_inputs =
           record {
-            first = reads_image n.in1 (reads_first n) can_read.in1 (in_height objects nodes v height beside r n in_steps);
-            second = each n.in2 reads_beside;
+            first = reads_image n.in1 (reads_first n) (of_final objects nodes v height beside r n in_steps).in1 (in_height objects nodes v height beside r n in_steps);
+            second = of_each (SeesRightBeside objects final height before strip.rows s) n.in2 reads_beside;
           }
-        where
-          each : (second : Option Cell) → ((cell : Cell) → second ≡ Some cell → SeesRightBeside objects final height before strip.rows s cell)
-              → IfSome second (SeesRightBeside objects final height before strip.rows s)
-          each None f = tt
-          each (Some cell) f = f cell refl
 
       -- ---- what it writes
 
@@ -183,13 +165,13 @@ module _ (objects : List Named) (nodes : List Node) (v : Verified) (height besid
           ap (λ (b : Bool). if b then strip.band.start + strip.band.count else strip.band.start)
           (false_from_ne_true (is_written before (cell_of c.name)) (λ early. written_once objects nodes v r.ready before after n parts (cell_of c.name) (itself c i) early))
 
-      found_real : (c : Cell) → is_virtual_name v c.name ≡ false → object_held now c.name ≡ object_held s.table.objects c.name
-      found_real c real = found_as_it_is s.slots.items s.table.objects c.name (h.real c.name real)
+      found_real : (name : ℕ) → is_virtual_name v name ≡ false → object_held now name ≡ object_held s.table.objects name
+      found_real name real = found_as_it_is s.slots.items s.table.objects name (h.real name real)
 
       -- an output that is no virtual image is as far as the strip's band begins
       as_far : (c : Cell) → In c (outputs n) → is_virtual_name v c.name ≡ false → IsAsFar (counter_of v c.name) final strip.band.start (object_held now c.name) (object_held final c.name)
       as_far c i real =
-          subst (λ o. IsAsFar (counter_of v c.name) final strip.band.start o (object_held final c.name)) (sym (found_real c real))
+          subst (λ o. IsAsFar (counter_of v c.name) final strip.band.start o (object_held final c.name)) (sym (found_real c.name real))
           (subst (λ y. IsAsFar (counter_of v c.name) final y (object_held s.table.objects c.name) (object_held final c.name)) (rows_so_far c i) (h.finished.targets c.name (target_there c i real)))
 
       pub output_to_count : counts n ≡ true → (c : Cell) → In c (outputs n) → IsToCount objects nodes v height beside r strip is_strip before after n parts s c
@@ -206,31 +188,36 @@ module _ (objects : List Named) (nodes : List Node) (v : Verified) (height besid
           let high = out_height objects nodes v height beside r n in_steps no_count c i in
           elim (cases_Bool (is_virtual_name v c.name)) [ inl virtual ↦ of_virtual high.1 virtual | inr real ↦ of_real high.1 high.2 real ]
         where
-          is_image : (image : ImageValue) → held now c ≡ Some (ImageObject image) → IsImage (image_held now c)
-          is_image image here = grind (arith, here, subst (λ (o : Option ObjectValue). IfSome o IsObject) here (held_is now c h.is.objects))
+          -- an image of the width and format that the output has in the end
+          placed : (image : ImageValue) → held now c ≡ Some (ImageObject image) → image.width ≡ (image_held final c).width → image.format ≡ (image_held final c).format
+              → HasPlaceIn (slot_of s.slots.items c.name) strip image → HasPlace strip s final c
+          placed image here wide format place =
+              let same : image_held now c ≡ image = grind (arith, here) in
+              record {
+                here = ap (option_map object_kind) here;
+                is = subst IsImage (sym same) (subst (λ (o : Option ObjectValue). IfSome o IsObject) here (held_is now c h.is.objects));
+                wide = ap (λ (a : ImageValue). a.width) same ∙ wide;
+                format = ap (λ (a : ImageValue). a.format) same ∙ format;
+                place = subst (HasPlaceIn (slot_of s.slots.items c.name) strip) (sym same) place;
+              }
 
           of_virtual : c.slot ≡ None → is_virtual_name v c.name ≡ true → IsOpen objects nodes v height beside r strip is_strip before after n parts s c
           of_virtual none virtual =
-              let found = In-from_any (λ (q : VirtualOutput). c.name == q.cell.name) outs virtual in
-              let o = found.0 in
-              let ends = virtual_here objects nodes v height beside r o found.1 in
-              let name : c.name ≡ o.cell.name = eqb-true c.name o.cell.name found.2 in
-              let same : c ≡ o.cell = one_cell c o.cell name none (ap (λ (q : Cell). q.slot) ends.0) in
+              let output = output_of_name objects nodes v height beside r c.name virtual in
+              let o = output.0 in
+              let ends = virtual_here objects nodes v height beside r o output.1 in
+              let same : c ≡ o.cell = one_cell c o.cell output.2 none (ap (λ (q : Cell). q.slot) ends.0) in
               let writer : writes n o.cell ≡ true = ap (writes n) (sym same) ∙ any-from_In (same_cell c) c (outputs n) i (same_cell-refl c) in
-              let claimed = h.claimed o found.1 writer in
-              let here : held now c ≡ Some (ImageObject claimed.image) = held_whole now c none ∙ ap (object_held now) name ∙ claimed.there in
-              let image : image_held now c ≡ claimed.image = grind (arith, here) in
+              let claimed = h.claimed o output.1 writer in
+              let found = ap (slot_of s.slots.items) output.2 ∙ claimed.found in
               let desc : description_of (image_held final c) ≡ o.desc = ap (λ q. description_of (image_held final q)) same ∙ ends.2 in
               record {
                 place =
-                    record {
-                      here = ap (option_map object_kind) here;
-                      is = is_image claimed.image here;
-                      wide = ap (λ (a : ImageValue). a.width) image ∙ ap (λ (d : Description). d.width) claimed.described ∙ sym (ap (λ (d : Description). d.width) desc);
-                      format = ap (λ (a : ImageValue). a.format) image ∙ ap (λ (d : Description). d.format) claimed.described ∙ sym (ap (λ (d : Description). d.format) desc);
-                      place = rw (ap (slot_of s.slots.items) name ∙ claimed.found) (ap (λ (a : ImageValue). a.height) image ∙ ap (λ (d : Description). d.height) claimed.described);
-                    };
-                virtual = λ _. (claimed.slot, ap (slot_of s.slots.items) name ∙ claimed.found);
+                    placed claimed.image (held_whole now c none ∙ ap (object_held now) output.2 ∙ claimed.there)
+                    (ap (λ (d : Description). d.width) claimed.described ∙ sym (ap (λ (d : Description). d.width) desc))
+                    (ap (λ (d : Description). d.format) claimed.described ∙ sym (ap (λ (d : Description). d.format) desc))
+                    (rw found (ap (λ (d : Description). d.height) claimed.described));
+                virtual = λ _. (claimed.slot, found);
                 real = λ real. absurd (cc);
               }
 
@@ -241,19 +228,12 @@ module _ (objects : List Named) (nodes : List Node) (v : Verified) (height besid
               let before_band : RowsAreAs strip.band.start (object_held now c.name) (object_held final c.name) =
               subst (λ w. IsAsFar w final strip.band.start (object_held now c.name) (object_held final c.name)) (counter_none objects nodes v height beside r n in_steps no_count c i) (as_far c i real) in
               let old = rows_of strip.band.start (object_held now c.name) (object_held final c.name) before_band in
-              let here : held now c ≡ Some (ImageObject old.one) = held_whole now c none ∙ old.there in
-              let there : held final c ≡ Some (ImageObject old.other) = held_whole final c none ∙ old.in_the_end in
-              let image_now : image_held now c ≡ old.one = grind (arith, here) in
-              let image_end : image_held final c ≡ old.other = grind (arith, there) in
+              let image_end : image_held final c ≡ old.other = ap (λ o. image_value (unwrap_or o nothing)) (held_whole final c none ∙ old.in_the_end) in
+              let ends : description_of old.one ≡ description_of (image_held final c) = old.desc ∙ sym (ap description_of image_end) in
               record {
                 place =
-                    record {
-                      here = ap (option_map object_kind) here;
-                      is = is_image old.one here;
-                      wide = ap (λ (a : ImageValue). a.width) image_now ∙ ap (λ (d : Description). d.width) old.desc ∙ sym (ap (λ (a : ImageValue). a.width) image_end);
-                      format = ap (λ (a : ImageValue). a.format) image_now ∙ ap (λ (d : Description). d.format) old.desc ∙ sym (ap (λ (a : ImageValue). a.format) image_end);
-                      place = rw slot (omega (arith, is_strip.rows, ap (λ (a : ImageValue). a.height) image_now ∙ ap (λ (d : Description). d.height) old.desc ∙ sym (ap (λ (a : ImageValue). a.height) image_end) ∙ high_is));
-                    };
+                    placed old.one (held_whole now c none ∙ old.there) (ap (λ (d : Description). d.width) ends) (ap (λ (d : Description). d.format) ends)
+                    (rw slot (omega (arith, is_strip.rows, ap (λ (d : Description). d.height) ends, high_is)));
                 virtual = λ virtual. absurd (cc);
                 real = λ _. (slot, before_band);
               }
@@ -267,7 +247,7 @@ module _ (objects : List Named) (nodes : List Node) (v : Verified) (height besid
             opened = output_open (sums_no_count n sums) c i;
             real = real;
             kept =
-                ap (option_map (rows_from strip.band.start)) (found_real c real)
+                ap (option_map (rows_from strip.band.start)) (found_real c.name real)
                 ∙ subst (λ y. option_map (rows_from y) (object_held s.table.objects c.name) ≡ option_map (rows_from y) (object_held objects c.name)) (rows_so_far c i)
                 (h.finished.kept c.name (target_there c i real) sum);
           }
@@ -296,19 +276,15 @@ module _ (objects : List Named) (nodes : List Node) (v : Verified) (height besid
           found_as_it_is later.slots.items later.table.objects name
           (none_alike (slot_of later.slots.items name) (slot_of s.slots.items name) (slots_alike later.slots.items s.slots.items (sym run.slots) name) (h.real name real))
 
-      real_before : (name : ℕ) → is_virtual_name v name ≡ false → object_held (scene s).objects name ≡ object_held s.table.objects name
-      real_before name real = found_as_it_is s.slots.items s.table.objects name (h.real name real)
-
       labels_kept : map label_of later.table.objects ≡ map label_of s.table.objects
       labels_kept = map-told virtual_named label_of (λ o. (o.name, o.live)) (λ _. refl) later.table.objects s.table.objects keeps.virtual
 
       others_kept : (name : ℕ) → is_target v name ≡ false → object_held later.table.objects name ≡ object_held s.table.objects name
       others_kept name not_target = elim (cases_Bool (is_virtual_name v name)) [
         | inl virtual ↦
-            (let found = In-from_any (λ (o : VirtualOutput). name == o.cell.name) outs virtual in
-            let same = eqb-true name found.0.cell.name found.2 in
+            (let found = output_of_name objects nodes v height beside r name virtual in
             let there = virtual_there s.table.objects found.0.cell.name (In-from_All (λ (q : VirtualOutput). HoldsVirtual s.table.objects q.cell.name) outs h.virtual.held found.0 found.1) in
-            let at : object_held s.table.objects name ≡ Some (VirtualObject there.0) = ap (object_held s.table.objects) same ∙ there.1 in
+            let at : object_held s.table.objects name ≡ Some (VirtualObject there.0) = ap (object_held s.table.objects) found.2 ∙ there.1 in
             stays_virtual s.table.objects later.table.objects labels_kept (forgotten_kept s.table.objects later.table.objects keeps.virtual) name there.0 at ∙ sym at)
         | inr real ↦
             (let not_written : writes n (cell_of name) ≡ false =
@@ -316,7 +292,7 @@ module _ (objects : List Named) (nodes : List Node) (v : Verified) (height besid
             let all = any-from_In (λ m. writes m (cell_of name)) n v.steps.items in_steps w in
             let target = and_from (is_written v.steps.items (cell_of name)) (not (is_virtual_name v name)) all (ap not real) in
             cc) in
-            sym (real_found name real) ∙ run.others name (other_output name not_written) ∙ real_before name real)
+            sym (real_found name real) ∙ run.others name (other_output name not_written) ∙ found_real s h name real)
       ]
 
       finished_more : IsFinished (rows_by_now done strip) v objects final later.table.objects
@@ -324,12 +300,28 @@ module _ (objects : List Named) (nodes : List Node) (v : Verified) (height besid
           record {
             labels = labels_kept ∙ h.finished.labels;
             others = λ name not_target. others_kept name not_target ∙ h.finished.others name not_target;
-            targets = λ name target. of_target name target (cases_Bool (writes n (cell_of name)));
-            kept = λ name target sum. of_sum name target sum (cases_Bool (writes n (cell_of name)));
+            targets = λ name target. elim (cases_Bool (writes n (cell_of name))) [
+              | inl w ↦
+                  (let made = run.made (cell_of name) (output_in n (cell_of name) w) in
+                  subst (λ y. IsAsFar (counter_of v name) final y (object_held later.table.objects name) (object_held final name)) (rows_now name w)
+                  (subst (λ o. IsAsFar (counter_of v name) final (strip.band.start + strip.band.count) o (object_held final name)) (real_found name (real_name name target)) (made.rows (real_name name target))))
+              | inr none ↦
+                  subst (λ y. IsAsFar (counter_of v name) final y (object_held later.table.objects name) (object_held final name)) (rows_still name none)
+                  (subst (λ o. IsAsFar (counter_of v name) final (rows_by_now before strip name) o (object_held final name)) (same_there name (real_name name target) none) (h.finished.targets name target))
+            ];
+            kept = λ name target sum. elim (cases_Bool (writes n (cell_of name))) [
+              | inl w ↦
+                  (let sums = adder_is objects nodes v height beside r n in_steps name sum w in
+                  subst (λ y. option_map (rows_from y) (object_held later.table.objects name) ≡ option_map (rows_from y) (object_held objects name)) (rows_now name w)
+                  (ap (option_map (rows_from (strip.band.start + strip.band.count))) (sym (real_found name (real_name name target))) ∙ run.kept sums (cell_of name) (output_in n (cell_of name) w)))
+              | inr none ↦
+                  subst (λ y. option_map (rows_from y) (object_held later.table.objects name) ≡ option_map (rows_from y) (object_held objects name)) (rows_still name none)
+                  (ap (option_map (rows_from (rows_by_now before strip name))) (sym (same_there name (real_name name target) none)) ∙ h.finished.kept name target sum)
+            ];
           }
         where
           real_name : (name : ℕ) → is_target v name ≡ true → is_virtual_name v name ≡ false
-          real_name name target = not_true (is_virtual_name v name) (and_parts (is_written v.steps.items (cell_of name)) (not (is_virtual_name v name)) target).1
+          real_name name target = not-true (is_virtual_name v name) (and_parts (is_written v.steps.items (cell_of name)) (not (is_virtual_name v name)) target).1
 
           -- how far a name that the node writes is, and another
           rows_now : (name : ℕ) → writes n (cell_of name) ≡ true → strip.band.start + strip.band.count ≡ rows_by_now done strip name
@@ -339,27 +331,7 @@ module _ (objects : List Named) (nodes : List Node) (v : Verified) (height besid
           rows_still name none = ap (λ (b : Bool). if b then strip.band.start + strip.band.count else strip.band.start) (sym (written_done (cell_of name) ∙ none_or (is_written before (cell_of name)) (writes n (cell_of name)) none))
 
           same_there : (name : ℕ) → is_virtual_name v name ≡ false → writes n (cell_of name) ≡ false → object_held s.table.objects name ≡ object_held later.table.objects name
-          same_there name real none = sym (sym (real_found name real) ∙ run.others name (other_output name none) ∙ real_before name real)
-
-          of_sum : (name : ℕ) → is_target v name ≡ true → is_sum v name ≡ true → (writes n (cell_of name) ≡ true) ⊎ (writes n (cell_of name) ≡ false)
-              → option_map (rows_from (rows_by_now done strip name)) (object_held later.table.objects name) ≡ option_map (rows_from (rows_by_now done strip name)) (object_held objects name)
-          of_sum name target sum (inl w) =
-              let sums = adder_is objects nodes v height beside r n in_steps name sum w in
-              subst (λ y. option_map (rows_from y) (object_held later.table.objects name) ≡ option_map (rows_from y) (object_held objects name)) (rows_now name w)
-              (ap (option_map (rows_from (strip.band.start + strip.band.count))) (sym (real_found name (real_name name target))) ∙ run.kept sums (cell_of name) (output_in n (cell_of name) w))
-          of_sum name target sum (inr none) =
-              subst (λ y. option_map (rows_from y) (object_held later.table.objects name) ≡ option_map (rows_from y) (object_held objects name)) (rows_still name none)
-              (ap (option_map (rows_from (rows_by_now before strip name))) (sym (same_there name (real_name name target) none)) ∙ h.finished.kept name target sum)
-
-          of_target : (name : ℕ) → is_target v name ≡ true → (writes n (cell_of name) ≡ true) ⊎ (writes n (cell_of name) ≡ false)
-              → IsAsFar (counter_of v name) final (rows_by_now done strip name) (object_held later.table.objects name) (object_held final name)
-          of_target name target (inl w) =
-              let made = run.made (cell_of name) (output_in n (cell_of name) w) in
-              subst (λ y. IsAsFar (counter_of v name) final y (object_held later.table.objects name) (object_held final name)) (rows_now name w)
-              (subst (λ o. IsAsFar (counter_of v name) final (strip.band.start + strip.band.count) o (object_held final name)) (real_found name (real_name name target)) (made.rows (real_name name target)))
-          of_target name target (inr none) =
-              subst (λ y. IsAsFar (counter_of v name) final y (object_held later.table.objects name) (object_held final name)) (rows_still name none)
-              (subst (λ o. IsAsFar (counter_of v name) final (rows_by_now before strip name) o (object_held final name)) (same_there name (real_name name target) none) (h.finished.targets name target))
+          same_there name real none = sym (sym (real_found name real) ∙ run.others name (other_output name none) ∙ found_real s h name real)
 
       stands_more : (o : VirtualOutput) → In o outs → is_written done o.cell ≡ true → is_used after o.cell ≡ true
           → IsPartOf objects height done strip.rows (object_held (scene later).objects o.cell.name) (object_held final o.cell.name)

@@ -1,7 +1,7 @@
 -- Nodes that add to the image that they write: its samples are taken out, and put back once they are added to.
-use Rattle.std.proofs.Common.{◌≡◌, ◌*◌, true, false, ℤ, List, Option, Some, None, is_some, is_none, if◌then◌else◌, ◌&&◌, ◌||◌, refl, sym, ap, ◌∙◌, arith, ◌==◌, option_map, eqb-true}
-use Rattle.graph_run.proofs.Common.{Format, S16, U8, U32, Function, Node, Cell, Description, takes_formats, parameters, accumulates, ImageValue, description_of, image_over, IsNode, from_two, length-table, Band, ImageMut, all_rows, HaveSameSize, written, Writes, all_written, ObjectValue, ImageObject, object_kind, object_format, Rectangle, image_of_kind, Named, image_value, cell_object, image_held, RunsTo, and_parts, reach, counts, counts_rows, Integral, rows_in, SameSlices, integrates}
-use Rattle.vx_base.specs.declared.function.Function.TheVariants.{Accumulate, AccumulateSquare}
+use Rattle.std.proofs.Common.{◌≡◌, ◌*◌, true, false, ℤ, List, Option, Some, None, sym, ap, ◌∙◌, arith, ◌==◌, option_map, eqb-true}
+use Rattle.graph_run.proofs.Common.{Format, S16, U8, U32, Function, Node, Cell, Description, takes_formats, parameters, accumulates, ImageValue, description_of, image_over, IsNode, from_two, length-table, Band, ImageMut, all_rows, rows_in, HaveSameSize, written, Writes, SameSlices, all_written, ObjectValue, ImageObject, object_kind, object_format, Rectangle, image_of_kind, Named, image_value, cell_object, image_held, RunsTo, and_parts, reach, counts, counts_rows, integrates}
+use Rattle.vx_base.specs.declared.function.Function.TheVariants.{Integral}
 use Rattle.vx_base.specs.declared.kind.Kind.TheVariants as kind
 use Rattle.image_core.specs.Target.{IsTarget}
 use Rattle.image_core.proofs.BandLaws.{all_rows_are}
@@ -12,9 +12,7 @@ use Rattle.graph_run.proofs.RunLemmas.{has_of_node}
 
 -- they write images
 pub sums_output : (function : Function) → accumulates function ≡ true → (parameters function).output ≡ kind.Image
-sums_output Accumulate h = refl
-sums_output AccumulateSquare h = refl
-sums_output other h = absurd (cc h)
+sums_output other h = grind arith
 
 -- they read one image
 pub sums_second : (n : Node) → IsNode n → accumulates n.function ≡ true → n.in2 ≡ None
@@ -22,39 +20,25 @@ sums_second n node h = grind (arith, has_of_node, and_parts)
 
 -- they look at a row alone
 pub sums_near : (function : Function) → accumulates function ≡ true → reach function None ≡ Some 0
-sums_near Accumulate h = refl
-sums_near AccumulateSquare h = refl
-sums_near other h = absurd (cc h)
+sums_near other h = grind arith
 
 -- they count nothing
 pub sums_no_count : (n : Node) → accumulates n.function ≡ true → counts n ≡ false
-sums_no_count n h = by_function n.function h
-  where
-    by_function : (f : Function) → accumulates f ≡ true → counts_rows f ≡ false
-    by_function f is = grind arith
+sums_no_count n h = grind arith
 
 -- they have one output
 pub sums_once : (n : Node) → IsNode n → accumulates n.function ≡ true → n.out2 ≡ None
-sums_once n node h = of_test n.out1 n.out2 (ap (λ b. if b then (is_some n.out1 || is_some n.out2) else (is_some n.out1 && is_none n.out2)) (sym (one n.function h)) ∙ (and_parts _ _ (has_of_node n node.shape)).1)
-  where
-    of_test : (a b : Option Cell) → (is_some a && is_none b) ≡ true → b ≡ None
-    of_test a b e = grind arith
-
-    one : (f : Function) → accumulates f ≡ true → (parameters f).output_pair ≡ false
-    one f is = grind arith
+sums_once n node h = grind arith
 
 -- they write S16 samples
 pub sums_image : (function : Function) (a : Format) (second : Option Format) (out : ObjectValue) → accumulates function ≡ true → object_kind out ≡ kind.Image → takes_formats function a second (object_format out) ≡ true
     → (image_value out).format ≡ S16
-sums_image Accumulate a second out h e t = grind arith
-sums_image AccumulateSquare a second out h e t = grind arith
-sums_image other a second out h e t = absurd (cc h)
+sums_image other a second out h e t = grind arith
 
 -- ---- functions that sum up what is above and to the left
 
 pub integral_is : (f : Function) → integrates_rows f ≡ true → f ≡ Integral
-integral_is Integral h = refl
-integral_is other h = absurd (cc h)
+integral_is other h = grind arith
 
 -- they write images, add to none and count nothing
 pub integral_plain : (n : Node) → integrates n ≡ true → accumulates n.function ≡ false
@@ -65,37 +49,14 @@ integral_no_count n h = ap counts_rows (integral_is n.function h)
 
 -- of bytes, to words
 pub integral_formats : (n : Node) → integrates n ≡ true → (a : Format) (second : Option Format) (out : Format) → takes_formats n.function a second (Some out) ≡ true → (a ≡ U8) × (out ≡ U32)
-integral_formats n h a second out takes = (by_function n.function h takes, to_words n.function h takes)
-  where
-    by_function : (f : Function) → integrates_rows f ≡ true → takes_formats f a second (Some out) ≡ true → a ≡ U8
-    by_function f is takes_it = grind arith
-
-    to_words : (f : Function) → integrates_rows f ≡ true → takes_formats f a second (Some out) ≡ true → out ≡ U32
-    to_words f is takes_it = grind arith
+integral_formats n h a second out takes = grind arith
 
 -- of one image, to one output
 pub integral_second : (n : Node) → IsNode n → integrates n ≡ true → n.in2 ≡ None
-integral_second n node h = of_test n.in2 (ap (λ o. if is_some o then is_some n.in2 else is_none n.in2) (sym (none n.function h)) ∙ (and_parts _ _ (has_of_node n node.shape)).0)
-  where
-    of_test : (a : Option Cell) → is_none a ≡ true → a ≡ None
-    of_test a e = grind arith
-
-    none : (f : Function) → integrates_rows f ≡ true → (parameters f).second_input ≡ None
-    none f is = grind arith
+integral_second n node h = grind arith
 
 pub integral_outputs : (n : Node) → IsNode n → integrates n ≡ true → ((c : Cell) × (n.out1 ≡ Some c)) × (n.out2 ≡ None)
-integral_outputs n node h =
-    let test = ap (λ b. if b then (is_some n.out1 || is_some n.out2) else (is_some n.out1 && is_none n.out2)) (sym (one n.function h)) ∙ (and_parts _ _ (has_of_node n node.shape)).1 in
-    (there n.out1 n.out2 test, none n.out1 n.out2 test)
-  where
-    there : (a b : Option Cell) → (is_some a && is_none b) ≡ true → (c : Cell) × (a ≡ Some c)
-    there a b e = grind arith
-
-    none : (a b : Option Cell) → (is_some a && is_none b) ≡ true → b ≡ None
-    none a b e = grind arith
-
-    one : (f : Function) → integrates_rows f ≡ true → (parameters f).output_pair ≡ false
-    one f is = grind arith
+integral_outputs n node h = grind arith
 
 -- ---- sums of which all rows are lent
 

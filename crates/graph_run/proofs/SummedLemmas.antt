@@ -1,9 +1,8 @@
 -- Integral images of which bands are written, each from the row above it.
-use Rattle.std.proofs.Common.{◌≡◌, ◌⊎◌, inl, inr, ℕ, ℤ, pos, ◌+◌, ◌-◌, ◌*◌, ◌<◌, ◌≤◌, Bool, true, false, List, ◌++◌, length, map, take, drop, Option, Some, None, IfSome, refl, sym, ap, subst, ◌∙◌, arith, ◌==◌, if◌then◌else◌, Bor, option_copied, option_map, is_some, is_none, eqb-true, eq-eqb, length-drop, take_all, take_at}
-use Rattle.graph_run.proofs.Common.{cases_Bool, and_parts, U8, U32, Node, IsNode, Format, takes_formats, parameters, Description, sample_count, ImageValue, IsImage, image_over, description_of, band, at, ObjectValue, ImageObject, length-band, band-append, Band, IsInRows, part_of, part_is, Named, Cell, image_held, HoldsImage, Strip, IsWithinRows, with_band, Stage, scene, image_value, lasting, Function, within, integral, sum_to, at-part, band_moved, IsRowAbove, last_row, row_above, CanSum, integrates}
+use Rattle.std.proofs.Common.{◌≡◌, ◌⊎◌, ℕ, ℤ, ◌+◌, ◌-◌, ◌*◌, ◌≤◌, true, List, length, take, Option, Some, None, IfSome, refl, sym, ap, ◌∙◌, arith, Bor, option_copied, option_map, length-drop, take_at}
+use Rattle.graph_run.proofs.Common.{nat_tests, Node, Description, ImageValue, IsImage, description_of, band, at, within, ImageObject, length-band, band-append, part_of, part_is, at-part, band_moved, Cell, image_held, Strip, IsWithinRows, with_band, CanSum, integrates, Stage, scene, lasting, integral, sum_to, last_row}
 use Rattle.graph_run.specs.Bands.{seen}
 use Rattle.vx_base.proofs.ImageLaws.{get_or-table}
-use Rattle.vx_base.proofs.TableLaws.{band-same}
 use Rattle.graph_run.proofs.CellLemmas.{IsReplacement, held_image}
 use Rattle.graph_run.proofs.LastingLemmas.{images-last}
 use Rattle.graph_run.proofs.SeenLemmas.{with_band_is}
@@ -14,16 +13,7 @@ use Rattle.graph_run.proofs.SumLemmas.{integral_second}
 -- it is as wide as the rows before it
 pub above_lent : (o : Option (Bor (List ℕ))) (width : ℕ) (before : List ℕ) → option_copied o ≡ last_row width before → (length before ≡ 0) ⊎ (width ≤ length before) → IfSome o (λ row. length row.now ≡ width)
 above_lent None width before is long = tt
-above_lent (Some row) width before is long = elim (cases_Bool (length before == 0)) [
-  | inl none ↦ (let empty : Some row.now ≡ None = is ∙ ap (λ (t : Bool). if t then None else Some (drop (length before - width) before)) none in absurd (cc))
-  | inr some ↦
-      (let last : Some row.now ≡ Some (drop (length before - width) before) = is ∙ ap (λ (t : Bool). if t then None else Some (drop (length before - width) before)) some in
-      let same : row.now ≡ drop (length before - width) before = cc in
-      elim long [
-        | inl none ↦ (let yes : (length before == 0) ≡ true = eq-eqb (length before) 0 none in absurd (cc))
-        | inr room ↦ ap length same ∙ length-drop (length before - width) before ∙ omega (arith, room)
-      ])
-]
+above_lent (Some row) width before is long = grind (arith, nat_tests, length-drop (length before - width) before, is, long)
 
 -- the first rows of a table
 pub table_begins : (width height start : ℕ) (f : ℕ → ℕ → ℤ) → start ≤ height → take (start * width) (band width 0 height f) ≡ band width 0 start f

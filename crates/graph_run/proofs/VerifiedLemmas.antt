@@ -1,6 +1,6 @@
 -- A graph that is found able to run: how it runs.
 use Rattle.std.proofs.Common.{◌≡◌, ◌≢◌, ℕ, ◌<◌, Bool, true, false, List, ◌∷◌, map, get_or, zero, suc, Option, Some, None, inl, inr, sym, ap, subst, ◌∙◌, arith, All, ◌==◌, ◌&&◌, unwrap_or, option_map, option_and_then, eq-eqb}
-use Rattle.graph_run.proofs.Common.{AllPairs, list_any, flat_map, IsStrictlyIncreasing, cases_Bool, or_parts, or_left, or_right, and_parts, and_from, length-map, get_or-map, Kind, Node, VirtualImage, Cell, same_cell, Description, IsNode, inputs, outputs, operands, ObjectValue, VirtualObject, object_kind, in_slot, Named, object_held, held, VirtualOutput, Operand, Image, Delay, Operands, Verified, writes, has_twice, is_written, In, operand_of, operand_kind, operands_of, resolved, outlines, verdict, verdict_on, IsVerified, written_description, same-from_In, In-outputs, two_writers-permutation, In-left, In-right, In-append, In-from_any, any-from_In, In-filter, In-from_filter, In-map, In-from_map, In-from_flat_map, In-at, AllIn-permutation, AllIn-permutation_back, CanRun, HoldsOperand, names_cell, CellsStand, operand_held, HoldsKind, CanRunNow, AreVirtual, names_of}
+use Rattle.graph_run.proofs.Common.{AllPairs, list_any, flat_map, IsStrictlyIncreasing, cases_Bool, or_parts, or_left, or_right, and_parts, and_from, length-map, get_or-map, Kind, Node, VirtualImage, Cell, same_cell, Description, IsNode, inputs, outputs, operands, ObjectValue, VirtualObject, object_kind, in_slot, Named, object_held, held, VirtualOutput, Operand, Image, Delay, Operands, Verified, writes, has_twice, is_written, In, operand_of, operand_kind, operands_of, resolved, outlines, verdict, verdict_on, IsVerified, written_description, same-from_In, In-outputs, two_writers-permutation, In-left, In-right, In-from_any, any-from_In, In-filter, In-from_filter, In-map, In-from_map, In-from_flat_map, In-at, AllIn-permutation, AllIn-permutation_back, CanRun, HoldsOperand, names_cell, CellsStand, operand_held, HoldsKind, CanRunNow, AreVirtual, names_of}
 use Rattle.graph_verify.specs.Links.{reads}
 use Rattle.graph_verify.proofs.VerdictLemmas.{can_run}
 use Rattle.graph_run.specs.Operands.{StandsFor}
@@ -18,10 +18,8 @@ use Rattle.graph_run.proofs.BegunLaws.{begun_under, begun_stays, virtual_as_oper
 -- ---- cells that stand in a list once
 
 once_apart : (cs : List Cell) → has_twice cs ≡ false → AllPairs (λ a b. a ≢ b) cs
-once_apart (c ∷ cs) once zero (suc j) d less within = λ same.
-    let none = (or_parts (list_any (same_cell c) cs) (has_twice cs) once).0 in
-    let some = any-from_In (same_cell c) (get_or cs j d) cs (In-at cs j d (omega (arith, within))) (same_cell-is c (get_or cs j d) same) in
-    cc
+once_apart (c ∷ cs) once zero (suc j) d less within =
+    grind (arith, or_parts (list_any (same_cell c) cs) (has_twice cs) once, In-at cs j d (omega (arith, within)), any-from_In, same_cell-is)
 once_apart (c ∷ cs) once (suc i) (suc j) d less within =
     once_apart cs (or_parts (list_any (same_cell c) cs) (has_twice cs) once).1 i j d (omega (arith, less)) (omega (arith, within))
 once_apart x once i j d less within = grind arith
@@ -36,8 +34,7 @@ module _ (n : Node) where
   named_by_output cell i = or_right (reads n cell) (writes n cell) (same-from_In cell (outputs n) i)
 
   operand_named : (operand : Cell × Kind) → In operand (operands n) → names_cell n operand.0 ≡ true
-  operand_named operand (inl same) = named_by_input operand.0 (inl (ap (λ (o : Cell × Kind). o.0) same))
-  operand_named operand (inr i) = grind (arith, In-append, named_by_input, named_by_output, In-left, In-right)
+  operand_named operand z1 = grind (arith, named_by_output)
 
   abbrev made : Operand → Option Operand → Option Operand → Option Operand → Operands
   made a b c d = record { in1 = a; in2 = b; out1 = c; out2 = d }
@@ -127,10 +124,7 @@ module _ (objects : List Named) (nodes : List Node) (v : Verified) (work : ℕ) 
   output_whole o i = ap (λ (s : Option ℕ). let c : Cell = record { name = o.cell.name; slot = s } in c) (output_object o i).0
 
   once_each : has_twice (map (λ (o : VirtualOutput). o.cell) outs) ≡ false
-  once_each =
-      ap has_twice how.cells
-      ∙ once_cells (λ cell. is_virtual_operand (is cell)) (flat_map outputs steps)
-      (two_writers-permutation nodes steps how.order.same_nodes can.one_writer)
+  once_each = grind (arith, two_writers-permutation nodes steps how.order.same_nodes can.one_writer, once_cells)
 
   pub are_virtual : AreVirtual objects outs
   are_virtual =

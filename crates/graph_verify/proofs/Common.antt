@@ -2,9 +2,9 @@
 pub use Rattle.graph_verify.specs.Cycle.{HasCycle, has_cycle, is_empty, left_after, waiting}
 pub use Rattle.graph_verify.specs.Known.{AreKnown, closed_output, known_operands}
 pub use Rattle.graph_verify.specs.Linked.{AreOperands, has_loose_input, has_virtual_sum, linked_nodes}
-pub use Rattle.graph_verify.specs.Links.{feeds, has_twice, is_written, reads, writes}
+pub use Rattle.graph_verify.specs.Links.{feeds, is_written, reads, writes}
 pub use Rattle.graph_verify.specs.Members.{AllIn, In}
-pub use Rattle.graph_verify.specs.Operand.{are_of_one_size, is_image, is_virtual, operand_format, operands_of, other_operands, written_operands}
+pub use Rattle.graph_verify.specs.Operand.{is_image, is_virtual, operand_format, operands_of, written_operands}
 pub use Rattle.graph_verify.specs.Order.{InTurn, IsOrder}
 pub use Rattle.graph_verify.specs.Outlines.{as_known, given_outline, operand_outline, outlines, resolved, written_outline}
 pub use Rattle.graph_verify.specs.Rounds.{IsSolution, OneWriter, ReadsAlone, once, round, rounds}
@@ -16,8 +16,8 @@ pub use Rattle.graph_verify.specs.declared.operand.Operand.{Operand}
 pub use Rattle.graph_verify.specs.declared.operand.Operand.TheVariants.{Image, Virtual}
 pub use Rattle.graph_verify.specs.declared.operand.Operands.{Operands}
 pub use Rattle.graph_verify.specs.declared.verdict.Verdict.{Verdict}
-pub use Rattle.graph_verify.specs.declared.verdict.Verdict.TheVariants.{InvalidDimension, InvalidFormat, InvalidLink, NoResources}
-pub use Rattle.std.proofs.lemmas.Bool.{and_from, and_parts, cases_Bool, false_from_ne_true, not-false, not-true, or_from, or_left, or_parts}
+pub use Rattle.graph_verify.specs.declared.verdict.Verdict.TheVariants.{InvalidFormat, InvalidLink, NoResources}
+pub use Rattle.std.proofs.lemmas.Bool.{and_parts, cases_Bool, false_from_ne_true, not-false, not-true, or_parts}
 pub use Rattle.std.proofs.lemmas.Bool.Decides.{nat_tests}
 pub use Rattle.std.proofs.lemmas.Grind.{flat_map-append}
 pub use Rattle.std.proofs.lemmas.Iterator.{YieldsList-from_slice}
@@ -27,6 +27,7 @@ pub use Rattle.std.proofs.lemmas.List.Elements.{filter-append}
 pub use Rattle.std.proofs.lemmas.List.Filters.{length-filter_both}
 pub use Rattle.std.proofs.lemmas.List.Folds.{list_any-append}
 pub use Rattle.std.proofs.lemmas.List.Sorted.{IsPermutation-map, IsPermutation-refl, IsPermutation-remove, length_permutation, sum_by-IsPermutation}
+pub use Rattle.std.proofs.lemmas.List.Sums.{sum_by-append, sum_by-cons}
 pub use Rattle.std.specs.List.{filter, filter_map, flat_map, list_all, list_any, remove}
 pub use Rattle.std.specs.List.Sorted.{IsPermutation}
 pub use Rattle.std.specs.Option.{option_and_then, option_map, option_or}
@@ -40,3 +41,4 @@ pub use Rattle.vx_base.specs.declared.format.Format.{Format}
 pub use Rattle.vx_base.specs.declared.function.Function.{Function}
 pub use Rattle.vx_base.specs.declared.node.Node.{Node}
 pub use Rattle.vx_base.specs.declared.numbered.Numbered.{Numbered}
+pub use mathlib.Core.Path.{fun_ext}

@@ -2,6 +2,7 @@
 use Rattle.std.proofs.Common.{◌≡◌, ℕ, ◌≤◌, ◌⊎◌, suc, zero, Bool, true, false, List, [], ◌∷◌, ◌++◌, length, refl, sym, ◌∙◌, ap, subst, inl, inr, arith, rules, ◌↔◌}
 use Rattle.graph_verify.proofs.Common.{filter, list_any, cases_Bool, not-true, In, AllIn, HasCycle, waiting, left_after, is_empty, has_cycle, InTurn}
 use Rattle.std.proofs.lemmas.Bool.{cases_lt}
+use Rattle.std.proofs.lemmas.List.Sums.{length-filter, count_by-le-length}
 use Rattle.graph_verify.specs.Cycle.{Chain, IsCycle}
 use Rattle.graph_verify.proofs.MemberLemmas.{In-append, In-from_any, any-from_In, In-filter, In-from_filter}
 
@@ -65,10 +66,7 @@ fed_from_cycle feeds (a ∷ xs) h = λ n i. fed_on_chain feeds a xs a n h (elim 
 pub none_fed_in_turn : {N : Type 0} (feeds : N → N → Bool) (steps ns : List N) → InTurn feeds steps → Fed feeds ns → AllIn ns steps → (x : N) → In x ns → ⊥
 none_fed_in_turn feeds [] ns turn fed within x h = within x h
 none_fed_in_turn {N} feeds (s ∷ steps) ns turn fed within x h =
-    let rest : AllIn ns steps = λ n i. elim (within n i) [
-      | inl e ↦ (let f = fed n i in let g : feeds f.0 s ≡ true = ap (feeds f.0) (sym e) ∙ f.2 in let k = turn.0 f.0 (within f.0 f.1) in absurd (cc))
-      | inr k ↦ k
-    ] in
+    let rest : AllIn ns steps = λ n i. let f = fed n i in let none = turn.0 f.0 (within f.0 f.1) in grind (arith, within n i) in
     none_fed_in_turn feeds steps ns turn.1 fed rest x h
 
 first_of_cycle : {N : Type 0} (feeds : N → N → Bool) (ns : List N) → IsCycle feeds ns → (x : N) × In x ns
@@ -91,20 +89,15 @@ AllIn-left feeds zero g ns fed within = within
 AllIn-left feeds (suc k) g ns fed within = AllIn-left feeds k (waiting feeds g) ns fed (AllIn-waiting feeds g ns fed within)
 
 not_empty : {N : Type 0} (x : N) (xs : List N) → In x xs → is_empty xs ≡ false
-not_empty x [] h = absurd h
-not_empty x (y ∷ ys) h = refl
+not_empty x xs h = grind arith
 
 pub has_cycle-from_cycle : {N : Type 0} (feeds : N → N → Bool) (g : List N) → HasCycle feeds g → has_cycle feeds g ≡ true
 has_cycle-from_cycle feeds g c = grind (arith, first_of_cycle, not_empty, AllIn-left, fed_from_cycle)
 
-length-filter_le : {X : Type 0} (p : X → Bool) (xs : List X) → length (filter p xs) ≤ length xs
-length-filter_le p [] = omega arith
-length-filter_le p (x ∷ xs) = grind (arith, length-filter_le p xs, cases_Bool (p x))
-
 -- a filter that takes nothing away takes all
 all_pass : {X : Type 0} (p : X → Bool) (xs : List X) → length xs ≤ length (filter p xs) → (x : X) → In x xs → p x ≡ true
 all_pass p [] h x i = absurd i
-all_pass p (y ∷ ys) h x i = grind (arith, all_pass p ys, length-filter_le p ys, cases_Bool (p y))
+all_pass p (y ∷ ys) h x i = grind (arith, all_pass p ys, length-filter p ys, count_by-le-length p ys, cases_Bool (p y))
 
 -- `left_after` of at least as many rounds as there are nodes leaves nodes that feed each other
 Fed-waiting : {N : Type 0} (feeds : N → N → Bool) (g : List N) → Fed feeds g → Fed feeds (waiting feeds g)

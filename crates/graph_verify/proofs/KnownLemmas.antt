@@ -1,6 +1,6 @@
 -- What is known of the virtual images that nodes write, node by node.
 use Rattle.std.proofs.Common.{◌≡◌, ℕ, ◌+◌, ◌<◌, ◌≤◌, Bool, true, false, List, [], ◌∷◌, ◌++◌, length, map, take, drop, get_or, IsTrue, refl, sym, ◌∙◌, ap, subst, inl, inr, arith, find, unwrap_or, All, ◌⊎◌, Option, Some, None, append-nil, take_all, take-append-drop}
-use Rattle.graph_verify.proofs.Common.{option_map, filter, flat_map, cases_Bool, false_from_ne_true, map-append, filter-append, flat_map-append, Node, Cell, same_cell, given, inputs, outputs, Outline, filled, Known, Linked, Operand, Image, Virtual, Operands, In, known_operands, AreKnown, linked_nodes, AreOperands, writes, feeds, is_virtual, is_image, operands_of, InTurn, operand_outline, given_outline, written_outline, outlines, resolved, IsSolution, two_writers, virtual_outputs}
+use Rattle.graph_verify.proofs.Common.{option_map, filter, flat_map, cases_Bool, false_from_ne_true, map-append, filter-append, flat_map-append, Node, Cell, same_cell, given, inputs, outputs, Outline, filled, Known, Linked, Operand, Image, Virtual, In, known_operands, AreKnown, linked_nodes, AreOperands, writes, feeds, is_virtual, is_image, operands_of, InTurn, operand_outline, given_outline, written_outline, outlines, resolved, IsSolution, two_writers, virtual_outputs}
 use Rattle.std.proofs.lemmas.List.{drop_more, take_more}
 use Rattle.graph_verify.specs.Known.{known_of, known_outline, learnt, learnt_from, known_operand}
 use Rattle.graph_verify.proofs.LinkLemmas.{same_cell-true, same_cell-is, In-outputs, feeds_is, same-from_In}
@@ -49,12 +49,10 @@ module _ (is : Cell → Operand) where
   -- ---- one more node
 
   learnt_cells : (cell : Option Cell) (given_to : Outline) → map (λ (k : Known). k.cell) (learnt cell (option_map is cell) given_to) ≡ filter (λ c. is_virtual (is c)) (given cell)
-  learnt_cells None given_to = refl
-  learnt_cells (Some c) given_to = grind arith
+  learnt_cells cell given_to = grind arith
 
   learnt_each : (cell : Option Cell) (given_to : Outline) (k : Known) → In k (learnt cell (option_map is cell) given_to) → In k.cell (given cell) × (k.outline ≡ filled (operand_outline (is k.cell)) given_to)
-  learnt_each None given_to k i = absurd i
-  learnt_each (Some c) given_to k i = grind arith
+  learnt_each cell given_to k i = grind arith
 
   InTurn-at : (done : List Node) (n : Node) (rest : List Node) → InTurn feeds (done ++ n ∷ rest) → (m : Node) → In m (n ∷ rest) → feeds m n ≡ false
   InTurn-at [] n rest turn = turn.0
@@ -70,36 +68,36 @@ module _ (is : Cell → Operand) where
       let n = l.node in
       let all = done ++ n ∷ rest in
       let solves = outlines_solve is all one (no_cycle_in_steps is all turn) in
-      let in1 : l.operands.in1 ≡ is n.in1 = ap (λ (o : Operands). o.in1) operands in
       let writers_done : (m : Node) → In m all → writes m n.in1 ≡ true → In m done = λ m i w. elim (In-append m done (n ∷ rest) i) [
         | inl j ↦ j
         | inr j ↦ (let fed = feeds_is m n n.in1 w (same-from_In n.in1 (inputs n) (inl refl)) in let unfed = InTurn-at done n rest turn m j in absurd (cc))
       ] in
-      let first : known_outline known n.in1 l.operands.in1 ≡ outlines is all n.in1 = outline_known all done known solves h n.in1 l.operands.in1 (sym in1) image writers_done in
-      let gives = given_outline n.function (known_outline known n.in1 l.operands.in1) in
-      let out1 : l.operands.out1 ≡ option_map is n.out1 = ap (λ (o : Operands). o.out1) operands in
-      let out2 : l.operands.out2 ≡ option_map is n.out2 = ap (λ (o : Operands). o.out2) operands in
-      let more : learnt_from known l ≡ learnt n.out1 (option_map is n.out1) gives ++ learnt n.out2 (option_map is n.out2) gives =
-      ap (λ o. learnt n.out1 o gives ++ learnt n.out2 l.operands.out2 gives) out1 ∙ ap (λ o. learnt n.out1 (option_map is n.out1) gives ++ learnt n.out2 o gives) out2 in
-      let is_new : known' ≡ known ++ (learnt n.out1 (option_map is n.out1) gives ++ learnt n.out2 (option_map is n.out2) gives) = is_known' ∙ ap (λ k. known ++ k) more in
+      let first : known_outline known n.in1 (is n.in1) ≡ outlines is all n.in1 =
+      outline_known all done known solves h n.in1 (is n.in1) refl (rw operands at image) writers_done in
+      let gives = given_outline n.function (known_outline known n.in1 (is n.in1)) in
+      let is_new : known' ≡ known ++ (learnt n.out1 (option_map is n.out1) gives ++ learnt n.out2 (option_map is n.out2) gives) =
+      rw operands at is_known' in
       let written : (k : Known) → In k.cell (outputs n) → k.outline ≡ filled (operand_outline (is k.cell)) gives → k.outline ≡ outlines is all k.cell = λ k i e.
       e ∙ ap (λ o. filled (operand_outline (is k.cell)) (given_outline n.function o)) first ∙ sym (solves.written n k.cell (In-right n done (n ∷ rest) (inl refl)) (same-from_In k.cell (outputs n) i)) in
       record {
         cells =
-            ap (map (λ (k : Known). k.cell)) is_new
-            ∙ map-append (λ (k : Known). k.cell) known (learnt n.out1 (option_map is n.out1) gives ++ learnt n.out2 (option_map is n.out2) gives)
-            ∙ ap (λ c. c ++ map (λ (k : Known). k.cell) (learnt n.out1 (option_map is n.out1) gives ++ learnt n.out2 (option_map is n.out2) gives)) h.cells
-            ∙ ap (λ c. virtual_outputs is done ++ c) (map-append (λ (k : Known). k.cell) (learnt n.out1 (option_map is n.out1) gives) (learnt n.out2 (option_map is n.out2) gives))
-            ∙ ap (λ c. virtual_outputs is done ++ (c ++ map (λ (k : Known). k.cell) (learnt n.out2 (option_map is n.out2) gives))) (learnt_cells n.out1 gives)
-            ∙ ap (λ c. virtual_outputs is done ++ (filter (λ d. is_virtual (is d)) (given n.out1) ++ c)) (learnt_cells n.out2 gives)
-            ∙ sym (virtual_outputs-push done n);
-        each = (λ k i. elim (In-append k known (learnt n.out1 (option_map is n.out1) gives ++ learnt n.out2 (option_map is n.out2) gives) (subst (λ l. In k l) is_new i)) [
-          | inl j ↦ h.each k j
-          | inr j ↦ elim (In-append k (learnt n.out1 (option_map is n.out1) gives) (learnt n.out2 (option_map is n.out2) gives) j) [
-            | inl j1 ↦ (let r = learnt_each n.out1 gives k j1 in written k (In-left k.cell (given n.out1) (given n.out2) r.0) r.1)
-            | inr j2 ↦ (let r = learnt_each n.out2 gives k j2 in written k (In-right k.cell (given n.out1) (given n.out2) r.0) r.1)
-          ]
-        ]);
+            rw (is_new, map-append, map-append, h.cells, learnt_cells n.out1 gives, learnt_cells n.out2 gives)
+            (sym (virtual_outputs-push done n));
+        each = (λ k i.
+            let new = In-append k (learnt n.out1 (option_map is n.out1) gives) (learnt n.out2 (option_map is n.out2) gives) in
+            let at = In-append k known (learnt n.out1 (option_map is n.out1) gives ++ learnt n.out2 (option_map is n.out2) gives)
+            (subst (λ l. In k l) is_new i) in
+            grind (
+              arith,
+              at,
+              new,
+              h.each k,
+              written k,
+              learnt_each n.out1 gives k,
+              learnt_each n.out2 gives k,
+              In-left k.cell (given n.out1) (given n.out2),
+              In-right k.cell (given n.out1) (given n.out2),
+            ));
       }
 
   -- one more of the steps

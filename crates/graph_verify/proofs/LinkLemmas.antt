@@ -1,9 +1,9 @@
 -- How nodes are linked by cells, where no cell has two writers.
-use Rattle.std.proofs.Common.{◌≡◌, ℕ, ◌+◌, ◌≤◌, Bool, true, false, cond, List, [], ◌∷◌, ◌++◌, refl, sym, ◌∙◌, ap, subst, inl, inr, arith, ◌==◌, Option, Some, None, ◌||◌, eq-eqb}
-use Rattle.graph_verify.proofs.Common.{list_any, flat_map, IsPermutation, cases_Bool, or_parts, or_from, and_parts, and_from, flat_map-append, list_any-append, sum_by-IsPermutation, Node, Cell, same_cell, inputs, outputs, In, reads, writes, feeds, has_twice, is_written, OneWriter, two_writers, writes_twice}
-use Rattle.std.proofs.lemmas.List.Recursion.{is_sum_by}
+use Rattle.std.proofs.Common.{◌≡◌, ℕ, ◌+◌, ◌≤◌, Bool, true, false, cond, List, [], ◌∷◌, ◌++◌, refl, sym, ◌∙◌, ap, subst, arith, ◌==◌, Option, ◌||◌, count_by, sum_by, nat_lt}
+use Rattle.graph_verify.proofs.Common.{list_any, flat_map, IsPermutation, cases_Bool, or_parts, and_parts, flat_map-append, list_any-append, sum_by-IsPermutation, Node, Cell, same_cell, inputs, outputs, In, reads, writes, feeds, is_written, OneWriter, two_writers, writes_twice, sum_by-append, sum_by-cons, fun_ext}
+use Rattle.graph_verify.specs.Links.{has_twice}
 use Rattle.vx_base.specs.Cell.{same_slot}
-use Rattle.graph_verify.proofs.MemberLemmas.{In-right, In-from_any, any-from_In, In-flat_map}
+use Rattle.graph_verify.proofs.MemberLemmas.{In-from_any, any-from_In, In-flat_map}
 use Rattle.graph_verify.proofs.OrderLemmas.{is_fed}
 
 -- ---- cells
@@ -12,11 +12,10 @@ pub same_cell-true : (a b : Cell) → same_cell a b ≡ true → a ≡ b
 same_cell-true a b h = grind (arith, and_parts (a.name == b.name) (same_slot a.slot b.slot) h)
 
 same_slot-refl : (a : Option ℕ) → same_slot a a ≡ true
-same_slot-refl None = refl
-same_slot-refl (Some x) = eq-eqb x x refl
+same_slot-refl a = grind arith
 
 pub same_cell-refl : (a : Cell) → same_cell a a ≡ true
-same_cell-refl a = and_from (a.name == a.name) (same_slot a.slot a.slot) (eq-eqb a.name a.name refl) (same_slot-refl a.slot)
+same_cell-refl a = grind (arith, same_slot-refl a.slot)
 
 pub same_cell-is : (a b : Cell) → a ≡ b → same_cell a b ≡ true
 same_cell-is a b e = ap (same_cell a) (sym e) ∙ same_cell-refl a
@@ -35,9 +34,7 @@ pub feeds_is : (m n : Node) (c : Cell) → writes m c ≡ true → reads n c ≡
 feeds_is m n c w r = any-from_In (reads n) c (outputs m) (In-from_same c (outputs m) w) r
 
 pub same_tests : (a b : Bool) → (a ≡ true → b ≡ true) → (b ≡ true → a ≡ true) → a ≡ b
-same_tests true b to from = sym (to refl)
-same_tests false true to from = from refl
-same_tests false false to from = refl
+same_tests a b to from = grind (arith, cases_Bool a, cases_Bool b)
 
 -- a node is fed by those that write what it reads
 pub is_fed-written : (g : List Node) (n : Node) → is_fed feeds g n ≡ list_any (is_written g) (inputs n)
@@ -54,80 +51,55 @@ is_fed-written g n = sym (same_tests (list_any (is_written g) (inputs n)) (is_fe
 
 -- ---- no cell stands twice in a list
 
+has_twice-append : (xs ys : List Cell) → has_twice (xs ++ ys) ≡ ((has_twice xs || list_any (λ c. list_any (same_cell c) ys) xs) || has_twice ys)
+has_twice-append [] ys = refl
+has_twice-append (x ∷ xs) ys = grind (arith, has_twice-append xs ys, list_any-append (same_cell x) xs ys)
+
 pub once_across : (c : Cell) (xs ys : List Cell) → has_twice (xs ++ ys) ≡ false → In c xs → In c ys → ⊥
-once_across c [] ys h i j = i
-once_across c (x ∷ xs) ys h i j =
-    let p = or_parts (list_any (same_cell x) (xs ++ ys)) (has_twice (xs ++ ys)) h in
-    elim i [
-      | inl e ↦ (let k = any-from_In (same_cell x) c (xs ++ ys) (In-right c xs ys j) (same_cell-is x c (sym e)) in let l = p.0 in cc)
-      | inr k ↦ once_across c xs ys p.1 k j
-    ]
+once_across c xs ys h i j = grind (arith, has_twice-append xs ys, any-from_In (λ d. list_any (same_cell d) ys) c xs i (same-from_In c ys j))
 
 pub once_after : (xs ys : List Cell) → has_twice (xs ++ ys) ≡ false → has_twice ys ≡ false
-once_after [] ys h = h
-once_after (x ∷ xs) ys h = once_after xs ys (or_parts (list_any (same_cell x) (xs ++ ys)) (has_twice (xs ++ ys)) h).1
+once_after xs ys h = grind (arith, has_twice-append xs ys)
 
 pub In-outputs : (n : Node) (c : Cell) (g : List Node) → In n g → writes n c ≡ true → In c (flat_map outputs g)
 In-outputs n c g i w = In-flat_map outputs n c g i (In-from_same c (outputs n) w)
 
--- the test of the writers says that each cell has one
-pub one_writer : (g : List Node) → two_writers g ≡ false → OneWriter writes g
-one_writer [] h = λ m n c i j v w. absurd i
-one_writer (x ∷ xs) h = λ m n c i j v w.
-    let others = one_writer xs (once_after (outputs x) (flat_map outputs xs) h) in
-    elim i [
-      | inl e ↦ elim j [
-        | inl f ↦ e ∙ sym f
-        | inr k ↦ absurd (once_across c (outputs x) (flat_map outputs xs) h (In-from_same c (outputs x) (ap (λ z. writes z c) (sym e) ∙ v)) (In-outputs n c xs k w))
-      ]
-      | inr l ↦ elim j [
-        | inl f ↦ absurd (once_across c (outputs x) (flat_map outputs xs) h (In-from_same c (outputs x) (ap (λ z. writes z c) (sym f) ∙ w)) (In-outputs m c xs l v))
-        | inr k ↦ others m n c l k v w
-      ]
-    ]
-
 -- ---- the order of the nodes has no effect on whether a cell has two writers
 
--- std's sums fold from the left; these recurse
-abbrev counted : {X : Type 0} → (X → Bool) → List X → ℕ
-counted p [] = 0
-counted p (x ∷ xs) = cond (p x) (1 + counted p xs) (counted p xs)
+count_by-cons : {X : Type 0} (p : X → Bool) (x : X) (xs : List X) → count_by p (x ∷ xs) ≡ cond (p x) 1 0 + count_by p xs
+count_by-cons p x xs = sum_by-cons (λ y. cond (p y) 1 0) x xs
 
-abbrev totalled : {X : Type 0} → (X → ℕ) → List X → ℕ
-totalled f [] = 0
-totalled f (x ∷ xs) = f x + totalled f xs
+any_counted : {X : Type 0} (p : X → Bool) (xs : List X) → list_any p xs ≡ nat_lt 0 (count_by p xs)
+any_counted p [] = refl
+any_counted p (x ∷ xs) = grind (arith, any_counted p xs, count_by-cons p x xs)
 
-none_counted : {X : Type 0} (p : X → Bool) (xs : List X) → list_any p xs ≡ false → counted p xs ≡ 0
-none_counted p [] h = refl
-none_counted p (x ∷ xs) h = let r = or_parts (p x) (list_any p xs) h in let e = r.0 in let i = none_counted p xs r.1 in rw e i
-
-none_since_count : {X : Type 0} (p : X → Bool) (xs : List X) → counted p xs ≡ 0 → list_any p xs ≡ false
-none_since_count p [] h = refl
-none_since_count p (x ∷ xs) h = grind (arith, none_since_count p xs, cases_Bool (p x))
-
-counted_once : (xs : List Cell) (c : Cell) → has_twice xs ≡ false → counted (same_cell c) xs ≤ 1
+counted_once : (xs : List Cell) (c : Cell) → has_twice xs ≡ false → count_by (same_cell c) xs ≤ 1
 counted_once [] c h = omega arith
 counted_once (x ∷ xs) c h =
-    let r = or_parts (list_any (same_cell x) xs) (has_twice xs) h in
-    grind (arith, same_cell-true c x, none_counted (same_cell x) xs r.0, counted_once xs c r.1, cases_Bool (same_cell c x))
+    grind (
+      arith,
+      same_cell-true c x,
+      any_counted (same_cell x) xs,
+      counted_once xs c,
+      count_by-cons (same_cell c) x xs,
+      cases_Bool (same_cell c x),
+    )
 
-once_since_count : (xs : List Cell) → ((c : Cell) → counted (same_cell c) xs ≤ 1) → has_twice xs ≡ false
+once_since_count : (xs : List Cell) → ((c : Cell) → count_by (same_cell c) xs ≤ 1) → has_twice xs ≡ false
 once_since_count [] h = refl
 once_since_count (x ∷ xs) h =
-    let none : counted (same_cell x) xs ≡ 0 = grind (arith, h x, same_cell-refl x) in
-    or_from (list_any (same_cell x) xs) (has_twice xs) (none_since_count (same_cell x) xs none)
-    (once_since_count xs (λ c. grind (arith, h c, cases_Bool (same_cell c x))))
+    let fewer : (c : Cell) → count_by (same_cell c) xs ≤ 1 = λ c. omega (arith, h c, count_by-cons (same_cell c) x xs) in
+    grind (arith, h x, same_cell-refl x, any_counted (same_cell x) xs, count_by-cons (same_cell x) x xs, once_since_count xs fewer)
 
-counted-append : {X : Type 0} (p : X → Bool) (xs ys : List X) → counted p (xs ++ ys) ≡ counted p xs + counted p ys
-counted-append p [] ys = omega arith
-counted-append p (x ∷ xs) ys = let i = counted-append p xs ys in elim (cases_Bool (p x)) [ inl k ↦ rw k (omega arith) | inr k ↦ rw k i ]
-
-counted-flat_map : (p : Cell → Bool) (g : List Node) → counted p (flat_map outputs g) ≡ totalled (λ n. counted p (outputs n)) g
+counted-flat_map : (p : Cell → Bool) (g : List Node) → count_by p (flat_map outputs g) ≡ sum_by (λ n. count_by p (outputs n)) g
 counted-flat_map p [] = refl
-counted-flat_map p (n ∷ ns) = counted-append p (outputs n) (flat_map outputs ns) ∙ ap (λ z. counted p (outputs n) + z) (counted-flat_map p ns)
-
-totalled-permutation : {X : Type 0} (f : X → ℕ) (xs ys : List X) → IsPermutation xs ys → totalled f ys ≡ totalled f xs
-totalled-permutation f xs ys h = is_sum_by (totalled f) f refl (λ _ _. refl) ys ∙ sum_by-IsPermutation f xs ys h ∙ sym (is_sum_by (totalled f) f refl (λ _ _. refl) xs)
+counted-flat_map p (n ∷ ns) =
+    grind (
+      arith,
+      counted-flat_map p ns,
+      sum_by-append (λ c. cond (p c) 1 0) (outputs n) (flat_map outputs ns),
+      sum_by-cons (λ m. count_by p (outputs m)) n ns,
+    )
 
 pub two_writers-permutation : (g steps : List Node) → IsPermutation g steps → two_writers g ≡ false → two_writers steps ≡ false
 two_writers-permutation g steps same h = once_since_count (flat_map outputs steps) (λ c.
@@ -136,22 +108,17 @@ two_writers-permutation g steps same h = once_since_count (flat_map outputs step
       counted_once (flat_map outputs g) c h,
       counted-flat_map (same_cell c) g,
       counted-flat_map (same_cell c) steps,
-      totalled-permutation (λ n. counted (same_cell c) (outputs n)) g steps same,
+      sum_by-IsPermutation (λ n. count_by (same_cell c) (outputs n)) g steps same,
     ))
 
 -- ---- the test of the writers, node by node
-
-has_twice-append : (xs ys : List Cell) → has_twice (xs ++ ys) ≡ ((has_twice xs || list_any (λ c. list_any (same_cell c) ys) xs) || has_twice ys)
-has_twice-append [] ys = refl
-has_twice-append (x ∷ xs) ys = grind (arith, has_twice-append xs ys, list_any-append (same_cell x) xs ys)
 
 is_written-outputs : (ns : List Node) (c : Cell) → list_any (same_cell c) (flat_map outputs ns) ≡ is_written ns c
 is_written-outputs [] c = refl
 is_written-outputs (n ∷ ns) c = list_any-append (same_cell c) (outputs n) (flat_map outputs ns) ∙ ap (λ b. writes n c || b) (is_written-outputs ns c)
 
 pub any_agree : {X : Type 0} (p q : X → Bool) (xs : List X) → ((x : X) → p x ≡ q x) → list_any p xs ≡ list_any q xs
-any_agree p q [] same = refl
-any_agree p q (x ∷ xs) same = ap (λ b. b || list_any p xs) (same x) ∙ ap (λ b. q x || b) (any_agree p q xs same)
+any_agree p q xs same = ap (λ r. list_any r xs) (fun_ext same)
 
 pub two_writers-cons : (n : Node) (ns : List Node) → two_writers (n ∷ ns) ≡ ((writes_twice n || list_any (is_written ns) (outputs n)) || two_writers ns)
 two_writers-cons n ns = grind (arith, has_twice-append, any_agree, is_written-outputs)
@@ -164,3 +131,10 @@ two_writers-after ms ns h = once_after (flat_map outputs ms) (flat_map outputs n
 pub written_once : (n : Node) (ns : List Node) → two_writers (n ∷ ns) ≡ false → (c : Cell) → writes n c ≡ true → is_written ns c ≡ false
 written_once n ns h c w =
     grind (arith, or_parts (writes_twice n || list_any (is_written ns) (outputs n)) (two_writers ns) (sym (two_writers-cons n ns) ∙ h), two_writers-cons n ns, In-from_same c (outputs n) w)
+
+-- the test of the writers says that each cell has one
+pub one_writer : (g : List Node) → two_writers g ≡ false → OneWriter writes g
+one_writer [] h = λ m n c i j v w. absurd i
+one_writer (x ∷ xs) h = λ m n c i j v w.
+    let others = one_writer xs (once_after (outputs x) (flat_map outputs xs) h) m n c in
+    grind (arith, others, written_once x xs h c, any-from_In (λ k. writes k c) m xs, any-from_In (λ k. writes k c) n xs)

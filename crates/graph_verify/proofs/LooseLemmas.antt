@@ -1,20 +1,18 @@
 -- Virtual images that are read and not written, or added to.
-use Rattle.std.proofs.Common.{◌≡◌, zero, suc, List, [], ◌∷◌, refl, arith, Option, Some, None, ◌||◌}
+use Rattle.std.proofs.Common.{◌≡◌, zero, suc, List, [], ◌∷◌, refl, arith, Option, ◌||◌}
 use Rattle.graph_verify.proofs.Common.{option_map, list_any, list_any-append, Node, Cell, given, inputs, Linked, Operand, linked_nodes, AreOperands, has_loose_input, has_virtual_sum, operands_of, is_virtual, is_loose}
 use Rattle.graph_verify.specs.Linked.{is_given_loose, is_given_virtual}
 use Rattle.graph_verify.specs.Verdict.{reads_loose, adds_to_virtual}
 
 module _ (is : Cell → Operand) (all : List Node) where
   given_loose : (cell : Option Cell) → is_given_loose all cell (option_map is cell) ≡ list_any (is_loose is all) (given cell)
-  given_loose None = refl
-  given_loose (Some c) = grind arith
+  given_loose cell = grind arith
 
   loose_input : (l : Linked) → l.operands ≡ operands_of is l.node → has_loose_input all l ≡ list_any (is_loose is all) (inputs l.node)
   loose_input l operands = grind (arith, given_loose l.node.in2)
 
   given_virtual : (cell : Option Cell) → is_given_virtual (option_map is cell) ≡ list_any (λ c. is_virtual (is c)) (given cell)
-  given_virtual None = refl
-  given_virtual (Some c) = grind arith
+  given_virtual cell = grind arith
 
   virtual_sum : (l : Linked) → l.operands ≡ operands_of is l.node → has_virtual_sum l ≡ adds_to_virtual is l.node
   virtual_sum l operands = grind (arith, given_virtual l.node.out1, given_virtual l.node.out2, list_any-append (λ c. is_virtual (is c)) (given l.node.out1) (given l.node.out2))

@@ -1,15 +1,14 @@
 -- Members of lists.
-use Rattle.std.proofs.Common.{◌≡◌, ℕ, ◌<◌, ◌≤◌, ◌⊎◌, inl, inr, suc, zero, Bool, true, false, List, [], ◌∷◌, ◌++◌, length, get_or, map, refl, sym, ap, subst, ◌∙◌, arith, position, ◌||◌, None, ltb-false}
-use Rattle.graph_verify.proofs.Common.{filter, flat_map, list_any, remove, IsPermutation, cases_Bool, or_left, In, AllIn}
+use Rattle.std.proofs.Common.{◌≡◌, ℕ, ◌<◌, ◌≤◌, ◌⊎◌, inl, inr, suc, Bool, true, false, List, [], ◌∷◌, ◌++◌, length, get_or, map, refl, sym, ap, subst, arith, position, ◌||◌, None, ltb-false}
+use Rattle.graph_verify.proofs.Common.{filter, flat_map, list_any, remove, map-append, IsPermutation, cases_Bool, In, AllIn}
 use Rattle.std.specs.List.{Contains, position_or_len}
-use Rattle.std.proofs.lemmas.Bool.{or_right}
+use Rattle.std.proofs.lemmas.List.{take-map, drop-map}
 use Rattle.std.proofs.lemmas.List.Sorted.{Contains-permutation, IsPermutation-sym}
 
 module _ {X : Type 0} where
   pub In-left : (x : X) (xs ys : List X) → In x xs → In x (xs ++ ys)
   In-left x [] ys h = absurd h
-  In-left x (y ∷ xs) ys (inl same) = inl same
-  In-left x (y ∷ xs) ys (inr h) = inr (In-left x xs ys h)
+  In-left x (y ∷ xs) ys h = grind (arith, In-left x xs ys)
 
   pub In-right : (x : X) (xs ys : List X) → In x ys → In x (xs ++ ys)
   In-right x [] ys h = h
@@ -17,8 +16,7 @@ module _ {X : Type 0} where
 
   pub In-append : (x : X) (xs ys : List X) → In x (xs ++ ys) → In x xs ⊎ In x ys
   In-append x [] ys h = inr h
-  In-append x (y ∷ xs) ys (inl same) = inl (inl same)
-  In-append x (y ∷ xs) ys (inr h) = elim (In-append x xs ys h) [ inl i ↦ inl (inr i) | inr i ↦ inr i ]
+  In-append x (y ∷ xs) ys h = grind (arith, In-append x xs ys)
 
   -- what some member passes
   pub In-from_any : (p : X → Bool) (xs : List X) → list_any p xs ≡ true → (x : X) × In x xs × (p x ≡ true)
@@ -27,17 +25,15 @@ module _ {X : Type 0} where
 
   pub any-from_In : (p : X → Bool) (x : X) (xs : List X) → In x xs → p x ≡ true → list_any p xs ≡ true
   any-from_In p x [] h passes = absurd h
-  any-from_In p x (y ∷ xs) (inl same) passes = or_left (p y) (list_any p xs) (ap p (sym same) ∙ passes)
-  any-from_In p x (y ∷ xs) (inr h) passes = or_right (p y) (list_any p xs) (any-from_In p x xs h passes)
+  any-from_In p x (y ∷ xs) h passes = grind (arith, any-from_In p x xs, cases_Bool (p y))
 
   -- what no member passes
   pub fails-from_In : (p : X → Bool) (x : X) (xs : List X) → list_any p xs ≡ false → In x xs → p x ≡ false
-  fails-from_In p x xs none h = elim (cases_Bool (p x)) [ inl passes ↦ (let some = any-from_In p x xs h passes in absurd (cc)) | inr fails ↦ fails ]
+  fails-from_In p x xs none h = grind (arith, any-from_In p x xs h)
 
   pub In-filter : (p : X → Bool) (x : X) (xs : List X) → In x xs → p x ≡ true → In x (filter p xs)
   In-filter p x [] h passes = absurd h
-  In-filter p x (y ∷ xs) (inl same) passes = let k : p y ≡ true = ap p (sym same) ∙ passes in rw k (inl same)
-  In-filter p x (y ∷ xs) (inr h) passes = grind (arith, In-filter p x xs h passes, cases_Bool (p y))
+  In-filter p x (y ∷ xs) h passes = grind (arith, In-filter p x xs, cases_Bool (p y))
 
   pub In-from_filter : (p : X → Bool) (x : X) (xs : List X) → In x (filter p xs) → In x xs × (p x ≡ true)
   In-from_filter p x [] h = absurd h
@@ -45,13 +41,11 @@ module _ {X : Type 0} where
 
   pub In-map : {Y : Type 0} (f : X → Y) (x : X) (xs : List X) → In x xs → In (f x) (map f xs)
   In-map f x [] h = absurd h
-  In-map f x (y ∷ xs) (inl same) = inl (ap f same)
-  In-map f x (y ∷ xs) (inr h) = inr (In-map f x xs h)
+  In-map f x (y ∷ xs) h = grind (arith, In-map f x xs)
 
   pub In-from_map : {Y : Type 0} (f : X → Y) (y : Y) (xs : List X) → In y (map f xs) → (x : X) × In x xs × (y ≡ f x)
   In-from_map f y [] h = absurd h
-  In-from_map f y (x ∷ xs) (inl same) = (x, inl refl, same)
-  In-from_map f y (x ∷ xs) (inr h) = let r = In-from_map f y xs h in (r.0, inr r.1, r.2)
+  In-from_map f y (x ∷ xs) h = grind (arith, In-from_map f y xs)
 
   pub any-map : {Y : Type 0} (f : X → Y) (p : Y → Bool) (xs : List X) → list_any (λ x. p (f x)) xs ≡ list_any p (map f xs)
   any-map f p [] = refl
@@ -61,22 +55,14 @@ module _ {X : Type 0} where
   filter-map f p q same [] = refl
   filter-map f p q same (x ∷ xs) = grind (arith, filter-map f p q same xs, cases_Bool (p x))
 
-  pub map_agree : {Y : Type 0} (f g : X → Y) → ((x : X) → f x ≡ g x) → (xs : List X) → map f xs ≡ map g xs
-  map_agree f g same [] = refl
-  map_agree f g same (x ∷ xs) = ap (λ y. y ∷ map f xs) (same x) ∙ ap (λ l. g x ∷ l) (map_agree f g same xs)
-
   pub map-remove : {Y : Type 0} (f : X → Y) (xs : List X) (i : ℕ) → map f (remove xs i) ≡ remove (map f xs) i
-  map-remove f [] zero = refl
-  map-remove f [] (suc i) = refl
-  map-remove f (x ∷ xs) zero = refl
-  map-remove f (x ∷ xs) (suc i) = ap (λ l. f x ∷ l) (map-remove f xs i)
+  map-remove f xs i = rw (map-append, take-map, drop-map)
 
   -- ---- members by their indices
 
   pub In-at : (xs : List X) (k : ℕ) (d : X) → k < length xs → In (get_or xs k d) xs
   In-at [] k d h = absurd (omega (arith, h))
-  In-at (y ∷ ys) zero d h = inl refl
-  In-at (y ∷ ys) (suc k) d h = inr (In-at ys k d (omega (arith, h)))
+  In-at (y ∷ ys) k d h = grind (arith, In-at ys)
 
   -- what `position` says where it finds none
   none_pass : (p : X → Bool) (xs : List X) → length xs ≤ position_or_len p xs → (x : X) → In x xs → p x ≡ false
@@ -103,8 +89,7 @@ module _ {X : Type 0} where
 
 pub In-flat_map : {X Y : Type 0} (f : X → List Y) (x : X) (y : Y) (xs : List X) → In x xs → In y (f x) → In y (flat_map f xs)
 In-flat_map f x y [] h k = absurd h
-In-flat_map f x y (z ∷ xs) (inl same) k = In-left y (f z) (flat_map f xs) (subst (λ w. In y (f w)) same k)
-In-flat_map f x y (z ∷ xs) (inr h) k = In-right y (f z) (flat_map f xs) (In-flat_map f x y xs h k)
+In-flat_map f x y (z ∷ xs) h k = grind (arith, In-flat_map f x y xs, In-left y (f z) (flat_map f xs), In-right y (f z) (flat_map f xs))
 
 pub In-from_flat_map : {X Y : Type 0} (f : X → List Y) (y : Y) (xs : List X) → In y (flat_map f xs) → (x : X) × In x xs × In y (f x)
 In-from_flat_map f y [] h = absurd h

@@ -1,30 +1,19 @@
 -- The nodes of a graph that can run, one by one.
-use Rattle.std.proofs.Common.{◌≡◌, ◌≢◌, ℕ, Bool, true, false, List, [], ◌∷◌, ◌++◌, Option, Some, None, refl, sym, ap, ◌∙◌, inl, inr, arith, if◌then◌else◌, not}
-use Rattle.graph_verify.proofs.Common.{list_any, list_all, flat_map, option_and_then, cases_Bool, or_parts, or_from, and_parts, list_any-append, Format, Function, Node, takes_formats, Cell, same_cell, inputs, outputs, Operand, Operands, InvalidFormat, InvalidDimension, In, feeds, has_twice, has_cycle, operand_format, are_of_one_size, written_operands, other_operands, operands_of, resolved, two_writers, node_fault, writes_twice, reads_own_output, verdict_on, takes_first, takes_operands}
-use Rattle.vx_base.specs.declared.format.Format.TheVariants.{U8, S16, U32}
-use Rattle.vx_base.specs.declared.function.Function.TheVariants.{AndBits, Histogram, MinMaxLoc}
+use Rattle.std.proofs.Common.{◌≡◌, ◌≢◌, ℕ, Bool, true, false, List, [], ◌∷◌, Option, Some, None, inl, inr, arith, not}
+use Rattle.graph_verify.proofs.Common.{list_any, list_all, option_and_then, cases_Bool, not-false, and_parts, Format, Function, Node, takes_formats, Cell, same_cell, inputs, outputs, Operand, Operands, InvalidFormat, In, feeds, has_cycle, operand_format, written_operands, operands_of, resolved, two_writers, node_fault, writes_twice, reads_own_output, verdict_on, takes_first, takes_operands}
 use Rattle.vx_base.specs.declared.kind.Kind.TheVariants as kind
 use Rattle.vx_base.specs.Function.{parameters}
 use Rattle.graph_verify.proofs.MemberLemmas.{In-from_any}
-use Rattle.graph_verify.proofs.LinkLemmas.{same-from_In, feeds_is, once_after}
+use Rattle.graph_verify.proofs.LinkLemmas.{same-from_In, feeds_is, two_writers-cons}
 use Rattle.graph_verify.proofs.CycleLemmas.{has_cycle-from_cycle}
 use Rattle.graph_verify.proofs.VerdictLemmas.{CanRun}
+use Rattle.graph_verify.proofs.SuitLemmas.{passed}
 use Rattle.graph_verify.proofs.VerifyLemmas.{first_fault-None}
-
--- in the front of a list in which no cell stands twice none does
-no_twice_before : (xs ys : List Cell) → has_twice (xs ++ ys) ≡ false → has_twice xs ≡ false
-no_twice_before [] ys h = refl
-no_twice_before (x ∷ xs) ys h =
-    let both = or_parts (list_any (same_cell x) (xs ++ ys)) (has_twice (xs ++ ys)) h in
-    or_from (list_any (same_cell x) xs) (has_twice xs)
-    (or_parts (list_any (same_cell x) xs) (list_any (same_cell x) ys) (sym (list_any-append (same_cell x) xs ys) ∙ both.0)).0
-    (no_twice_before xs ys both.1)
 
 -- where no cell has two writers, no node writes one by both of its outputs
 pub no_twice_each : (nodes : List Node) (n : Node) → two_writers nodes ≡ false → In n nodes → writes_twice n ≡ false
 no_twice_each [] n h member = absurd member
-no_twice_each (m ∷ nodes) n h (inl e) = ap writes_twice e ∙ no_twice_before (outputs m) (flat_map outputs nodes) h
-no_twice_each (m ∷ nodes) n h (inr later) = no_twice_each nodes n (once_after (outputs m) (flat_map outputs nodes) h) later
+no_twice_each (m ∷ nodes) n h member = grind (arith, two_writers-cons m nodes, no_twice_each nodes n)
 
 -- a node that reads what it writes is a cycle
 cycle_of_one : (nodes : List Node) (n : Node) → In n nodes → reads_own_output n ≡ true → has_cycle feeds nodes ≡ true
@@ -41,36 +30,18 @@ runs_alone work is nodes n can member =
 
 -- a function that writes images takes no output without a format
 takes_none : (function : Function) (first : Format) (second : Option Format) → (parameters function).output ≡ kind.Image → takes_formats function first second None ≡ false
-takes_none Histogram first second h = absurd (cc h)
-takes_none MinMaxLoc first second h = absurd (cc h)
-takes_none AndBits first None h = refl
-takes_none AndBits first (Some b) h = refl
-takes_none function U8 None h = refl
-takes_none function U8 (Some U8) h = refl
-takes_none function U8 (Some S16) h = refl
-takes_none function U8 (Some U32) h = refl
-takes_none function S16 None h = refl
-takes_none function S16 (Some U8) h = refl
-takes_none function S16 (Some S16) h = refl
-takes_none function S16 (Some U32) h = refl
-takes_none function U32 None h = refl
-takes_none function U32 (Some b) h = refl
+takes_none function first second h = grind arith
 
 -- what passes for all members passes for each
 all-from_In : {X : Type 0} (p : X → Bool) (xs : List X) → list_all p xs ≡ true → (x : X) → In x xs → p x ≡ true
 all-from_In p [] h x i = absurd i
-all-from_In p (y ∷ ys) h x (inl e) = ap p e ∙ (and_parts (p y) (list_all p ys) h).0
-all-from_In p (y ∷ ys) h x (inr i) = all-from_In p ys (and_parts (p y) (list_all p ys) h).1 x i
+all-from_In p (y ∷ ys) h x i = grind (arith, all-from_In p ys, and_parts (p y) (list_all p ys) h)
 
 -- each image that such a node writes is described
 pub written_described : (function : Function) (o : Operands) → (parameters function).output ≡ kind.Image → node_fault function o ≡ None → (out : Operand) → In out (written_operands o) → operand_format out ≢ None
 written_described function o writes none out member bare =
-    described (operand_format o.in1) (takes_operands function o) refl (takes (takes_operands function o) (list_all (are_of_one_size o.in1) (other_operands o)) none)
+    described (operand_format o.in1) (not-false (takes_operands function o) (passed (not (takes_operands function o)) InvalidFormat _ none).0)
   where
-    takes : (t s : Bool) → (if not t then Some InvalidFormat else (if s then None else Some InvalidDimension)) ≡ None → t ≡ true
-    takes true s h = refl
-    takes false s h = absurd (cc h)
-
-    described : (first : Option Format) (t : Bool) → t ≡ takes_first function first (option_and_then operand_format o.in2) (written_operands o) → t ≡ true → ⊥
-    described None t is takes_all = cc
-    described (Some first) t is takes_all = grind (arith, all-from_In, first, takes_none)
+    described : (first : Option Format) → takes_first function first (option_and_then operand_format o.in2) (written_operands o) ≡ true → ⊥
+    described None takes_all = cc
+    described (Some first) takes_all = grind (arith, all-from_In, first, takes_none)

@@ -1,6 +1,6 @@
 -- Orders of nodes: that there is one where there is no cycle, and how one is made node by node.
 use Rattle.std.proofs.Common.{◌≡◌, ℕ, ◌<◌, suc, zero, Bool, true, false, List, [], ◌∷◌, ◌++◌, length, get_or, map, append-nil, length-append, refl, ◌∙◌, ap, inl, inr, arith, rules, not}
-use Rattle.graph_verify.proofs.Common.{filter, list_any, remove, IsPermutation, cases_Bool, not-true, not-false, length-map, length-filter_both, IsPermutation-remove, IsPermutation-map, length_permutation, In, AllIn, HasCycle, waiting, left_after, is_empty, has_cycle, InTurn, IsOrder}
+use Rattle.graph_verify.proofs.Common.{filter, list_any, remove, IsPermutation, cases_Bool, false_from_ne_true, not-true, not-false, length-map, length-filter_both, IsPermutation-remove, IsPermutation-map, length_permutation, In, AllIn, HasCycle, waiting, left_after, is_empty, has_cycle, InTurn, IsOrder}
 use Rattle.graph_verify.proofs.MemberLemmas.{In-left, In-right, In-append, In-from_any, fails-from_In, In-filter, In-from_filter, In-from_map, any-map, filter-map, AllIn-permutation, AllIn-permutation_back}
 use Rattle.graph_verify.proofs.CycleLemmas.{cycle_or_empty, no_cycle_in_turn, cycle_from-has_cycle}
 
@@ -37,19 +37,23 @@ module _ {N : Type 0} (feeds : N → N → Bool) where
       let o = found.1 in
       let fed : N → Bool = λ n. is_fed feeds g n in
       let ready : List N = filter (λ n. not (fed n)) g in
-      let in_g : AllIn (ready ++ steps) g = λ x i. elim (In-append x ready steps i) [
-        | inl j ↦ (In-from_filter (λ n. not (fed n)) x g j).0
-        | inr j ↦ (In-from_filter fed x g (o.from x j)).0
-      ] in (
+      let in_g : AllIn (ready ++ steps) g =
+      λ x i. grind (arith, In-append x ready steps i, In-from_filter (λ n. not (fed n)) x g, In-from_filter fed x g, o.from x) in (
         ready ++ steps,
         record {
           in_turn = InTurn-append ready steps
               (λ n m i j. not_fed g n (let r = In-from_filter (λ z. not (fed z)) n g i in not-true (fed n) r.1) m (in_g m j))
               o.in_turn;
-          to = (λ x i. elim (cases_Bool (fed x)) [
-            | inl e ↦ In-right x ready steps (o.to x (In-filter fed x g i e))
-            | inr e ↦ In-left x ready steps (In-filter (λ n. not (fed n)) x g i (rw e refl))
-          ]);
+          to = (λ x i.
+              grind (
+                arith,
+                cases_Bool (fed x),
+                In-right x ready steps,
+                In-left x ready steps,
+                o.to x,
+                In-filter fed x g i,
+                In-filter (λ n. not (fed n)) x g i,
+              ));
           from = in_g;
           long = (let a = length-append ready steps in let b = length-filter_both fed (λ n. not (fed n)) (λ n. refl) g in let c = o.long in omega arith);
         },
@@ -60,10 +64,9 @@ module _ {N : Type 0} (feeds : N → N → Bool) where
 
   -- what has an order has no cycle
   pub no_cycle_from_order : (g steps : List N) → IsOrder feeds g steps → has_cycle feeds g ≡ false
-  no_cycle_from_order g steps order = elim (cases_Bool (has_cycle feeds g)) [
-    | inl e ↦ absurd (no_cycle_in_turn feeds g steps order.in_turn (AllIn-permutation g steps order.same_nodes) (cycle_from-has_cycle feeds g e))
-    | inr e ↦ e
-  ]
+  no_cycle_from_order g steps order =
+      let within = AllIn-permutation g steps order.same_nodes in
+      false_from_ne_true (has_cycle feeds g) (λ e. no_cycle_in_turn feeds g steps order.in_turn within (cycle_from-has_cycle feeds g e))
 
   -- ---- an order is made node by node
 
@@ -76,13 +79,15 @@ module _ {N : Type 0} (feeds : N → N → Bool) where
   InTurnThen-more : (steps rest less : List N) (x : N) → AllIn (x ∷ less) rest → ((m : N) → In m rest → feeds m x ≡ false) → InTurnThen steps rest → InTurnThen (steps ++ x ∷ []) less
   InTurnThen-more [] rest less x within ready turn = ((λ m i. ready m (within m i)), tt)
   InTurnThen-more (n ∷ ns) rest less x within ready turn = (
-    (λ m i. turn.0 m (elim (In-append m ((n ∷ ns) ++ x ∷ []) less i) [
-      | inl j ↦ elim (In-append m (n ∷ ns) (x ∷ []) j) [
-        | inl k ↦ In-left m (n ∷ ns) rest k
-        | inr k ↦ In-right m (n ∷ ns) rest (within m (elim k [ inl e ↦ inl e | inr b ↦ absurd b ]))
-      ]
-      | inr j ↦ In-right m (n ∷ ns) rest (within m (inr j))
-    ])),
+    (λ m i. grind (
+      arith,
+      turn.0 m,
+      In-append m ((n ∷ ns) ++ x ∷ []) less i,
+      In-append m (n ∷ ns) (x ∷ []),
+      In-left m (n ∷ ns) rest,
+      In-right m (n ∷ ns) rest,
+      within m,
+    )),
     InTurnThen-more ns rest less x within ready turn.1,
   )
 
@@ -114,8 +119,7 @@ module _ {M N : Type 0} (f : M → N) (feeds : N → N → Bool) where
       grind (arith, left-map k (waiting links g), filter-map f (λ n. list_any (λ m. links m n) g) (λ n. list_any (λ m. feeds m n) (map f g)) (λ n. any-map f (λ m. feeds m (f n)) g) g)
 
   is_empty-map : (g : List M) → is_empty (map f g) ≡ is_empty g
-  is_empty-map [] = refl
-  is_empty-map (x ∷ g) = refl
+  is_empty-map g = grind arith
 
   pub has_cycle-map : (g : List M) → has_cycle links g ≡ has_cycle feeds (map f g)
   has_cycle-map g = grind (arith, is_empty-map (left_after links (length g) g), left-map (length g) g, length-map g f)

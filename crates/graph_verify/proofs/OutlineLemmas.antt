@@ -1,6 +1,7 @@
 -- The outlines of a graph's cells: that nodes give them once and for all, in whatever order.
 use Rattle.std.proofs.Common.{◌≡◌, ℕ, zero, suc, false, List, [], ◌∷◌, length, ap, arith}
-use Rattle.graph_verify.proofs.Common.{cases_Bool, or_left, IsPermutation-refl, Node, Cell, Description, Outline, outline_of, Operand, Image, has_cycle, reads, writes, feeds, InTurn, IsOrder, operand_outline, written_outline, outlines, as_known, resolved, round, rounds, IsSolution, ReadsAlone, two_writers}
+use Rattle.graph_verify.proofs.Common.{cases_Bool, IsPermutation-refl, Node, Cell, Description, Outline, outline_of, Operand, Image, has_cycle, reads, writes, feeds, InTurn, IsOrder, operand_outline, written_outline, outlines, as_known, resolved, round, rounds, IsSolution, ReadsAlone, two_writers}
+use Rattle.std.proofs.lemmas.Bool.{or_left}
 use Rattle.graph_verify.proofs.LinkLemmas.{same_cell-refl, two_writers-permutation}
 use Rattle.graph_verify.proofs.MemberLemmas.{AllIn-permutation, AllIn-permutation_back}
 use Rattle.graph_verify.proofs.OrderLemmas.{no_cycle_from_order}

@@ -1,6 +1,6 @@
 -- The graph of one node.
-use Rattle.std.proofs.Common.{◌≡◌, ℕ, false, cond, List, [], ◌∷◌, ◌++◌, append-nil, refl, ◌∙◌, ap, arith, ◌&&◌, nat_le, if◌then◌else◌, Option, Some, None, ◌||◌, not}
-use Rattle.graph_verify.proofs.Common.{option_map, option_or, list_any, filter, or_parts, nat_tests, list_any-append, Node, Cell, given, inputs, outputs, Outline, Operand, Virtual, Verdict, NoResources, has_cycle, writes, feeds, is_written, is_virtual, operands_of, outlines, as_known, resolved, reads_own_output, verdict_on, is_loose, verdict}
+use Rattle.std.proofs.Common.{◌≡◌, ℕ, false, List, [], ◌∷◌, ◌++◌, append-nil, refl, arith, nat_le, if◌then◌else◌, Option, Some, None}
+use Rattle.graph_verify.proofs.Common.{option_map, option_or, list_any, filter, or_parts, cases_Bool, nat_tests, list_any-append, Node, Cell, given, inputs, outputs, Outline, Operand, Verdict, NoResources, has_cycle, writes, feeds, is_written, is_virtual, operands_of, as_known, resolved, reads_own_output, verdict_on, is_loose, verdict}
 use Rattle.std.proofs.Math.Bool.{or-false}
 use Rattle.graph_verify.proofs.LinkLemmas.{is_fed-written, any_agree}
 
@@ -12,8 +12,7 @@ cycle_of_one : (n : Node) → has_cycle feeds (n ∷ []) ≡ reads_own_output n
 cycle_of_one n = grind (arith, feeds_itself n)
 
 nothing_more : (f : Option Verdict) → option_or (option_or f None) None ≡ f
-nothing_more None = refl
-nothing_more (Some v) = refl
+nothing_more f = grind arith
 
 nothing_fits : (work : ℕ) → (if nat_le 0 work then None else Some NoResources) ≡ None
 nothing_fits work = grind (arith, nat_tests)
@@ -24,24 +23,18 @@ module _ (is : Cell → Operand) where
 
   none_loose : (nodes : List Node) (cells : List Cell) → NoneVirtual cells → list_any (is_loose is nodes) cells ≡ false
   none_loose nodes [] h = refl
-  none_loose nodes (c ∷ cells) h =
-      let parts = or_parts (is_virtual (is c)) (list_any (λ d. is_virtual (is d)) cells) h in
-      ap (λ b. (b && not (is_written nodes c)) || list_any (is_loose is nodes) cells) parts.0 ∙ none_loose nodes cells parts.1
+  none_loose nodes (c ∷ cells) h = grind (arith, none_loose nodes cells, cases_Bool (is_virtual (is c)))
 
   none_written : (cells : List Cell) → NoneVirtual cells → filter (λ c. is_virtual (is c)) cells ≡ []
   none_written [] h = refl
-  none_written (c ∷ cells) h =
-      let parts = or_parts (is_virtual (is c)) (list_any (λ d. is_virtual (is d)) cells) h in
-      ap (λ b. cond b (c ∷ filter (λ d. is_virtual (is d)) cells) (filter (λ d. is_virtual (is d)) cells)) parts.0 ∙ none_written cells parts.1
+  none_written (c ∷ cells) h = grind (arith, none_written cells, cases_Bool (is_virtual (is c)))
 
   -- what isn't virtual is known
   as_it_is : (o : Operand) (known : Outline) → is_virtual o ≡ false → as_known o known ≡ o
-  as_it_is (Virtual declared) known h = absurd (cc h)
-  as_it_is other known h = refl
+  as_it_is o known h = grind arith
 
   given_as_it_is : (nodes : List Node) (cell : Option Cell) → NoneVirtual (given cell) → option_map (resolved is nodes) cell ≡ option_map is cell
-  given_as_it_is nodes None h = refl
-  given_as_it_is nodes (Some c) h = ap {B = Option Operand} Some (as_it_is (is c) (outlines is nodes c) (or_parts (is_virtual (is c)) false h).0)
+  given_as_it_is nodes cell h = grind (arith, as_it_is)
 
   operands_as_they_are : (nodes : List Node) (n : Node) → NoneVirtual (inputs n ++ outputs n) → operands_of (resolved is nodes) n ≡ operands_of is n
   operands_as_they_are nodes n h = grind (arith, or_parts, list_any-append, as_it_is, given_as_it_is)

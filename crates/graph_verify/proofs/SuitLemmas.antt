@@ -1,6 +1,8 @@
 -- What a verdict of none says of each output of a node: the function takes its format, and it is of the first input's size.
-use Rattle.std.proofs.Common.{◌≡◌, Bool, true, false, IsTrue, ◌++◌, Option, Some, None, IfSome, sym, ◌∙◌, cond, refl, arith, not, option_to_list}
-use Rattle.graph_verify.proofs.Common.{list_all, option_map, option_and_then, and_parts, not-false, Format, Function, Node, takes_formats, Operand, Operands, InvalidFormat, InvalidDimension, operand_format, are_of_one_size, written_operands, other_operands, takes_first, takes_operands, node_fault, verdict_on, writes_twice, reads_own_output}
+use Rattle.std.proofs.Common.{◌≡◌, Bool, true, false, IsTrue, ◌++◌, Option, Some, None, IfSome, sym, ◌∙◌, cond, arith, not, option_to_list}
+use Rattle.graph_verify.proofs.Common.{list_all, option_map, option_and_then, and_parts, cases_Bool, not-false, Format, Function, Node, takes_formats, Operand, Operands, InvalidFormat, operand_format, written_operands, takes_first, takes_operands, node_fault, verdict_on, writes_twice, reads_own_output}
+use Rattle.graph_verify.specs.declared.verdict.Verdict.TheVariants.{InvalidDimension}
+use Rattle.graph_verify.specs.Operand.{are_of_one_size, other_operands}
 use Rattle.std.proofs.lemmas.List.Folds.{list_all-append}
 use Rattle.vx_base.specs.Object.{ObjectValue}
 use Rattle.graph_verify.specs.declared.verdict.Verdict.TheVariants.{MultipleWriters, InvalidGraph}
@@ -8,13 +10,11 @@ use Rattle.graph_verify.specs.Operand.{operand_of}
 
 -- where nothing refuses, the first reason doesn't hold, and no later one refuses
 pub passed : {R : Type 0} (b : Bool) (refusal : R) (rest : Option R) → cond b (Some refusal) rest ≡ None → (b ≡ false) × (rest ≡ None)
-passed true refusal rest h = cc
-passed false refusal rest h = (refl, h)
+passed b refusal rest h = grind (arith, cases_Bool b)
 
 -- and where a last condition has to hold, it does
 pub met : {R : Type 0} (b : Bool) (refusal : R) → cond b None (Some refusal) ≡ None → b ≡ true
-met true refusal h = refl
-met false refusal h = cc
+met b refusal h = grind (arith, cases_Bool b)
 
 -- whether the function takes the formats of these operands
 abbrev pub takes_output : Function → Option Format → Option Format → Operand → Bool
@@ -28,7 +28,7 @@ pub record Suits (function : Function) (first : Operand) (second : Option Format
 
 -- a test that both operands pass, as far as they are there
 both_pass : {X : Type 0} (p : X → Bool) (x y : Option X) → list_all p (option_to_list x ++ option_to_list y) ≡ true → IfSome x (λ z. p z ≡ true) × IfSome y (λ z. p z ≡ true)
-both_pass p x y h = grind (arith, and_parts, list_all-append)
+both_pass p x y h = grind arith
 
 -- the formats of each output are taken
 formats_taken : (function : Function) (first second : Option Format) (out1 out2 : Option Operand) → takes_first function first second (option_to_list out1 ++ option_to_list out2) ≡ true
@@ -38,8 +38,7 @@ formats_taken function (Some first) second out1 out2 h = both_pass (λ out. take
 
 -- an output of which both hold suits
 suits_if : (function : Function) (first : Operand) (second : Option Format) (out : Option Operand) → IfSome out (λ x. IsTrue (takes_output function (operand_format first) second x)) → IfSome out (λ x. IsTrue (are_of_one_size first x)) → IfSome out (Suits function first second)
-suits_if function first second None formats size = tt
-suits_if function first second (Some out) formats size = record { formats = formats; size = size }
+suits_if function first second out formats size = grind arith
 
 -- where the operands of a node have no fault, each output suits
 pub no_fault_suits : (function : Function) (o : Operands) → node_fault function o ≡ None

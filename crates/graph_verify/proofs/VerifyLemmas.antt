@@ -1,10 +1,9 @@
 -- Why a graph is found to run, or not, by what is known of its virtual images.
 use Rattle.std.proofs.Common.{◌≡◌, ℕ, ◌+◌, ◌*◌, ◌≤◌, Bool, true, false, List, [], ◌∷◌, length, map, get_or, IsTrue, refl, sym, ◌∙◌, ap, subst, inl, inr, arith, rules, unwrap_or, All, find, sum_by, ◌&&◌, if◌then◌else◌, Option, Some, None}
-use Rattle.graph_verify.proofs.Common.{option_map, option_or, filter, flat_map, filter_map, IsPermutation, and_from, and_parts, false_from_ne_true, filter-append, sum_by-IsPermutation, length_permutation, Format, Function, Node, Cell, same_cell, Description, byte_count, outputs, Outline, outline_of, filled, Known, Linked, Operand, Image, Virtual, Operands, Verdict, InvalidLink, In, has_cycle, closed_output, known_operands, AreKnown, linked_nodes, AreOperands, writes, feeds, is_written, is_virtual, is_image, operand_format, operands_of, IsOrder, operand_outline, given_outline, written_outline, outlines, as_known, resolved, IsSolution, two_writers, has_loose_end, node_fault, first_fault, virtual_outputs, work_bytes, verdict}
+use Rattle.graph_verify.proofs.Common.{option_map, option_or, filter, flat_map, filter_map, IsPermutation, and_parts, false_from_ne_true, filter-append, sum_by-IsPermutation, length_permutation, Format, Function, Node, Cell, same_cell, Description, byte_count, outputs, Outline, outline_of, filled, Known, Linked, Operand, Image, Virtual, Operands, Verdict, InvalidLink, In, has_cycle, closed_output, known_operands, AreKnown, linked_nodes, AreOperands, writes, feeds, is_written, is_virtual, is_image, operand_format, operands_of, IsOrder, operand_outline, given_outline, written_outline, outlines, as_known, resolved, IsSolution, two_writers, has_loose_end, node_fault, first_fault, virtual_outputs, work_bytes, verdict, sum_by-cons, sum_by-append, fun_ext}
+use Rattle.std.proofs.lemmas.Bool.{and_from}
 use Rattle.std.specs.List.{cons_option}
 use Rattle.std.proofs.lemmas.List.Sorted.{All-permutation}
-use Rattle.std.proofs.lemmas.List.Sums.{sum_by-cons, sum_by-append}
-use mathlib.Core.Path.{fun_ext}
 use Rattle.vx_base.specs.Formats.{open_format}
 use Rattle.vx_base.specs.Outline.{closed}
 use Rattle.graph_verify.specs.declared.known.VirtualOutput.{VirtualOutput}
@@ -48,9 +47,9 @@ sum_agree : {X : Type 0} (f g : X → ℕ) (xs : List X) → ((x : X) → In x x
 sum_agree f g [] same = refl
 sum_agree f g (x ∷ xs) same = grind (arith, sum_agree f g xs (λ y i. same y (inr i)), sum_by-cons f x xs, sum_by-cons g x xs)
 
-sum_map : {X Y : Type 0} (f : Y → ℕ) (h : X → Y) (xs : List X) → sum_by (λ x. f (h x)) xs ≡ sum_by f (map h xs)
+pub sum_map : {X Y : Type 0} (f : Y → ℕ) (h : X → Y) (xs : List X) → sum_by (λ x. f (h x)) xs ≡ sum_by f (map h xs)
 sum_map f h [] = refl
-sum_map f h (x ∷ xs) = sum_by-cons (λ y. f (h y)) x xs ∙ ap (λ k. f (h x) + k) (sum_map f h xs) ∙ sym (sum_by-cons f (h x) (map h xs))
+sum_map f h (x ∷ xs) = grind (arith, sum_map f h xs, sum_by-cons (λ y. f (h y)) x xs, sum_by-cons f (h x) (map h xs))
 
 module _ (is : Cell → Operand) where
   -- what is known of a cell is a virtual image
@@ -58,8 +57,7 @@ module _ (is : Cell → Operand) where
   known_virtual all known h k i = (In-from_filter (λ c. is_virtual (is c)) k.cell (flat_map outputs all) (subst (In k.cell) h.cells (In-map (λ (j : Known). j.cell) k known i))).1
 
   virtual_resolved : (all : List Node) (c : Cell) (o : Operand) → is_virtual o ≡ true → as_known o (outlines is all c) ≡ virtual_or_image (outlines is all c) (closed (outlines is all c))
-  virtual_resolved all c (Virtual declared) e = refl
-  virtual_resolved all c other e = absurd (cc e)
+  virtual_resolved all c o e = grind arith
 
   -- what is known of a virtual image says what it is
   pub known_resolved : (all : List Node) (known : List Known) → AreKnown is all known → (k : Known) → In k known → virtual_or_image k.outline (closed k.outline) ≡ resolved is all k.cell
@@ -81,12 +79,10 @@ module _ (is : Cell → Operand) where
 pub first_fault-None : (is : Cell → Operand) (nodes : List Node) → first_fault is nodes ≡ None → (n : Node) → In n nodes → node_fault n.function (operands_of is n) ≡ None
 first_fault-None is [] h n i = absurd i
 first_fault-None is (m ∷ nodes) h n i =
-    let parts = neither (node_fault m.function (operands_of is m)) (first_fault is nodes) h in
-    elim i [ inl same ↦ ap (λ k. node_fault k.function (operands_of is k)) same ∙ parts.0 | inr j ↦ first_fault-None is nodes parts.1 n j ]
+    grind (arith, first_fault-None is nodes, neither (node_fault m.function (operands_of is m)) (first_fault is nodes) h)
   where
     neither : (a b : Option Verdict) → option_or a b ≡ None → (a ≡ None) × (b ≡ None)
-    neither None b h = (refl, h)
-    neither (Some a) b h = absurd (cc h)
+    neither a b h = grind arith
 
 -- a node without a fault has a first input with a format
 pub first_format : (function : Function) (o : Operands) → node_fault function o ≡ None → (f : Format) × (operand_format o.in1 ≡ Some f)
@@ -109,7 +105,7 @@ module _ (is : Cell → Operand) where
     where
       by : (d : Option Description) → closed (outlines is all c) ≡ d → (d : Description) × (outlines is all c ≡ outline_of d)
       by (Some d) k = (d, closed_is (outlines is all c) d k)
-      by None k = let fails : operand_format (virtual_or_image (outlines is all c) (closed (outlines is all c))) ≡ None = ap (λ (g : Option Description). operand_format (virtual_or_image (outlines is all c) g)) k in absurd (cc)
+      by None k = let fails = rw k at has in absurd (cc)
   image_closed all c other f e image has = absurd (cc image)
 
   -- what a node without a fault writes is known
@@ -137,10 +133,7 @@ module _ (is : Cell → Operand) where
 
 described_cells : (known : List Known) → ((k : Known) → In k known → (d : Description) × (closed k.outline ≡ Some d)) → map (λ (o : VirtualOutput). o.cell) (filter_map closed_output known) ≡ map (λ (k : Known). k.cell) known
 described_cells [] all = refl
-described_cells (k ∷ known) all =
-    let d = all k (inl refl) in
-    ap (λ (e : Option Description). map (λ (o : VirtualOutput). o.cell) (cons_option (option_map (λ f. record { cell = k.cell; desc = f }) e) (filter_map closed_output known))) d.1
-    ∙ ap (λ l. k.cell ∷ l) (described_cells known (λ j i. all j (inr i)))
+described_cells (k ∷ known) all = grind (arith, all k (inl refl), described_cells known (λ j i. all j (inr i)))
 
 In-closed_output : (known : List Known) (o : VirtualOutput) → In o (filter_map closed_output known) → (k : Known) × In k known × (k.cell ≡ o.cell) × (closed k.outline ≡ Some o.desc)
 In-closed_output [] o i = absurd i

@@ -1,6 +1,6 @@
 -- Nodes that are put in order one by one.
 use Rattle.std.proofs.Common.{◌≡◌, ℕ, ◌<◌, Bool, true, false, List, [], ◌∷◌, ◌++◌, length, get_or, map, refl, sym, ◌∙◌, ap, subst, arith, ◌&&◌, position, Some, None, not, ◌||◌, map-id}
-use Rattle.graph_verify.proofs.Common.{remove, IsPermutation, not-true, not-false, map-append, length-map, IsPermutation-refl, IsPermutation-map, IsPermutation-remove, Node, Cell, Linked, In, has_cycle, is_empty, linked_nodes, writes, feeds, is_written, IsOrder, two_writers, once_ordered}
+use Rattle.graph_verify.proofs.Common.{remove, IsPermutation, cases_Bool, not-true, not-false, map-append, length-map, IsPermutation-refl, IsPermutation-map, IsPermutation-remove, Node, Cell, Linked, In, has_cycle, is_empty, linked_nodes, writes, feeds, is_written, IsOrder, two_writers, once_ordered, fun_ext}
 use Rattle.std.proofs.lemmas.List.{get_or-map}
 use Rattle.std.proofs.lemmas.List.Quantifiers.{position-Some}
 use Rattle.std.proofs.lemmas.List.Sorted.{IsPermutation-more, IsPermutation-trans, IsPermutation-append_right, list_any-IsPermutation}
@@ -8,7 +8,7 @@ use Rattle.std.proofs.lemmas.Simd.{map-map}
 use Rattle.graph_verify.specs.Waiting.{WaitingNode, waiting_among}
 use Rattle.graph_verify.proofs.CycleLemmas.{has_cycle-from_cycle}
 use Rattle.graph_verify.proofs.LinkLemmas.{is_fed-written, two_writers-permutation, two_writers-after, written_once}
-use Rattle.graph_verify.proofs.MemberLemmas.{In-from_map, any-map, map_agree, map-remove, position-None, In-at}
+use Rattle.graph_verify.proofs.MemberLemmas.{In-from_map, any-map, map-remove, position-None, In-at}
 use Rattle.graph_verify.proofs.OrderLemmas.{is_fed, InTurnThen, InTurnThen-next, IsOrder-from_then, cycle_from_stuck, no_cycle_from_order, has_cycle-map}
 
 abbrev links : Linked → Linked → Bool
@@ -67,9 +67,7 @@ no_cycle_when_ordered nodes steps order = sym (has_cycle-map (λ (l : Linked). l
 
 -- what is written by a node or by others, and not by that node, is written by the others
 without_one : (a b : Bool) → (a ≡ true → b ≡ false) → ((a || b) && not a) ≡ b
-without_one true b h = sym (h refl)
-without_one false true h = refl
-without_one false false h = refl
+without_one a b h = grind (arith, cases_Bool a, cases_Bool b)
 
 once_ordered-among : (n : Node) (all others : List Node) → ((c : Cell) → (is_written all c && not (writes n c)) ≡ is_written others c)
     → (l : Linked) → once_ordered n (waiting_among all l) ≡ waiting_among others l
@@ -109,6 +107,6 @@ one_more_ordered nodes steps steps' (v ∷ vs) rest' i ordered one h found read 
           ∙ ap (λ l. map (once_ordered ordered.node) (remove l i)) h.waiting
           ∙ ap (map (once_ordered ordered.node)) (sym (map-remove (waiting_among (linked_nodes us)) us i))
           ∙ map-map (once_ordered ordered.node) (waiting_among (linked_nodes us)) others
-          ∙ map_agree (λ l. once_ordered ordered.node (waiting_among (linked_nodes us) l)) (waiting_among (linked_nodes others)) (once_ordered-among ordered.node (linked_nodes us) (linked_nodes others) written) others
+          ∙ ap (λ f. map f others) (fun_ext (once_ordered-among ordered.node (linked_nodes us) (linked_nodes others) written))
           ∙ ap (λ l. map (waiting_among (linked_nodes l)) l) (sym left);
     }

@@ -1,9 +1,9 @@
 -- Rows of images that are written.
-use Rattle.std.proofs.Common.{◌≡◌, ℕ, ℤ, pos, ◌+◌, ◌-◌, ◌*◌, ◌<◌, ◌≤◌, zero, suc, List, ◌++◌, length, refl, ap, ◌∙◌, sym, subst, cond, arith, add-zero}
+use Rattle.std.proofs.Common.{◌≡◌, ℕ, ℤ, pos, ◌+◌, ◌-◌, ◌*◌, ◌<◌, ◌≤◌, zero, suc, List, length, refl, ap, ◌∙◌, sym, subst, cond, arith, add-zero}
 use Rattle.vx_base.specs.declared.format.Format.{Format}
 use Rattle.vx_base.specs.Description.{Description}
 use Rattle.vx_base.specs.Rectangle.{Rectangle, inside}
-use Rattle.vx_base.specs.Image.{ImageValue, run, band, within, at, made, image_over}
+use Rattle.vx_base.specs.Image.{ImageValue, band, within, at, made, image_over}
 use Rattle.vx_base.proofs.TableLaws.{length-band, band-same}
 use Rattle.vx_base.proofs.ImageLaws.{get_or-table, band_of_table, samples_are_band, same_parts}
 use Rattle.image_core.specs.declared.band.Band.{Band}
@@ -17,9 +17,7 @@ use Rattle.image_core.specs.Target.{written, IsTarget, SameSlices, Writes}
 pub rows_made : (d : Description) (format : Format) (r s : Rectangle) (f : ℕ → ℕ → ℤ) (rows : Band) → IsInRows d.height rows → d.format ≡ format → r ≡ s
     → image_over d r (band d.width rows.start rows.count (within s f)) ≡ rows_in rows (made d.width d.height format s f)
 rows_made d format r s f rows room same is =
-    ap (λ t. image_over d t (band d.width rows.start rows.count (within s f))) is
-    ∙ ap (image_over d s) (sym (band_of_table d.width d.height rows.start rows.count (within s f) room))
-    ∙ ap (λ t. rows_in rows (made d.width d.height t s f)) same
+    rw (is, ← same) (ap (image_over d s) (sym (band_of_table d.width d.height rows.start rows.count (within s f) room)))
 
 -- what is written where these rows of it are
 pub made_written : (old new : ImageMut) (format : Format) (r s : Rectangle) (f : ℕ → ℕ → ℤ) → IsTarget old → SameSlices old new
@@ -44,18 +42,13 @@ made_written old new format r s f target same is known at =
 pub slice_written : (old new : ImageMut) (format : Format) (s : Rectangle) (f : ℕ → ℕ → ℤ) → IsTarget old → SameSlices old new → new.desc ≡ old.desc → new.valid ≡ s → old.desc.format ≡ format
     → slice_of format new.bytes.now new.shorts.now new.words.now ≡ band old.desc.width old.rows.start old.rows.count (within s f) → Writes (made old.desc.width old.desc.height format s f) old new
 slice_written old new format s f target same desc valid known is =
-    made_written old new format new.valid s f target same
-    (ap (λ (d : Description). image_over d new.valid (slice_of d.format new.bytes.now new.shorts.now new.words.now)) desc
-    ∙ ap (λ t. image_over old.desc new.valid (slice_of t new.bytes.now new.shorts.now new.words.now)) known
-    ∙ ap (image_over old.desc new.valid) is)
-    known valid
+    made_written old new format new.valid s f target same (rw (desc, known, is) refl) known valid
 
 -- the same, where what is written names its sides otherwise
 pub slice_written_as : (old new : ImageMut) (format : Format) (width height : ℕ) (s : Rectangle) (f : ℕ → ℕ → ℤ) → IsTarget old → SameSlices old new → new.desc ≡ old.desc → new.valid ≡ s → old.desc.format ≡ format
     → old.desc.width ≡ width → old.desc.height ≡ height → slice_of format new.bytes.now new.shorts.now new.words.now ≡ band width old.rows.start old.rows.count (within s f) → Writes (made width height format s f) old new
 slice_written_as old new format width height s f target same desc valid known wide high is =
-    subst (λ (a : ImageValue). Writes a old new) (ap (λ n. made n old.desc.height format s f) wide ∙ ap (λ n. made width n format s f) high)
-    (slice_written old new format s f target same desc valid known (is ∙ ap (λ n. band n old.rows.start old.rows.count (within s f)) (sym wide)))
+    rw (← wide, ← high) (slice_written old new format s f target same desc valid known (rw (← wide) at is))
 
 -- samples outside the rectangle are made 0
 pub slice_cleared : (old new : ImageMut) (format : Format) (width : ℕ) (before : List ℤ) → IsTarget old → SameSlices old new → new.desc ≡ old.desc → new.valid ≡ old.valid → old.desc.format ≡ format → width ≡ old.desc.width
@@ -63,12 +56,7 @@ pub slice_cleared : (old new : ImageMut) (format : Format) (width : ℕ) (before
     → slice_of format new.bytes.now new.shorts.now new.words.now ≡ band width old.rows.start old.rows.count (within old.valid (sample_from width old.rows.start before))
     → Writes (made old.desc.width old.desc.height old.desc.format old.valid (sample_from old.desc.width old.rows.start (written old).samples)) old new
 slice_cleared old new format width before target same desc valid known wide held is =
-    slice_written old new old.desc.format old.valid (sample_from old.desc.width old.rows.start (written old).samples) target same desc valid refl
-    (ap (λ t. slice_of t new.bytes.now new.shorts.now new.words.now) known
-    ∙ is
-    ∙ ap (λ n. band n old.rows.start old.rows.count (within old.valid (sample_from n old.rows.start before))) wide
-    ∙ ap (λ zs. band old.desc.width old.rows.start old.rows.count (within old.valid (sample_from old.desc.width old.rows.start zs)))
-    (held ∙ ap (λ t. slice_of t old.bytes.now old.shorts.now old.words.now) (sym known)))
+    slice_written old new old.desc.format old.valid (sample_from old.desc.width old.rows.start (written old).samples) target same desc valid refl (rw (known, is, wide, held) refl)
 
 -- all rows of an image are the image
 pub all_rows_are : (image : ImageValue) → length image.samples ≡ image.height * image.width → rows_in (all_rows image.height) image ≡ image
@@ -90,20 +78,14 @@ in_format image format known old new is = written_same (image format) (image kno
 
 -- an image of the same size and rectangle
 pub written_alike : (width height w h : ℕ) (format : Format) (r s : Rectangle) (f : ℕ → ℕ → ℤ) (old new : ImageMut) → width ≡ w → height ≡ h → r ≡ s → Writes (made width height format r f) old new → Writes (made w h format s f) old new
-written_alike width height w h format r s f old new a b c is =
-    subst (λ (image : ImageValue). Writes image old new) (ap (λ n. made n height format r f) a ∙ ap (λ n. made w n format r f) b ∙ ap (λ t. made w h format t f) c) is
+written_alike width height w h format r s f old new a b c is = rw (← a, ← b, ← c) is
 
 -- ---- what an update writes
 
 -- a band is one of rows that are counted from another row
 band_from : (width start first count : ℕ) (f : ℕ → ℕ → ℤ) → band width (start + first) count f ≡ band width first count (λ x y. f x (start + y))
 band_from width start first zero f = refl
-band_from width start first (suc count) f =
-    ap (λ l. run 0 width (λ x. f x (start + first)) ++ l)
-    (ap (λ n. band width n count f) (next start first) ∙ band_from width start (first + 1) count f)
-  where
-    next : (start first : ℕ) → start + first + 1 ≡ start + (first + 1)
-    next start first = omega arith
+band_from width start first (suc count) f = let next : start + first + 1 ≡ start + (first + 1) = omega arith in rw (next, band_from width start (first + 1) count f) refl
 
 -- the sample of a band at a place
 pub place_of_band : (width start count x y : ℕ) (f : ℕ → ℕ → ℤ) → x < width → start ≤ y → y < start + count → sample_from width start (band width start count f) x y ≡ f x y

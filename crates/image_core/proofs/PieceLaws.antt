@@ -1,5 +1,5 @@
 -- Rows that are written piece by piece.
-use Rattle.std.proofs.Common.{◌≡◌, ℕ, ℤ, ◌+◌, ◌-◌, ◌*◌, ◌/◌, ◌%◌, ◌<◌, ◌≤◌, List, ◌++◌, length, map, take, min, ap, ◌∙◌, sym, arith, take_all}
+use Rattle.std.proofs.Common.{◌≡◌, ℕ, ℤ, ◌+◌, ◌-◌, ◌*◌, ◌/◌, ◌%◌, ◌<◌, ◌≤◌, List, length, map, take, min, ap, ◌∙◌, sym, arith, take_all}
 use Rattle.std.proofs.lemmas.Grind.{div_ceil_times}
 use Rattle.std.proofs.lemmas.List.{map-append}
 use Rattle.std.proofs.lemmas.Slice.{take-put_mid}
@@ -29,12 +29,9 @@ piece_written value g out ws x m k r n end size begun at_end before long is =
     let first : min (m * k) n ≡ m * k = omega arith in
     let next : m * (k + 1) ≡ m * k + m = grind arith in
     let more : min (m * (k + 1)) n ≡ m * k + length ws = omega (arith, next, long, at_end) in
-    ap (map value) (take-put_mid (m * k) r out ws (min (m * (k + 1)) n) more (omega (arith, size)))
-    ∙ map-append value (take (m * k) out) ws
-    ∙ ap (λ l. l ++ map value ws) (ap (λ i. map value (take i out)) (sym first) ∙ before ∙ ap (λ i. run x i g) first)
-    ∙ ap (λ l. run x (m * k) g ++ l) is
-    ∙ sym (run-append g x (m * k) (length ws))
-    ∙ ap (λ i. run x i g) (sym more)
+    let so_far = rw first at before in
+    rw (take-put_mid (m * k) r out ws (min (m * (k + 1)) n) more (omega (arith, size)), map-append value (take (m * k) out) ws, so_far, is, more)
+    (sym (run-append g x (m * k) (length ws)))
 
 -- a row of which all pieces are written
 pub row_of_pieces : {T : Type 0} (value : T → ℤ) (g : ℕ → ℤ) (out : List T) (x m k n : ℕ) → 1 ≤ m → length out ≡ n → n / m + min 1 (n % m) ≤ k → map value (take (min (m * k) n) out) ≡ run x (min (m * k) n) g → map value out ≡ run x n g

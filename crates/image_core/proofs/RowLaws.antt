@@ -36,10 +36,5 @@ pub row_in_three : {T : Type 0} (value : T → ℤ) (r : Rectangle) (f : ℕ →
     → map value front ≡ replicate a v → map value inside ≡ run x0 b (λ x. f x y) → map value back ≡ replicate c w
     → r.x0 ≡ x0 → r.x1 ≡ x1 → x0 ≤ x1 → x1 ≤ n → r.y0 ≤ y → y < r.y1 → map value (front ++ (inside ++ back)) ≡ run 0 n (λ x. within r f x y)
 row_in_three value r f n x0 x1 y a b c v w front inside back none nothing first second third left middle right from to ordered room above below =
-    map-append value front (inside ++ back)
-    ∙ ap (λ l. l ++ map value (inside ++ back)) (left ∙ ap (λ k. replicate k v) first ∙ ap (replicate x0) none)
-    ∙ ap (λ l. replicate x0 (pos 0) ++ l)
-    (map-append value inside back
-    ∙ ap (λ l. l ++ map value back) (middle ∙ ap (λ k. run x0 k (λ x. f x y)) second)
-    ∙ ap (λ l. run x0 (x1 - x0) (λ x. f x y) ++ l) (right ∙ ap (λ k. replicate k w) third ∙ ap (replicate (n - x1)) nothing))
-    ∙ sym (row_across r f n x0 x1 y from to ordered room above below)
+    rw (map-append value front (inside ++ back), map-append value inside back, left, middle, right, first, second, third, none, nothing)
+    (sym (row_across r f n x0 x1 y from to ordered room above below))

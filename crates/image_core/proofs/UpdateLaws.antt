@@ -1,5 +1,5 @@
 -- Rows that are updated in place.
-use Rattle.std.proofs.Common.{◌≡◌, ℕ, ℤ, pos, ◌+◌, ◌-◌, ◌*◌, ◌<◌, ◌≤◌, List, length, map, take, drop, get_or, ap, ◌∙◌, sym, arith, drop-drop}
+use Rattle.std.proofs.Common.{◌≡◌, ℕ, ℤ, ◌+◌, ◌-◌, ◌*◌, ◌<◌, ◌≤◌, List, length, map, take, drop, refl, arith, drop-drop}
 use Rattle.std.proofs.lemmas.Slice.{drop-put_mid}
 use borrow.Rule.Slice.PartMut.{put_mid}
 use Rattle.vx_base.specs.Image.{run}
@@ -15,15 +15,8 @@ pub part_kept : {T : Type 0} (value : T → ℤ) (samples out : List T) (width s
     → drop (k * width) out ≡ drop (k * width) samples
     → map value (take (first + step - first) (drop first out)) ≡ run 0 (length (take (first + step - first) (drop first out))) (λ x. sample_from width start (map value samples) x (start + k))
 part_kept value samples out width start count k first step size also below at is same =
-    ap (λ s. map value (take (first + step - first) (drop s out))) at
-    ∙ ap (λ l. map value (take (first + step - first) l)) same
-    ∙ ap (λ s. map value (take (first + step - first) (drop s samples))) (sym at)
-    ∙ row_part value samples first step width count k size below at is
-    ∙ ap (λ j. run 0 width (λ x. get_or (map value samples) (j * width + x) (pos 0))) (row_of_band start k)
-    ∙ ap (λ n. run 0 n (λ x. sample_from width start (map value samples) x (start + k))) (sym (length_part out first step width count k also below at is))
-  where
-    row_of_band : (start k : ℕ) → k ≡ start + k - start
-    row_of_band start k = omega arith
+    let row : start + k - start ≡ k = omega arith in
+    rw (length_part out first step width count k also below at is, at, same, row) (row_part value samples (k * width) step width count k size below refl is)
 
 -- the rows below one that is written stay
 pub next_kept : {T : Type 0} (samples out row : List T) (width height y start step : ℕ) → length out ≡ height * width → y < height → start ≡ y * width → step ≡ width → length row ≡ width
@@ -32,9 +25,5 @@ pub next_kept : {T : Type 0} (samples out row : List T) (width height y start st
 next_kept samples out row width height y start step size below at is long same =
     let room : y * width + width ≤ height * width = row_fits width height y below in
     let more : (y + 1) * width ≡ y * width + width = grind arith in
-    drop-put_mid start (start + step - start) out row ((y + 1) * width) (omega arith) (omega arith) (omega arith)
-    ∙ ap (λ n. drop n out) more
-    ∙ sym (drop-drop width (y * width) out)
-    ∙ ap (drop width) same
-    ∙ drop-drop width (y * width) samples
-    ∙ ap (λ n. drop n samples) (sym more)
+    rw (drop-put_mid start (start + step - start) out row ((y + 1) * width) (omega arith) (omega arith) (omega arith), more, ← drop-drop width (y * width) out, same)
+    (drop-drop width (y * width) samples)

@@ -35,6 +35,4 @@ pub recast : (p q m n : ℕ) (xs ys : List ℕ) → number_l p xs ≡ number_l q
     → digits_l q n (number_l 256 (digits_l 256 m (number_l p xs))) ≡ ys
 recast p q m n xs ys same long all even =
     let room : number_l q ys < places 256 m = subst (λ k. number_l q ys < k) (ap (places q) long ∙ even) (number_below q ys all) in
-    ap (λ x. digits_l q n (number_l 256 (digits_l 256 m x))) same
-    ∙ ap (digits_l q n) (number_of_digits 256 m (number_l q ys) (omega arith) room)
-    ∙ digits_of_number q n ys long all
+    rw (same, number_of_digits 256 m (number_l q ys) (omega arith) room) (digits_of_number q n ys long all)

@@ -45,7 +45,7 @@ pub product_lane : (x y k n : ℕ) → k ≡ n → Fits w8 x → Fits w8 y → x
 product_lane x y k n same p q =
     let small : x * y < 65536 = product_fits x y p.fits q.fits in
     let whole : x * y % 65536 ≡ x * y = omega (arith, small) in
-    ap (λ m. m / 2 ^ k) whole ∙ ap (λ m. x * y / 2 ^ m) same
+    rw (whole, same) refl
 
 chosen_w16 : (t : Bool) (a b : ℕ) → cond (top 15 (cond t 65535 0)) a b ≡ cond t a b
 chosen_w16 t a b = elim t as (λ v. cond (top 15 (cond v 65535 0)) a b ≡ cond v a b) [ true ↦ refl | false ↦ refl ]

@@ -15,9 +15,7 @@ chosen t x y = cond (top 31 (cond t 4294967295 0)) x y
 
 summed : (x y : ℤ) (p : ℕ) → FitsSigned w32 x → FitsSigned w32 y → FitsSigned w32 (x +ℤ y)
     → to_z w32 (of_z w32 (shr_z (to_z w32 ((of_z w32 x + of_z w32 y) % 4294967296)) p)) ≡ shr_z (x +ℤ y) p
-summed x y p f g h =
-    ap (λ z. to_z w32 (of_z w32 (shr_z z p))) (wrapping_add_is w32 x y f g ∙ int_wrap_fits w32 (x +ℤ y) h)
-    ∙ to_z-of_z w32 (shr_z (x +ℤ y) p) (shift_fits (x +ℤ y) p h)
+summed x y p f g h = rw (wrapping_add_is w32 x y f g, int_wrap_fits w32 (x +ℤ y) h) (to_z-of_z w32 (shr_z (x +ℤ y) p) (shift_fits (x +ℤ y) p h))
 
 abbrev ones : ℕ → ℕ
 ones k = of_z w32 (to_z w32 (1 * 2 ^ k % 4294967296) -ℤ pos 1)
@@ -36,9 +34,7 @@ scaled_by false z k above size few =
 
 scaled_lane : (z : ℤ) (k : ℕ) → unsigned_abs z ≤ 1073741824 → k ≤ 15
     → to_z w32 (of_z w32 (shr_z (to_z w32 ((of_z w32 z + chosen (int_lt (to_z w32 (of_z w32 z)) (pos 0)) (ones k) 0) % 4294967296)) (2 ^ k))) ≡ int_div z (pos (2 ^ k))
-scaled_lane z k size few =
-    ap (λ y. to_z w32 (of_z w32 (shr_z (to_z w32 ((of_z w32 z + chosen (int_lt y (pos 0)) (ones k) 0) % 4294967296)) (2 ^ k)))) (to_z-of_z w32 z (fits_signed_from_abs w32 z (omega (arith, size))))
-    ∙ scaled_by (int_lt z (pos 0)) z k refl size few
+scaled_lane z k size few = rw (to_z-of_z w32 z (fits_signed_from_abs w32 z (omega (arith, size)))) (scaled_by (int_lt z (pos 0)) z k refl size few)
 
 pub scaled_are : (n k s : ℕ) (zs : List ℤ) → s ≡ k → k ≤ 15 → length zs ≡ n → Each1 (λ z. unsigned_abs z ≤ 1073741824) zs
     → map (to_z w32) (zip2 (λ a b. of_z w32 (shr_z (to_z w32 a) (2 ^ b)))
@@ -72,20 +68,11 @@ from_greatest z low high = grind (arith, ints, clamps, low, high)
 
 nearest_by : (a b : Bool) (z : ℤ) → int_lt z (negsuc 32767) ≡ a → int_lt z (pos 32767) ≡ b → FitsSigned w32 z → to_z w32 (lowered (chosen a 4294934528 (of_z w32 z))) ≡ narrow S16 Saturate z
 nearest_by true b z low high fits = below_least z low
-nearest_by false true z low high fits =
-    ap (λ y. to_z w32 (chosen (int_lt y (pos 32767)) (of_z w32 z) 32767)) (to_z-of_z w32 z fits)
-    ∙ ap (λ t. to_z w32 (chosen t (of_z w32 z) 32767)) high
-    ∙ to_z-of_z w32 z fits
-    ∙ within z low high
-nearest_by false false z low high fits =
-    ap (λ y. to_z w32 (chosen (int_lt y (pos 32767)) (of_z w32 z) 32767)) (to_z-of_z w32 z fits)
-    ∙ ap (λ t. to_z w32 (chosen t (of_z w32 z) 32767)) high
-    ∙ from_greatest z low high
+nearest_by false true z low high fits = rw (to_z-of_z w32 z fits, high, to_z-of_z w32 z fits) (within z low high)
+nearest_by false false z low high fits = rw (to_z-of_z w32 z fits, high) (from_greatest z low high)
 
 nearest_lane : (z : ℤ) → FitsSigned w32 z → to_z w32 (lowered (raised (of_z w32 z))) ≡ narrow S16 Saturate z
-nearest_lane z fits =
-    ap (λ y. to_z w32 (lowered (chosen (int_lt y (negsuc 32767)) 4294934528 (of_z w32 z)))) (to_z-of_z w32 z fits)
-    ∙ nearest_by (int_lt z (negsuc 32767)) (int_lt z (pos 32767)) z refl refl fits
+nearest_lane z fits = rw (to_z-of_z w32 z fits) (nearest_by (int_lt z (negsuc 32767)) (int_lt z (pos 32767)) z refl refl fits)
 
 nearest_fits : (z : ℤ) → FitsSigned w16 (narrow S16 Saturate z)
 nearest_fits z = record { sfits = first_of (omega (arith, ints, clamps), grind (arith, ints, clamps)) }
@@ -154,9 +141,7 @@ wrapped_fits z fits =
 wrapped_lane : (z : ℤ) → FitsSigned w32 z → to_z w32 (of_z w32 (shr_z (to_z w32 ((of_z w32 z * 65536) % 4294967296)) 65536)) ≡ narrow S16 Wrap z
 wrapped_lane z fits =
     let small : of_z w32 z % 65536 < 65536 = omega arith in
-    ap (λ x. to_z w32 (of_z w32 (shr_z (to_z w32 x) 65536))) (left_shifted (of_z w32 z))
-    ∙ ap (λ y. to_z w32 (of_z w32 y)) (halves (of_z w32 z % 65536) small ∙ ap signed_of (rest_of z fits))
-    ∙ to_z-of_z w32 (narrow S16 Wrap z) (wide (narrow S16 Wrap z) (wrapped_fits z fits))
+    rw (left_shifted (of_z w32 z), halves (of_z w32 z % 65536) small ∙ ap signed_of (rest_of z fits)) (to_z-of_z w32 (narrow S16 Wrap z) (wide (narrow S16 Wrap z) (wrapped_fits z fits)))
 
 pub wrapped_are : (n : ℕ) (zs : List ℤ) → length zs ≡ n → Each1 (FitsSigned w32) zs
     → map (to_z w16) (map (λ a. of_z w16 (to_z w32 a)) (zip2 (λ a b. of_z w32 (shr_z (to_z w32 a) (2 ^ b))) (zip2 (λ a b. (a * 2 ^ b) % 4294967296) (map (of_z w32) zs) (replicate n 16)) (replicate n 16))) ≡ map (narrow S16 Wrap) zs
@@ -202,8 +187,4 @@ narrowed_products_fit policy k us vs f g =
 pub products_told : (policy : Policy) (k : ℕ) (us vs ps : List ℤ) → Each1 (FitsSigned w16) us → Each1 (FitsSigned w16) vs
     → ps ≡ zip2 (product S16 policy k) (map (to_z w16) (map (of_z w16) us)) (map (to_z w16) (map (of_z w16) vs)) → map (to_z w16) (map (of_z w16) ps) ≡ zip2 (product S16 policy k) us vs
 products_told policy k us vs ps f g is =
-    told w16 ps (zip2 (product S16 policy k) us vs)
-    (is
-    ∙ ap (λ (l : List ℤ). zip2 (product S16 policy k) l (map (to_z w16) (map (of_z w16) vs))) (of_bits w16 us f)
-    ∙ ap (λ (l : List ℤ). zip2 (product S16 policy k) us l) (of_bits w16 vs g))
-    (narrowed_products_fit policy k us vs f g)
+    told w16 ps (zip2 (product S16 policy k) us vs) (rw (of_bits w16 us f, of_bits w16 vs g) at is) (narrowed_products_fit policy k us vs f g)

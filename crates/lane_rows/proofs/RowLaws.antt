@@ -15,25 +15,16 @@ pub pair_written : {A B T : Type 0} (of : A → ℤ) (with : B → ℤ) (value :
     → map value (take i out) ≡ zip2 f (map of (take i xs)) (map with (take i ys)) → x ≡ get_or xs i x → y ≡ get_or ys i y → value z ≡ f (of x) (with y)
     → map value (take (i + 1) (set out i z)) ≡ zip2 f (map of (take (i + 1) xs)) (map with (take (i + 1) ys))
 pair_written of with value f xs ys out i x y z room long also before first second is =
-    ap (map value) (take_more_set out i z room)
-    ∙ map_push value (take i out) z
-    ∙ ap (λ l. l ++ value z ∷ []) before
-    ∙ ap (λ v. zip2 f (map of (take i xs)) (map with (take i ys)) ++ v ∷ []) (is ∙ ap (λ a. f (of a) (with y)) first ∙ ap (λ b. f (of (get_or xs i x)) (with b)) second)
-    ∙ sym (zip2-push f (map of (take i xs)) (map with (take i ys)) (of (get_or xs i x)) (with (get_or ys i y))
-    (length-map (take i xs) of ∙ length-take-le i xs (omega arith) ∙ sym (length-map (take i ys) with ∙ length-take-le i ys (omega arith))))
-    ∙ ap (λ l. zip2 f l (map with (take i ys) ++ with (get_or ys i y) ∷ [])) (sym (map_more of xs i x (omega arith)))
-    ∙ ap (zip2 f (map of (take (i + 1) xs))) (sym (map_more with ys i y (omega arith)))
+    let same : length (map of (take i xs)) ≡ length (map with (take i ys)) = simp length-map (length-take-le i xs (omega arith) ∙ sym (length-take-le i ys (omega arith))) in
+    let made : value z ≡ f (of (get_or xs i x)) (with (get_or ys i y)) = is ∙ ap (λ a. f (of a) (with y)) first ∙ ap (λ b. f (of (get_or xs i x)) (with b)) second in
+    rw (take_more_set out i z room, map_push value (take i out) z, before, made, map_more of xs i x (omega arith), map_more with ys i y (omega arith)) (sym (zip2-push f _ _ _ _ same))
 
 -- ---- rows that are updated in place: what stands from place i on is what stood there
 
 left_at : {T : Type 0} (out olds : List T) (i : ℕ) (d : T) → drop i out ≡ drop i olds → get_or out i d ≡ get_or olds i d
 left_at out olds i d same =
     let here : i + 0 ≡ i = omega arith in
-    ap (λ n. get_or out n d) (sym here)
-    ∙ sym (get_or-drop i out 0 d)
-    ∙ ap (λ l. get_or l 0 d) same
-    ∙ get_or-drop i olds 0 d
-    ∙ ap (λ n. get_or olds n d) here
+    rw here at (sym (get_or-drop i out 0 d) ∙ ap (λ l. get_or l 0 d) same ∙ get_or-drop i olds 0 d)
 
 -- one more sample of a function of a row and of what stood there
 pub pair_updated : {A T : Type 0} (of : A → ℤ) (value : T → ℤ) (f : ℤ → ℤ → ℤ) (xs : List A) (olds out : List T) (i : ℕ) (x : A) (y z : T)
@@ -46,8 +37,4 @@ pair_updated of value f xs olds out i x y z room long also before same first sec
 
 -- what is left after one more
 pub left_of_more : {T : Type 0} (olds out : List T) (i : ℕ) (z : T) → drop i out ≡ drop i olds → drop (i + 1) (set out i z) ≡ drop (i + 1) olds
-left_of_more olds out i z same =
-    drop-set-lt (i + 1) out i z (omega arith)
-    ∙ sym (drop-drop 1 i out)
-    ∙ ap (drop 1) same
-    ∙ drop-drop 1 i olds
+left_of_more olds out i z same = rw (drop-set-lt (i + 1) out i z (omega arith), ← drop-drop 1 i out, same) (drop-drop 1 i olds)

@@ -1,6 +1,6 @@
 -- Numbers over a power of two, rounded to zero.
-use Rattle.std.proofs.Common.{◌≡◌, Bool, true, false, inl, inr, ℕ, ℤ, pos, negsuc, suc, ◌+◌, ◌-◌, ◌*◌, ◌/◌, ◌%◌, ◌^◌, ◌<◌, ◌≤◌, ◌+ℤ◌, ◌-ℤ◌, int_lt, int_div, unsigned_abs, FitsSigned, w32, to_z, of_z, ap, ◌∙◌, sym, subst, arith, pow_pos}
-use Rattle.lane_rows.proofs.Common.{shr_z, cases_lt, nat_tests, ints, to_z-of_z, to_z_pos, div-eq_of_lt, mod-eq_of_lt, pow-le-pow_right}
+use Rattle.std.proofs.Common.{◌≡◌, Bool, true, false, inl, inr, ℕ, ℤ, pos, negsuc, suc, ◌+◌, ◌-◌, ◌*◌, ◌/◌, ◌%◌, ◌^◌, ◌<◌, ◌≤◌, ◌+ℤ◌, ◌-ℤ◌, int_lt, int_div, unsigned_abs, FitsSigned, w32, to_z, of_z, refl, ap, ◌∙◌, sym, subst, arith, pow_pos}
+use Rattle.lane_rows.proofs.Common.{shr_z, cases_lt, nat_tests, ints, to_z-of_z, to_z_pos, div-eq_of_lt, pow-le-pow_right}
 use Rattle.std.specs.Int.Signed.{mag_shr}
 use Rattle.std.proofs.Math.IntN.{neg_ℤ}
 use Rattle.std.proofs.Math.Nat.{div-eq-sub-div}
@@ -12,7 +12,7 @@ near a p small =
     let e : negsuc a +ℤ pos (p - 1) ≡ pos (p - 1 - suc a) = omega (arith, ints, small) in
     let left : (p - 1 - suc a) / p ≡ 0 = div-eq_of_lt (omega (arith, small)) in
     let right : suc a / p ≡ 0 = div-eq_of_lt small in
-    ap (λ z. shr_z z p) e ∙ ap pos left ∙ sym (ap (λ n. neg_ℤ (pos n)) right)
+    rw (e, left, right) refl
 
 far : (a p : ℕ) → 0 < p → p ≤ suc a → shr_z (negsuc a +ℤ pos (p - 1)) p ≡ int_div (negsuc a) (pos p)
 far a p some large =
@@ -45,27 +45,20 @@ sum_fits (negsuc a) n size small = elim (cases_lt n (suc a)) [
 ]
 
 in_bits : (z d : ℤ) (p : ℕ) → FitsSigned w32 z → FitsSigned w32 (z +ℤ d) → to_z w32 (of_z w32 (shr_z (to_z w32 (of_z w32 (to_z w32 (of_z w32 z) +ℤ d))) p)) ≡ shr_z (z +ℤ d) p
-in_bits z d p f g =
-    ap (λ y. to_z w32 (of_z w32 (shr_z (to_z w32 (of_z w32 (y +ℤ d))) p))) (to_z-of_z w32 z f)
-    ∙ ap (λ y. to_z w32 (of_z w32 (shr_z y p))) (to_z-of_z w32 (z +ℤ d) g)
-    ∙ to_z-of_z w32 (shr_z (z +ℤ d) p) (shift_fits (z +ℤ d) p g)
+in_bits z d p f g = rw (to_z-of_z w32 z f, to_z-of_z w32 (z +ℤ d) g) (to_z-of_z w32 (shr_z (z +ℤ d) p) (shift_fits (z +ℤ d) p g))
 
 -- 1 shifted up, less 1
 pub ones_below : (k : ℕ) → k ≤ 15 → to_z w32 (1 * 2 ^ k % 4294967296) -ℤ pos 1 ≡ pos (2 ^ k - 1)
 ones_below k small =
     let power : 2 ^ k ≤ 32768 = pow-le-pow_right (omega arith) small in
     let some : 0 < 2 ^ k = pow_pos k in
-    let once : 1 * 2 ^ k ≡ 2 ^ k = omega arith in
-    let whole : 1 * 2 ^ k % 4294967296 ≡ 2 ^ k = mod-eq_of_lt (omega (arith, power, once)) ∙ once in
-    ap (λ n. to_z w32 n -ℤ pos 1) whole
-    ∙ ap (λ z. z -ℤ pos 1) (to_z_pos w32 (2 ^ k) (omega (arith, power)))
-    ∙ omega (arith, ints, some)
+    let whole : 1 * 2 ^ k % 4294967296 ≡ 2 ^ k = omega (arith, power) in
+    rw (whole, to_z_pos w32 (2 ^ k) (omega (arith, power))) (omega (arith, ints, some))
 
 all_ones : (k : ℕ) → k ≤ 15 → to_z w32 (of_z w32 (to_z w32 (1 * 2 ^ k % 4294967296) -ℤ pos 1)) ≡ pos (2 ^ k - 1)
 all_ones k small =
     let power : 2 ^ k ≤ 32768 = pow-le-pow_right (omega arith) small in
-    ap (λ z. to_z w32 (of_z w32 z)) (ones_below k small)
-    ∙ to_z-of_z w32 (pos (2 ^ k - 1)) (record { sfits = omega (arith, power) })
+    rw (ones_below k small) (to_z-of_z w32 (pos (2 ^ k - 1)) (record { sfits = omega (arith, power) }))
 
 same_test : (z : ℤ) (b : Bool) → FitsSigned w32 z → int_lt (to_z w32 (of_z w32 z)) (pos 0) ≡ b → int_lt z (pos 0) ≡ b
 same_test z b f h = sym (ap (λ y. int_lt y (pos 0)) (to_z-of_z w32 z f)) ∙ h
@@ -76,14 +69,9 @@ pub negative_scaled : (z d : ℤ) (k : ℕ) → FitsSigned w32 z → unsigned_ab
 negative_scaled z d k f size small below is =
     let power : 2 ^ k ≤ 32768 = pow-le-pow_right (omega arith) small in
     let some : 0 < 2 ^ k = pow_pos k in
-    ap (λ e. to_z w32 (of_z w32 (shr_z (to_z w32 (of_z w32 (to_z w32 (of_z w32 z) +ℤ e))) (2 ^ k)))) (is ∙ all_ones k small)
-    ∙ in_bits z (pos (2 ^ k - 1)) (2 ^ k) f (sum_fits z (2 ^ k - 1) size (omega (arith, power, some)))
-    ∙ below_zero z (2 ^ k) (same_test z true f below) some
+    rw (is, all_ones k small, in_bits z (pos (2 ^ k - 1)) (2 ^ k) f (sum_fits z (2 ^ k - 1) size (omega (arith, power, some)))) (below_zero z (2 ^ k) (same_test z true f below) some)
 
 -- another number, to which nothing is added
 pub natural_scaled : (z d : ℤ) (k : ℕ) → FitsSigned w32 z → unsigned_abs z ≤ 1073741824 → int_lt (to_z w32 (of_z w32 z)) (pos 0) ≡ false
     → d ≡ pos 0 → to_z w32 (of_z w32 (shr_z (to_z w32 (of_z w32 (to_z w32 (of_z w32 z) +ℤ d))) (2 ^ k))) ≡ int_div z (pos (2 ^ k))
-natural_scaled z d k f size above is =
-    ap (λ e. to_z w32 (of_z w32 (shr_z (to_z w32 (of_z w32 (to_z w32 (of_z w32 z) +ℤ e))) (2 ^ k)))) is
-    ∙ in_bits z (pos 0) (2 ^ k) f (sum_fits z 0 size (omega arith))
-    ∙ from_zero z (2 ^ k) (same_test z false f above)
+natural_scaled z d k f size above is = rw (is, in_bits z (pos 0) (2 ^ k) f (sum_fits z 0 size (omega arith))) (from_zero z (2 ^ k) (same_test z false f above))

@@ -76,48 +76,35 @@ low_bits (negsuc n) p = let e = p.sfits in omega (arith, e)
 below_shifted : (n : ℕ) → n < 2147483648 → 65536 - suc (n / 65536) ≡ (4294967296 - suc n) / 65536
 below_shifted n small = omega (arith, small)
 
-size_of : (z : ℤ) → FitsSigned w32 z → FitsSigned w32 (shr_z z 65536)
-size_of z p = shift_fits z 65536 p
-
 high_of : (z : ℤ) → FitsSigned w32 z → of_z w16 (shr_z z 65536) ≡ of_z w32 z / 65536
 high_of (pos n) p = refl
 high_of (negsuc n) p = let e = p.sfits in below_shifted n (omega (arith, e))
 
 high_bits : (z : ℤ) → FitsSigned w32 z → of_z w16 (to_z w32 (of_z w32 (shr_z (to_z w32 (of_z w32 z)) 65536))) ≡ of_z w32 z / 65536
-high_bits z p =
-    ap (λ y. of_z w16 (to_z w32 (of_z w32 (shr_z y 65536)))) (to_z-of_z w32 z p)
-    ∙ ap (of_z w16) (to_z-of_z w32 (shr_z z 65536) (shift_fits z 65536 p))
-    ∙ high_of z p
+high_bits z p = rw (to_z-of_z w32 z p, to_z-of_z w32 (shr_z z 65536) (shift_fits z 65536 p)) (high_of z p)
 
 -- the bits of a number of 16 bits in 32
 widened : (a : ℤ) → FitsSigned w16 a → of_z w32 (to_z w16 (of_z w16 a)) ≡ of_z w32 a
 widened a p = ap (of_z w32) (to_z-of_z w16 a p)
 
 product_bits : (a b : ℤ) → FitsSigned w16 a → FitsSigned w16 b → (of_z w32 (to_z w16 (of_z w16 a)) * of_z w32 (to_z w16 (of_z w16 b))) % 4294967296 ≡ of_z w32 (a *ℤ b)
-product_bits a b p q =
-    ap (λ x. (x * of_z w32 (to_z w16 (of_z w16 b))) % 4294967296) (widened a p)
-    ∙ ap (λ y. (of_z w32 a * y) % 4294967296) (widened b q)
-    ∙ times_lane a b (wider a p) (wider b q) (size_fits (a *ℤ b) (product_size a b p q))
+product_bits a b p q = rw (widened a p, widened b q) (times_lane a b (wider a p) (wider b q) (size_fits (a *ℤ b) (product_size a b p q)))
 
 twice_left : (n : ℕ) → n % 4294967296 % 65536 ≡ n % 65536
 twice_left n = omega arith
 
 low_half : (a b : ℤ) → FitsSigned w16 a → FitsSigned w16 b → (of_z w16 a * of_z w16 b) % 65536 ≡ of_z w32 (a *ℤ b) % 65536
 low_half a b p q =
-    ap (λ x. (x * of_z w16 b) % 65536) (sym (low_bits a p))
-    ∙ ap (λ y. (of_z w32 a % 65536 * y) % 65536) (sym (low_bits b q))
-    ∙ sym (mul-mod (of_z w32 a) (of_z w32 b) 65536)
-    ∙ sym (twice_left (of_z w32 a * of_z w32 b))
-    ∙ ap (λ n. n % 65536) (times_lane a b (wider a p) (wider b q) (size_fits (a *ℤ b) (product_size a b p q)))
+    rw (← low_bits a p, ← low_bits b q, ← mul-mod (of_z w32 a) (of_z w32 b) 65536, ← times_lane a b (wider a p) (wider b q) (size_fits (a *ℤ b) (product_size a b p q)))
+    (sym (twice_left (of_z w32 a * of_z w32 b)))
 
 high_half : (a b : ℤ) → FitsSigned w16 a → FitsSigned w16 b
     → of_z w16 (to_z w32 (of_z w32 (shr_z (to_z w32 ((of_z w32 (to_z w16 (of_z w16 a)) * of_z w32 (to_z w16 (of_z w16 b))) % 4294967296)) 65536))) ≡ of_z w32 (a *ℤ b) / 65536
-high_half a b p q =
-    ap (λ n. of_z w16 (to_z w32 (of_z w32 (shr_z (to_z w32 n) 65536)))) (product_bits a b p q)
-    ∙ high_bits (a *ℤ b) (size_fits (a *ℤ b) (product_size a b p q))
+high_half a b p q = rw (product_bits a b p q) (high_bits (a *ℤ b) (size_fits (a *ℤ b) (product_size a b p q)))
 
-two_halves : (n : ℕ) → n % 65536 + 65536 * (n / 65536) ≡ n
-two_halves n = omega arith
+two_halves : (a b : ℤ) → FitsSigned w16 a → FitsSigned w16 b
+    → (of_z w16 a * of_z w16 b) % 65536 + 65536 * of_z w16 (to_z w32 (of_z w32 (shr_z (to_z w32 ((of_z w32 (to_z w16 (of_z w16 a)) * of_z w32 (to_z w16 (of_z w16 b))) % 4294967296)) 65536))) ≡ of_z w32 (a *ℤ b)
+two_halves a b p q = rw (low_half a b p q, high_half a b p q) (omega arith)
 
 -- ---- all of them
 
@@ -136,10 +123,7 @@ halves_joined n [] vs p q f g = refl
 halves_joined n (a ∷ us) [] p q f g = refl
 halves_joined zero (a ∷ us) (b ∷ vs) p q f g = absurd (omega (arith, p))
 halves_joined (suc n) (a ∷ us) (b ∷ vs) p q f g =
-    let one : (of_z w16 a * of_z w16 b) % 65536 + 65536 * of_z w16 (to_z w32 (of_z w32 (shr_z (to_z w32 ((of_z w32 (to_z w16 (of_z w16 a)) * of_z w32 (to_z w16 (of_z w16 b))) % 4294967296)) 65536))) ≡ of_z w32 (a *ℤ b) =
-    ap (λ x. x + 65536 * of_z w16 (to_z w32 (of_z w32 (shr_z (to_z w32 ((of_z w32 (to_z w16 (of_z w16 a)) * of_z w32 (to_z w16 (of_z w16 b))) % 4294967296)) 65536)))) (low_half a b f.0 g.0)
-    ∙ ap (λ y. of_z w32 (a *ℤ b) % 65536 + 65536 * y) (high_half a b f.0 g.0)
-    ∙ two_halves (of_z w32 (a *ℤ b)) in
+    let one = two_halves a b f.0 g.0 in
     cc (one, halves_joined n us vs (omega (arith, p)) (omega (arith, q)) f.1 g.1)
 
 pub products_fit : (us vs : List ℤ) → Each1 (FitsSigned w16) us → Each1 (FitsSigned w16) vs → Each1 (FitsSigned w32) (zip2 ◌*ℤ◌ us vs)
@@ -165,11 +149,7 @@ high_fits : (a b : ℤ) → FitsSigned w16 a → FitsSigned w16 b → FitsSigned
 high_fits a b p q =
     let size = product_size a b p q in
     let fits = size_fits (a *ℤ b) size in
-    let is : to_z w32 (of_z w32 (shr_z (to_z w32 ((of_z w32 (to_z w16 (of_z w16 a)) * of_z w32 (to_z w16 (of_z w16 b))) % 4294967296)) 65536)) ≡ shr_z (a *ℤ b) 65536 =
-    ap (λ n. to_z w32 (of_z w32 (shr_z (to_z w32 n) 65536))) (product_bits a b p q)
-    ∙ ap (λ z. to_z w32 (of_z w32 (shr_z z 65536))) (to_z-of_z w32 (a *ℤ b) fits)
-    ∙ to_z-of_z w32 (shr_z (a *ℤ b) 65536) (shift_fits (a *ℤ b) 65536 fits) in
-    subst (FitsSigned w16) (sym is) (shifted_fits (a *ℤ b) size)
+    rw (product_bits a b p q, to_z-of_z w32 (a *ℤ b) fits, to_z-of_z w32 (shr_z (a *ℤ b) 65536) (shift_fits (a *ℤ b) 65536 fits)) (shifted_fits (a *ℤ b) size)
 
 pub halves_fit : (n : ℕ) (us vs : List ℤ) → length us ≡ n → Each1 (FitsSigned w16) us → Each1 (FitsSigned w16) vs
     → Each1 (λ z. FitsSigned w16 (to_z w32 z)) (zip2 (λ z k. of_z w32 (shr_z (to_z w32 z) (2 ^ k))) (zip2 (λ x y. (x * y) % 4294967296) (map (λ x. of_z w32 (to_z w16 x)) (map (of_z w16) us)) (map (λ y. of_z w32 (to_z w16 y)) (map (of_z w16) vs))) (replicate n 16))
@@ -185,12 +165,8 @@ length-high : (xs ys : List ℕ) → length xs ≡ 16 → length ys ≡ 16 → l
 length-high xs ys p q =
     let u = map (λ x. of_z w32 (to_z w16 x)) xs in
     let v = map (λ y. of_z w32 (to_z w16 y)) ys in
-    let a : length u ≡ 16 = length-map xs (λ x. of_z w32 (to_z w16 x)) ∙ p in
-    let b : length v ≡ 16 = length-map ys (λ y. of_z w32 (to_z w16 y)) ∙ q in
-    let ws = zip2 (λ x y. (x * y) % 4294967296) u v in
-    let c : length ws ≡ 16 = length-zip2 (λ x y. (x * y) % 4294967296) u v (a ∙ sym b) ∙ a in
-    length-map (zip2 (λ z k. of_z w32 (shr_z (to_z w32 z) (2 ^ k))) ws (replicate 16 16)) (λ z. of_z w16 (to_z w32 z))
-    ∙ length-zip2 (λ z k. of_z w32 (shr_z (to_z w32 z) (2 ^ k))) ws (replicate 16 16) c ∙ c
+    let c : length (zip2 (λ x y. (x * y) % 4294967296) u v) ≡ 16 = length-zip2 _ u v (simp length-map (p ∙ sym q)) ∙ simp length-map p in
+    simp length-map (length-zip2 _ _ (replicate 16 16) c ∙ c)
 
 abbrev in_bytes : List ℕ → List ℕ
 in_bytes xs = digits_l 4294967296 16 (number_l 256 (digits_l 256 64 (number_l 65536 xs)))

@@ -1,5 +1,5 @@
 -- Rows that are stored sixteen items at a time.
-use Rattle.std.proofs.Common.{◌≡◌, ℕ, ℤ, ◌+◌, ◌-◌, ◌*◌, ◌≤◌, List, ◌++◌, length, map, take, drop, ap, ◌∙◌, sym, arith, take-append-drop}
+use Rattle.std.proofs.Common.{◌≡◌, ℕ, ℤ, ◌+◌, ◌-◌, ◌*◌, ◌≤◌, List, ◌++◌, length, map, take, drop, refl, ap, arith, take-append-drop}
 use Rattle.lane_rows.proofs.Common.{take-add, map-append, length-map, length-chunk, take-put_mid, put_mid}
 
 -- sixteen more items
@@ -10,29 +10,15 @@ pub sixteen_written : {A T : Type 0} (of : A → ℤ) (value : T → ℤ) (f : �
     → map value (take (16 * (k + 1)) (put_mid (16 * k) m out ws)) ≡ map f (map of (take (16 * (k + 1)) xs))
 sixteen_written of value f xs out ws k m room same before is =
     let count : 16 * k + 16 - 16 * k ≡ 16 = omega arith in
-    let part : take (16 * k + 16 - 16 * k) (drop (16 * k) xs) ≡ take 16 (drop (16 * k) xs) = ap (λ n. take n (drop (16 * k) xs)) count in
     let next : 16 * (k + 1) ≡ 16 * k + 16 = omega arith in
-    let these : map value ws ≡ map f (map of (take 16 (drop (16 * k) xs))) = is ∙ ap (λ l. map f (map of l)) part in
-    let long : length ws ≡ 16 =
-    sym (length-map ws value) ∙ ap length these ∙ length-map (map of (take 16 (drop (16 * k) xs))) f ∙ length-map (take 16 (drop (16 * k) xs)) of ∙ length-chunk (16 * k) 16 xs (omega arith) in
-    ap (map value) (take-put_mid (16 * k) m out ws (16 * (k + 1)) (omega arith) (omega arith))
-    ∙ map-append value (take (16 * k) out) ws
-    ∙ ap (λ l. l ++ map value ws) before
-    ∙ ap (λ l. map f (map of (take (16 * k) xs)) ++ l) these
-    ∙ sym (map-append f (map of (take (16 * k) xs)) (map of (take 16 (drop (16 * k) xs))))
-    ∙ ap (map f) (sym (map-append of (take (16 * k) xs) (take 16 (drop (16 * k) xs))))
-    ∙ ap (λ l. map f (map of l)) (sym (take-add (16 * k) 16 xs))
-    ∙ ap (λ n. map f (map of (take n xs))) (sym next)
+    let these = rw count at is in
+    let long : length ws ≡ 16 = omega (arith, simp length-map at (ap length these), length-chunk (16 * k) 16 xs (omega arith)) in
+    rw (take-put_mid (16 * k) m out ws (16 * (k + 1)) (omega arith) (omega arith), map-append, before, these, next, take-add (16 * k) 16 xs, map-append, map-append) refl
 
 -- what is stored so, and the rest
 pub rest_written : {A T : Type 0} (of : A → ℤ) (value : T → ℤ) (f : ℤ → ℤ) (xs us us' : List A) (ws rs : List T) (n : ℕ)
     → us ≡ take n xs → us' ≡ drop n xs → map value ws ≡ map f (map of us) → map value rs ≡ map f (map of us')
     → map value (ws ++ rs) ≡ map f (map of xs)
 rest_written of value f xs us us' ws rs n a a' first last =
-    let whole : us ++ us' ≡ xs = ap (λ l. l ++ us') a ∙ ap (λ l. take n xs ++ l) a' ∙ take-append-drop n xs in
-    map-append value ws rs
-    ∙ ap (λ l. l ++ map value rs) first
-    ∙ ap (λ l. map f (map of us) ++ l) last
-    ∙ sym (map-append f (map of us) (map of us'))
-    ∙ ap (map f) (sym (map-append of us us'))
-    ∙ ap (λ l. map f (map of l)) whole
+    let whole : us ++ us' ≡ xs = rw (a, a') (take-append-drop n xs) in
+    rw (← whole, map-append value ws rs, first, last, map-append of us us', map-append) refl

@@ -13,13 +13,13 @@ pub use Rattle.vx_base.specs.Image.{ImageValue, IsImage, at, made}
 pub use Rattle.vx_base.specs.Object.{ConvolutionObject, ImageObject, IsObject, LutObject, ObjectValue, ThresholdObject}
 pub use Rattle.vx_base.specs.Outputs.{image_of_one, node_image}
 pub use Rattle.vx_base.specs.Pixelwise.{formula_of_one, formula_of_two, from_one, from_two, looked_up, thresholded}
-pub use Rattle.vx_base.specs.Rectangle.{Rectangle, bounded, inside, meet_of, shrunk}
+pub use Rattle.vx_base.specs.Rectangle.{Rectangle, bounded, inside, meet_of}
 pub use Rattle.vx_base.specs.Sample.{clamp}
 pub use Rattle.vx_base.specs.Window.{convolved, formula_of_nine, from_matrix, from_nine, holds, look, matrix_product, nearest, nine_around, row_product, window_valid}
 pub use Rattle.vx_base.specs.declared.border.Border.{Border}
 pub use Rattle.vx_base.specs.declared.border.Border.TheVariants.{Constant, Replicate, Undefined}
 pub use Rattle.vx_base.specs.declared.format.Format.{Format}
 pub use Rattle.vx_base.specs.declared.function.Function.{Function}
-pub use Rattle.vx_base.specs.declared.function.Function.TheVariants.{Box, ConvertDepth, Dilate, Erode, Gaussian, Median, NotBits, Sobel}
+pub use Rattle.vx_base.specs.declared.function.Function.TheVariants.{ConvertDepth, NotBits}
 pub use Rattle.vx_base.specs.declared.node.Node.{Node}
 pub use Rattle.vx_base.specs.declared.output.Output.{Output}

@@ -1,9 +1,9 @@
 -- What windows see in rows around a place.
-use Rattle.std.proofs.Common.{◌≡◌, ℕ, ℤ, pos, ◌+◌, ◌-◌, ◌/◌, ◌<◌, ◌≤◌, ◌+ℤ◌, ◌-ℤ◌, ◌*ℤ◌, ◌≤ℤ◌, true, false, cond, map, refl, sym, ◌∙◌, ap, inl, inr, ◌⊎◌, arith, zero, suc, unsigned_abs}
-use Rattle.node_rows.proofs.Common.{ints, cases_Bool, nat_tests, Border, Undefined, Constant, Replicate, Rectangle, inside, shrunk, ImageValue, IsImage, at, ConvolutionValue, holds, nearest, look, nine_around, row_product, matrix_product, window_valid, AgreeInRows}
+use Rattle.std.proofs.Common.{◌≡◌, ℕ, ℤ, pos, ◌+◌, ◌-◌, ◌/◌, ◌<◌, ◌≤◌, ◌+ℤ◌, ◌-ℤ◌, ◌*ℤ◌, ◌≤ℤ◌, true, cond, map, refl, sym, ◌∙◌, ap, arith, zero, suc, unsigned_abs}
+use Rattle.node_rows.proofs.Common.{ints, cases_Bool, nat_tests, Border, Undefined, Constant, Replicate, Rectangle, inside, ImageValue, IsImage, at, ConvolutionValue, holds, nearest, look, nine_around, row_product, matrix_product, window_valid, AgreeInRows}
 use Rattle.std.specs.List.{range_with_len}
 use Rattle.vx_base.specs.Convolution.{coefficient}
-use Rattle.vx_base.specs.Window.{beside, total}
+use Rattle.vx_base.specs.Window.{total}
 
 -- ---- what is seen, said of a rectangle and a function of places
 
@@ -15,13 +15,8 @@ beside_of r f Replicate x y = f (nearest r.x0 r.x1 x) (nearest r.y0 r.y1 y)
 abbrev pub look_of : Rectangle → (ℕ → ℕ → ℤ) → Border → ℤ → ℤ → ℤ
 look_of r f border x y = cond (holds r x y) (f (unsigned_abs x) (unsigned_abs y)) (beside_of r f border x y)
 
-beside-of : (image : ImageValue) (border : Border) (x y : ℤ) → beside image border x y ≡ beside_of image.valid (at image) border x y
-beside-of image Undefined x y = refl
-beside-of image (Constant value) x y = refl
-beside-of image Replicate x y = refl
-
 pub look-of : (image : ImageValue) (border : Border) (x y : ℤ) → look image border x y ≡ look_of image.valid (at image) border x y
-look-of image border x y = ap (λ z. cond (holds image.valid x y) (at image (unsigned_abs x) (unsigned_abs y)) z) (beside-of image border x y)
+look-of image border x y = grind arith
 
 -- a row at most so many rows above row y or below it
 pub record IsNear (rows y : ℕ) (v : ℤ) : Type 0 where
@@ -70,17 +65,19 @@ module _ (r : Rectangle) (f g : ℕ → ℕ → ℤ) (border : Border) (rows y :
       (nearest_above r.y0 r.y1 y rows v row.from row.to near.above) (nearest_below r.y0 r.y1 y rows v row.from row.to near.below)
 
   look_of_near : (x v : ℤ) → IsNear rows y v → look_of r f border x v ≡ look_of r g border x v
-  look_of_near x v near = cases (cases_Bool (holds r x v))
-    where
-      cases : (holds r x v ≡ true) ⊎ (holds r x v ≡ false) → look_of r f border x v ≡ look_of r g border x v
-      cases (inl h) =
-          ap (λ t. cond t (f (unsigned_abs x) (unsigned_abs v)) (beside_of r f border x v)) h
-          ∙ agree (unsigned_abs x) (unsigned_abs v) (held_column r x v h) (held_row r x v h) (held_above r x v rows y h near.above) (held_below r x v rows y h near.below)
-          ∙ sym (ap (λ t. cond t (g (unsigned_abs x) (unsigned_abs v)) (beside_of r g border x v)) h)
-      cases (inr h) =
-          ap (λ t. cond t (f (unsigned_abs x) (unsigned_abs v)) (beside_of r f border x v)) h
-          ∙ beside_near border x v near
-          ∙ sym (ap (λ t. cond t (g (unsigned_abs x) (unsigned_abs v)) (beside_of r g border x v)) h)
+  look_of_near x v near =
+      grind (
+        arith,
+        beside_near border x v near,
+        agree (unsigned_abs x) (unsigned_abs v),
+        held_column r x v,
+        held_row r x v,
+        held_above r x v rows y,
+        held_below r x v rows y,
+        near.above,
+        near.below,
+        cases_Bool (holds r x v),
+      )
 
 -- ---- the samples of a window, of functions that agree near a row
 
@@ -95,10 +92,7 @@ nine_near f g x y same =
 -- sums over a run
 pub sums_same : (p q : ℕ → ℤ) (x n : ℕ) → ((k : ℕ) → x ≤ k → k < x + n → p k ≡ q k) → total (map p (range_with_len x n)) ≡ total (map q (range_with_len x n))
 sums_same p q x zero same = refl
-sums_same p q x (suc n) same =
-    let here : p x ≡ q x = same x (omega arith) (omega arith) in
-    let later : total (map p (range_with_len (x + 1) n)) ≡ total (map q (range_with_len (x + 1) n)) = sums_same p q (x + 1) n (λ k a b. same k (omega arith) (omega arith)) in
-    cc
+sums_same p q x (suc n) same = cc (same x (omega arith) (omega arith), sums_same p q (x + 1) n (λ k a b. same k (omega arith) (omega arith)))
 
 pub row_same : (c : ConvolutionValue) (f g : ℤ → ℤ) (x : ℤ) (l : ℕ) → ((u : ℤ) → f u ≡ g u) → row_product c f x l ≡ row_product c g x l
 row_same c f g x l same =
@@ -122,13 +116,8 @@ matrix_near c f g x y same =
 -- ---- images that agree near a row
 
 -- where a window has its place, its image is valid in the place's row
-shrunk_row : (r : Rectangle) (rx ry x y : ℕ) → inside (shrunk r rx ry) x y ≡ true → HasRow r y
-shrunk_row r rx ry x y h = record { columns = grind (arith, nat_tests); from = grind (arith, nat_tests); to = grind (arith, nat_tests) }
-
 pub valid_row : (border : Border) (rx ry : ℕ) (r : Rectangle) (x y : ℕ) → inside (window_valid border rx ry r) x y ≡ true → HasRow r y
-valid_row Undefined rx ry r x y h = shrunk_row r rx ry x y h
-valid_row (Constant value) rx ry r x y h = record { columns = grind (arith, nat_tests); from = grind (arith, nat_tests); to = grind (arith, nat_tests) }
-valid_row Replicate rx ry r x y h = record { columns = grind (arith, nat_tests); from = grind (arith, nat_tests); to = grind (arith, nat_tests) }
+valid_row border rx ry r x y h = grind (arith, nat_tests)
 
 -- what is seen in rows near that of a place
 pub look_near : (a b : ImageValue) (border : Border) (rx ry rows x y : ℕ) → IsImage a → inside (window_valid border rx ry a.valid) x y ≡ true → AgreeInRows (y - rows) (y + rows) a b → (u v : ℤ) → IsNear rows y v → look a border u v ≡ look b border u v

@@ -1,5 +1,5 @@
 -- The rows of an image as an image.
-use Rattle.std.proofs.Common.{◌≡◌, ℕ, ℤ, pos, ◌+◌, ◌-◌, ◌*◌, ◌<◌, ◌≤◌, Bool, true, false, ◌&&◌, IsTrue, inl, inr, ◌⊎◌, nat_lt, refl, sym, ◌∙◌, ap, subst, arith, zero, suc, add-zero, get_or, min}
+use Rattle.std.proofs.Common.{◌≡◌, ℕ, ℤ, pos, ◌+◌, ◌-◌, ◌*◌, ◌<◌, ◌≤◌, ◌&&◌, IsTrue, nat_lt, refl, sym, ◌∙◌, ap, subst, arith, zero, suc, add-zero, get_or, min}
 use Rattle.node_rows.proofs.Common.{cases_lt, nat_tests, Rectangle, inside, bounded, meet_of, Description, ImageValue, IsImage, at, get_or-table, same_parts, rows_of, part_of, StandsFor}
 use Rattle.vx_base.specs.Sample.{IsSample}
 use Rattle.vx_base.specs.Rectangle.{is_rectangle}
@@ -24,20 +24,7 @@ rows_same first other count r s same =
     places_decide (rows_of first count r) (rows_of other count s)
     (bounded_is r.x0 (r.y0 - first) r.x1 (min (r.y1 - first) count))
     (bounded_is s.x0 (s.y0 - other) s.x1 (min (s.y1 - other) count))
-    (λ x y. rows_inside first count r x y ∙ cases x y (cases_lt y count) ∙ sym (rows_inside other count s x y))
-  where
-    cases : (x y : ℕ) → (y < count) ⊎ (count ≤ y) → (inside r x (first + y) && nat_lt y count) ≡ (inside s x (other + y) && nat_lt y count)
-    cases x y (inl h) = ap (λ b. b && nat_lt y count) (same x y h)
-    cases x y (inr h) = beyond (inside r x (first + y)) (inside s x (other + y)) (nat_lt y count) (grind (arith, nat_tests))
-      where
-        beyond : (a b t : Bool) → t ≡ false → (a && t) ≡ (b && t)
-        beyond a b t e = ap (λ u. a && u) e ∙ both a b ∙ sym (ap (λ u. b && u) e)
-          where
-            both : (a b : Bool) → (a && false) ≡ (b && false)
-            both true true = refl
-            both true false = refl
-            both false true = refl
-            both false false = refl
+    (λ x y. grind (arith, nat_tests, rows_inside first count r x y, rows_inside other count s x y, same x y, cases_lt y count))
 
 -- ---- samples
 

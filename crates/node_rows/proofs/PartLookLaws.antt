@@ -1,5 +1,5 @@
 -- What windows see of parts of images.
-use Rattle.std.proofs.Common.{◌≡◌, ℕ, ℤ, pos, ◌+◌, ◌-◌, ◌/◌, ◌<◌, ◌≤◌, ◌+ℤ◌, ◌-ℤ◌, ◌≤ℤ◌, true, false, cond, refl, sym, ◌∙◌, ap, inl, inr, ◌⊎◌, arith, unsigned_abs, int_le, int_lt, ◌==◌}
+use Rattle.std.proofs.Common.{◌≡◌, ℕ, ℤ, pos, ◌+◌, ◌-◌, ◌/◌, ◌<◌, ◌≤◌, ◌+ℤ◌, ◌-ℤ◌, true, false, refl, sym, ◌∙◌, ap, inl, inr, ◌⊎◌, arith, unsigned_abs, int_le, int_lt}
 use Rattle.node_rows.proofs.Common.{ints, cases_Bool, cases_lt, nat_tests, Border, Undefined, Constant, Replicate, Rectangle, inside, ConvolutionValue, holds, nearest, nine_around, row_product, matrix_product, first_right, end_right}
 use Rattle.node_rows.proofs.LookLaws.{IsNear, HasRow, beside_of, look_of, nearest_within, nearest_above, nearest_below, held_column, held_row, held_above, held_below, sums_same, row_same}
 
@@ -16,11 +16,7 @@ above_right : (rows from y : ℕ) → first_right rows from ≤ y → (from ≡ 
 above_right rows from y h = grind (arith, nat_tests)
 
 below_right : (rows height to y : ℕ) → y < end_right rows height to → (to ≡ height) ⊎ (y + rows < to)
-below_right rows height to y h = cases (cases_Bool (to == height))
-  where
-    cases : ((to == height) ≡ true) ⊎ ((to == height) ≡ false) → (to ≡ height) ⊎ (y + rows < to)
-    cases (inl e) = inl (grind (arith, nat_tests))
-    cases (inr e) = inr (grind (arith, nat_tests))
+below_right rows height to y h = grind (arith, nat_tests)
 
 pub first_within : (rows from : ℕ) → from ≤ first_right rows from
 first_within rows from = grind (arith, nat_tests)
@@ -30,12 +26,7 @@ end_within rows height to = grind (arith, nat_tests)
 
 pub are_right : (first count from to height rows y : ℕ) → (first ≤ from) × (to ≤ first + count) × (first + count ≤ height) → first_right rows from ≤ y → y < end_right rows height to → AreRight first count from to height rows y
 are_right first count from to height rows y part above below =
-    record {
-      part = part;
-      here = (omega (arith, first_within rows from), omega (arith, end_within rows height to));
-      above = above_right rows from y above;
-      below = below_right rows height to y below;
-    }
+    grind (arith, part, first_within rows from, end_within rows height to, above_right rows from y above, below_right rows height to y below)
 
 -- ---- rectangles that have the same places in some rows
 
@@ -47,7 +38,7 @@ record IsIn (r : Rectangle) (x y : ℕ) : Type 0 where
   bottom : y < r.y1
 
 is_in : (r : Rectangle) (x y : ℕ) → inside r x y ≡ true → IsIn r x y
-is_in r x y h = record { left = grind (arith, nat_tests); right = grind (arith, nat_tests); top = grind (arith, nat_tests); bottom = grind (arith, nat_tests) }
+is_in r x y h = grind (arith, nat_tests)
 
 in_it : (r : Rectangle) (x y : ℕ) → IsIn r x y → inside r x y ≡ true
 in_it r x y h = grind (arith, nat_tests)
@@ -87,12 +78,9 @@ module _ (first count from to height rows y : ℕ) (r s : Rectangle) (right : Ar
 
     -- where the image's rectangle begins at the first right row or above, so does the part's
     begins_above : r.y0 ≤ from → (from ≡ 0) ⊎ (from + rows ≤ y) → (r.y0 ≡ s.y0 + first) ⊎ ((r.y0 + rows ≤ y) × (s.y0 + first + rows ≤ y))
-    begins_above h (inl zero) =
+    begins_above h far =
         let e = there r.x0 from (omega arith) (omega (arith, right.here)) (record { left = omega arith; right = row.columns; top = h; bottom = omega (arith, right.here, row.to) }) in
-        inl (omega (arith, e.top, right.part))
-    begins_above h (inr far) =
-        let e = there r.x0 from (omega arith) (omega (arith, right.here)) (record { left = omega arith; right = row.columns; top = h; bottom = omega (arith, right.here, row.to) }) in
-        inr (omega arith, omega (arith, e.top, right.part))
+        grind (arith, e.top, right.part, far)
 
     -- else both begin in one row
     begins_below : from < r.y0 → (s.y0 + first < r.y0) ⊎ (r.y0 ≤ s.y0 + first) → r.y0 ≡ s.y0 + first
@@ -110,12 +98,9 @@ module _ (first count from to height rows y : ℕ) (r s : Rectangle) (right : Ar
 
     -- where the image's rectangle ends with the last right row or below, so does the part's
     ends_below : to ≤ r.y1 → (to ≡ height) ⊎ (y + rows < to) → (r.y1 ≡ s.y1 + first) ⊎ ((y + rows < r.y1) × (y + rows < s.y1 + first))
-    ends_below h (inl last) =
+    ends_below h far =
         let e = there r.x0 (to - 1) (omega (arith, right.here)) (omega (arith, right.here)) (record { left = omega arith; right = row.columns; top = omega (arith, right.here, row.from); bottom = omega (arith, right.here) }) in
-        inl (omega (arith, e.bottom, right.part, right.here, room, under))
-    ends_below h (inr far) =
-        let e = there r.x0 (to - 1) (omega (arith, right.here)) (omega (arith, right.here)) (record { left = omega arith; right = row.columns; top = omega (arith, right.here, row.from); bottom = omega (arith, right.here) }) in
-        inr (omega arith, omega (arith, e.bottom, right.part, right.here))
+        grind (arith, e.bottom, right.part, right.here, room, under, far)
 
     ends_above : r.y1 < to → (r.y1 < s.y1 + first) ⊎ (s.y1 + first ≤ r.y1) → r.y1 ≡ s.y1 + first
     ends_above h (inl less) =
@@ -157,72 +142,46 @@ moved_row first low v a = grind (arith, ints)
 
 module _ (first rows y : ℕ) (r s : Rectangle) (near : SameNear first rows y r s) where
   top_same : (v : ℤ) → IsNear rows y v → int_le (pos r.y0) v ≡ int_le (pos s.y0) (v -ℤ pos first)
-  top_same v at = cases near.above
-    where
-      cases : (r.y0 ≡ s.y0 + first) ⊎ ((r.y0 + rows ≤ y) × (s.y0 + first + rows ≤ y)) → int_le (pos r.y0) v ≡ int_le (pos s.y0) (v -ℤ pos first)
-      cases (inl e) = grind (arith, ints)
-      cases (inr e) = let a = at.above in grind (arith, ints)
+  top_same v at = grind (arith, ints, near.above, at.above)
 
   bottom_same : (v : ℤ) → IsNear rows y v → int_lt v (pos r.y1) ≡ int_lt (v -ℤ pos first) (pos s.y1)
-  bottom_same v at = cases near.below
-    where
-      cases : (r.y1 ≡ s.y1 + first) ⊎ ((y + rows < r.y1) × (y + rows < s.y1 + first)) → int_lt v (pos r.y1) ≡ int_lt (v -ℤ pos first) (pos s.y1)
-      cases (inl e) = grind (arith, ints)
-      cases (inr e) = let a = at.below in grind (arith, ints)
+  bottom_same v at = grind (arith, ints, near.below, at.below)
 
   holds_same : (u v : ℤ) → IsNear rows y v → holds r u v ≡ holds s u (v -ℤ pos first)
-  holds_same u v at =
-      let a = near.left in
-      let b = near.right in
-      let c = top_same v at in
-      let d = bottom_same v at in
-      cc
+  holds_same u v at = cc (near.left, near.right, top_same v at, bottom_same v at)
 
   -- the bounds of rows are the same where a row that is seen lies beyond them
   top_seen : (v : ℤ) → IsNear rows y v → int_le (pos r.y0) v ≡ false → r.y0 ≡ s.y0 + first
-  top_seen v at h = cases near.above
-    where
-      above : pos y ≤ℤ (v +ℤ pos rows)
-      above = at.above
-
-      cases : (r.y0 ≡ s.y0 + first) ⊎ ((r.y0 + rows ≤ y) × (s.y0 + first + rows ≤ y)) → r.y0 ≡ s.y0 + first
-      cases (inl e) = e
-      cases (inr e) = absurd (grind (arith, ints, e.0, above))
+  top_seen v at h = grind (arith, ints, near.above, at.above)
 
   bottom_seen : (v : ℤ) → IsNear rows y v → int_lt v (pos r.y1) ≡ false → r.y1 ≡ s.y1 + first
-  bottom_seen v at h = cases near.below
-    where
-      below : v ≤ℤ (pos y +ℤ pos rows)
-      below = at.below
-
-      cases : (r.y1 ≡ s.y1 + first) ⊎ ((y + rows < r.y1) × (y + rows < s.y1 + first)) → r.y1 ≡ s.y1 + first
-      cases (inl e) = e
-      cases (inr e) = absurd (grind (arith, ints, e.0, below))
+  bottom_seen v at h = grind (arith, ints, near.below, at.below)
 
   row_above_end : s.y0 < s.y1
-  row_above_end = cases near.above near.below
-    where
-      cases : (r.y0 ≡ s.y0 + first) ⊎ ((r.y0 + rows ≤ y) × (s.y0 + first + rows ≤ y)) → (r.y1 ≡ s.y1 + first) ⊎ ((y + rows < r.y1) × (y + rows < s.y1 + first)) → s.y0 < s.y1
-      cases (inl e) (inl f) = omega (arith, near.row.from, near.row.to)
-      cases (inl e) (inr f) = omega (arith, near.row.from, f.1)
-      cases (inr e) (inl f) = omega (arith, e.1, near.row.to)
-      cases (inr e) (inr f) = omega (arith, e.1, f.1)
+  row_above_end = omega (arith, near.above, near.below, near.row.from, near.row.to)
 
   -- the nearest valid row
   nearest_same : (v : ℤ) → IsNear rows y v → nearest r.y0 r.y1 v ≡ nearest s.y0 s.y1 (v -ℤ pos first) + first
-  nearest_same v at = cases (cases_Bool (int_le (pos r.y0) v)) (cases_Bool (int_lt v (pos r.y1)))
-    where
-      cases : (int_le (pos r.y0) v ≡ true) ⊎ (int_le (pos r.y0) v ≡ false) → (int_lt v (pos r.y1) ≡ true) ⊎ (int_lt v (pos r.y1) ≡ false) → nearest r.y0 r.y1 v ≡ nearest s.y0 s.y1 (v -ℤ pos first) + first
-      cases (inl a) (inl b) =
-          let c : int_le (pos s.y0) (v -ℤ pos first) ≡ true = sym (top_same v at) ∙ a in
-          let d : int_lt (v -ℤ pos first) (pos s.y1) ≡ true = sym (bottom_same v at) ∙ b in
-          nearest_in r.y0 r.y1 v a b ∙ moved_row first s.y0 v c ∙ ap (λ k. k + first) (sym (nearest_in s.y0 s.y1 (v -ℤ pos first) c d))
-      cases (inl a) (inr b) =
-          let d : int_lt (v -ℤ pos first) (pos s.y1) ≡ false = sym (bottom_same v at) ∙ b in
-          omega (arith, nearest_end r.y0 r.y1 v (omega (arith, near.row.from, near.row.to)) b, nearest_end s.y0 s.y1 (v -ℤ pos first) row_above_end d, bottom_seen v at b)
-      cases (inr a) b =
-          let c : int_le (pos s.y0) (v -ℤ pos first) ≡ false = sym (top_same v at) ∙ a in
-          nearest_first r.y0 r.y1 v (omega (arith, near.row.from, near.row.to)) a ∙ top_seen v at a ∙ ap (λ k. k + first) (sym (nearest_first s.y0 s.y1 (v -ℤ pos first) row_above_end c))
+  nearest_same v at =
+      grind (
+        arith,
+        top_same v at,
+        bottom_same v at,
+        top_seen v at,
+        bottom_seen v at,
+        row_above_end,
+        near.row.from,
+        near.row.to,
+        nearest_in r.y0 r.y1 v,
+        nearest_first r.y0 r.y1 v,
+        nearest_end r.y0 r.y1 v,
+        nearest_in s.y0 s.y1 (v -ℤ pos first),
+        nearest_first s.y0 s.y1 (v -ℤ pos first),
+        nearest_end s.y0 s.y1 (v -ℤ pos first),
+        moved_row first s.y0 v,
+        cases_Bool (int_le (pos r.y0) v),
+        cases_Bool (int_lt v (pos r.y1)),
+      )
 
   -- a valid row that is seen, in the part
   row_moved : (u v : ℤ) → IsNear rows y v → holds s u (v -ℤ pos first) ≡ true → unsigned_abs (v -ℤ pos first) ≡ unsigned_abs v - first
@@ -233,29 +192,30 @@ module _ (first rows y : ℕ) (r s : Rectangle) (near : SameNear first rows y r 
     beside_part Undefined u v at = refl
     beside_part (Constant value) u v at = refl
     beside_part Replicate u v at =
-        let e = nearest_same v at in
-        let moved : nearest r.y0 r.y1 v - first ≡ nearest s.y0 s.y1 (v -ℤ pos first) = omega (arith, e) in
-        agree (nearest r.x0 r.x1 u) (nearest r.y0 r.y1 v) (nearest_within r.x0 r.x1 u near.row.columns) (nearest_within r.y0 r.y1 v (omega (arith, near.row.from, near.row.to)))
-        (nearest_above r.y0 r.y1 y rows v near.row.from near.row.to at.above) (nearest_below r.y0 r.y1 y rows v near.row.from near.row.to at.below)
-        ∙ ap (λ k. g (nearest r.x0 r.x1 u) k) moved
-        ∙ ap (λ k. g (nearest k r.x1 u) (nearest s.y0 s.y1 (v -ℤ pos first))) near.left
-        ∙ ap (λ k. g (nearest s.x0 k u) (nearest s.y0 s.y1 (v -ℤ pos first))) near.right
+        let moved : nearest r.y0 r.y1 v - first ≡ nearest s.y0 s.y1 (v -ℤ pos first) = omega (arith, nearest_same v at) in
+        let column = nearest_within r.x0 r.x1 u near.row.columns in
+        let row = nearest_within r.y0 r.y1 v (omega (arith, near.row.from, near.row.to)) in
+        let above = nearest_above r.y0 r.y1 y rows v near.row.from near.row.to at.above in
+        let below = nearest_below r.y0 r.y1 y rows v near.row.from near.row.to at.below in
+        let seen = agree (nearest r.x0 r.x1 u) (nearest r.y0 r.y1 v) column row above below in
+        cc (seen, moved, near.left, near.right)
 
     pub look_part : (border : Border) (u v : ℤ) → IsNear rows y v → look_of r f border u v ≡ look_of s g border u (v -ℤ pos first)
-    look_part border u v at = cases (cases_Bool (holds r u v))
-      where
-        cases : (holds r u v ≡ true) ⊎ (holds r u v ≡ false) → look_of r f border u v ≡ look_of s g border u (v -ℤ pos first)
-        cases (inl h) =
-            let held : holds s u (v -ℤ pos first) ≡ true = sym (holds_same u v at) ∙ h in
-            ap (λ t. cond t (f (unsigned_abs u) (unsigned_abs v)) (beside_of r f border u v)) h
-            ∙ agree (unsigned_abs u) (unsigned_abs v) (held_column r u v h) (held_row r u v h) (held_above r u v rows y h at.above) (held_below r u v rows y h at.below)
-            ∙ ap (λ k. g (unsigned_abs u) k) (sym (row_moved u v at held))
-            ∙ sym (ap (λ t. cond t (g (unsigned_abs u) (unsigned_abs (v -ℤ pos first))) (beside_of s g border u (v -ℤ pos first))) held)
-        cases (inr h) =
-            let held : holds s u (v -ℤ pos first) ≡ false = sym (holds_same u v at) ∙ h in
-            ap (λ t. cond t (f (unsigned_abs u) (unsigned_abs v)) (beside_of r f border u v)) h
-            ∙ beside_part border u v at
-            ∙ sym (ap (λ t. cond t (g (unsigned_abs u) (unsigned_abs (v -ℤ pos first))) (beside_of s g border u (v -ℤ pos first))) held)
+    look_part border u v at =
+        grind (
+          arith,
+          holds_same u v at,
+          beside_part border u v at,
+          row_moved u v at,
+          agree (unsigned_abs u) (unsigned_abs v),
+          held_column r u v,
+          held_row r u v,
+          held_above r u v rows y,
+          held_below r u v rows y,
+          at.above,
+          at.below,
+          cases_Bool (holds r u v),
+        )
 
 -- ---- windows of what is moved up
 
@@ -269,11 +229,7 @@ row_below : (first y : ℕ) → first ≤ y → pos y +ℤ pos 1 -ℤ pos first 
 row_below first y h = omega (arith, ints)
 
 pub nine_moved : (f : ℤ → ℤ → ℤ) (first : ℕ) (x : ℤ) (y : ℕ) → first ≤ y → nine_around (λ u v. f u (v -ℤ pos first)) x (pos y) ≡ nine_around f x (pos (y - first))
-nine_moved f first x y h =
-    let a = row_above first y h in
-    let b = row_here first y h in
-    let c = row_below first y h in
-    cc
+nine_moved f first x y h = cc (row_above first y h, row_here first y h, row_below first y h)
 
 row_of_matrix : (first y half l : ℕ) → first ≤ y → pos y +ℤ pos half -ℤ pos l -ℤ pos first ≡ pos (y - first) +ℤ pos half -ℤ pos l
 row_of_matrix first y half l h = omega (arith, ints)

@@ -1,6 +1,7 @@
 -- What a node makes of parts that stand for rows.
-use Rattle.std.proofs.Common.{◌≡◌, ℕ, ℤ, pos, ◌+◌, ◌-◌, ◌/◌, ◌<◌, ◌≤◌, ◌-ℤ◌, true, false, ◌&&◌, List, refl, sym, ◌∙◌, ap, subst, inl, inr, ◌⊎◌, arith, Option, Some, None, IfSome, int_div, ◌^◌, nat_le, nat_lt}
-use Rattle.node_rows.proofs.Common.{cases_Bool, nat_tests, Border, Undefined, Constant, Replicate, Format, Function, NotBits, ConvertDepth, Box, Gaussian, Median, Erode, Dilate, Sobel, Node, Output, Rectangle, inside, meet_of, shrunk, bounded, clamp, Description, ImageValue, IsImage, at, made, ConvolutionValue, ObjectValue, ImageObject, LutObject, ThresholdObject, ConvolutionObject, IsObject, from_one, from_two, formula_of_one, formula_of_two, looked_up, thresholded, look, nine_around, convolved, window_valid, from_nine, from_matrix, formula_of_nine, image_of_one, node_image, at-made, at-made_outside, column_inside, both_inside, matrix_in, reach, StandsFor, first_right, end_right, HasInputs}
+use Rattle.std.proofs.Common.{◌≡◌, ℕ, ℤ, pos, ◌+◌, ◌-◌, ◌/◌, ◌<◌, ◌≤◌, ◌-ℤ◌, true, ◌&&◌, List, refl, sym, ◌∙◌, ap, subst, arith, Option, Some, None, IfSome, int_div, ◌^◌, nat_le, nat_lt}
+use Rattle.node_rows.proofs.Common.{cases_Bool, nat_tests, Border, Undefined, Constant, Replicate, Format, Function, NotBits, ConvertDepth, Node, Output, Rectangle, inside, meet_of, bounded, clamp, Description, ImageValue, IsImage, at, made, ConvolutionValue, ObjectValue, ImageObject, LutObject, ThresholdObject, ConvolutionObject, IsObject, from_one, from_two, formula_of_one, formula_of_two, looked_up, thresholded, look, nine_around, convolved, window_valid, from_nine, from_matrix, formula_of_nine, image_of_one, node_image, at-made, at-made_outside, column_inside, both_inside, matrix_in, reach, StandsFor, first_right, end_right, HasInputs}
+use Rattle.vx_base.specs.Rectangle.{shrunk}
 use Rattle.node_rows.specs.Parts.{StandsBeside}
 use Rattle.node_rows.proofs.LookLaws.{IsNear, HasRow, look-of, valid_row, nine_near, matrix_near}
 use Rattle.node_rows.proofs.PartLaws.{meet_inside}
@@ -22,17 +23,22 @@ module _ (first count from to : ℕ) (part a : ImageValue) (stands : StandsFor f
         description = ap (λ (d : Description). let e : Description = record { width = d.width; height = d.height; format = format } in e) stands.description;
         rows = (omega (arith, stands.rows), omega (arith, stands.rows), stands.rows.2);
         valid = valid;
-        samples = λ x y left p q. cases x y left p q (cases_Bool (inside r x y));
+        samples = λ x y left p q.
+            let within : y - first < part.height = omega (arith, part_height, stands.rows) in
+            let inner = at-made part.width part.height format s g x (y - first) (omega (arith, part_width)) within in
+            let outer = at-made_outside part.width part.height format s g x (y - first) (omega (arith, part_width)) within in
+            grind (
+              arith,
+              inner,
+              outer,
+              at-made a.width a.height format r f x y,
+              at-made_outside a.width a.height format r f x y,
+              same x y left p q,
+              valid x y p q,
+              stands.rows,
+              cases_Bool (inside r x y),
+            );
       }
-    where
-      cases : (x y : ℕ) → x < a.width → above ≤ y → y < below → (inside r x y ≡ true) ⊎ (inside r x y ≡ false) → at (made part.width part.height format s g) x (y - first) ≡ at (made a.width a.height format r f) x y
-      cases x y left p q (inl h) =
-          at-made part.width part.height format s g x (y - first) (omega (arith, part_width)) (omega (arith, part_height, stands.rows)) (valid x y p q ∙ h)
-          ∙ same x y left p q h
-          ∙ sym (at-made a.width a.height format r f x y left (omega (arith, stands.rows)) h)
-      cases x y left p q (inr h) =
-          at-made_outside part.width part.height format s g x (y - first) (omega (arith, part_width)) (omega (arith, part_height, stands.rows)) (valid x y p q ∙ h)
-          ∙ sym (at-made_outside a.width a.height format r f x y left (omega (arith, stands.rows)) h)
 
   module _ (format : Format) (rows : ℕ) where
     one_stands : (f : ℤ → ℤ) → StandsFor first count (first_right rows from) (end_right rows a.height to) (from_one format f part) (from_one format f a)
@@ -63,22 +69,7 @@ bounded_inside x0 y0 x1 y1 x y = grind (arith, nat_tests)
 
 -- the places whose windows lie in the rectangle of a part
 shrunk_part : (first rows rx x y : ℕ) (r s : Rectangle) → first ≤ y → SameNear first rows y r s → inside (shrunk s rx rows) x (y - first) ≡ inside (shrunk r rx rows) x y
-shrunk_part first rows rx x y r s below near =
-    let left : nat_le (s.x0 + rx) x ≡ nat_le (r.x0 + rx) x = ap (λ k. nat_le (k + rx) x) (sym near.left) in
-    let right : nat_lt x (s.x1 - rx) ≡ nat_lt x (r.x1 - rx) = ap (λ k. nat_lt x (k - rx)) (sym near.right) in
-    let top = top near.above in
-    let bottom = bottom near.below in
-    let here = bounded_inside (r.x0 + rx) (r.y0 + rows) (r.x1 - rx) (r.y1 - rows) x y in
-    let there = bounded_inside (s.x0 + rx) (s.y0 + rows) (s.x1 - rx) (s.y1 - rows) x (y - first) in
-    cc
-  where
-    top : (r.y0 ≡ s.y0 + first) ⊎ ((r.y0 + rows ≤ y) × (s.y0 + first + rows ≤ y)) → nat_le (s.y0 + rows) (y - first) ≡ nat_le (r.y0 + rows) y
-    top (inl e) = grind (arith, nat_tests)
-    top (inr e) = grind (arith, nat_tests, e.0, e.1)
-
-    bottom : (r.y1 ≡ s.y1 + first) ⊎ ((y + rows < r.y1) × (y + rows < s.y1 + first)) → nat_lt (y - first) (s.y1 - rows) ≡ nat_lt y (r.y1 - rows)
-    bottom (inl e) = grind (arith, nat_tests)
-    bottom (inr e) = grind (arith, nat_tests, e.0, e.1)
+shrunk_part first rows rx x y r s below near = grind (arith, nat_tests, near.left, near.right, near.above, near.below)
 
 module _ (first count from to rows y : ℕ) (part a : ImageValue) (stands : StandsFor first count from to part a) (image : IsImage a) (is : IsImage part) (right : AreRight first count from to a.height rows y) where
   under : part.valid.y1 ≤ count
@@ -91,30 +82,27 @@ module _ (first count from to rows y : ℕ) (part a : ImageValue) (stands : Stan
   windows_part : (border : Border) (rx x : ℕ) → inside (window_valid border rx rows part.valid) x (y - first) ≡ inside (window_valid border rx rows a.valid) x y
   windows_part (Constant value) rx x = stands.valid x y right.here.0 right.here.1
   windows_part Replicate rx x = stands.valid x y right.here.0 right.here.1
-  windows_part Undefined rx x = cases (cases_Bool (inside (shrunk a.valid rx rows) x y)) (cases_Bool (inside (shrunk part.valid rx rows) x (y - first)))
-    where
-      shrunk_same : HasRow a.valid y → inside (shrunk part.valid rx rows) x (y - first) ≡ inside (shrunk a.valid rx rows) x y
-      shrunk_same row = shrunk_part first rows rx x y a.valid part.valid (omega (arith, right.part, right.here)) (near row)
-
-      cases : (inside (shrunk a.valid rx rows) x y ≡ true) ⊎ (inside (shrunk a.valid rx rows) x y ≡ false) → (inside (shrunk part.valid rx rows) x (y - first) ≡ true) ⊎ (inside (shrunk part.valid rx rows) x (y - first) ≡ false) → inside (shrunk part.valid rx rows) x (y - first) ≡ inside (shrunk a.valid rx rows) x y
-      cases (inl h) k = shrunk_same (valid_row Undefined rx rows a.valid x y h)
-      cases (inr h) (inl k) = shrunk_same (row_back first count from to a.height rows y a.valid part.valid right stands.valid (valid_row Undefined rx rows part.valid x (y - first) k))
-      cases (inr h) (inr k) = k ∙ sym h
+  windows_part Undefined rx x =
+      let below : first ≤ y = omega (arith, right.part, right.here) in
+      let same = λ (row : HasRow a.valid y). shrunk_part first rows rx x y a.valid part.valid below (near row) in
+      let whole = λ (h : inside (shrunk a.valid rx rows) x y ≡ true). same (valid_row Undefined rx rows a.valid x y h) in
+      let moved = λ (k : inside (shrunk part.valid rx rows) x (y - first) ≡ true).
+      let row = valid_row Undefined rx rows part.valid x (y - first) k in
+      same (row_back first count from to a.height rows y a.valid part.valid right stands.valid row) in
+      grind (
+        arith,
+        whole,
+        moved,
+        cases_Bool (inside (shrunk a.valid rx rows) x y),
+        cases_Bool (inside (shrunk part.valid rx rows) x (y - first)),
+      )
 
   -- rows near this one are right, as far as the image is valid there
   near_from : (z : ℕ) → y ≤ z + rows → from ≤ z
-  near_from z p = cases right.above
-    where
-      cases : (from ≡ 0) ⊎ (from + rows ≤ y) → from ≤ z
-      cases (inl e) = omega arith
-      cases (inr e) = omega arith
+  near_from z p = omega (arith, right.above)
 
   near_to : (z : ℕ) → z < a.valid.y1 → z ≤ y + rows → z < to
-  near_to z high p = cases right.below
-    where
-      cases : (to ≡ a.height) ⊎ (y + rows < to) → z < to
-      cases (inl e) = omega (arith, image.room.rows)
-      cases (inr e) = omega arith
+  near_to z high p = omega (arith, right.below, image.room.rows)
 
   look_right : (border : Border) → HasRow a.valid y → (u v : ℤ) → IsNear rows y v → look a border u v ≡ look part border u (v -ℤ pos first)
   look_right border row u v at_row =
@@ -167,13 +155,7 @@ module _ (n : Node) (output : Output) (format : Format) (part a : ImageValue) (r
   one_image_right : (function : Function) → HasInputs function None → reach function None ≡ Some rows → RightFor (image_of_one function n output format part) (image_of_one function n output format a)
   one_image_right NotBits inputs far = one_right (formula_of_one NotBits format n.policy n.amount)
   one_image_right ConvertDepth inputs far = one_right (formula_of_one ConvertDepth format n.policy n.amount)
-  one_image_right Box inputs far = nine_right (formula_of_nine Box output) far
-  one_image_right Gaussian inputs far = nine_right (formula_of_nine Gaussian output) far
-  one_image_right Median inputs far = nine_right (formula_of_nine Median output) far
-  one_image_right Erode inputs far = nine_right (formula_of_nine Erode output) far
-  one_image_right Dilate inputs far = nine_right (formula_of_nine Dilate output) far
-  one_image_right Sobel inputs far = nine_right (formula_of_nine Sobel output) far
-  one_image_right other inputs far = absurd (cc)
+  one_image_right function inputs far = grind (arith, nine_right (formula_of_nine function output))
 
   -- with the same object beside the first inputs, which is no image
   same_right : (second : Option ObjectValue) → ((b : ImageValue) → second ≡ Some (ImageObject b) → ⊥) → HasInputs n.function second → reach n.function (matrix_in second) ≡ Some rows → RightFor (node_image n output format part second) (node_image n output format a second)

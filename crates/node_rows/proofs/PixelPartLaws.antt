@@ -1,5 +1,5 @@
 -- What a pixelwise node makes of some rows.
-use Rattle.std.proofs.Common.{◌≡◌, ℕ, ℤ, pos, ◌+◌, ◌-◌, ◌/◌, ◌<◌, ◌≤◌, true, false, Bool, ◌&&◌, cond, refl, sym, ◌∙◌, ap, inl, inr, ◌⊎◌, arith, nat_lt, zero-add, Option, Some, None, IfSome, min, max}
+use Rattle.std.proofs.Common.{◌≡◌, ℕ, ℤ, pos, ◌+◌, ◌-◌, ◌/◌, ◌<◌, ◌≤◌, true, Bool, ◌&&◌, refl, sym, ◌∙◌, ap, arith, nat_lt, zero-add, Option, Some, None, IfSome, min, max}
 use Rattle.node_rows.proofs.Common.{cases_Bool, nat_tests, Format, Function, NotBits, ConvertDepth, Node, Output, Rectangle, inside, meet_of, ImageValue, IsImage, at, made, ConvolutionValue, ObjectValue, ImageObject, LutObject, ThresholdObject, ConvolutionObject, IsObject, from_one, from_two, formula_of_one, formula_of_two, looked_up, thresholded, image_of_one, node_image, get_or-table, same_parts, column_inside, both_inside, matrix_in, reach, rows_of, part_of, HasInputs}
 use Rattle.vx_base.specs.Image.{within}
 use Rattle.vx_base.specs.Convolution.{IsConvolution}
@@ -10,11 +10,7 @@ use Rattle.node_rows.proofs.PartLaws.{bounded_is, meet_inside, rows_inside, band
 -- ---- rectangles
 
 regrouped : (a b t : Bool) → ((a && t) && (b && t)) ≡ ((a && b) && t)
-regrouped true true true = refl
-regrouped true true false = refl
-regrouped true false true = refl
-regrouped true false false = refl
-regrouped false b t = refl
+regrouped a b t = grind (arith, cases_Bool a, cases_Bool b, cases_Bool t)
 
 module _ (first count : ℕ) where
   -- the rows of what two rectangles share
@@ -33,14 +29,7 @@ module _ (first count : ℕ) where
   -- ---- images
 
   within_moved : (r : Rectangle) (f g : ℕ → ℕ → ℤ) (x k : ℕ) → k < count → (inside r x (first + k) ≡ true → f x k ≡ g x (first + k)) → within (rows_of first count r) f x k ≡ within r g x (first + k)
-  within_moved r f g x k below same = cases (cases_Bool (inside r x (first + k)))
-    where
-      e : inside (rows_of first count r) x k ≡ inside r x (first + k)
-      e = grind (arith, nat_tests)
-
-      cases : (inside r x (first + k) ≡ true) ⊎ (inside r x (first + k) ≡ false) → within (rows_of first count r) f x k ≡ within r g x (first + k)
-      cases (inl h) = ap (λ b. cond b (f x k) (pos 0)) (e ∙ h) ∙ same h ∙ sym (ap (λ b. cond b (g x (first + k)) (pos 0)) h)
-      cases (inr h) = ap (λ b. cond b (f x k) (pos 0)) (e ∙ h) ∙ sym (ap (λ b. cond b (g x (first + k)) (pos 0)) h)
+  within_moved r f g x k below same = grind (arith, nat_tests, cases_Bool (inside r x (first + k)))
 
   made_part : (width height : ℕ) (format : Format) (r s : Rectangle) (f g : ℕ → ℕ → ℤ) → first + count ≤ height → s ≡ rows_of first count r → ((x k : ℕ) → x < width → k < count → inside r x (first + k) ≡ true → f x k ≡ g x (first + k)) → made width count format s f ≡ part_of first count (made width height format r g)
   made_part width height format r s f g room is same =

@@ -1,9 +1,7 @@
 -- What a node gives in a row.
-use Rattle.std.proofs.Common.{◌≡◌, ℕ, ℤ, pos, ◌+◌, ◌-◌, ◌/◌, ◌<◌, ◌≤◌, true, false, List, refl, sym, ◌∙◌, ap, subst, inl, inr, ◌⊎◌, arith, Option, Some, None, IfSome, int_div, ◌^◌}
-use Rattle.node_rows.proofs.Common.{cases_Bool, Border, Format, Function, NotBits, ConvertDepth, Box, Gaussian, Median, Erode, Dilate, Sobel, Node, Output, Rectangle, inside, meet_of, clamp, Description, ImageValue, IsImage, at, made, ConvolutionValue, ObjectValue, ImageObject, LutObject, ThresholdObject, ConvolutionObject, IsObject, from_one, from_two, formula_of_one, formula_of_two, looked_up, thresholded, look, nine_around, convolved, window_valid, from_nine, from_matrix, formula_of_nine, image_of_one, node_image, at-made, at-made_outside, column_inside, both_inside, matrix_in, reach, AgreeInRows}
-use Rattle.vx_base.specs.declared.function.Function.TheVariants.{Integral}
+use Rattle.std.proofs.Common.{◌≡◌, ℕ, ℤ, pos, ◌+◌, ◌-◌, ◌/◌, ◌<◌, ◌≤◌, true, List, refl, ◌∙◌, ap, arith, Option, Some, None, IfSome, int_div, ◌^◌}
+use Rattle.node_rows.proofs.Common.{cases_Bool, Border, Format, Function, NotBits, ConvertDepth, Node, Output, Rectangle, inside, meet_of, clamp, Description, ImageValue, IsImage, at, made, ConvolutionValue, ObjectValue, ImageObject, LutObject, ThresholdObject, ConvolutionObject, IsObject, from_one, from_two, formula_of_one, formula_of_two, looked_up, thresholded, look, nine_around, convolved, window_valid, from_nine, from_matrix, formula_of_nine, image_of_one, node_image, at-made, at-made_outside, column_inside, both_inside, matrix_in, reach, AgreeInRows}
 use Rattle.vx_base.specs.Image.{description_of}
-use Rattle.vx_base.specs.Statistics.{sum_to}
 use Rattle.vx_base.proofs.ImageLaws.{row_inside, places_decide}
 use Rattle.node_rows.specs.Rows.{AreAlike, AgreeBeside}
 use Rattle.node_rows.proofs.LookLaws.{nine_near, matrix_near, look_near}
@@ -25,18 +23,19 @@ made_alike a b format r s f g alike same =
 
 -- functions that agree at a place, where it is valid
 made_same : (width height : ℕ) (format : Format) (r : Rectangle) (f g : ℕ → ℕ → ℤ) (x y : ℕ) → x < width → y < height → (inside r x y ≡ true → f x y ≡ g x y) → at (made width height format r f) x y ≡ at (made width height format r g) x y
-made_same width height format r f g x y a b same = cases (cases_Bool (inside r x y))
-  where
-    cases : (inside r x y ≡ true) ⊎ (inside r x y ≡ false) → at (made width height format r f) x y ≡ at (made width height format r g) x y
-    cases (inl h) = at-made width height format r f x y a b h ∙ same h ∙ sym (at-made width height format r g x y a b h)
-    cases (inr h) = at-made_outside width height format r f x y a b h ∙ sym (at-made_outside width height format r g x y a b h)
+made_same width height format r f g x y a b same =
+    grind (
+      arith,
+      at-made width height format r f x y a b,
+      at-made width height format r g x y a b,
+      at-made_outside width height format r f x y a b,
+      at-made_outside width height format r g x y a b,
+      cases_Bool (inside r x y),
+    )
 
 made_row : (a b : ImageValue) (format : Format) (r s : Rectangle) (f g : ℕ → ℕ → ℤ) (x y : ℕ) → AreAlike a b → r ≡ s → x < a.width → y < a.height → (inside r x y ≡ true → f x y ≡ g x y) → at (made a.width a.height format r f) x y ≡ at (made b.width b.height format s g) x y
 made_row a b format r s f g x y alike rectangles left high same =
-    made_same a.width a.height format r f g x y left high same
-    ∙ ap (λ n. at (made n a.height format r g) x y) (width_alike a b alike)
-    ∙ ap (λ n. at (made b.width n format r g) x y) (height_alike a b alike)
-    ∙ ap (λ t. at (made b.width b.height format t g) x y) rectangles
+    cc (made_same a.width a.height format r f g x y left high same, width_alike a b alike, height_alike a b alike)
 
 -- ---- agreement
 
@@ -112,14 +111,10 @@ module _ (n : Node) (output : Output) (format : Format) (a b : ImageValue) where
   one_image_row : (function : Function) (rows x y : ℕ) → reach function None ≡ Some rows → IsImage a → AgreeInRows (y - rows) (y + rows) a b → x < a.width → y < a.height → at (image_of_one function n output format a) x y ≡ at (image_of_one function n output format b) x y
   one_image_row NotBits rows x y far image agree left high = one_row format a b (formula_of_one NotBits format n.policy n.amount) x y (here rows y a b agree) left high
   one_image_row ConvertDepth rows x y far image agree left high = one_row format a b (formula_of_one ConvertDepth format n.policy n.amount) x y (here rows y a b agree) left high
-  one_image_row Box rows x y far image agree left high = nine_row format a b (formula_of_nine Box output) n.border x y image (within_reach rows 1 y a b far agree) left high
-  one_image_row Gaussian rows x y far image agree left high = nine_row format a b (formula_of_nine Gaussian output) n.border x y image (within_reach rows 1 y a b far agree) left high
-  one_image_row Median rows x y far image agree left high = nine_row format a b (formula_of_nine Median output) n.border x y image (within_reach rows 1 y a b far agree) left high
-  one_image_row Erode rows x y far image agree left high = nine_row format a b (formula_of_nine Erode output) n.border x y image (within_reach rows 1 y a b far agree) left high
-  one_image_row Dilate rows x y far image agree left high = nine_row format a b (formula_of_nine Dilate output) n.border x y image (within_reach rows 1 y a b far agree) left high
-  one_image_row Sobel rows x y far image agree left high = nine_row format a b (formula_of_nine Sobel output) n.border x y image (within_reach rows 1 y a b far agree) left high
-  one_image_row Integral rows x y far image agree left high = cc
-  one_image_row other rows x y far image agree left high = zero_row format a b n.border x y agree.alike left high
+  one_image_row function rows x y far image agree left high =
+      let nine = λ (e : Some 1 ≡ Some rows). nine_row format a b (formula_of_nine function output) n.border x y image
+      (within_reach rows 1 y a b e agree) left high in
+      grind (arith, nine, zero_row format a b n.border x y agree.alike left high)
 
   -- with the same beside the first input
   same_beside_row : (second : Option ObjectValue) (rows x y : ℕ) → IfSome second IsObject → reach n.function (matrix_in second) ≡ Some rows → IsImage a → AgreeInRows (y - rows) (y + rows) a b → x < a.width → y < a.height → at (node_image n output format a second) x y ≡ at (node_image n output format b second) x y
@@ -146,53 +141,12 @@ module _ (n : Node) (output : Output) (format : Format) (a b : ImageValue) where
 abbrev sized : Format → ImageValue → Description
 sized format a = record { width = a.width; height = a.height; format = format }
 
-one_image_description : (function : Function) (n : Node) (output : Output) (format : Format) (a : ImageValue) → description_of (image_of_one function n output format a) ≡ sized format a
-one_image_description NotBits n output format a = refl
-one_image_description function n output format a = refl
-
 pub node_description : (n : Node) (output : Output) (format : Format) (a : ImageValue) (second : Option ObjectValue) → description_of (node_image n output format a second) ≡ sized format a
-node_description n output format a None = one_image_description n.function n output format a
-node_description n output format a (Some (ImageObject b)) = refl
-node_description n output format a (Some (LutObject lut)) = refl
-node_description n output format a (Some (ThresholdObject threshold)) = refl
-node_description n output format a (Some (ConvolutionObject convolution)) = refl
-node_description n output format a (Some other) = refl
+node_description n output format a second = grind arith
 
 module _ (n : Node) (output : Output) (format : Format) (a b : ImageValue) (alike : AreAlike a b) where
-  one_alike : (f : ℤ → ℤ) → AreAlike (from_one format f a) (from_one format f b)
-  one_alike f = made_alike a b format a.valid b.valid (λ x y. f (at a x y)) (λ x y. f (at b x y)) alike alike.valid
-
-  nine_alike : (f : List ℤ → ℤ) → AreAlike (from_nine format f n.border a) (from_nine format f n.border b)
-  nine_alike f =
-      made_alike a b format (window_valid n.border 1 1 a.valid) (window_valid n.border 1 1 b.valid)
-      (λ x y. f (nine_around (look a n.border) (pos x) (pos y))) (λ x y. f (nine_around (look b n.border) (pos x) (pos y))) alike
-      (ap (window_valid n.border 1 1) alike.valid)
-
-  one_image_alike : (function : Function) → AreAlike (image_of_one function n output format a) (image_of_one function n output format b)
-  one_image_alike NotBits = one_alike (formula_of_one NotBits format n.policy n.amount)
-  one_image_alike ConvertDepth = one_alike (formula_of_one ConvertDepth format n.policy n.amount)
-  one_image_alike Integral = made_alike a b format a.valid b.valid (sum_to a) (sum_to b) alike alike.valid
-  one_image_alike function = nine_alike (formula_of_nine function output)
-
-  same_beside_alike : (second : Option ObjectValue) → AreAlike (node_image n output format a second) (node_image n output format b second)
-  same_beside_alike None = one_image_alike n.function
-  same_beside_alike (Some (ImageObject c)) =
-      made_alike a b format (meet_of a.valid c.valid) (meet_of b.valid c.valid) (λ x y. formula_of_two n.function format n.policy n.amount (at a x y) (at c x y)) (λ x y. formula_of_two n.function format n.policy n.amount (at b x y) (at c x y)) alike
-      (ap (λ r. meet_of r c.valid) alike.valid)
-  same_beside_alike (Some (LutObject lut)) = one_alike (looked_up lut)
-  same_beside_alike (Some (ThresholdObject threshold)) = one_alike (thresholded threshold)
-  same_beside_alike (Some (ConvolutionObject matrix)) =
-      made_alike a b format (window_valid n.border (matrix.columns / 2) (matrix.rows / 2) a.valid) (window_valid n.border (matrix.columns / 2) (matrix.rows / 2) b.valid)
-      (λ x y. convolved matrix format (look a n.border) (pos x) (pos y)) (λ x y. convolved matrix format (look b n.border) (pos x) (pos y)) alike
-      (ap (window_valid n.border (matrix.columns / 2) (matrix.rows / 2)) alike.valid)
-  same_beside_alike (Some other) = one_alike (λ _. pos 0)
-
   pub node_alike : (second other : Option ObjectValue) (first last : ℕ) → AgreeBeside first last second other → AreAlike (node_image n output format a second) (node_image n output format b other)
-  node_alike (Some (ImageObject c)) (Some (ImageObject d)) first last beside =
-      made_alike a b format (meet_of a.valid c.valid) (meet_of b.valid d.valid) (λ x y. formula_of_two n.function format n.policy n.amount (at a x y) (at c x y)) (λ x y. formula_of_two n.function format n.policy n.amount (at b x y) (at d x y)) alike
-      (ap (λ r. meet_of r c.valid) alike.valid ∙ ap (λ r. meet_of b.valid r) beside.alike.valid)
-  node_alike second other first last beside =
-      subst (λ (o : Option ObjectValue). AreAlike (node_image n output format a second) (node_image n output format b o)) beside (same_beside_alike second)
+  node_alike second other first last beside = grind arith
 
 -- ---- several rows
 

@@ -1,6 +1,7 @@
 -- Delays that age with graphs.
-use Rattle.std.proofs.Common.{◌≡◌, ◌≢◌, ℕ, ◌+◌, ◌<◌, Bool, true, false, List, [], ◌∷◌, ◌++◌, length, map, take, get_or, Some, None, refl, sym, ap, ◌∙◌, arith, ◌==◌, if◌then◌else◌, is_some, eqb-true, ne_eqb, All, filter, length-take, get_or-take}
-use Rattle.object_table.proofs.Common.{list_any, AllPairs, keys_of, lookup, set_value, is_at, option_map, nat_cmp, eqb-false, All-nil, All-cons, All-filter, AllPairs-filter, sorted_tail, Kind, with_delays, ObjectValue, DelayObject, GraphObject, object_kind, Entry, is_there, aged_under, Context, with_objects, Named, object_held, aged_object, graph_value, IsUnder, graph_under, named, nodes_in}
+use Rattle.std.proofs.Common.{◌≡◌, ◌≢◌, ℕ, ◌+◌, ◌<◌, Bool, true, false, List, [], ◌∷◌, ◌++◌, length, map, take, get_or, Some, None, refl, sym, ap, ◌∙◌, arith, ◌==◌, if◌then◌else◌, is_some, map-id, eqb-true, ne_eqb, All, filter, length-take, get_or-take}
+use Rattle.object_table.proofs.Common.{list_any, AllPairs, keys_of, lookup, set_value, is_at, option_map, nat_cmp, eqb-false, All-nil, All-cons, All-filter, sorted_tail, Kind, with_delays, ObjectValue, GraphObject, object_kind, Entry, is_there, aged_under, Context, with_objects, Named, object_held, aged_object, graph_value, IsUnder, graph_under, named, nodes_in}
+use Rattle.std.proofs.lemmas.List.Kept.{AllPairs-filter}
 use Rattle.std.proofs.lemmas.List.{get_or_default}
 use Rattle.std.proofs.lemmas.List.Folds.{list_any_more, list_any_none}
 use Rattle.std.proofs.lemmas.List.Quantifiers.{all_pairs_push}
@@ -59,8 +60,7 @@ aged_more names k d (o ∷ objects) apart there =
 
 -- no name
 pub aged_none : (objects : List Named) → aged_under [] objects ≡ objects
-aged_none [] = refl
-aged_none (o ∷ objects) = ap (λ l. o ∷ l) (aged_none objects)
+aged_none objects = map-id objects
 
 -- ---- what is held then
 
@@ -70,12 +70,10 @@ held_aged names [] name = refl
 held_aged names (o ∷ objects) name = grind (arith, held_aged names objects name, eqb-true o.name name)
 
 aged_kind : (object : ObjectValue) → object_kind (aged_object object) ≡ object_kind object
-aged_kind (DelayObject images) = refl
-aged_kind other = refl
+aged_kind object = grind arith
 
 aged_graph : (object : ObjectValue) → graph_value (aged_object object) ≡ graph_value object
-aged_graph (DelayObject images) = refl
-aged_graph other = refl
+aged_graph object = grind arith
 
 pub kind_aged : (names : List ℕ) (objects : List Named) (wanted : Kind) (name : ℕ) → IsUnder objects wanted name → IsUnder (aged_under names objects) wanted name
 kind_aged names objects wanted name h = grind (arith, held_aged names objects name, aged_kind)
@@ -97,5 +95,4 @@ apart_and names p name apart none =
 
 -- a graph has the nodes that it had
 pub graph_nodes : (object : ObjectValue) (delays : List ℕ) → object_kind object ≡ kind.Graph → nodes_in (GraphObject (with_delays (graph_value object) delays)) ≡ nodes_in object
-graph_nodes (GraphObject graph) delays is = refl
-graph_nodes other delays is = absurd (cc)
+graph_nodes object delays is = grind arith

@@ -1,15 +1,14 @@
 -- In how many blocks objects have their samples is told by their skeletons.
 use Rattle.std.proofs.Common.{◌≡◌, ℕ, ◌+◌, List, [], ◌∷◌, ◌++◌, map, refl, sym, ap, ◌∙◌, sum}
-use Rattle.object_table.proofs.Common.{sum-map, sum_by_push, map-map, Format, ImageValue, ObjectValue, DelayObject, image_blocks, object_blocks, blocks_in, Named, image_skeleton, skeleton}
+use Rattle.object_table.proofs.Common.{sum_by_push, Format, ImageValue, ObjectValue, DelayObject, image_blocks, object_blocks, blocks_in, Named, image_skeleton, skeleton, sum_map}
+use Rattle.std.proofs.lemmas.List.Sums.{sum-map}
 use Rattle.object_table.specs.Blocks.{KeepsBlocks}
 use Rattle.object_table.proofs.SkeletonLaws.{map-told}
 
 -- ---- of one object
 
 pub blocks_of_skeleton : (object : ObjectValue) (format : Format) → object_blocks (skeleton object) format ≡ object_blocks object format
-blocks_of_skeleton (DelayObject images) format =
-    let of_image : ImageValue → ℕ = λ image. image_blocks image format in
-    sym (sum-map of_image (map image_skeleton images)) ∙ ap sum (map-map of_image image_skeleton images) ∙ sum-map of_image images
+blocks_of_skeleton (DelayObject images) format = sym (sum_map (λ (image : ImageValue). image_blocks image format) image_skeleton images)
 blocks_of_skeleton other format = refl
 
 -- objects of one skeleton have as many

@@ -1,4 +1,5 @@
 -- The names that several proofs cite, passed on from one place. Declares nothing.
+pub use Rattle.graph_verify.proofs.VerifyLemmas.{sum_map}
 pub use Rattle.image_core.specs.Rows.{sample_from}
 pub use Rattle.object_table.specs.Ageing.{aged_under, is_there}
 pub use Rattle.object_table.specs.Blocks.{Balances, LendsAtLeast, blocks_in, delay_blocks, image_blocks, object_blocks}
@@ -12,11 +13,12 @@ pub use Rattle.object_table.specs.Table.{IsTable, IsUnder, ended, graph_under, i
 pub use Rattle.object_table.specs.Uses.{names_used, names_used_by, nodes_in, times, used_names}
 pub use Rattle.object_table.specs.declared.table.Entry.{Entry}
 pub use Rattle.pixel_pool.specs.Pool.{lent_of}
-pub use Rattle.std.proofs.lemmas.Bool.{and_parts, cases_Bool, cases_lt, eqb-false, or_from, or_left}
+pub use Rattle.std.proofs.lemmas.Bool.{and_parts, cases_Bool, cases_lt, eqb-false}
+pub use Rattle.std.proofs.lemmas.Bool.Decides.{nat_tests}
 pub use Rattle.std.proofs.lemmas.List.{get_or-map, length-map, map-append}
 pub use Rattle.std.proofs.lemmas.List.Elements.{All-cons, All-filter, All-head, All-map, All-nil, All-tail, All-weaker, filter_passes}
-pub use Rattle.std.proofs.lemmas.List.Kept.{AllPairs-filter, AllPairs-from_increasing}
-pub use Rattle.std.proofs.lemmas.List.Sums.{count_by-le-length, sum-map, sum_by-append, sum_by-cons, sum_by-le, sum_by_push}
+pub use Rattle.std.proofs.lemmas.List.Kept.{AllPairs-from_increasing}
+pub use Rattle.std.proofs.lemmas.List.Sums.{count_by-le-length, sum_by-append, sum_by-cons, sum_by-le, sum_by_push}
 pub use Rattle.std.proofs.lemmas.Map.{keys-set_value, length-set_value}
 pub use Rattle.std.proofs.lemmas.Map.Entries.{All-lookup}
 pub use Rattle.std.proofs.lemmas.Map.Keys.{sorted_tail}
@@ -37,11 +39,10 @@ pub use Rattle.vx_base.specs.Description.{Description}
 pub use Rattle.vx_base.specs.Graph.{GraphValue, can_add, with_delays, with_node, without_node}
 pub use Rattle.vx_base.specs.Image.{ImageValue, IsImage, band, description_of, image_over, new_image, with_valid, within}
 pub use Rattle.vx_base.specs.Node.{given}
-pub use Rattle.vx_base.specs.Object.{DelayObject, ExtremesObject, GraphObject, ImageObject, IsDelay, IsObject, ObjectValue, image_bytes, object_bytes, object_kind}
+pub use Rattle.vx_base.specs.Object.{DelayObject, GraphObject, ImageObject, IsDelay, IsObject, ObjectValue, image_bytes, object_bytes, object_kind}
 pub use Rattle.vx_base.specs.Picture.{values}
 pub use Rattle.vx_base.specs.declared.desc.TheConstants.{GREATEST_BYTES}
 pub use Rattle.vx_base.specs.declared.format.Format.{Format}
-pub use Rattle.vx_base.specs.declared.format.Format.TheVariants.{U8}
 pub use Rattle.vx_base.specs.declared.kind.Kind.{Kind}
 pub use Rattle.vx_base.specs.declared.node.Node.{Node}
 pub use Rattle.vx_base.specs.declared.numbered.Numbered.{Numbered}

@@ -1,5 +1,5 @@
 -- Delays: images of one description.
-use Rattle.std.proofs.Common.{◌≡◌, ℕ, ◌*◌, ◌<◌, ◌≤◌, List, [], ◌∷◌, ◌++◌, length, map, get_or, refl, sym, ◌∙◌, arith, sum_by, All, take, drop, nat_le, IsTrue, leb-true}
+use Rattle.std.proofs.Common.{◌≡◌, ℕ, ◌*◌, ◌≤◌, List, [], ◌∷◌, ◌++◌, length, map, refl, arith, sum_by, All, take, drop, nat_le, IsTrue, leb-true}
 use Rattle.object_table.proofs.Common.{AllPairs, and_parts, length-map, get_or-map, All-head, All-tail, sum_by-cons, sum_by-append, Description, ImageValue, IsImage, new_image, description_of, IsDelay, image_bytes, new_image_is, new_delay}
 use Rattle.std.proofs.lemmas.List.{length-replicate}
 use Rattle.std.proofs.lemmas.List.Elements.{All-replicate}
@@ -21,10 +21,9 @@ sum-turned f n xs = omega (arith, sum_by-append f (drop n xs) (take n xs), sum_b
 -- images of one description are alike, any two of them
 pub alike : (d : Description) (images : List ImageValue) → All (λ image. description_of image ≡ d) images → AllPairs (λ a b. a ≡ b) (map description_of images)
 alike d images h i j default less within =
-    let j_within : j < length images = omega (arith, within, length-map images description_of) in
-    let at : (k : ℕ) → k < length images → get_or (map description_of images) k default ≡ d =
-    λ k below. get_or-map description_of images k (new_image 0 0 d.format) default below ∙ h k (new_image 0 0 d.format) below in
-    at i (omega (arith, less, j_within)) ∙ sym (at j j_within)
+    let each = λ (k : ℕ). h k (new_image 0 0 d.format) in
+    let made = λ (k : ℕ). get_or-map description_of images k (new_image 0 0 d.format) default in
+    grind (arith, length-map images description_of, each i, each j, made i, made j)
 
 pub count_is : (n : ℕ) → IsTrue (is_slot_count n) → (1 ≤ n) × (n ≤ 16)
 count_is n h = let both = and_parts (nat_le 1 n) (nat_le n 16) h in (leb-true 1 n both.0, leb-true n 16 both.1)

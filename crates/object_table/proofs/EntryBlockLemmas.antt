@@ -1,6 +1,6 @@
 -- In how many blocks of a pool the entries of a map have their samples.
 use Rattle.std.proofs.Common.{◌≡◌, ℕ, ◌+◌, List, [], ◌∷◌, map, Some, refl, sym, ap, ◌∙◌, arith, rules, sum_by}
-use Rattle.object_table.proofs.Common.{lookup, set_value, remove_entry, is_at, nat_cmp, sum_by-cons, Format, Entry, GraphValue, ObjectValue, ImageObject, DelayObject, GraphObject, object_kind, object_blocks, blocks_in, LendsAtLeast, Balances, Named, named}
+use Rattle.object_table.proofs.Common.{lookup, set_value, remove_entry, is_at, nat_cmp, sum_by-cons, Format, Entry, GraphValue, ObjectValue, GraphObject, object_kind, object_blocks, blocks_in, LendsAtLeast, Balances, Named, named}
 use Rattle.vx_base.specs.declared.kind.Kind.TheVariants as kind
 use Rattle.pixel_pool.specs.declared.pool.Pool.{Pool}
 use Rattle.object_table.specs.Blocks.{LendsLess}
@@ -75,9 +75,7 @@ Balances-all pool changed before entries none balances format = omega (arith, ba
 
 -- they have no samples
 no_blocks : (object : ObjectValue) → object_kind object ≡ kind.Graph → (format : Format) → object_blocks object format ≡ 0
-no_blocks (ImageObject image) is format = cc
-no_blocks (DelayObject images) is format = cc
-no_blocks other is format = refl
+no_blocks object is format = grind arith
 
 -- so a graph in a graph's place has as many
 pub graph_blocks : (old new : ObjectValue) (graph : GraphValue) → object_kind old ≡ kind.Graph → new ≡ GraphObject graph → (format : Format) → object_blocks new format ≡ object_blocks old format

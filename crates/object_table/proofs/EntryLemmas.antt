@@ -1,6 +1,7 @@
 -- Entries of a map by name, and what they show.
-use Rattle.std.proofs.Common.{◌≡◌, ℕ, ◌+◌, ◌<◌, ◌≤◌, true, cond, List, [], ◌∷◌, ◌++◌, ◌*◌, length, map, Option, Some, None, refl, sym, ap, subst, ◌∙◌, arith, rules, ◌==◌, nat_lt, ◌||◌, sum_by, unwrap_or, length-append, All, IfSome, IsTrue}
-use Rattle.object_table.proofs.Common.{nat_cmp, keys_of, lookup, set_value, remove_entry, is_at, option_map, IsStrictlyIncreasing, cases_lt, and_parts, length-map, All-cons, All-head, All-tail, All-weaker, sum_by-cons, sum_by-le, sum_by_push, keys-set_value, length-set_value, All-lookup, sorted_tail, U8, Kind, Cell, ImageValue, new_image, ObjectValue, ImageObject, DelayObject, ExtremesObject, GraphObject, object_bytes, object_kind, Entry, Context, object_named, charge_of, with_objects, object_in, with_slot, HasImage, object_held, with_object, image_value, aged_object, IsUnder, named, is_kept, IsTable, nodes_in, names_used_by, names_used, times, GREATEST_SLOTS, GREATEST_BYTES}
+use Rattle.std.proofs.Common.{◌≡◌, ℕ, ◌+◌, ◌<◌, ◌≤◌, true, cond, List, [], ◌∷◌, ◌++◌, ◌*◌, length, map, Option, Some, None, refl, sym, ap, subst, ◌∙◌, arith, rules, ◌==◌, nat_lt, ◌||◌, sum_by, unwrap_or, length-append, All, IsTrue}
+use Rattle.object_table.proofs.Common.{nat_cmp, keys_of, lookup, set_value, remove_entry, is_at, option_map, IsStrictlyIncreasing, cases_lt, and_parts, length-map, All-cons, All-head, All-tail, All-weaker, sum_by-cons, sum_by-le, sum_by_push, keys-set_value, length-set_value, All-lookup, sorted_tail, Kind, Cell, ImageValue, new_image, ObjectValue, ImageObject, object_bytes, object_kind, Entry, Context, object_named, charge_of, with_objects, object_in, with_slot, HasImage, object_held, with_object, image_value, aged_object, IsUnder, named, is_kept, IsTable, nodes_in, names_used_by, names_used, times, GREATEST_SLOTS, GREATEST_BYTES}
+use Rattle.vx_base.specs.declared.format.Format.TheVariants.{U8}
 use Rattle.std.specs.BTreeMap.{insert_entry}
 use Rattle.std.specs.List.Sorted.{IsStrictlySortedBy}
 use Rattle.std.proofs.lemmas.Cmp.{nat_cmp_total, eq_by_cmp_equiv}
@@ -10,7 +11,6 @@ use Rattle.std.proofs.lemmas.Map.Entries.{none_past_head}
 use Rattle.std.proofs.lemmas.Map.Keys.{sorted_from_strictly_increasing, IsDistinct-from_sorted}
 use Rattle.vx_base.specs.declared.kind.Kind.TheVariants as kind
 use Rattle.vx_base.specs.Cell.{cell_of}
-use Rattle.vx_base.specs.Object.{LutObject, ThresholdObject, ConvolutionObject, DistributionObject, VirtualObject}
 use Rattle.object_table.specs.Context.{can_insert}
 use Rattle.object_table.specs.Table.{object_under, cell_object, image_held, HoldsImage}
 
@@ -108,7 +108,7 @@ charge_limit next charge entries t = omega (arith, t.charged, charge_is entries,
 
 module _ (next charge : ℕ) (entries : List (ℕ × Entry)) (t : IsTable next charge entries) (name : ℕ) (old : Entry) (found : lookup (is_at (nat_cmp name)) entries ≡ Some old) where
   bytes_found : object_bytes old.object ≤ GREATEST_SLOTS * GREATEST_BYTES
-  bytes_found = subst (λ (o : Option Entry). IfSome o (λ e. object_bytes e.object ≤ GREATEST_SLOTS * GREATEST_BYTES)) found (All-lookup (λ (e : Entry). object_bytes e.object ≤ GREATEST_SLOTS * GREATEST_BYTES) (is_at (nat_cmp name)) entries t.each)
+  bytes_found = rw found at (All-lookup (λ (e : Entry). object_bytes e.object ≤ GREATEST_SLOTS * GREATEST_BYTES) (is_at (nat_cmp name)) entries t.each)
 
   -- an object in its place, with the same nodes, leaves a table, whose charge is the new object's
   pub IsTable-exchanged : (charged : ℕ) (new : Entry) → new.live ≡ old.live → new.uses ≡ old.uses → nodes_in new.object ≡ nodes_in old.object
@@ -196,35 +196,23 @@ module _ (t : Context) (next : ℕ) (entries : List (ℕ × Entry)) (view : ◌�
 
 -- an image that is written over an image leaves no nodes
 pub no_nodes : (slot : Option ℕ) (image : ImageValue) (object : ObjectValue) → HasImage slot object → nodes_in (with_slot slot (ImageObject image) object) ≡ nodes_in object
-no_nodes None image (ImageObject i) h = refl
-no_nodes None image (LutObject o) h = cc
-no_nodes None image (ThresholdObject o) h = cc
-no_nodes None image (DelayObject o) h = cc
-no_nodes None image (ConvolutionObject o) h = cc
-no_nodes None image (DistributionObject o) h = cc
-no_nodes None image (ExtremesObject o) h = cc
-no_nodes None image (GraphObject o) h = cc
-no_nodes None image (VirtualObject o) h = cc
-no_nodes (Some k) image (DelayObject images) h = refl
-no_nodes (Some k) image other h = cc
+no_nodes slot image object h = grind arith
 
 pub aged_nodes : (object : ObjectValue) → nodes_in (aged_object object) ≡ nodes_in object
-aged_nodes (DelayObject images) = refl
-aged_nodes other = refl
+aged_nodes object = grind arith
 
 -- only a graph has nodes
 pub plain : (object : ObjectValue) → (object_kind object ≡ kind.Graph → ⊥) → nodes_in object ≡ []
-plain (GraphObject graph) h = absurd (h refl)
-plain other h = refl
+plain object h = grind arith
 
 -- an object of another kind has as many as any that isn't a graph
 pub none_of_kind : (wanted : Kind) (object new : ObjectValue) → object_kind object ≡ wanted → object_kind new ≡ wanted → (wanted ≡ kind.Graph → ⊥) → nodes_in new ≡ nodes_in object
-none_of_kind wanted object new is same other = plain new (λ graph. other (sym same ∙ graph)) ∙ sym (plain object (λ graph. other (sym is ∙ graph)))
+none_of_kind wanted object new is same other = grind (arith, plain object, plain new)
 
 module _ (t : Context) (next : ℕ) (entries : List (ℕ × Entry)) (view : ◌≡◌ {A = Context} (record { next = next; objects = map named entries }) t) where
   -- an object of a kind that is held under a name is found
   pub nothing_under : (wanted : Kind) (name : ℕ) → lookup (is_at (nat_cmp name)) entries ≡ None → IsUnder t.objects wanted name → ⊥
-  nothing_under wanted name none h = let no : ◌≡◌ {A = Option Kind} None (Some wanted) = ap (option_map object_kind) (sym (none_held t next entries view name none)) ∙ h in cc
+  nothing_under wanted name none h = grind (arith, none_held t next entries view name none)
 
   pub nothing_held : (cell : Cell) (name : ℕ) → name ≡ cell.name → lookup (is_at (nat_cmp name)) entries ≡ None → HoldsImage t.objects cell → ⊥
   nothing_held cell name at none h = grind (arith, none_held t next entries view name none)

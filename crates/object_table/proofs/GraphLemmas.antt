@@ -1,11 +1,11 @@
 -- Nodes that come and go, the names that they use, and what is held then.
-use Rattle.std.proofs.Common.{inl, inr, ◌≡◌, ℕ, ◌+◌, ◌-◌, ◌*◌, ◌<◌, ◌≤◌, zero, suc, Bool, true, false, cond, List, [], ◌∷◌, ◌++◌, Some, None, length, map, get_or, IsTrue, refl, sym, ap, subst, ◌∙◌, arith, rules, ◌==◌, ◌||◌, nat_lt, find, sum_by, is_some, eqb-true, ne_eqb, length-append, All, ◌&&◌, not, filter, ltb-true}
-use Rattle.object_table.proofs.Common.{list_any, flat_map, AllPairs, IsStrictlyIncreasing, lookup, set_value, is_at, nat_cmp, cases_Bool, and_parts, map-append, length-map, get_or-map, All-nil, All-cons, All-head, All-tail, All-map, All-weaker, All-filter, filter_passes, AllPairs-filter, AllPairs-from_increasing, sum_by-cons, sum_by-le, count_by-le-length, keys-set_value, length-set_value, U8, Kind, Node, Numbered, Cell, GraphValue, can_add, with_node, without_node, new_image, given, ObjectValue, ImageObject, GraphObject, object_bytes, object_kind, Entry, Context, charge_of, object_named, still_held, unnamed, Named, object_held, graph_value, named, used_more, used_less, is_kept, kept, IsTable, used_names, nodes_in, names_used_by, names_used, times, GREATEST_SLOTS, GREATEST_BYTES}
-use Rattle.std.proofs.lemmas.Bool.Decides.{nat_tests}
+use Rattle.std.proofs.Common.{inl, inr, ◌≡◌, ℕ, ◌+◌, ◌-◌, ◌*◌, ◌<◌, ◌≤◌, zero, suc, Bool, true, false, cond, List, [], ◌∷◌, ◌++◌, Some, None, length, map, get_or, IsTrue, refl, sym, ap, subst, ◌∙◌, arith, rules, ◌==◌, ◌||◌, nat_lt, find, sum_by, is_some, eqb-true, ne_eqb, length-append, All, ◌&&◌, not, filter, ltb-true, take_at, drop_at}
+use Rattle.object_table.proofs.Common.{map-map, keys_of, lookup, set_value, list_any, flat_map, AllPairs, IsStrictlyIncreasing, is_at, nat_cmp, cases_Bool, and_parts, map-append, length-map, All-nil, All-cons, All-head, All-tail, All-map, All-weaker, All-filter, filter_passes, AllPairs-from_increasing, sum_by-cons, sum_by-le, count_by-le-length, keys-set_value, length-set_value, Kind, Node, Numbered, Cell, GraphValue, can_add, with_node, without_node, given, ObjectValue, GraphObject, object_bytes, object_kind, Entry, Context, charge_of, object_named, still_held, unnamed, Named, object_held, graph_value, named, used_more, used_less, is_kept, kept, IsTable, used_names, nodes_in, names_used_by, names_used, times, GREATEST_SLOTS, GREATEST_BYTES, nat_tests}
 use Rattle.std.proofs.lemmas.Bool.{false≢true}
 use Rattle.std.proofs.lemmas.Grind.{flat_map-append}
 use Rattle.std.proofs.lemmas.List.Concat.{length-flat_map}
-use Rattle.std.proofs.lemmas.List.Elements.{All-append}
+use Rattle.std.proofs.lemmas.List.Elements.{All-append, All-take, All-drop}
+use Rattle.std.proofs.lemmas.List.Kept.{AllPairs-cons}
 use Rattle.std.proofs.lemmas.List.Folds.{flat_map-map, list_any-append}
 use Rattle.std.proofs.lemmas.List.Sums.{length-filter}
 use Rattle.std.proofs.lemmas.Map.Steps.{set_value_same}
@@ -13,6 +13,8 @@ use Rattle.vx_base.specs.declared.kind.Kind.TheVariants as kind
 use Rattle.vx_base.specs.Graph.{IsGraph, nodes_of}
 use Rattle.vx_base.specs.Node.{operands}
 use Rattle.object_table.specs.Holds.{uses, is_used}
+use Rattle.graph_verify.proofs.MemberLemmas.{any-map}
+use Rattle.object_table.proofs.HeldLemmas.{All-from_map, increasing_from_pairs, increasing_head, increasing_tail}
 use Rattle.object_table.proofs.KeptLemmas.{ended-one, shown-ended}
 use Rattle.object_table.proofs.SlotLemmas.{graph_of_kind}
 use Rattle.object_table.proofs.UseLemmas.{times-append}
@@ -30,14 +32,6 @@ any_times name (other ∷ names) = grind (arith, any_times name names, times-con
 
 -- ---- lists of lists
 
-All-front : (P : ℕ → Type 0) (xs ys : List ℕ) → All P (xs ++ ys) → All P xs
-All-front P [] ys h = All-nil P
-All-front P (x ∷ xs) ys h = All-cons P x xs (All-head P x (xs ++ ys) h) (All-front P xs ys (All-tail P x (xs ++ ys) h))
-
-All-back : (P : ℕ → Type 0) (xs ys : List ℕ) → All P (xs ++ ys) → All P ys
-All-back P [] ys h = h
-All-back P (x ∷ xs) ys h = All-back P xs ys (All-tail P x (xs ++ ys) h)
-
 pub All-flat_map : {X Y : Type 0} (f : X → List Y) (P : Y → Type 0) (xs : List X) → All (λ x. All P (f x)) xs → All P (flat_map f xs)
 All-flat_map f P [] h = All-nil P
 All-flat_map f P (x ∷ xs) h = All-append P (f x) (flat_map f xs) (All-head (λ y. All P (f y)) x xs h) (All-flat_map f P xs (All-tail (λ y. All P (f y)) x xs h))
@@ -49,15 +43,17 @@ module _ {X : Type 0} (f : X → List ℕ) where
 
   All-parts : (P : ℕ → Type 0) (xs : List X) → All P (flat_map f xs) → All (λ x. All P (f x)) xs
   All-parts P [] h = All-nil (λ x. All P (f x))
-  All-parts P (x ∷ xs) h = All-cons (λ x. All P (f x)) x xs (All-front P (f x) (flat_map f xs) h) (All-parts P xs (All-back P (f x) (flat_map f xs) h))
+  All-parts P (x ∷ xs) h =
+      let first = subst (All P) (take_at (f x) (flat_map f xs) (length (f x)) refl) (All-take P (length (f x)) (f x ++ flat_map f xs) h) in
+      let others = subst (All P) (drop_at (f x) (flat_map f xs) (length (f x)) refl) (All-drop P (length (f x)) (f x ++ flat_map f xs) h) in
+      All-cons (λ x. All P (f x)) x xs first (All-parts P xs others)
 
   any-flat_map : (p : ℕ → Bool) (xs : List X) → list_any p (flat_map f xs) ≡ list_any (λ x. list_any p (f x)) xs
   any-flat_map p [] = refl
   any-flat_map p (x ∷ xs) = list_any-append p (f x) (flat_map f xs) ∙ ap (λ b. list_any p (f x) || b) (any-flat_map p xs)
 
 any_map : {X Y : Type 0} (p : Y → Bool) (f : X → Y) (xs : List X) → list_any p (map f xs) ≡ list_any (λ x. p (f x)) xs
-any_map p f [] = refl
-any_map p f (x ∷ xs) = ap (λ b. p (f x) || b) (any_map p f xs)
+any_map p f xs = sym (any-map f p xs)
 
 pub any_alike : {X : Type 0} (p q : X → Bool) (xs : List X) → All (λ x. p x ≡ q x) xs → list_any p xs ≡ list_any q xs
 any_alike p q [] h = refl
@@ -80,12 +76,7 @@ names_in object = flat_map used_names (nodes_in object)
 -- ---- a graph with one node more, or less
 
 times-with_node : (g : GraphValue) (n : Node) (name : ℕ) → times name (names_in (GraphObject (with_node g n))) ≡ times name (names_in (GraphObject g)) + times name (used_names n)
-times-with_node g n name =
-    let added : Numbered = record { number = g.next; node = n } in
-    ap (λ nodes. times name (flat_map used_names nodes)) (map-append (λ (m : Numbered). m.node) g.nodes (added ∷ []))
-    ∙ ap (times name) (flat_map-append used_names (nodes_of g) (n ∷ []))
-    ∙ times-append name (names_in (GraphObject g)) (used_names n ++ [])
-    ∙ ap (λ k. times name (names_in (GraphObject g)) + k) (times-append name (used_names n) [] ∙ omega arith)
+times-with_node g n name = simp (map-append, flat_map-append, times-append) (omega arith)
 
 All-with_node : (P : ℕ → Type 0) (g : GraphValue) (n : Node) → All P (names_in (GraphObject g)) → All P (used_names n) → All P (names_in (GraphObject (with_node g n)))
 All-with_node P g n h new =
@@ -119,10 +110,9 @@ times-without_node g number node name h found =
 All-without_node : (P : ℕ → Type 0) (g : GraphValue) (number : ℕ) → All P (names_in (GraphObject g)) → All P (names_in (GraphObject (without_node g number)))
 All-without_node P g number h =
     let test : Numbered → Bool = λ n. not (n.number == number) in
-    let names : Numbered → List ℕ = λ n. used_names n.node in
-    let flat = λ (nodes : List Numbered). flat_map-map used_names (λ (n : Numbered). n.node) nodes in
-    subst (All P) (sym (flat (filter test g.nodes)))
-    (All-flat_map names P (filter test g.nodes) (All-filter test (λ n. All P (names n)) g.nodes (All-parts names P g.nodes (subst (All P) (flat g.nodes) h))))
+    let each = All-from_map (λ n. All P (used_names n)) (λ (n : Numbered). n.node) g.nodes (All-parts used_names P (nodes_of g) h) in
+    All-flat_map used_names P (nodes_of (without_node g number)) (All-map (λ n. All P (used_names n)) (λ (n : Numbered). n.node)
+    (filter test g.nodes) (All-filter test (λ n. All P (used_names n.node)) g.nodes each))
 
 -- ---- whether a name is used
 
@@ -134,8 +124,7 @@ named_by : (name : ℕ) (n : Node) → list_any (λ other. name == other) (used_
 named_by name n = grind (arith, names_of_operands, any_map, any_alike, eqb-sym)
 
 used_in : (name : ℕ) (object : ObjectValue) → list_any (λ other. name == other) (flat_map used_names (nodes_in object)) ≡ uses object name
-used_in name (GraphObject g) = grind (arith, any-flat_map, any_map, any_alike, named_by)
-used_in name other = refl
+used_in name object = grind (arith, any-flat_map, any_map, any_alike, named_by)
 
 used_live : (name : ℕ) (o : Named) → list_any (λ other. name == other) (names_used_by o) ≡ (o.live && uses o.object name)
 used_live name o = grind (arith, used_in)
@@ -143,9 +132,13 @@ used_live name o = grind (arith, used_in)
 -- by those of all unreleased graphs
 pub is_used_there : (objects : List Named) (name : ℕ) → nat_lt 0 (times name (names_used objects)) ≡ is_used objects name
 is_used_there objects name =
-    any_times name (names_used objects)
-    ∙ any-flat_map names_used_by (λ other. name == other) objects
-    ∙ any_alike (λ o. list_any (λ other. name == other) (names_used_by o)) (λ o. o.live && uses o.object name) objects (λ k d below. used_live name (get_or objects k d))
+    grind (
+      arith,
+      any_times name (names_used objects),
+      any-flat_map names_used_by (λ other. name == other) objects,
+      any_alike (λ o. list_any (λ other. name == other) (names_used_by o)) (λ o. o.live && uses o.object name) objects,
+      used_live,
+    )
 
 -- ---- entries
 
@@ -245,12 +238,10 @@ module _ (f : ℕ → ℕ → ℕ) where
 
   -- nothing that is shown changes
   pub named-recounted : (entries : List (ℕ × Entry)) → map named (recounted entries) ≡ map named entries
-  named-recounted [] = refl
-  named-recounted (e ∷ entries) = ap (λ l. named e ∷ l) (named-recounted entries)
+  named-recounted entries = map-map named _ entries
 
   keys-recounted : (entries : List (ℕ × Entry)) → map (λ (e : ℕ × Entry). e.0) (recounted entries) ≡ map (λ (e : ℕ × Entry). e.0) entries
-  keys-recounted [] = refl
-  keys-recounted (e ∷ entries) = ap (λ l. e.0 ∷ l) (keys-recounted entries)
+  keys-recounted entries = map-map (λ (e : ℕ × Entry). e.0) _ entries
 
   entries-recounted : (next : ℕ) (entries : List (ℕ × Entry)) → AreEntries next entries → AreEntries next (recounted entries)
   entries-recounted next entries h =
@@ -280,24 +271,14 @@ held-more names entries h =
 
 -- keys in their order stay so where some go
 increasing-kept : (p : ℕ × Entry → Bool) (entries : List (ℕ × Entry)) → IsStrictlyIncreasing (map (λ (e : ℕ × Entry). e.0) entries) → IsStrictlyIncreasing (map (λ (e : ℕ × Entry). e.0) (filter p entries))
-increasing-kept p entries h k below =
-    let key : ℕ × Entry → ℕ = λ e. e.0 in
-    let rest : List (ℕ × Entry) = filter p entries in
-    let there = length-map rest key in
-    let d : ℕ × Entry = (0, record { live = false; uses = 0; object = ImageObject (new_image 0 0 U8) }) in
-    let pairs : AllPairs (λ (a b : ℕ × Entry). a.0 < b.0) entries = λ i j d less within.
-    omega (
-      arith,
-      AllPairs-from_increasing (map key entries) h i j d.0 less (omega (arith, within, length-map entries key)),
-      get_or-map key entries i d d.0 (omega (arith, less, within)),
-      get_or-map key entries j d d.0 within,
-    ) in
-    omega (
-      arith,
-      AllPairs-filter (λ (a b : ℕ × Entry). a.0 < b.0) p entries pairs k (k + 1) d (omega arith) (omega (arith, below, there)),
-      get_or-map key rest k d 0 (omega (arith, below, there)),
-      get_or-map key rest (k + 1) d 0 (omega (arith, below, there)),
-    )
+increasing-kept p [] h = h
+increasing-kept p (e ∷ entries) h =
+    let above = All-from_map (λ k. e.0 < k) (λ (d : ℕ × Entry). d.0) entries (increasing_head e.0 (keys_of entries) h) in
+    let rest = increasing-kept p entries (increasing_tail e.0 (keys_of entries) h) in
+    let keys = keys_of (filter p entries) in
+    let first = All-map (λ k. e.0 < k) (λ (d : ℕ × Entry). d.0) (filter p entries) (All-filter p (λ d. e.0 < d.0) entries above) in
+    let all = increasing_from_pairs (e.0 ∷ keys) (AllPairs-cons (λ x y. x < y) e.0 keys first (AllPairs-from_increasing keys rest)) in
+    elim (cases_Bool (p e)) [ inl k ↦ rw k all | inr k ↦ rw k rest ]
 
 -- what goes isn't live, and so uses nothing
 used-kept : (entries : List (ℕ × Entry)) → flat_map used_by (kept entries) ≡ flat_map used_by entries
@@ -386,9 +367,11 @@ module _ (next charge : ℕ) (entries : List (ℕ × Entry)) (h : IsTable next c
 module _ (next charge : ℕ) (entries : List (ℕ × Entry)) (h : IsTable next charge entries) (name : ℕ) (old : Entry) (found : lookup (is_at (nat_cmp name)) entries ≡ Some old) (live : old.live ≡ true) where
   fewer-released : (n : ℕ) → times n (names_used (map named entries)) ≡ times n (names_used (map named (set_value (is_at (nat_cmp name)) entries (record old { live = false })))) + times n (names_in old.object)
   fewer-released n =
-      let new : Entry = record old { live = false } in
-      let none : times n (used_by (name, new)) ≡ 0 = refl in
-      omega (arith, times-after next charge entries h name old new found refl n, none, ap (times n) (used_when_live name old live))
+      omega (
+        arith,
+        times-after next charge entries h name old (record old { live = false }) found refl n,
+        ap (times n) (used_when_live name old live),
+      )
 
   entries-released : AreEntries next (set_value (is_at (nat_cmp name)) entries (record old { live = false }))
   entries-released = entries-after next charge entries h name old (record old { live = false }) found refl (λ few. few) refl (λ k given. All-nil (λ n. n < next))
@@ -417,8 +400,7 @@ module _ (next charge : ℕ) (entries : List (ℕ × Entry)) (h : IsTable next c
 
   uses-less : All (λ e. e.1.uses ≡ times e.0 (names_used (map named less))) less
   uses-less =
-      subst (λ (l : List (ℕ × Entry)). All (λ e. e.1.uses ≡ times e.0 (names_used (map named l))) l) (sym is)
-      (uses-recounted anew then
+      rw is (uses-recounted anew then
       (All-weaker (λ e. e.1.uses ≡ times e.0 (names_used (map named entries))) (λ e. e.1.uses - times e.0 gone ≡ times e.0 (names_used (map named then)))
       (λ e uses. omega (arith, uses, fewer e.0)) then (uses-after next charge entries h name old new found same)))
 

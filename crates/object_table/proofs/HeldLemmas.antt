@@ -1,8 +1,7 @@
 -- Objects under their names: the one of a name, and the objects when one is written.
-use Rattle.std.proofs.Common.{◌≡◌, ℕ, ◌+◌, ◌<◌, List, [], ◌∷◌, map, zero, suc, refl, ap, subst, ◌∙◌, arith, Option, Some, IfSome, rules, ◌==◌, if◌then◌else◌, find, eqb-true, All, eq-eqb}
+use Rattle.std.proofs.Common.{◌≡◌, ℕ, ◌+◌, ◌<◌, List, [], ◌∷◌, map, zero, suc, refl, subst, arith, Some, IfSome, rules, eqb-true, All, eq-eqb}
 use Rattle.object_table.proofs.Common.{IsStrictlyIncreasing, AllPairs, option_map, eqb-false, length-map, All-nil, All-cons, All-head, All-tail, All-weaker, AllPairs-from_increasing, Cell, ObjectValue, IsObject, with_slot, Named, object_held, with_object}
 use Rattle.std.proofs.Math.ListN.{get_or-map as get_or-map_default}
-use Rattle.std.proofs.lemmas.Bool.{cond_both}
 use Rattle.std.proofs.lemmas.Option.{IfSome_then}
 use Rattle.object_table.proofs.SlotLemmas.{IsObject-in_slot}
 use Rattle.object_table.specs.Named.{held}
@@ -13,15 +12,15 @@ abbrev pub names_of : List Named → List ℕ
 names_of objects = map (λ o. o.name) objects
 
 -- numbers that increase, each below all later ones
-increasing_from_pairs : (names : List ℕ) → AllPairs (λ x y. x < y) names → IsStrictlyIncreasing names
+pub increasing_from_pairs : (names : List ℕ) → AllPairs (λ x y. x < y) names → IsStrictlyIncreasing names
 increasing_from_pairs names pairs k h = pairs k (k + 1) 0 (omega arith) h
 
 -- the first is below the others
-increasing_head : (name : ℕ) (names : List ℕ) → IsStrictlyIncreasing (name ∷ names) → All (λ other. name < other) names
+pub increasing_head : (name : ℕ) (names : List ℕ) → IsStrictlyIncreasing (name ∷ names) → All (λ other. name < other) names
 increasing_head name names h k d below = AllPairs-from_increasing (name ∷ names) h zero (suc k) d (omega arith) (omega arith)
 
 -- the others increase
-increasing_tail : (name : ℕ) (names : List ℕ) → IsStrictlyIncreasing (name ∷ names) → IsStrictlyIncreasing names
+pub increasing_tail : (name : ℕ) (names : List ℕ) → IsStrictlyIncreasing (name ∷ names) → IsStrictlyIncreasing names
 increasing_tail name names h = increasing_from_pairs names (λ i j d a b. AllPairs-from_increasing (name ∷ names) h (suc i) (suc j) d (omega arith) (omega arith))
 
 -- what holds of the image of each element holds of each element through it
@@ -41,10 +40,13 @@ later_increase o objects h = increasing_tail o.name (names_of objects) h
 pub named_has : (P : ℕ → ObjectValue → Type 0) (objects : List Named) (name : ℕ) → All (λ o. P o.name o.object) objects → IfSome (object_held objects name) (P name)
 named_has P [] name h = tt
 named_has P (o ∷ objects) name h =
-    let Has : Option Named → Type 0 = λ found. IfSome (option_map (λ p. p.object) found) (P name) in
-    cond_both (o.name == name) (Some o) (find (λ p. p.name == name) objects) Has
-    (λ t. subst (λ k. P k o.object) (eqb-true o.name name t) (All-head (λ p. P p.name p.object) o objects h))
-    (λ t. named_has P objects name (All-tail (λ p. P p.name p.object) o objects h))
+    grind (
+      arith,
+      named_has P objects name,
+      All-head (λ p. P p.name p.object) o objects h,
+      All-tail (λ p. P p.name p.object) o objects h,
+      eqb-true o.name name,
+    )
 
 -- what holds of each object holds of the one of this name
 pub object_held_has : (P : ObjectValue → Type 0) (objects : List Named) (name : ℕ) → All (λ o. P o.object) objects → IfSome (object_held objects name) P
@@ -78,14 +80,6 @@ held_is objects cell h = grind (arith, object_held_has IsObject objects cell.nam
 
 -- ---- one object is written
 
--- an object once this one is written to the cell, if it has the cell's name
-abbrev written : Named → Cell → ObjectValue → Named
-written o cell object = if o.name == cell.name then record o { object = with_slot cell.slot object o.object } else o
-
--- what holds of both holds of it
-written_or_kept : (P : Named → Type 0) (o : Named) (cell : Cell) (object : ObjectValue) → (o.name ≡ cell.name → P (record o { object = with_slot cell.slot object o.object })) → P o → P (written o cell object)
-written_or_kept P o cell object named kept = grind arith
-
 -- what holds of each object holds after a write that keeps it
 pub All-with_object : (P Q : Named → Type 0) (objects : List Named) (cell : Cell) (object : ObjectValue)
     → ((o : Named) → Q o → P o → o.name ≡ cell.name → P (record o { object = with_slot cell.slot object o.object })) → All Q objects → All P objects → All P (with_object objects cell object)
@@ -97,10 +91,9 @@ All-with_object P Q (o ∷ objects) cell object keeps also h =
 pub map-with_object : {X : Type 0} (f : Named → X) (objects : List Named) (cell : Cell) (object : ObjectValue)
     → All (λ o. o.name ≡ cell.name → f (record o { object = with_slot cell.slot object o.object }) ≡ f o) objects → map f (with_object objects cell object) ≡ map f objects
 map-with_object f [] cell object same = refl
-map-with_object {X} f (o ∷ objects) cell object same =
+map-with_object f (o ∷ objects) cell object same =
     let Same : Named → Type 0 = λ p. p.name ≡ cell.name → f (record p { object = with_slot cell.slot object p.object }) ≡ f p in
-    ap (λ (x : X). x ∷ map f (with_object objects cell object)) (written_or_kept (λ p. f p ≡ f o) o cell object (All-head Same o objects same) refl)
-    ∙ ap (λ (xs : List X). f o ∷ xs) (map-with_object f objects cell object (All-tail Same o objects same))
+    grind (arith, map-with_object f objects cell object (All-tail Same o objects same), All-head Same o objects same, eqb-true o.name cell.name)
 
 -- a write keeps the names
 pub names-with_object : (objects : List Named) (cell : Cell) (object : ObjectValue) → names_of (with_object objects cell object) ≡ names_of objects

@@ -1,6 +1,7 @@
 -- Entries that are held, and what is left of them when uses and names end.
-use Rattle.std.proofs.Common.{inl, inr, ◌≡◌, ℕ, ◌+◌, ◌-◌, true, false, cond, List, [], ◌∷◌, ◌++◌, length, map, IsTrue, Option, Some, None, refl, sym, ap, subst, ◌∙◌, arith, ◌==◌, nat_lt, ◌||◌, unwrap_or, le-ltb, All, ltb-false}
-use Rattle.object_table.proofs.Common.{keys_of, lookup, set_value, remove_entry, is_at, nat_cmp, option_map, cases_Bool, or_left, or_from, length-map, All-head, All-tail, filter_passes, sorted_tail, Numbered, object_bytes, object_kind, Entry, charge_of, unnamed, named, is_kept, kept, nodes_at, used_less, ended, nodes_in, times}
+use Rattle.std.proofs.Common.{◌≡◌, ℕ, ◌+◌, ◌-◌, true, false, cond, List, [], ◌∷◌, ◌++◌, length, map, IsTrue, Option, Some, None, refl, sym, ap, ◌∙◌, arith, ◌==◌, nat_lt, ◌||◌, unwrap_or, All}
+use Rattle.object_table.proofs.Common.{keys_of, lookup, set_value, remove_entry, is_at, nat_cmp, option_map, cases_Bool, length-map, All-head, All-tail, filter_passes, sorted_tail, Numbered, object_bytes, object_kind, Entry, charge_of, unnamed, named, is_kept, kept, nodes_at, used_less, ended, nodes_in, times, nat_tests}
+use Rattle.std.proofs.lemmas.Bool.{or_left}
 use Rattle.std.proofs.lemmas.Bool.{or_parts}
 use Rattle.object_table.proofs.EntryLemmas.{InOrder, same_name, past_head, charge_is, All-written, sum-written, sum-removed}
 use Rattle.object_table.proofs.UseLemmas.{with_uses, less, less_is, used-append, used-nil, shown-used}
@@ -58,7 +59,7 @@ left_of names entries = kept (used_less names entries)
 
 -- they are all held
 pub held-left : (names : List ℕ) (entries others : List (ℕ × Entry)) → others ≡ left_of names entries → All (λ e. IsTrue (is_kept e)) others
-held-left names entries others is = subst (λ (l : List (ℕ × Entry)). All (λ e. IsTrue (is_kept e)) l) (sym is) (filter_passes is_kept (used_less names entries))
+held-left names entries others is = rw is (filter_passes is_kept (used_less names entries))
 
 pub left-nil : (entries : List (ℕ × Entry)) → All (λ e. IsTrue (is_kept e)) entries → entries ≡ left_of [] entries
 left-nil entries held = sym (all_kept entries held) ∙ ap kept (sym (used-nil less less_is entries))
@@ -66,8 +67,7 @@ left-nil entries held = sym (all_kept entries held) ∙ ap kept (sym (used-nil l
 left-kept : (names : List ℕ) (entries : List (ℕ × Entry)) → left_of names (kept entries) ≡ left_of names entries
 left-kept names entries =
     kept-map (λ e. (e.0, with_uses e.1 (e.1.uses - times e.0 names)))
-    (λ e is. let parts = or_parts e.1.live (nat_lt 0 e.1.uses) is in
-    or_from e.1.live (nat_lt 0 (e.1.uses - times e.0 names)) parts.0 (le-ltb 0 (e.1.uses - times e.0 names) (omega (arith, ltb-false 0 e.1.uses parts.1)))) entries
+    (λ e is. grind (arith, nat_tests, or_parts e.1.live (nat_lt 0 e.1.uses) is)) entries
 
 pub left-append : (first second : List ℕ) (entries : List (ℕ × Entry)) → left_of second (left_of first entries) ≡ left_of (first ++ second) entries
 left-append first second entries = left-kept second (used_less first entries) ∙ ap kept (used-append less less_is first second entries)
@@ -114,8 +114,9 @@ shown-ended name [] = refl
 shown-ended name (e ∷ entries) = grind (arith, shown-ended name entries, cases_Bool (e.0 == name))
 
 kept-ended : (name : ℕ) (entries : List (ℕ × Entry)) → kept (ended name (kept entries)) ≡ kept (ended name entries)
-kept-ended name entries = kept-map (λ e. let n : Entry = e.1 in cond (e.0 == name) (e.0, record n { live = false }) e)
-    (λ e is. elim (cases_Bool (e.0 == name)) [ inl k ↦ rw k (or_parts e.1.live (nat_lt 0 e.1.uses) is).1 | inr k ↦ rw k is ]) entries
+kept-ended name entries =
+    kept-map (λ e. let n : Entry = e.1 in cond (e.0 == name) (e.0, record n { live = false }) e)
+    (λ e is. grind (arith, cases_Bool e.1.live)) entries
 
 ended-less : (name : ℕ) (names : List ℕ) (entries : List (ℕ × Entry)) → ended name (used_less names entries) ≡ used_less names (ended name entries)
 ended-less name names [] = refl

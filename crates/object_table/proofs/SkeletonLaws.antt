@@ -1,9 +1,10 @@
 -- What the skeleton of an object tells, and writes that keep it.
-use Rattle.std.proofs.Common.{◌≡◌, ℕ, List, [], ◌∷◌, map, get_or, set, Option, Some, None, refl, sym, ap, ◌∙◌, sum, slice_get, unwrap_or}
-use Rattle.object_table.proofs.Common.{option_map, sum-map, get_or_from_slice_get, map-map, ImageValue, description_of, ObjectValue, ImageObject, DelayObject, IsObject, object_kind, object_bytes, image_bytes, in_slot, with_slot, image_value, image_skeleton, skeleton}
+use Rattle.std.proofs.Common.{◌≡◌, ℕ, List, map, get_or, set, Option, Some, None, arith, refl, sym, ap, ◌∙◌, slice_get}
+use Rattle.object_table.proofs.Common.{option_map, get_or_from_slice_get, map-map, ImageValue, description_of, ObjectValue, ImageObject, DelayObject, IsObject, object_kind, object_bytes, image_bytes, in_slot, with_slot, image_skeleton, skeleton, sum_map}
 use Rattle.std.specs.Option.{option_and_then}
 use Rattle.std.proofs.Math.Seq.{map-set_same}
 use Rattle.std.proofs.lemmas.Option.{slice_get-map}
+use Rattle.std.proofs.Math.Path.{fun_ext}
 use Rattle.object_table.specs.Delay.{slot_kind}
 use Rattle.object_table.proofs.SlotLemmas.{IsDelay-set}
 
@@ -15,50 +16,31 @@ module _ {X Y Z : Type 0} (f : X → Y) (g : X → Z) (h : Y → Z) (told : (x :
   map-told xs ys same = sym (through xs) ∙ ap (map h) same ∙ through ys
     where
       through : (l : List X) → map h (map f l) ≡ map g l
-      through [] = refl
-      through (x ∷ l) = ap (λ z. z ∷ map h (map f l)) (told x) ∙ ap (λ zs. g x ∷ zs) (through l)
+      through l = map-map h f l ∙ ap (λ k. map k l) (fun_ext told)
 
   -- and of what may be there
   pub option_map-told : (one other : Option X) → option_map f one ≡ option_map f other → option_map g one ≡ option_map g other
-  option_map-told one other same = sym (through one) ∙ ap (option_map h) same ∙ through other
-    where
-      through : (o : Option X) → option_map h (option_map f o) ≡ option_map g o
-      through None = refl
-      through (Some x) = ap Some (told x)
+  option_map-told one other same = grind (arith, told)
 
 -- ---- what the skeleton tells
 
 pub kind-skeleton : (object : ObjectValue) → object_kind (skeleton object) ≡ object_kind object
-kind-skeleton (ImageObject image) = refl
-kind-skeleton other = refl
+kind-skeleton object = grind arith
 
 pub slot_kind-skeleton : (slot : Option ℕ) (object : ObjectValue) → slot_kind slot (skeleton object) ≡ slot_kind slot object
-slot_kind-skeleton None object = ap Some (kind-skeleton object)
-slot_kind-skeleton (Some k) (DelayObject images) = refl
-slot_kind-skeleton (Some k) other = refl
+slot_kind-skeleton slot object = grind (arith, kind-skeleton object)
 
 pub bytes-skeleton : (object : ObjectValue) → object_bytes (skeleton object) ≡ object_bytes object
-bytes-skeleton (DelayObject images) =
-    sym (sum-map image_bytes (map image_skeleton images)) ∙ ap sum (map-map image_bytes image_skeleton images) ∙ sum-map image_bytes images
+bytes-skeleton (DelayObject images) = sym (sum_map image_bytes image_skeleton images)
 bytes-skeleton other = refl
 
 -- what stands in a slot has the skeleton that stands there
 pub in_slot-skeleton : (slot : Option ℕ) (object : ObjectValue) → in_slot slot (skeleton object) ≡ option_map skeleton (in_slot slot object)
-in_slot-skeleton None object = refl
-in_slot-skeleton (Some k) (DelayObject images) = ap (option_map ImageObject) (slice_get-map image_skeleton images k) ∙ as_object (slice_get images k)
-  where
-    as_object : (found : Option ImageValue) → option_map ImageObject (option_map image_skeleton found) ≡ option_map skeleton (option_map ImageObject found)
-    as_object None = refl
-    as_object (Some image) = refl
-in_slot-skeleton (Some k) other = refl
+in_slot-skeleton slot object = grind (arith, slice_get-map image_skeleton)
 
 pub slots_alike : (slot : Option ℕ) (one other : Option ObjectValue) → option_map skeleton one ≡ option_map skeleton other
     → option_map skeleton (option_and_then (in_slot slot) one) ≡ option_map skeleton (option_and_then (in_slot slot) other)
-slots_alike slot one other same = sym (through one) ∙ ap (option_and_then (in_slot slot)) same ∙ through other
-  where
-    through : (o : Option ObjectValue) → option_and_then (in_slot slot) (option_map skeleton o) ≡ option_map skeleton (option_and_then (in_slot slot) o)
-    through None = refl
-    through (Some object) = in_slot-skeleton slot object
+slots_alike slot one other same = grind (arith, in_slot-skeleton slot)
 
 -- ---- what is written
 
@@ -70,21 +52,15 @@ skeletons-set images k image same = map-set_same image_skeleton images k image i
     as_there : (found : Option ImageValue) → slice_get images k ≡ found → option_map skeleton (option_map ImageObject found) ≡ Some (skeleton (ImageObject image))
         → image_skeleton image ≡ image_skeleton (get_or images k image)
     as_there None e is = absurd (cc)
-    as_there (Some old) e is =
-        sym (ap (λ (o : Option ObjectValue). image_value (unwrap_or o (ImageObject image))) is) ∙ ap image_skeleton (sym (get_or_from_slice_get images k old image e))
+    as_there (Some old) e is = grind (arith, get_or_from_slice_get images k old image e)
 
 -- so does any object in the place of one of its skeleton
 pub skeleton-with_slot : (slot : Option ℕ) (new object : ObjectValue) → option_map skeleton (in_slot slot object) ≡ Some (skeleton new)
     → skeleton (with_slot slot new object) ≡ skeleton object
-skeleton-with_slot None new object same = let e : skeleton object ≡ skeleton new = cc in sym e
-skeleton-with_slot (Some k) (ImageObject image) (DelayObject images) same = ap DelayObject (skeletons-set images k image same)
-skeleton-with_slot (Some k) new object same = refl
+skeleton-with_slot slot new object same = grind (arith, skeletons-set)
 
 -- and it leaves an object
 pub IsObject-with_slot : (slot : Option ℕ) (new object : ObjectValue) → option_map skeleton (in_slot slot object) ≡ Some (skeleton new) → IsObject new → IsObject object
     → IsObject (with_slot slot new object)
-IsObject-with_slot None new object same is was = is
-IsObject-with_slot (Some k) (ImageObject image) (DelayObject images) same is was =
-    IsDelay-set images k image was is
-    (map-told image_skeleton description_of description_of (λ _. refl) (set images k image) images (skeletons-set images k image same))
-IsObject-with_slot (Some k) new object same is was = was
+IsObject-with_slot slot new object same is was =
+    grind (arith, IsDelay-set, map-told image_skeleton description_of description_of (λ _. refl), skeletons-set)

@@ -1,5 +1,5 @@
 -- How often nodes use what is held.
-use Rattle.std.proofs.Common.{◌≡◌, ℕ, ◌+◌, ◌-◌, ◌<◌, ◌≤◌, Bool, cond, List, [], ◌∷◌, ◌++◌, length, map, get_or, take, Option, Some, None, refl, sym, ap, subst, ◌∙◌, arith, ◌==◌, All}
+use Rattle.std.proofs.Common.{◌≡◌, ℕ, ◌+◌, ◌-◌, ◌<◌, ◌≤◌, Bool, cond, List, [], ◌∷◌, ◌++◌, length, map, get_or, take, Option, Some, None, refl, sym, ap, ◌∙◌, arith, ◌==◌, All}
 use Rattle.object_table.proofs.Common.{nat_cmp, keys_of, lookup, set_value, is_at, flat_map, option_map, map-append, length-map, get_or-map, All-map, sum_by-append, count_by-le-length, sorted_tail, Node, Numbered, Cell, given, ObjectValue, Entry, used_more, used_names, times}
 use Rattle.std.proofs.lemmas.List.{take_more, flat_map_more}
 use Rattle.object_table.proofs.EntryLemmas.{InOrder, same_name, past_head}
@@ -103,13 +103,11 @@ uses_within limit names entries h =
     grind (arith, All-map {X = ℕ × Entry} (λ e. e.1.uses ≤ limit + length names) {Y = ℕ × Entry} (λ e. (e.0, with_uses e.1 (e.1.uses + times e.0 names))) entries (λ k d below. omega (arith, h k d below, count_by-le-length (λ other. (get_or entries k d).0 == other) names)))
 
 one_operand : (operand : Option Cell) → length (map (λ cell. cell.name) (given operand)) ≤ 1
-one_operand None = omega arith
-one_operand (Some cell) = omega arith
+one_operand operand = grind arith
 
 -- one operand is one use more at most
 pub uses_after : (limit : ℕ) (operand : Option Cell) (entries after : List (ℕ × Entry)) → All (λ e. e.1.uses ≤ limit) entries → after ≡ used_more (map (λ cell. cell.name) (given operand)) entries
     → All (λ e. e.1.uses ≤ limit + 1) after
 uses_after limit operand entries after h then =
-    let names = map (λ cell. cell.name) (given operand) in
-    let within = uses_within limit names entries h in
-    subst (λ (l : List (ℕ × Entry)). All (λ e. e.1.uses ≤ limit + 1) l) (sym then) (λ k d below. omega (arith, within k d below, one_operand operand))
+    let within = uses_within limit (map (λ cell. cell.name) (given operand)) entries h in
+    rw then (λ k d below. omega (arith, within k d below, one_operand operand))

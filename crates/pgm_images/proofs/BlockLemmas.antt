@@ -1,22 +1,21 @@
 -- Blocks of a text, of which it was found out where numbers begin.
-use Rattle.std.proofs.Common.{◌≡◌, ℕ, zero, suc, ◌+◌, ◌-◌, ◌/◌, ◌%◌, ◌^◌, ◌<◌, ◌≤◌, ◌⊎◌, inl, inr, Bool, true, false, not, cond, nat_lt, eqb, if◌then◌else◌, List, [], ◌∷◌, map, length, get_or, drop, replicate, Some, refl, ap, sym, subst, ◌∙◌, arith, w8, w64, bit_and, slice_index, get_or-set_same, get_or-set_other, drop-drop, length-drop, lt-ltb, le-ltb, ne_eqb}
-use Rattle.pgm_images.proofs.Common.{set, cases_lt, count_trailing_zeros, begins_digit, take_next, Kept, Tells, AreTold}
+use Rattle.std.proofs.Common.{◌≡◌, ℕ, zero, suc, ◌+◌, ◌-◌, ◌/◌, ◌%◌, ◌^◌, ◌<◌, ◌≤◌, ◌⊎◌, inl, inr, Bool, true, false, not, cond, nat_lt, eqb, if◌then◌else◌, List, [], ◌∷◌, map, length, drop, replicate, Some, refl, ap, sym, ◌∙◌, arith, w8, w64, bit_and, slice_index, get_or-set_same, get_or-set_other, drop-drop, length-drop, lt-ltb, le-ltb}
+use Rattle.pgm_images.proofs.Common.{nat_tests, set, cases_eq, cases_lt, count_trailing_zeros, begins_digit, take_next, Kept, Tells, AreTold}
 use Rattle.std.specs.Int.{bit_at}
 use Rattle.std.proofs.lemmas.Simd.{bitmask_splat, bit_mask_l}
 use Rattle.std.proofs.lemmas.List.{get_or-map}
-use Rattle.std.proofs.lemmas.Bool.{cases_eq, cases_order, both_ways}
+use Rattle.std.proofs.lemmas.Bool.{cases_order, both_ways}
 use Rattle.std.proofs.lemmas.Nat.Bits.{bit_at_lowest, bit_at-suc, bit_at-zero, bit_at_and, bit_at-trailing_zeros}
 use lib.Lanes.{mask_l, top, zip2}
 use mir.Val.{bits, hbits}
-use Rattle.pgm_images.specs.Marks.{begins_space, IsBlock}
+use Rattle.pgm_images.specs.Marks.{begins_space}
 use Rattle.pgm_images.proofs.GapLemmas.{space_is}
 use Rattle.pgm_images.proofs.SpacedLemmas.{spaced_end}
 
 -- ---- masks
 
 one_if_any : (n : ℕ) → ◌≡◌ {A = ℕ} (cond (not (eqb n 0)) 1 0) (if nat_lt 0 n then 1 else 0)
-one_if_any zero = refl
-one_if_any (suc n) = rw (ne_eqb (suc n) 0 (λ e. omega (arith, e)), lt-ltb 0 (suc n) (omega arith)) refl
+one_if_any n = grind (arith, nat_tests)
 
 -- a bit for each item that isn't 0, as lanes make it
 pub any_bit : (items : List ℕ) (i : ℕ) → length items ≡ 64 → i < 64
@@ -63,21 +62,8 @@ lowest_gone (suc i) n set below =
 
 -- a mask without its lowest bit
 pub without_lowest : (n t i : ℕ) → bit_at n t ≡ 1 → ((j : ℕ) → j < t → bit_at n j ≡ 0) → bit_at (bit_and n (n - 1)) i ≡ (if nat_lt t i then bit_at n i else 0)
-without_lowest n t i set below = elim (cases_order i t) [
-  | inl same ↦
-      let gone = lowest_gone t n set below in
-      let is : bit_at (bit_and n (n - 1)) i ≡ 0 = ap (bit_at (bit_and n (n - 1))) same ∙ bit_at_and n (n - 1) t ∙ omega (arith, gone) in
-      let no : nat_lt t i ≡ false = le-ltb t i (omega (arith, same)) in
-      is ∙ rw no refl
-  | inr (inl less) ↦
-      let none = below i less in
-      let no : nat_lt t i ≡ false = le-ltb t i (omega arith) in
-      bit_at_and n (n - 1) i ∙ rw no (omega (arith, none))
-  | inr (inr more) ↦
-      let kept = high_kept t i n more set in
-      let yes_more : nat_lt t i ≡ true = lt-ltb t i more in
-      bit_at_and n (n - 1) i ∙ rw yes_more (omega (arith, kept))
-]
+without_lowest n t i set below =
+    grind (arith, nat_tests, cases_order i t, bit_at_and n (n - 1) i, lowest_gone t n set below, high_kept t i n, below i)
 
 -- ---- what stands at each place
 
@@ -85,16 +71,9 @@ without_lowest n t i set below = elim (cases_order i t) [
 pub one_told : (maxval : ℕ) (numbers bytes text : List ℕ) (i number count : ℕ) → i < length numbers → i < length bytes → Tells maxval number count (drop i text)
     → AreTold maxval i numbers bytes text → AreTold maxval (i + 1) (set numbers i number) (set bytes i count) text
 one_told maxval numbers bytes text i number count in_numbers in_bytes told before place within = elim (cases_eq place i) [
-  | inl same ↦
-      let first : number ≡ get_or (set numbers i number) place 0 = sym (ap (λ p. get_or (set numbers i number) p 0) same ∙ get_or-set_same numbers i number 0 in_numbers) in
-      let second : count ≡ get_or (set bytes i count) place 0 = sym (ap (λ p. get_or (set bytes i count) p 0) same ∙ get_or-set_same bytes i count 0 in_bytes) in
-      subst (λ n. Tells maxval n (get_or (set bytes i count) place 0) (drop place text)) first
-      (subst (λ c. Tells maxval number c (drop place text)) second (subst (λ p. Tells maxval number count (drop p text)) (sym same) told))
-  | inr other ↦
-      let first = sym (get_or-set_other numbers i place number 0 other) in
-      let second = sym (get_or-set_other bytes i place count 0 other) in
-      subst (λ n. Tells maxval n (get_or (set bytes i count) place 0) (drop place text)) first
-      (subst (λ c. Tells maxval (get_or numbers place 0) c (drop place text)) second (before place (omega (arith, other, within))))
+  | inl same ↦ rw (same, get_or-set_same numbers i number 0 in_numbers, get_or-set_same bytes i count 0 in_bytes) told
+  | inr other ↦ rw (get_or-set_other numbers i place number 0 other, get_or-set_other bytes i place count 0 other)
+      (before place (omega (arith, other, within)))
 ]
 
 space_no_digit : (text : List ℕ) → begins_space text ≡ true → begins_digit text ≡ false
@@ -121,23 +100,11 @@ pub record Walks (bytes text : List ℕ) (left end : ℕ) : Type 0 where
   pub outside : begins_digit (drop end text) ≡ false
   pub digits : (i : ℕ) → from ≤ i → i < end → begins_digit (drop i text) ≡ true
 
-pub walk_starts : (maxval : ℕ) (numbers bytes : List ℕ) (begins : ℕ) (text : List ℕ) → IsBlock maxval numbers bytes begins text → Walks bytes text begins 0
-walk_starts maxval numbers bytes begins text is = record {
-  from = 0;
-  near = omega arith;
-  clear = λ i less. absurd (omega (arith, less));
-  marked = λ i more within. is.marked i within;
-  outside = is.outside;
-  digits = λ i more less. absurd (omega (arith, less));
-}
-
 some_bytes : (n : ℕ) → ◌≡◌ {A = ℕ} (if nat_lt 0 n then 1 else 0) 1 → 0 < n
-some_bytes zero e = cc
-some_bytes (suc n) e = omega arith
+some_bytes n e = grind (arith, nat_tests)
 
 no_bytes : (n : ℕ) → ◌≡◌ {A = ℕ} (if nat_lt 0 n then 1 else 0) 0 → n ≡ 0
-no_bytes zero e = refl
-no_bytes (suc n) e = let some = lt-ltb 0 (suc n) (omega arith) in cc
+no_bytes n e = grind (arith, nat_tests)
 
 module _ (maxval : ℕ) (numbers bytes text : List ℕ) (told : AreTold maxval 64 numbers bytes text) where
   abbrev at : ℕ → List ℕ

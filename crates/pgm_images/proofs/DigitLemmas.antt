@@ -1,6 +1,6 @@
 -- The number that digits are.
-use Rattle.std.proofs.Common.{◌≡◌, ℕ, ◌+◌, ◌-◌, ◌*◌, Bool, true, false, ◌&&◌, if◌then◌else◌, List, ◌∷◌, refl, ap, arith}
-use Rattle.pgm_images.proofs.Common.{is_ascii_digit, all_ascii_digits, nat_tests, is_space, begins_comment, digits_after}
+use Rattle.std.proofs.Common.{◌≡◌, ℕ, ◌+◌, ◌-◌, ◌*◌, true, false, if◌then◌else◌, List, ◌∷◌, refl, ap, arith}
+use Rattle.pgm_images.proofs.Common.{and_parts, is_ascii_digit, all_ascii_digits, nat_tests, is_space, begins_comment, digits_after}
 use Rattle.std.specs.Int.{IsInRange}
 use Rattle.std.proofs.lemmas.Str.Parse.{IsNumeralModel, FoldsDigits, numerals_by_fold, tells_all_ascii_digits}
 
@@ -24,11 +24,7 @@ pub digits_model : IsNumeralModel (λ ds. all_ascii_digits ds ≡ true) (value_a
 digits_model = numerals_by_fold _ tells_all_ascii_digits value_after folds
 
 pub first_digit : (c : ℕ) (cs : List ℕ) → all_ascii_digits (c ∷ cs) ≡ true → (is_ascii_digit c ≡ true) × (all_ascii_digits cs ≡ true)
-first_digit c cs e = both (is_ascii_digit c) (all_ascii_digits cs) e
-  where
-    both : (a b : Bool) → (a && b) ≡ true → (a ≡ true) × (b ≡ true)
-    both true b e = (refl, e)
-    both false b e = cc
+first_digit c cs e = and_parts (is_ascii_digit c) (all_ascii_digits cs) e
 
 -- what a digit isn't
 pub digit_begins : (c : ℕ) → is_ascii_digit c ≡ true → (begins_comment c ≡ false) × (is_space c ≡ false)

@@ -1,21 +1,17 @@
 -- Gaps and numbers: what the definition takes is what the grammar says.
-use Rattle.std.proofs.Common.{◌≡◌, ℕ, ◌<◌, ◌⊎◌, inl, inr, Bool, true, false, not, ◌||◌, if◌then◌else◌, List, [], ◌∷◌, ◌++◌, length, Option, Some, None, refl, ap, sym, subst, ◌∙◌, arith, append_assoc, append-nil, All}
-use Rattle.pgm_images.proofs.Common.{is_ascii_digit, nat_tests, All-head, All-tail, All-nil, All-cons, begins_digit, is_space, begins_comment, begins_gap, past_blanks, ends, IsBlanks}
+use Rattle.std.proofs.Common.{◌≡◌, ℕ, ◌<◌, inl, inr, Bool, true, false, not, ◌||◌, List, [], ◌∷◌, ◌++◌, length, Option, Some, None, refl, ap, sym, subst, ◌∙◌, arith, append_assoc, append-nil, All}
+use Rattle.pgm_images.proofs.Common.{is_ascii_digit, cases_Bool, nat_tests, All-head, All-tail, All-nil, All-cons, begins_digit, is_space, begins_comment, begins_gap, past_blanks, ends, IsBlanks, IsBlank}
 use Rattle.std.specs.List.{flat_map}
 use Rattle.pgm_images.specs.Marks.{ends_line}
-use Rattle.pgm_images.specs.Grammar.{IsTail, IsBlank}
+use Rattle.pgm_images.specs.Grammar.{IsTail}
 
 -- ---- what a text begins with
 
 pub space_is : (b : ℕ) → is_space b ≡ true → (begins_comment b ≡ false) × (is_ascii_digit b ≡ false)
 space_is b is = grind (arith, nat_tests)
 
-comment_is : (b : ℕ) → begins_comment b ≡ true → is_ascii_digit b ≡ false
-comment_is b is = grind (arith, nat_tests)
-
-or_right : (a b : Bool) → b ≡ true → (a || b) ≡ true
-or_right true b e = refl
-or_right false b e = e
+gap_no_digit : (b : ℕ) → (begins_comment b || is_space b) ≡ true → is_ascii_digit b ≡ false
+gap_no_digit b is = grind (arith, nat_tests)
 
 -- ---- blanks
 
@@ -30,40 +26,24 @@ abbrev pub Passed : Bool → List ℕ → List ℕ → Type 0
 Passed false text rest = (blanks : List ℕ) × IsBlanks blanks × (text ≡ blanks ++ rest)
 Passed true text rest = (tail blanks : List ℕ) × IsTail tail × IsBlanks blanks × (text ≡ tail ++ (blanks ++ rest))
 
-if_some_else : {A : Type 0} (b : Bool) (x y : Option A) (z : A) → (if b then x else y) ≡ Some z → ((b ≡ true) × (x ≡ Some z)) ⊎ ((b ≡ false) × (y ≡ Some z))
-if_some_else true x y z e = inl (refl, e)
-if_some_else false x y z e = inr (refl, e)
-
-tail_end : (b : ℕ) (text rest : List ℕ) → ends_line b ≡ true → Passed false text rest → Passed true (b ∷ text) rest
-tail_end b text rest is (blanks, are, spelled) = (b ∷ [], blanks, inl (is, refl), are, ap (λ l. b ∷ l) spelled)
-
-tail_more : (b : ℕ) (text rest : List ℕ) → ends_line b ≡ false → Passed true text rest → Passed true (b ∷ text) rest
-tail_more b text rest is (tail, blanks, last, are, spelled) = (b ∷ tail, blanks, inr (is, last), are, ap (λ l. b ∷ l) spelled)
-
-comment_more : (b : ℕ) (text rest : List ℕ) → begins_comment b ≡ true → Passed true text rest → Passed false (b ∷ text) rest
-comment_more b text rest is (tail, blanks, last, are, spelled) =
-    ((b ∷ tail) ++ blanks, cons_blanks (b ∷ tail) blanks (inr (is, last)) are, ap (λ l. b ∷ l) (spelled ∙ sym (append_assoc tail blanks rest)))
-
-space_more : (b : ℕ) (text rest : List ℕ) → is_space b ≡ true → Passed false text rest → Passed false (b ∷ text) rest
-space_more b text rest is (blanks, are, spelled) = (b ∷ blanks, cons_blanks (b ∷ []) blanks (inl (is, refl)) are, ap (λ l. b ∷ l) spelled)
-
-tail_passed : (b : ℕ) (text rest : List ℕ) → ((within : Bool) → past_blanks within text ≡ Some rest → Passed within text rest)
-    → past_blanks (not (ends_line b)) text ≡ Some rest → Passed true (b ∷ text) rest
-tail_passed b text rest others e = line (ends_line b) refl e
-  where
-    line : (is : Bool) → ends_line b ≡ is → past_blanks (not is) text ≡ Some rest → Passed true (b ∷ text) rest
-    line true is e = tail_end b text rest is (others false e)
-    line false is e = tail_more b text rest is (others true e)
-
 passed : (within : Bool) (text rest : List ℕ) → past_blanks within text ≡ Some rest → Passed within text rest
 passed true [] rest e = cc
-passed true (b ∷ text) rest e = tail_passed b text rest (λ within. passed within text rest) e
+passed true (b ∷ text) rest e = elim (cases_Bool (ends_line b)) [
+  | inl is ↦ let (blanks, are, spelled) = passed false text rest (sym (ap (λ t. past_blanks (not t) text) is) ∙ e) in
+      (b ∷ [], blanks, inl (is, refl), are, ap (λ l. b ∷ l) spelled)
+  | inr is ↦ let (tail, blanks, last, are, spelled) = passed true text rest (sym (ap (λ t. past_blanks (not t) text) is) ∙ e) in
+      (b ∷ tail, blanks, inr (is, last), are, ap (λ l. b ∷ l) spelled)
+]
 passed false [] rest e = let none : [] ≡ rest = cc in ([], nil_blanks, none)
-passed false (b ∷ text) rest e = elim (if_some_else (begins_comment b) (past_blanks true text) (if is_space b then past_blanks false text else Some (b ∷ text)) rest e) [
-  | inl h ↦ comment_more b text rest h.0 (passed true text rest h.1)
-  | inr h ↦ elim (if_some_else (is_space b) (past_blanks false text) (Some (b ∷ text)) rest h.1) [
-    | inl k ↦ space_more b text rest k.0 (passed false text rest k.1)
-    | inr k ↦ let same : b ∷ text ≡ rest = cc (k.1) in ([], nil_blanks, same)
+passed false (b ∷ text) rest e = elim (cases_Bool (begins_comment b)) [
+  | inl is ↦
+      let (tail, blanks, last, are, spelled) = passed true text rest (rw is at e) in
+      ((b ∷ tail) ++ blanks, cons_blanks (b ∷ tail) blanks (inr (is, last)) are, ap (λ l. b ∷ l) (spelled ∙ sym (append_assoc tail blanks rest)))
+  | inr other ↦ elim (cases_Bool (is_space b)) [
+    | inl is ↦
+        let (blanks, are, spelled) = passed false text rest (rw (other, is) at e) in
+        (b ∷ blanks, cons_blanks (b ∷ []) blanks (inl (is, refl)) are, ap (λ l. b ∷ l) spelled)
+    | inr none ↦ let same : b ∷ text ≡ rest = cc (rw (other, none) at e) in ([], nil_blanks, same)
   ]
 ]
 
@@ -96,7 +76,7 @@ skip_blanks blanks rest are = ap (λ l. past_blanks false (l ++ rest)) are.spell
 -- some blanks begin a gap, and no digit begins where one does
 blank_begins : (part rest : List ℕ) → IsBlank part → begins_gap (part ++ rest) ≡ true
 blank_begins [] rest is = absurd is
-blank_begins (b ∷ tail) rest (inl (space, none)) = or_right (begins_comment b) (is_space b) space
+blank_begins (b ∷ tail) rest (inl (space, none)) = rw ((space_is b space).0, space) refl
 blank_begins (b ∷ tail) rest (inr (comment, is)) = rw comment refl
 
 parts_begin : (parts : List (List ℕ)) (rest : List ℕ) → All IsBlank parts → 0 < length (flat_map (λ part. part) parts) → begins_gap (flat_map (λ part. part) parts ++ rest) ≡ true
@@ -109,11 +89,7 @@ gap_begins gap rest are some =
 
 pub no_digit : (text : List ℕ) → begins_gap text ≡ true → begins_digit text ≡ false
 no_digit [] e = refl
-no_digit (b ∷ text) e = kinds (begins_comment b) refl
-  where
-    kinds : (is : Bool) → begins_comment b ≡ is → is_ascii_digit b ≡ false
-    kinds true is = comment_is b is
-    kinds false is = (space_is b (sym (ap (λ c. c || is_space b) is) ∙ e)).1
+no_digit (b ∷ text) e = gap_no_digit b e
 
 pub blanks_no_digit : (blanks rest : List ℕ) → IsBlanks blanks → begins_digit rest ≡ false → begins_digit (blanks ++ rest) ≡ false
 blanks_no_digit [] rest are none = none
@@ -122,12 +98,7 @@ blanks_no_digit (b ∷ blanks) rest are none = no_digit (b ∷ (blanks ++ rest))
 pub ends_of : (text : List ℕ) → ends text ≡ true → IsBlanks text
 ends_of text e = known (past_blanks false text) refl e
   where
-    nothing : (o : Option (List ℕ)) → Bool
-    nothing None = false
-    nothing (Some []) = true
-    nothing (Some (b ∷ text)) = false
-
     known : (o : Option (List ℕ)) → past_blanks false text ≡ o → ends text ≡ true → IsBlanks text
-    known None is e = cc (ap nothing is)
+    known None is e = cc (rw is at e)
     known (Some []) is e = let (blanks, are, spelled) = blanks_of text [] is in subst IsBlanks (sym (spelled ∙ append-nil blanks)) are
-    known (Some (b ∷ rest)) is e = cc (ap nothing is)
+    known (Some (b ∷ rest)) is e = cc (rw is at e)

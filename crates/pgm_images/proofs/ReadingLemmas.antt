@@ -1,6 +1,6 @@
 -- What was read has the samples that its header tells.
 use Rattle.std.proofs.Common.{◌≡◌, ℕ, ℤ, pos, zero, suc, Bool, true, false, List, [], ◌∷◌, length, map, Option, Some, None, Result, Ok, Err, if◌then◌else◌, refl, ap, sym, ◌∙◌}
-use Rattle.pgm_images.proofs.Common.{option_map, PgmFault, InvalidValue, Encoding, Plain, Raw, BeginsWith, then_take, take_next, ends, so_many, take_raw, nothing_left, numbers_in, samples_up_to, all_up_to}
+use Rattle.pgm_images.proofs.Common.{option_map, InvalidValue, Encoding, Plain, Raw, BeginsWith, then_take, take_next, ends, so_many, take_raw, nothing_left, numbers_in, samples_up_to, all_up_to}
 
 -- ---- what stands before a step that was taken
 
@@ -16,6 +16,18 @@ map_some f (Some x) y e = (x, refl, cc)
 pub if_some : {A : Type 0} (b : Bool) (x y : A) → (if b then Some x else None) ≡ Some y → (b ≡ true) × (x ≡ y)
 if_some true x y e = (refl, cc)
 if_some false x y e = cc
+
+pub if_ok : {A E : Type 0} (b : Bool) (r : Result A E) (fault : E) (x : A) → (if b then r else Err fault) ≡ Ok x → (b ≡ true) × (r ≡ Ok x)
+if_ok true r fault x e = (refl, e)
+if_ok false r fault x e = cc
+
+-- what isn't there
+pub not_there : {A : Type 0} (o : Option A) → ((x : A) → o ≡ Some x → ⊥) → o ≡ None
+not_there None other = refl
+not_there (Some x) other = absurd (other x refl)
+
+pub same_pair : {A B : Type 0} (x y : A) (r s : B) → ◌≡◌ {A = A × B} (x, r) (y, s) → (x ≡ y) × (r ≡ s)
+same_pair {A} {B} x y r s e = (ap (λ (t : A × B). t.0) e, ap (λ (t : A × B). t.1) e)
 
 -- ---- sizes
 
@@ -33,12 +45,6 @@ numbers_size Raw maxval count text numbers e = so_many-size (take_raw maxval) no
 pub samples_of : (maxval : ℕ) (o : Option (List ℕ)) (samples : List ℤ) → samples_up_to maxval o ≡ Ok samples
     → (numbers : List ℕ) × (o ≡ Some numbers) × (all_up_to maxval numbers ≡ true) × (samples ≡ map pos numbers)
 samples_of maxval None samples e = cc
-samples_of maxval (Some numbers) samples e = known (all_up_to maxval numbers) refl e
-  where
-    told : Result (List ℤ) PgmFault
-    told = Err InvalidValue
-
-    known : (b : Bool) → all_up_to maxval numbers ≡ b → (if b then Ok (map pos numbers) else told) ≡ Ok samples
-        → (others : List ℕ) × (Some numbers ≡ Some others) × (all_up_to maxval others ≡ true) × (samples ≡ map pos others)
-    known true is e = (numbers, refl, is, cc)
-    known false is e = cc
+samples_of maxval (Some numbers) samples e =
+    let (below, same) = if_ok (all_up_to maxval numbers) (Ok (map pos numbers)) InvalidValue samples e in
+    (numbers, refl, below, cc (same))

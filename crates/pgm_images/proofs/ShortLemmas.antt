@@ -1,5 +1,5 @@
 -- Numbers of at most three digits behind a whitespace byte.
-use Rattle.std.proofs.Common.{◌≡◌, ℕ, ◌+◌, ◌-◌, ◌*◌, zero, suc, ◌%◌, ◌<◌, ◌≤◌, Bool, true, false, not, ◌&&◌, ◌||◌, if◌then◌else◌, nat_lt, nat_le, nat_eq, List, ◌∷◌, length, get_or, drop, Some, refl, ap, sym, ◌∙◌, arith, ltb-true, leb-true}
+use Rattle.std.proofs.Common.{◌≡◌, ℕ, ◌+◌, ◌-◌, ◌*◌, zero, suc, ◌%◌, ◌<◌, ◌≤◌, Bool, true, false, not, ◌&&◌, ◌||◌, if◌then◌else◌, nat_lt, nat_le, nat_eq, List, ◌∷◌, length, get_or, drop, Some, ap, sym, ◌∙◌, arith, ltb-true, leb-true}
 use Rattle.pgm_images.proofs.Common.{is_ascii_digit, and_parts, nat_tests, is_space, begins_digit, digits_after, take_next, Tells}
 use mir.Val.{bool_byte}
 use Rattle.std.proofs.lemmas.Bool.{not-true}
@@ -39,18 +39,15 @@ short_cases true true s x1 x2 x3 x4 rest a b c space one is_a is2 is_b is3 is_c 
     ∙ ap (λ n. Some (n, x4 ∷ rest)) same
 
 byte_few : (b : Bool) → bool_byte b ≤ 1
-byte_few true = omega arith
-byte_few false = omega arith
+byte_few b = grind arith
 
 -- a number of two digits is one byte, and one of three where the code says so
 tens_fit : (two : Bool) (a b tens : ℕ) → a < 10 → (two ≡ true → b < 10) → tens ≡ (if two then a * 10 + b else a) % 256 → (tens ≡ (if two then a * 10 + b else a)) × (tens < 100)
-tens_fit true a b tens low is e = let digit = is refl in (omega (arith, digit), omega (arith, digit))
-tens_fit false a b tens low is e = (omega arith, omega arith)
+tens_fit two a b tens low is e = grind arith
 
 number_fits : (three : Bool) (tens c number : ℕ) → tens < 100 → (three ≡ true → c < 10) → ((not three || nat_lt tens 25) || (nat_eq tens 25 && nat_lt c 6)) ≡ true
     → number ≡ (if three then tens * 10 + c else tens) % 256 → number ≡ (if three then tens * 10 + c else tens)
-number_fits true tens c number low is fits e = let digit = is refl in grind (arith, nat_tests)
-number_fits false tens c number low is fits e = omega arith
+number_fits three tens c number low is fits e = grind (arith, nat_tests)
 
 -- the digits of a number, of which two and three say whether there are so many
 digits_in : (two three : Bool) (s x1 x2 x3 x4 : ℕ) (rest : List ℕ) → is_ascii_digit x1 ≡ true → two ≡ is_ascii_digit x2 → three ≡ is_ascii_digit x3
@@ -64,13 +61,11 @@ digits_in true false s x1 x2 x3 x4 rest one is2 is3 (suc (suc (suc k))) some les
 digits_in true true s x1 x2 x3 x4 rest one is2 is3 (suc (suc (suc (suc k)))) some less = absurd (omega arith)
 
 and_and : (a b c : Bool) → ((a && b) && c) ≡ (a && (b && c))
-and_and true b c = refl
-and_and false b c = refl
+and_and a b c = grind arith
 
 -- neither a number was told nor a digit stands at the front: so it is whitespace before no digit
 only_blank : (blank digit : Bool) → not (blank || digit) ≡ false → digit ≡ false → blank ≡ true
-only_blank true digit e none = refl
-only_blank false digit e none = cc
+only_blank blank digit e none = grind arith
 
 -- What the code found out, step by step: white, again and front are of the first byte, a to d of those
 -- after it.

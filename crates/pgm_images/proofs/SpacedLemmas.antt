@@ -1,8 +1,9 @@
 -- Numbers behind gaps: what the definition takes is what the grammar says.
-use Rattle.std.proofs.Common.{◌≡◌, ℕ, zero, suc, ◌+◌, ◌-◌, ◌*◌, ◌<◌, Bool, true, false, ◌&&◌, if◌then◌else◌, List, [], ◌∷◌, ◌++◌, length, Option, Some, None, refl, ap, sym, subst, ◌∙◌, arith, append_assoc, append-nil}
-use Rattle.pgm_images.proofs.Common.{is_ascii_digit, option_and_then, option_map, all_ascii_digits, then_take, begins_digit, begins_gap, past_blanks, digits_after, take_number, take_next, ends, so_many, IsBlanks, IsSpaced, AreSpaced}
-use Rattle.std.specs.Str.Parse.{digits_value}
-use Rattle.pgm_images.proofs.ReadingLemmas.{then_some, map_some, if_some}
+use Rattle.std.proofs.Common.{◌≡◌, ℕ, zero, suc, ◌+◌, ◌-◌, ◌*◌, ◌<◌, inl, inr, Bool, true, false, if◌then◌else◌, List, [], ◌∷◌, ◌++◌, length, Option, Some, None, refl, ap, sym, subst, ◌∙◌, arith, append_assoc, append-nil}
+use Rattle.pgm_images.proofs.Common.{cases_Bool, is_ascii_digit, option_map, all_ascii_digits, then_take, begins_digit, begins_gap, past_blanks, digits_after, take_next, ends, so_many, IsBlanks, IsSpaced, AreSpaced, digits_value}
+use Rattle.std.specs.Option.{option_and_then}
+use Rattle.pgm_images.specs.Marks.{take_number}
+use Rattle.pgm_images.proofs.ReadingLemmas.{same_pair, then_some, map_some, if_some}
 use Rattle.pgm_images.proofs.DigitLemmas.{value_after, value_more, digits_model, first_digit, digit_begins}
 use Rattle.pgm_images.proofs.GapLemmas.{gap_begins, no_digit, skip_blanks, blanks_of, blanks_no_digit, ends_of}
 
@@ -10,9 +11,6 @@ use Rattle.pgm_images.proofs.GapLemmas.{gap_begins, no_digit, skip_blanks, blank
 
 abbrev pub pair : ℕ → List ℕ → ℕ × List ℕ
 pair n rest = (n, rest)
-
-pair_same : (m n : ℕ) (r s : List ℕ) → pair m r ≡ pair n s → (m ≡ n) × (r ≡ s)
-pair_same m n r s e = (ap (λ (t : ℕ × List ℕ). t.0) e, ap (λ (t : ℕ × List ℕ). t.1) e)
 
 digits_then : (m : ℕ) (ds rest : List ℕ) → all_ascii_digits ds ≡ true → begins_digit rest ≡ false → digits_after m (ds ++ rest) ≡ pair (value_after m ds) rest
 digits_then m [] [] are none = refl
@@ -25,32 +23,16 @@ digits_then m (c ∷ cs) rest are none =
 abbrev pub Split : ℕ → List ℕ → Type 0
 Split m text = (digits rest : List ℕ) × (all_ascii_digits digits ≡ true) × (text ≡ digits ++ rest) × (digits_after m text ≡ pair (value_after m digits) rest) × (begins_digit rest ≡ false)
 
-split_more : (m c : ℕ) (text : List ℕ) → is_ascii_digit c ≡ true → Split (m * 10 + (c - 48)) text → Split m (c ∷ text)
-split_more m c text first (digits, rest, are, spelled, is, none) =
-    let k = m * 10 + (c - 48) in (
-      c ∷ digits,
-      rest,
-      ap (λ b. b && all_ascii_digits digits) first ∙ are,
-      ap (λ l. c ∷ l) spelled,
-      ap (λ b. if b then digits_after k text else (m, c ∷ text)) first ∙ is ∙ ap (λ v. pair v rest) (sym (value_more m c digits first)),
-      none,
-    )
-
-split_none : (m c : ℕ) (text : List ℕ) → is_ascii_digit c ≡ false → Split m (c ∷ text)
-split_none m c text other = ([], c ∷ text, refl, refl, ap (λ b. if b then digits_after (m * 10 + (c - 48)) text else (m, c ∷ text)) other, other)
-
-split_first : (m c : ℕ) (text : List ℕ) → ((k : ℕ) → Split k text) → Split m (c ∷ text)
-split_first m c text others = known (is_ascii_digit c) refl
-  where
-    known : (b : Bool) → is_ascii_digit c ≡ b → Split m (c ∷ text)
-    known true is = split_more m c text is (others (m * 10 + (c - 48)))
-    known false is = split_none m c text is
-
 split : (text : List ℕ) (m : ℕ) → Split m text
 split [] m = ([], [], refl, refl, refl, refl)
-split (c ∷ text) m = split_first m c text (λ k. split text k)
+split (c ∷ text) m = elim (cases_Bool (is_ascii_digit c)) [
+  | inl first ↦
+      let (digits, rest, are, spelled, is, none) = split text (m * 10 + (c - 48)) in
+      (c ∷ digits, rest, rw first are, ap (λ l. c ∷ l) spelled, rw first is ∙ ap (λ v. pair v rest) (sym (value_more m c digits first)), none)
+  | inr other ↦ ([], c ∷ text, refl, refl, rw other refl, other)
+]
 
-value_is : (digits : List ℕ) → all_ascii_digits digits ≡ true → value_after 0 digits ≡ digits_value 10 digits
+pub value_is : (digits : List ℕ) → all_ascii_digits digits ≡ true → value_after 0 digits ≡ digits_value 10 digits
 value_is digits are = digits_model.same digits (digits_model.to digits are)
 
 -- ---- a number
@@ -62,20 +44,13 @@ some_digits [] rest c text e is none =
 some_digits (d ∷ digits) rest c text e is none = omega arith
 
 number_of : (text : List ℕ) (n : ℕ) (rest : List ℕ) → take_number text ≡ Some (n, rest)
-    → (digits : List ℕ) × (all_ascii_digits digits ≡ true) × (0 < length digits) × (digits_value 10 digits ≡ n) × (text ≡ digits ++ rest)
+    → (digits : List ℕ) × (all_ascii_digits digits ≡ true) × (0 < length digits) × (digits_value 10 digits ≡ n) × (text ≡ digits ++ rest) × (begins_digit rest ≡ false)
 number_of [] n rest e = cc
 number_of (c ∷ text) n rest e =
     let (is, same) = if_some (is_ascii_digit c) (digits_after 0 (c ∷ text)) (pair n rest) e in
     let (digits, others, are, spelled, value, none) = split (c ∷ text) 0 in
-    let (first, behind) = pair_same (value_after 0 digits) n others rest (sym value ∙ same) in
-    (digits, are, some_digits digits others c text spelled is none, sym (value_is digits are) ∙ first, spelled ∙ ap (λ l. digits ++ l) behind)
-
-number_end : (text : List ℕ) (n : ℕ) (rest : List ℕ) → take_number text ≡ Some (n, rest) → begins_digit rest ≡ false
-number_end [] n rest e = cc
-number_end (c ∷ text) n rest e =
-    let (is, same) = if_some (is_ascii_digit c) (digits_after 0 (c ∷ text)) (pair n rest) e in
-    let (digits, others, are, spelled, value, none) = split (c ∷ text) 0 in
-    ap begins_digit (sym (pair_same (value_after 0 digits) n others rest (sym value ∙ same)).1) ∙ none
+    let (first, behind) = same_pair (value_after 0 digits) n others rest (sym value ∙ same) in
+    (digits, are, some_digits digits others c text spelled is none, sym (value_is digits are) ∙ first, spelled ∙ ap (λ l. digits ++ l) behind, rw behind at none)
 
 number_then : (digits rest : List ℕ) → all_ascii_digits digits ≡ true → 0 < length digits → begins_digit rest ≡ false
     → (take_number (digits ++ rest) ≡ Some (pair (digits_value 10 digits) rest)) × (begins_digit (digits ++ rest) ≡ true) × (past_blanks false (digits ++ rest) ≡ Some (digits ++ rest))
@@ -112,7 +87,7 @@ spaced_of text n rest e =
     let (begins, taken) = if_taken (begins_gap text) (option_and_then take_number (past_blanks false text)) (pair n rest) e in
     let (middle, blanks, number) = and_then_some (past_blanks false text) (pair n rest) taken in
     let (gap, are_blanks, spelled) = blanks_of text middle blanks in
-    let (digits, are, one, value, is) = number_of middle n rest number in
+    let (digits, are, one, value, is, none) = number_of middle n rest number in
     let some = some_gap gap middle digits rest text spelled is are one begins in (
       gap ++ digits,
       record { gap = gap; digits = digits; spelled = refl; blanks = are_blanks; some = some; decimal = are; one = one; value = value },
@@ -124,7 +99,8 @@ pub spaced_end : (text : List ℕ) (n : ℕ) (rest : List ℕ) → take_next tex
 spaced_end text n rest e =
     let (begins, taken) = if_taken (begins_gap text) (option_and_then take_number (past_blanks false text)) (pair n rest) e in
     let (middle, blanks, number) = and_then_some (past_blanks false text) (pair n rest) taken in
-    number_end middle n rest number
+    let (digits, are, one, value, is, none) = number_of middle n rest number in
+    none
 
 pub spaced_next : (first rest : List ℕ) (n : ℕ) → IsSpaced first n → begins_digit rest ≡ false → take_next (first ++ rest) ≡ Some (n, rest)
 spaced_next first rest n is none =

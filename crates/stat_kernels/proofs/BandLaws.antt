@@ -1,9 +1,8 @@
 -- The samples of bands of rows, and what is counted of them.
-use Rattle.std.proofs.Common.{subst, ◌≡◌, ◌≢◌, ◌⊎◌, set, ℕ, zero, suc, ℤ, ◌+◌, ◌-◌, ◌*◌, ◌<◌, ◌≤◌, List, [], ◌++◌, length, map, get_or, slice_index, cond, replicate, true, false, inl, inr, refl, ap, sym, ◌∙◌, arith, ◌&&◌, nat_le, nat_lt, if◌then◌else◌, min, max, unsigned_abs, length-append, append-nil, append_assoc, get_or-set_same, get_or-set_other, length-set}
-use Rattle.stat_kernels.proofs.Common.{int_min, int_max, cases_eq, cases_lt, nat_tests, length-map, map-append, get_or_past, length-replicate, get_or-replicate, same_lists, length-map-range_with_len, get_or-map-range_with_len, count_by-le-length, sum_by-append, ImageValue, IsImage, at, Rectangle, BinsValue, bin_of, is_bin, histogram, samples_in, tallies, valid_samples, places, row_places, extremes, Band, all_rows, added, band_of, valid_in, extremes_of, found_in}
+use Rattle.std.proofs.Common.{Bool, ◌≡◌, set, ℕ, zero, suc, ℤ, ◌+◌, ◌-◌, ◌*◌, ◌<◌, ◌≤◌, List, [], ◌++◌, length, map, slice_index, cond, replicate, inl, inr, refl, ap, sym, ◌∙◌, arith, ◌&&◌, nat_le, nat_lt, if◌then◌else◌, min, max, unsigned_abs, length-append, append-nil, append_assoc, get_or-set_same, get_or-set_other, length-set}
+use Rattle.stat_kernels.proofs.Common.{int_min, int_max, cases_Bool, cases_eq, cases_lt, nat_tests, length-map, map-append, get_or_past, length-replicate, get_or-replicate, length-map-range_with_len, get_or-map-range_with_len, fill_by_all, count_by-le-length, sum_by-append, ImageValue, IsImage, at, Rectangle, BinsValue, bin_of, is_bin, histogram, samples_in, tallies, valid_samples, places, row_places, extremes, Band, all_rows, added, band_of, valid_in, extremes_of, found_in}
 use Rattle.std.specs.List.{count_by}
-use Rattle.std.proofs.lemmas.List.{get_or_default}
-use Rattle.stat_kernels.proofs.PlaceLaws.{length-samples, places_more, places_none}
+use Rattle.stat_kernels.proofs.PlaceLaws.{area_fits, length-samples, places_more, places_none}
 use Rattle.vx_base.specs.Object.{no_extremes}
 use Rattle.stat_kernels.specs.Located.{added_extremes}
 use Rattle.stat_kernels.proofs.LocatedLaws.{at_most, AreLowered, extremes_joined, lowered_more, lowered_none}
@@ -18,12 +17,6 @@ rows_at start count = record { start = start; count = count }
 abbrev pub row_of : Rectangle → ℕ → List (ℕ × ℕ)
 row_of r y = if nat_le r.y0 y && nat_lt y r.y1 then row_places r.x0 (r.x1 - r.x0) y else []
 
-row_outside : (r : Rectangle) (y : ℕ) → (nat_le r.y0 y && nat_lt y r.y1) ≡ false → row_of r y ≡ []
-row_outside r y out = ap (λ b. if b then row_places r.x0 (r.x1 - r.x0) y else []) out
-
-row_inside : (r : Rectangle) (y : ℕ) → r.y0 ≤ y → y < r.y1 → row_of r y ≡ row_places r.x0 (r.x1 - r.x0) y
-row_inside r y from below = let tests : (nat_le r.y0 y && nat_lt y r.y1) ≡ true = grind (arith, nat_tests, from, below) in ap (λ b. if b then row_places r.x0 (r.x1 - r.x0) y else []) tests
-
 -- no rows have no places
 pub no_places : (r : Rectangle) (start : ℕ) → places (band_of (rows_at start 0) r) ≡ []
 no_places r start =
@@ -33,52 +26,38 @@ no_places r start =
 
 -- one more row
 pub one_row : (r : Rectangle) (start count : ℕ) → places (band_of (rows_at start (count + 1)) r) ≡ places (band_of (rows_at start count) r) ++ row_of r (start + count)
-one_row r start count = by_place (cases_lt y r.y0) (cases_lt y r.y1)
-  where
-    y : ℕ
-    y = start + count
-
-    top : ℕ
-    top = max r.y0 start
-
-    t : Rectangle
-    t = record r { y0 = top }
-
-    upto : ℕ → ℕ
-    upto n = max top (min r.y1 (start + n))
-
-    -- a row that has no places
-    empty : upto (count + 1) ≡ upto count → row_of r y ≡ [] → places (band_of (rows_at start (count + 1)) r) ≡ places (band_of (rows_at start count) r) ++ row_of r y
-    empty same none =
-        ap (λ n. places (above t n)) same ∙ sym (append-nil (places (band_of (rows_at start count) r))) ∙ ap (λ l. places (band_of (rows_at start count) r) ++ l) (sym none)
-
-    by_place : (y < r.y0) ⊎ (r.y0 ≤ y) → (y < r.y1) ⊎ (r.y1 ≤ y) → places (band_of (rows_at start (count + 1)) r) ≡ places (band_of (rows_at start count) r) ++ row_of r y
-    by_place (inl before) any = empty (grind (arith, nat_tests, before)) (row_outside r y (grind (arith, nat_tests, before)))
-    by_place (inr later) (inl here) =
-        let now : upto (count + 1) ≡ y + 1 = grind (arith, nat_tests, here, later) in
-        let was : upto count ≡ y = grind (arith, nat_tests, here, later) in
-        ap (λ n. places (above t n)) now ∙ places_more t y (grind (arith, nat_tests, later))
-        ∙ ap (λ n. places (above t n) ++ row_places r.x0 (r.x1 - r.x0) y) (sym was)
-        ∙ ap (λ l. places (band_of (rows_at start count) r) ++ l) (sym (row_inside r y later here))
-    by_place (inr later) (inr past) = empty (grind (arith, nat_tests, past)) (row_outside r y (grind (arith, nat_tests, past)))
+one_row r start count =
+    let y = start + count in
+    let top = max r.y0 start in
+    let t : Rectangle = record r { y0 = top } in
+    let upto : ℕ → ℕ = λ n. max top (min r.y1 (start + n)) in
+    let row : Bool → List (ℕ × ℕ) = λ b. if b then row_places r.x0 (r.x1 - r.x0) y else [] in
+    elim (cases_Bool (nat_le r.y0 y && nat_lt y r.y1)) [
+      | inl inside ↦
+          let now : upto (count + 1) ≡ y + 1 = grind (arith, nat_tests) in
+          let was : upto count ≡ y = grind (arith, nat_tests) in
+          ap (λ n. places (above t n)) now ∙ places_more t y (grind (arith, nat_tests))
+          ∙ ap (λ n. places (above t n) ++ row_places r.x0 (r.x1 - r.x0) y) (sym was)
+          ∙ ap (λ b. places (band_of (rows_at start count) r) ++ row b) (sym inside)
+      | inr outside ↦
+          let same : upto (count + 1) ≡ upto count = grind (arith, nat_tests) in
+          ap (λ n. places (above t n)) same ∙ sym (append-nil (places (band_of (rows_at start count) r)))
+          ∙ ap (λ b. places (band_of (rows_at start count) r) ++ row b) (sym outside)
+    ]
 
 -- rows after others
 pub rows_follow : (r : Rectangle) (start first second : ℕ)
     → places (band_of (rows_at start (first + second)) r) ≡ places (band_of (rows_at start first) r) ++ places (band_of (rows_at (start + first) second) r)
 rows_follow r start first zero =
-    ap (λ n. places (band_of (rows_at start n) r)) {x = first + 0} {y = first} (omega arith)
-    ∙ sym (append-nil (places (band_of (rows_at start first) r)))
-    ∙ ap (λ l. places (band_of (rows_at start first) r) ++ l) (sym (no_places r (start + first)))
+    let none : first + 0 ≡ first = omega arith in
+    cc (none, no_places r (start + first), append-nil (places (band_of (rows_at start first) r)))
 rows_follow r start first (suc second) =
-    let one = places (band_of (rows_at start first) r) in
-    let other = places (band_of (rows_at (start + first) second) r) in
-    ap (λ n. places (band_of (rows_at start n) r)) {x = first + suc second} {y = (first + second) + 1} (omega arith)
-    ∙ one_row r start (first + second)
-    ∙ ap (λ l. l ++ row_of r (start + (first + second))) (rows_follow r start first second)
-    ∙ append_assoc one other (row_of r (start + (first + second)))
-    ∙ ap (λ y. one ++ (other ++ row_of r y)) {x = start + (first + second)} {y = (start + first) + second} (omega arith)
-    ∙ ap (λ l. one ++ l) (sym (one_row r (start + first) second))
-    ∙ ap (λ n. one ++ places (band_of (rows_at (start + first) n) r)) {x = second + 1} {y = suc second} (omega arith)
+    let more : first + suc second ≡ first + second + 1 = omega arith in
+    let row : start + (first + second) ≡ start + first + second = omega arith in
+    let next : suc second ≡ second + 1 = omega arith in
+    let rows = append_assoc (places (band_of (rows_at start first) r))
+    (places (band_of (rows_at (start + first) second) r)) (row_of r (start + first + second)) in
+    cc (more, row, next, rows, rows_follow r start first second, one_row r start (first + second), one_row r (start + first) second)
 
 -- ---- samples by rows
 
@@ -100,8 +79,7 @@ all_valid image is =
     let r = image.valid in
     let bottom : max (max r.y0 0) (min r.y1 (0 + image.height)) ≡ r.y1 = grind (arith, nat_tests, is.ordered.rows, is.room.rows) in
     let top : max r.y0 0 ≡ r.y0 = grind (arith, nat_tests) in
-    ap (λ y. let a : ImageValue = record image { valid = record { x0 = r.x0; y0 = max r.y0 0; x1 = r.x1; y1 = y } } in a) bottom
-    ∙ ap (λ y. let a : ImageValue = record image { valid = record { x0 = r.x0; y0 = y; x1 = r.x1; y1 = r.y1 } } in a) top
+    rw (bottom, top) refl
 
 -- ---- counts of bands
 
@@ -110,25 +88,18 @@ pub tallies_added : (b : BinsValue) (zs ws : List ℤ) → tallies b (zs ++ ws) 
 tallies_added b zs ws =
     let count : List ℤ → ℕ → ℕ = λ l k. count_by (λ z. is_bin k (bin_of b (unsigned_abs z))) l in
     let size : (l : List ℤ) → length (tallies b l) ≡ b.bins = λ l. length-map-range_with_len (count l) 0 b.bins in
-    let long : length (added (tallies b zs) (tallies b ws)) ≡ length (tallies b zs) =
-    length-map-range_with_len (λ k. slice_index (tallies b zs) k + slice_index (tallies b ws) k) 0 (length (tallies b zs)) in
-    same_lists (tallies b (zs ++ ws)) (added (tallies b zs) (tallies b ws)) (size (zs ++ ws) ∙ sym (long ∙ size zs))
-    (λ k d below.
-    let within : k < b.bins = omega (arith, below, size (zs ++ ws)) in
-    let one : (l : List ℤ) (e : ℕ) → get_or (tallies b l) k e ≡ count l k = λ l e. get_or-map-range_with_len (count l) 0 b.bins k k e within (omega arith) in
-    one (zs ++ ws) d
-    ∙ sum_by-append (λ z. cond (is_bin k (bin_of b (unsigned_abs z))) 1 0) zs ws
-    ∙ ap (λ n. n + count ws k) (sym (one zs 0)) ∙ ap (λ n. get_or (tallies b zs) k 0 + n) (sym (one ws 0))
-    ∙ sym (get_or-map-range_with_len (λ j. slice_index (tallies b zs) j + slice_index (tallies b ws) j) 0 (length (tallies b zs)) k k d (omega (arith, within, size zs)) (omega arith)))
+    fill_by_all (λ k. slice_index (tallies b zs) k + slice_index (tallies b ws) k)
+    (tallies b (zs ++ ws)) (length (tallies b zs)) 0 (size (zs ++ ws) ∙ sym (size zs))
+    (λ k below.
+    let one : (l : List ℤ) → slice_index (tallies b l) k ≡ count l k =
+    λ l. get_or-map-range_with_len (count l) 0 b.bins k k 0 (omega (arith, below, size zs)) (omega arith) in
+    omega (arith, one zs, one ws, one (zs ++ ws), sum_by-append (λ z. cond (is_bin k (bin_of b (unsigned_abs z))) 1 0) zs ws))
 
 -- nothing is counted of no rows
 pub none_counted : (b : BinsValue) (image : ImageValue) (start : ℕ) → histogram b (valid_in (rows_at start 0) image) ≡ replicate b.bins 0
-none_counted b image start = ap (tallies b) (samples_none image.valid image start) ∙ zeros
-  where
-    zeros : tallies b [] ≡ replicate b.bins 0
-    zeros = same_lists (tallies b []) (replicate b.bins 0) (length-map-range_with_len (λ k. 0) 0 b.bins ∙ sym (length-replicate b.bins 0))
-        (λ k d below. let within : k < b.bins = omega (arith, below, length-map-range_with_len {X = ℕ} (λ k. 0) 0 b.bins) in
-        get_or-map-range_with_len (λ k. 0) 0 b.bins k k d within (omega arith) ∙ sym (get_or-replicate b.bins k 0 d within))
+none_counted b image start =
+    ap (tallies b) (samples_none image.valid image start)
+    ∙ sym (fill_by_all (λ k. 0) (replicate b.bins 0) b.bins 0 (length-replicate b.bins 0) (λ k below. get_or-replicate b.bins k 0 0 below))
 
 -- so are bands of rows
 pub bands_counted : (b : BinsValue) (image : ImageValue) (start first second : ℕ)
@@ -159,29 +130,17 @@ added_none before more = record { size = refl; each = λ j. grind (arith, nat_te
 
 pub added_next : (before more now next : List ℕ) (k : ℕ) → k < length now → next ≡ set now k (slice_index now k + slice_index more k) → AreAdded before more now k → AreAdded before more next (k + 1)
 added_next before more now next k below is so_far =
+    let sum = slice_index now k + slice_index more k in
     record {
       size = ap length is ∙ length-set now k sum ∙ so_far.size;
-      each = λ j. ap (λ l. slice_index l j) is ∙ at j (cases_eq j k);
+      each = λ j. ap (λ l. slice_index l j) is
+          ∙ grind (arith, nat_tests, cases_eq j k, get_or-set_same now k sum 0 below, get_or-set_other now k j sum 0, so_far.each j);
     }
-  where
-    sum : ℕ
-    sum = slice_index now k + slice_index more k
-
-    at : (j : ℕ) → (j ≡ k) ⊎ (j ≢ k) → slice_index (set now k sum) j ≡ slice_index before j + (if nat_lt j (k + 1) then slice_index more j else 0)
-    at j (inl same) =
-        ap (λ i. slice_index (set now k sum) i) same ∙ get_or-set_same now k sum 0 below
-        ∙ grind (arith, nat_tests, so_far.each k, same)
-    at j (inr other) = get_or-set_other now k j sum 0 other ∙ grind (arith, nat_tests, so_far.each j, other)
 
 pub added_all : (before more now : List ℕ) (k : ℕ) → length before ≤ k → AreAdded before more now k → now ≡ added before more
 added_all before more now k past so_far =
-    same_lists now (added before more) (so_far.size ∙ sym (length-map-range_with_len sums 0 (length before)))
-    (λ j d below.
-    get_or_default now j d 0 below ∙ grind (arith, nat_tests, so_far.each j, past, below, so_far.size)
-    ∙ sym (get_or-map-range_with_len sums 0 (length before) j j d (omega (arith, below, so_far.size)) (omega arith)))
-  where
-    sums : ℕ → ℕ
-    sums j = slice_index before j + slice_index more j
+    fill_by_all (λ j. slice_index before j + slice_index more j) now (length before)
+    0 so_far.size (λ j below. grind (arith, nat_tests, so_far.each j, past, below))
 
 -- the samples of two bands of which the second follows the first, from the top
 pub bands_fit : (image : ImageValue) → IsImage image → (start count : ℕ)
@@ -198,11 +157,8 @@ bands_fit image is start count =
       ap length (samples_after r image 0 start count),
       length-append one (samples_in (band_of (rows_at (0 + start) count) r) image),
       length-samples all image,
-      all_fit (all.y1 - all.y0) (r.x1 - r.x0) high (omega (arith, is.sides.0, is.room.columns)),
+      area_fits (all.y1 - all.y0) (r.x1 - r.x0) (omega (arith, high)) (omega (arith, is.sides.0, is.room.columns)),
     )
-  where
-    all_fit : (m k : ℕ) → m ≤ 8192 → k ≤ 8192 → m * k < 4294967296
-    all_fit m k rows columns = grind arith
 
 -- no rows of an image have more valid samples than an image has at most
 pub few_samples : (image : ImageValue) → IsImage image → (rows : Band) → length (valid_samples (valid_in rows image)) ≤ 67108864
@@ -220,27 +176,22 @@ few_samples image is rows =
 pub places_lowered : (a b : ImageValue) (down one other count : ℕ)
     → ((j : ℕ) → j < count → AreLowered down (at a) (at b) (row_of a.valid (one + j)) (row_of b.valid (other + j)))
     → AreLowered down (at a) (at b) (places (band_of (rows_at one count) a.valid)) (places (band_of (rows_at other count) b.valid))
-places_lowered a b down one other zero rows =
-    subst (λ ps. AreLowered down (at a) (at b) ps (places (band_of (rows_at other zero) b.valid))) (sym (no_places a.valid one))
-    (subst (λ qs. AreLowered down (at a) (at b) [] qs) (sym (no_places b.valid other)) (lowered_none down (at a) (at b)))
+places_lowered a b down one other zero rows = rw (no_places a.valid one, no_places b.valid other) (lowered_none down (at a) (at b))
 places_lowered a b down one other (suc count) rows =
-    let next : count + 1 ≡ suc count = omega arith in
-    let first = places (band_of (rows_at one count) a.valid) in
-    let second = places (band_of (rows_at other count) b.valid) in
-    subst (λ n. AreLowered down (at a) (at b) (places (band_of (rows_at one n) a.valid)) (places (band_of (rows_at other n) b.valid))) next
-    (subst (λ ps. AreLowered down (at a) (at b) ps (places (band_of (rows_at other (count + 1)) b.valid))) (sym (one_row a.valid one count))
-    (subst (λ qs. AreLowered down (at a) (at b) (first ++ row_of a.valid (one + count)) qs) (sym (one_row b.valid other count))
-    (lowered_more down (at a) (at b) first second (row_of a.valid (one + count)) (row_of b.valid (other + count))
-    (places_lowered a b down one other count (λ j below. rows j (omega (arith, below)))) (rows count (omega arith)))))
+    let next : suc count ≡ count + 1 = omega arith in
+    let first = places_lowered a b down one other count (λ j below. rows j (omega (arith, below))) in
+    rw (next, one_row a.valid one count, one_row b.valid other count) (lowered_more down (at a) (at b) _ _ _ _ first (rows count (omega arith)))
 
 -- extremes of the upper rows of an image, and of a band of another that stands for those below them
 pub bands_located : (a b : ImageValue) (down one start count : ℕ)
     → AreLowered down (at a) (at b) (places (band_of (rows_at one count) a.valid)) (places (band_of (rows_at start count) b.valid))
     → added_extremes down (extremes (valid_in (rows_at 0 start) b)) (extremes (valid_in (rows_at one count) a)) ≡ extremes (valid_in (rows_at 0 (start + count)) b)
 bands_located a b down one start count are =
-    extremes_joined down (at a) (at b) (places (band_of (rows_at 0 start) b.valid)) (places (band_of (rows_at one count) a.valid)) (places (band_of (rows_at start count) b.valid)) are
-    ∙ ap (λ y. extremes_of (found_in (at b) (places (band_of (rows_at 0 start) b.valid) ++ places (band_of (rows_at y count) b.valid)))) {x = start} {y = 0 + start} (omega arith)
-    ∙ ap (λ l. extremes_of (found_in (at b) l)) (sym (rows_follow b.valid 0 start count))
+    let same : start ≡ 0 + start = omega arith in
+    let above_it = places (band_of (rows_at 0 start) b.valid) in
+    extremes_joined down (at a) (at b) above_it (places (band_of (rows_at one count) a.valid))
+    (places (band_of (rows_at start count) b.valid)) are
+    ∙ cc (same, rows_follow b.valid 0 start count)
 
 -- nothing is found in no rows
 pub none_located : (image : ImageValue) (start : ℕ) → extremes (valid_in (rows_at start 0) image) ≡ no_extremes

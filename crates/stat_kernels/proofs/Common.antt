@@ -2,19 +2,18 @@
 pub use Rattle.image_core.specs.Bands.{all_rows}
 pub use Rattle.image_core.specs.declared.band.Band.{Band}
 pub use Rattle.stat_kernels.specs.Counts.{added, count_at, count_in_all}
-pub use Rattle.stat_kernels.specs.Located.{extremes_of, found_in, joined}
+pub use Rattle.stat_kernels.specs.Located.{extremes_of, found_in}
 pub use Rattle.stat_kernels.specs.Part.{IsValidPart, band_of, valid_in}
 pub use Rattle.stat_kernels.specs.Sums.{AreAbove, AreSums, IsRowAbove, last_row, sum_before, sum_below, sums_below}
 pub use Rattle.stat_kernels.specs.declared.located.Found.{Found}
-pub use Rattle.stat_kernels.specs.declared.located.Located.{Located}
 pub use Rattle.stat_kernels.specs.declared.part.Part.{Part}
 pub use Rattle.std.proofs.Math.Seq.{take-add}
 pub use Rattle.std.proofs.lemmas.Bool.{cases_Bool, cases_eq, cases_lt}
 pub use Rattle.std.proofs.lemmas.Bool.Decides.{nat_tests}
 pub use Rattle.std.proofs.lemmas.Int.{ints, to_z-of_z}
-pub use Rattle.std.proofs.lemmas.List.{drop-map, get_or-map, get_or-replicate, get_or_past, length-map, length-replicate, map-append, same_lists, take-map}
+pub use Rattle.std.proofs.lemmas.List.{drop-map, get_or-map, get_or-replicate, get_or_past, length-map, length-replicate, map-append, take-map}
 pub use Rattle.std.proofs.lemmas.List.Elements.{All-cons, All-head, All-nil, All-tail}
-pub use Rattle.std.proofs.lemmas.List.FromFn.{get_or-map-range_with_len, length-map-range_with_len, take-map-range_with_len}
+pub use Rattle.std.proofs.lemmas.List.FromFn.{fill_by_all, get_or-map-range_with_len, length-map-range_with_len, take-map-range_with_len}
 pub use Rattle.std.proofs.lemmas.List.Sums.{count_by-le-length, sum_by-append, sum_by-cons, sum_by_more}
 pub use Rattle.std.proofs.lemmas.Simd.{bitmask_splat, length-chunk, ones-mask_l}
 pub use Rattle.std.specs.Int.{int_max, int_min}
@@ -25,5 +24,5 @@ pub use Rattle.vx_base.proofs.ZeroLaws.{map-replicate}
 pub use Rattle.vx_base.specs.Description.{Description}
 pub use Rattle.vx_base.specs.Image.{ImageValue, IsImage, at, band, run, within}
 pub use Rattle.vx_base.specs.Rectangle.{Rectangle}
-pub use Rattle.vx_base.specs.Statistics.{BinsValue, bin_of, chosen, count_of, extremes, histogram, is_bin, places, row_places, samples_in, sum_to, tallies, valid_samples}
+pub use Rattle.vx_base.specs.Statistics.{BinsValue, bin_of, chosen, count_of, extremes, first_of, histogram, is_bin, places, row_places, samples_in, sum_to, tallies, valid_samples}
 pub use lib.Count.{ones}

@@ -112,10 +112,6 @@ all_chosen value choose same row w i some end is =
     let zs = map value row in
     is ∙ ap (fold choose (get_or zs 0 (pos 0))) (take_all i zs (omega (arith, length-map row value))) ∙ chosen_from_first choose same zs (omega (arith, length-map row value))
 
--- a row that has a sample is not empty
-pub some_of_row : {T : Type 0} (value : T → ℤ) (v : ℤ) (row : List T) → 0 < count_of v (map value row) → 0 < length row
-some_of_row value v row some = omega (arith, some, count_by-le-length (λ s. int_eq s v) (map value row), length-map row value)
-
 -- none of those before a place
 pub none_of_first : (v : ℤ) (ws : List ℤ) (i : ℕ) → count_of v (slice_range ws 0 i) ≡ 0 → count_of v (take i ws) ≡ 0
 none_of_first v ws i none = let e : i ≡ i - 0 = omega arith in ap (λ j. count_of v (take j ws)) e ∙ none

@@ -12,10 +12,11 @@ use borrow.Rule.Slice.PartMut.{put_mid}
 abbrev shifted : List ℕ → List ℕ → List ℕ
 shifted ks xs = zip2 (λ a b. (a + b) % 65536) xs (pick_l 0 (replicate 8 0 ++ xs) ks)
 
--- the sums that end with each pair of neighbours, of what stands first and second in each pair
-abbrev by_pairs : List ℕ → List ℕ → List ℕ
-by_pairs evens odds =
-    shifted (0 ∷ 0 ∷ 0 ∷ 0 ∷ 11 ∷ 11 ∷ 11 ∷ 11 ∷ []) (shifted (0 ∷ 0 ∷ 8 ∷ 9 ∷ 0 ∷ 0 ∷ 12 ∷ 13 ∷ []) (shifted (0 ∷ 8 ∷ 9 ∷ 10 ∷ 0 ∷ 12 ∷ 13 ∷ 14 ∷ []) (zip2 (λ a b. (a + b) % 65536) evens odds)))
+-- the sums that end with each pair of neighbours, of the sum of each
+abbrev by_pairs : List ℕ → List ℕ
+by_pairs pairs =
+    shifted (0 ∷ 0 ∷ 0 ∷ 0 ∷ 11 ∷ 11 ∷ 11 ∷ 11 ∷ [])
+    (shifted (0 ∷ 0 ∷ 8 ∷ 9 ∷ 0 ∷ 0 ∷ 12 ∷ 13 ∷ []) (shifted (0 ∷ 8 ∷ 9 ∷ 10 ∷ 0 ∷ 12 ∷ 13 ∷ 14 ∷ []) pairs))
 
 -- the same without what stands second in the pair, before each of them
 abbrev between : List ℕ → List ℕ → List ℕ
@@ -28,55 +29,32 @@ picked ks xs = map (λ a. a) (pick_l 0 (xs ++ xs) ks)
 abbrev in_lanes : List ℕ → List ℕ
 in_lanes xs =
     let odds = picked (1 ∷ 3 ∷ 5 ∷ 7 ∷ 9 ∷ 11 ∷ 13 ∷ 15 ∷ []) xs in
-    between (by_pairs (picked (0 ∷ 2 ∷ 4 ∷ 6 ∷ 8 ∷ 10 ∷ 12 ∷ 14 ∷ []) xs) odds) odds
+    between (by_pairs (zip2 (λ a b. (a + b) % 65536) (picked (0 ∷ 2 ∷ 4 ∷ 6 ∷ 8 ∷ 10 ∷ 12 ∷ 14 ∷ []) xs) odds)) odds
 
 abbrev first_sums : List ℕ → List ℕ
 first_sums xs = map (λ k. sum (take k xs)) (range_with_len 1 16)
 
+same_lanes : {x y : ℕ} {xs ys : List ℕ} → x ≡ y → xs ≡ ys → x ∷ xs ≡ y ∷ ys
+same_lanes first rest = cc
+
+by_pairs_are : (p0 p1 p2 p3 p4 p5 p6 p7 : ℕ) → p0 + p1 + p2 + p3 + p4 + p5 + p6 + p7 < 65536
+    → by_pairs (p0 ∷ p1 ∷ p2 ∷ p3 ∷ p4 ∷ p5 ∷ p6 ∷ p7 ∷ [])
+    ≡ p0 ∷ (p0 + p1) ∷ (p0 + p1 + p2) ∷ (p0 + p1 + p2 + p3) ∷ (p0 + p1 + p2 + p3 + p4) ∷ (p0 + p1 + p2 + p3 + p4 + p5) ∷ (p0 + p1 + p2 + p3 + p4 + p5 + p6) ∷ (p0 + p1 + p2 + p3 + p4 + p5 + p6 + p7) ∷ []
+by_pairs_are p0 p1 p2 p3 p4 p5 p6 p7 small = search (arith, same_lanes) depth 20
+
 sixteen_sums : (a0 a1 a2 a3 a4 a5 a6 a7 a8 a9 a10 a11 a12 a13 a14 a15 : ℕ) → a0 < 256 → a1 < 256 → a2 < 256 → a3 < 256 → a4 < 256 → a5 < 256 → a6 < 256 → a7 < 256 → a8 < 256 → a9 < 256 → a10 < 256 → a11 < 256 → a12 < 256 → a13 < 256 → a14 < 256 → a15 < 256
     → in_lanes (a0 ∷ a1 ∷ a2 ∷ a3 ∷ a4 ∷ a5 ∷ a6 ∷ a7 ∷ a8 ∷ a9 ∷ a10 ∷ a11 ∷ a12 ∷ a13 ∷ a14 ∷ a15 ∷ []) ≡ first_sums (a0 ∷ a1 ∷ a2 ∷ a3 ∷ a4 ∷ a5 ∷ a6 ∷ a7 ∷ a8 ∷ a9 ∷ a10 ∷ a11 ∷ a12 ∷ a13 ∷ a14 ∷ a15 ∷ [])
 sixteen_sums a0 a1 a2 a3 a4 a5 a6 a7 a8 a9 a10 a11 a12 a13 a14 a15 h0 h1 h2 h3 h4 h5 h6 h7 h8 h9 h10 h11 h12 h13 h14 h15 =
-    let pair0 : (a0 + a1) % 65536 ≡ a0 + a1 = omega arith in
-    let pair1 : (a2 + a3) % 65536 ≡ a2 + a3 = omega arith in
-    let pair2 : (a4 + a5) % 65536 ≡ a4 + a5 = omega arith in
-    let pair3 : (a6 + a7) % 65536 ≡ a6 + a7 = omega arith in
-    let pair4 : (a8 + a9) % 65536 ≡ a8 + a9 = omega arith in
-    let pair5 : (a10 + a11) % 65536 ≡ a10 + a11 = omega arith in
-    let pair6 : (a12 + a13) % 65536 ≡ a12 + a13 = omega arith in
-    let pair7 : (a14 + a15) % 65536 ≡ a14 + a15 = omega arith in
-    let two0 : (a0 + a1 + 0) % 65536 ≡ a0 + a1 = omega arith in
-    let two1 : (a2 + a3 + (a0 + a1)) % 65536 ≡ a0 + a1 + a2 + a3 = omega arith in
-    let two2 : (a4 + a5 + (a2 + a3)) % 65536 ≡ a2 + a3 + a4 + a5 = omega arith in
-    let two3 : (a6 + a7 + (a4 + a5)) % 65536 ≡ a4 + a5 + a6 + a7 = omega arith in
-    let two4 : (a8 + a9 + 0) % 65536 ≡ a8 + a9 = omega arith in
-    let two5 : (a10 + a11 + (a8 + a9)) % 65536 ≡ a8 + a9 + a10 + a11 = omega arith in
-    let two6 : (a12 + a13 + (a10 + a11)) % 65536 ≡ a10 + a11 + a12 + a13 = omega arith in
-    let two7 : (a14 + a15 + (a12 + a13)) % 65536 ≡ a12 + a13 + a14 + a15 = omega arith in
-    let four0 : (a0 + a1 + 0) % 65536 ≡ a0 + a1 = omega arith in
-    let four1 : (a0 + a1 + a2 + a3 + 0) % 65536 ≡ a0 + a1 + a2 + a3 = omega arith in
-    let four2 : (a2 + a3 + a4 + a5 + (a0 + a1)) % 65536 ≡ a0 + a1 + a2 + a3 + a4 + a5 = omega arith in
-    let four3 : (a4 + a5 + a6 + a7 + (a0 + a1 + a2 + a3)) % 65536 ≡ a0 + a1 + a2 + a3 + a4 + a5 + a6 + a7 = omega arith in
-    let four4 : (a8 + a9 + 0) % 65536 ≡ a8 + a9 = omega arith in
-    let four5 : (a8 + a9 + a10 + a11 + 0) % 65536 ≡ a8 + a9 + a10 + a11 = omega arith in
-    let four6 : (a10 + a11 + a12 + a13 + (a8 + a9)) % 65536 ≡ a8 + a9 + a10 + a11 + a12 + a13 = omega arith in
-    let four7 : (a12 + a13 + a14 + a15 + (a8 + a9 + a10 + a11)) % 65536 ≡ a8 + a9 + a10 + a11 + a12 + a13 + a14 + a15 = omega arith in
-    let all0 : (a0 + a1 + 0) % 65536 ≡ 0 + a0 + a1 = omega arith in
-    let all1 : (a0 + a1 + a2 + a3 + 0) % 65536 ≡ 0 + a0 + a1 + a2 + a3 = omega arith in
-    let all2 : (a0 + a1 + a2 + a3 + a4 + a5 + 0) % 65536 ≡ 0 + a0 + a1 + a2 + a3 + a4 + a5 = omega arith in
-    let all3 : (a0 + a1 + a2 + a3 + a4 + a5 + a6 + a7 + 0) % 65536 ≡ 0 + a0 + a1 + a2 + a3 + a4 + a5 + a6 + a7 = omega arith in
-    let all4 : (a8 + a9 + (a0 + a1 + a2 + a3 + a4 + a5 + a6 + a7)) % 65536 ≡ 0 + a0 + a1 + a2 + a3 + a4 + a5 + a6 + a7 + a8 + a9 = omega arith in
-    let all5 : (a8 + a9 + a10 + a11 + (a0 + a1 + a2 + a3 + a4 + a5 + a6 + a7)) % 65536 ≡ 0 + a0 + a1 + a2 + a3 + a4 + a5 + a6 + a7 + a8 + a9 + a10 + a11 = omega arith in
-    let all6 : (a8 + a9 + a10 + a11 + a12 + a13 + (a0 + a1 + a2 + a3 + a4 + a5 + a6 + a7)) % 65536 ≡ 0 + a0 + a1 + a2 + a3 + a4 + a5 + a6 + a7 + a8 + a9 + a10 + a11 + a12 + a13 = omega arith in
-    let all7 : (a8 + a9 + a10 + a11 + a12 + a13 + a14 + a15 + (a0 + a1 + a2 + a3 + a4 + a5 + a6 + a7)) % 65536 ≡ 0 + a0 + a1 + a2 + a3 + a4 + a5 + a6 + a7 + a8 + a9 + a10 + a11 + a12 + a13 + a14 + a15 = omega arith in
-    let first0 : (0 + a0 + a1 + (65536 - a1)) % 65536 ≡ 0 + a0 = omega arith in
-    let first1 : (0 + a0 + a1 + a2 + a3 + (65536 - a3)) % 65536 ≡ 0 + a0 + a1 + a2 = omega arith in
-    let first2 : (0 + a0 + a1 + a2 + a3 + a4 + a5 + (65536 - a5)) % 65536 ≡ 0 + a0 + a1 + a2 + a3 + a4 = omega arith in
-    let first3 : (0 + a0 + a1 + a2 + a3 + a4 + a5 + a6 + a7 + (65536 - a7)) % 65536 ≡ 0 + a0 + a1 + a2 + a3 + a4 + a5 + a6 = omega arith in
-    let first4 : (0 + a0 + a1 + a2 + a3 + a4 + a5 + a6 + a7 + a8 + a9 + (65536 - a9)) % 65536 ≡ 0 + a0 + a1 + a2 + a3 + a4 + a5 + a6 + a7 + a8 = omega arith in
-    let first5 : (0 + a0 + a1 + a2 + a3 + a4 + a5 + a6 + a7 + a8 + a9 + a10 + a11 + (65536 - a11)) % 65536 ≡ 0 + a0 + a1 + a2 + a3 + a4 + a5 + a6 + a7 + a8 + a9 + a10 = omega arith in
-    let first6 : (0 + a0 + a1 + a2 + a3 + a4 + a5 + a6 + a7 + a8 + a9 + a10 + a11 + a12 + a13 + (65536 - a13)) % 65536 ≡ 0 + a0 + a1 + a2 + a3 + a4 + a5 + a6 + a7 + a8 + a9 + a10 + a11 + a12 = omega arith in
-    let first7 : (0 + a0 + a1 + a2 + a3 + a4 + a5 + a6 + a7 + a8 + a9 + a10 + a11 + a12 + a13 + a14 + a15 + (65536 - a15)) % 65536 ≡ 0 + a0 + a1 + a2 + a3 + a4 + a5 + a6 + a7 + a8 + a9 + a10 + a11 + a12 + a13 + a14 = omega arith in
-    cc
+    let odds = a1 ∷ a3 ∷ a5 ∷ a7 ∷ a9 ∷ a11 ∷ a13 ∷ a15 ∷ [] in
+    let pairs : zip2 (λ a b. (a + b) % 65536) (a0 ∷ a2 ∷ a4 ∷ a6 ∷ a8 ∷ a10 ∷ a12 ∷ a14 ∷ [])
+    odds ≡ (a0 + a1) ∷ (a2 + a3) ∷ (a4 + a5) ∷ (a6 + a7) ∷ (a8 + a9) ∷ (a10 + a11) ∷ (a12 + a13) ∷ (a14 + a15) ∷ [] =
+    search (arith, same_lanes) depth 20 in
+    ap (λ ps. between (by_pairs ps) odds) pairs
+    ∙ ap (λ sums. between sums odds) (by_pairs_are (a0 + a1) (a2 + a3) (a4 + a5) (a6 + a7) (a8 + a9) (a10 + a11) (a12 + a13) (a14 + a15) (omega arith))
+    ∙ same_lanes (omega arith) (same_lanes (omega arith) (same_lanes (omega arith) (same_lanes (omega arith) (
+    same_lanes (omega arith) (same_lanes (omega arith) (same_lanes (omega arith) (same_lanes (omega arith) (
+    same_lanes (omega arith) (same_lanes (omega arith) (same_lanes (omega arith) (same_lanes (omega arith) (
+    same_lanes (omega arith) (same_lanes (omega arith) (same_lanes (omega arith) (same_lanes (omega arith) (refl))))))))))))))))
 
 pub running_sums : (xs : List ℕ) → length xs ≡ 16 → Each1 (Fits w8) xs → in_lanes xs ≡ first_sums xs
 running_sums xs long fits =
@@ -95,12 +73,11 @@ along f g h t i k zero same = refl
 along f g h t i k (suc n) same =
     let here : i + 0 ≡ i = omega arith in
     let there : k + 0 ≡ k = omega arith in
-    let first : (h k + (f i + t) % 4294967296) % 4294967296 ≡ g k = subst (λ m. (h m + (f i + t) % 4294967296) % 4294967296 ≡ g m) there (subst (λ m. (h (k + 0) + (f m + t) % 4294967296) % 4294967296 ≡ g (k + 0)) here (same 0 (omega arith))) in
-    let next : (j : ℕ) → j < n → (h (k + 1 + j) + (f (i + 1 + j) + t) % 4294967296) % 4294967296 ≡ g (k + 1 + j) = λ j below.
-    let left : i + suc j ≡ i + 1 + j = omega arith in
-    let right : k + suc j ≡ k + 1 + j = omega arith in
-    subst (λ m. (h m + (f (i + 1 + j) + t) % 4294967296) % 4294967296 ≡ g m) right (subst (λ m. (h (k + suc j) + (f m + t) % 4294967296) % 4294967296 ≡ g (k + suc j)) left (same (suc j) (omega arith))) in
-    cc (first, along f g h t (i + 1) (k + 1) n next)
+    let rest = along f g h t (i + 1) (k + 1) n (λ j below.
+    let left : i + 1 + j ≡ i + suc j = omega arith in
+    let right : k + 1 + j ≡ k + suc j = omega arith in
+    rw (left, right) (same (suc j) (omega arith))) in
+    cc (here, there, same 0 (omega arith), rest)
 
 -- eight lanes as both halves of sixteen
 abbrev pub doubled : List ℕ → List ℕ
@@ -129,30 +106,24 @@ module _ (row above : List ℕ) (i : ℕ) (inside : i + 16 ≤ length row) where
   lane : (j : ℕ) → j < 16 → (get_or above (i + j) 0 + (sum (take (1 + j) (chunk 0 16 (cut row i))) + sum (take i row) % 4294967296) % 4294967296) % 4294967296 ≡ sum_below above row (i + j)
   lane j below =
       let e : i + (1 + j) ≡ i + j + 1 = omega arith in
-      wraps (get_or above (i + j) 0) (sum (take (1 + j) (chunk 0 16 (cut row i)))) (sum (take i row)) (sum (take (i + j + 1) row)) (sum_after (1 + j) (omega arith) ∙ ap (λ n. sum (take n row)) e)
-    where
-      wraps : (a b c d : ℕ) → b + c ≡ d → (a + (b + c % 4294967296) % 4294967296) % 4294967296 ≡ (a + d) % 4294967296
-      wraps a b c d is = omega arith
+      let sums = sum_after (1 + j) (omega arith) ∙ ap (λ n. sum (take n row)) e in
+      omega (arith, sums)
 
   -- the total once the block is added
   pub block_total : (sums total : List ℕ) (n : ℕ) → n ≡ i + 16 → sums ≡ first_sums (chunk 0 16 (cut row i)) → total ≡ replicate 8 (sum (take i row) % 4294967296)
       → plus (pick_l 0 (sums ++ sums) (replicate 8 15)) total ≡ replicate 8 (sum (take n row) % 4294967296)
   block_total sums total n next are is =
+      let sums_are = sum_after 16 (omega arith) ∙ ap (λ m. sum (take m row)) (sym next) in
+      let wraps : (sum (take 16 (chunk 0 16 (cut row i))) + sum (take i row) % 4294967296) % 4294967296 ≡ sum (take n row) % 4294967296 =
+      omega (arith, sums_are) in
       ap (λ l. plus (pick_l 0 (l ++ l) (replicate 8 15)) total) are
-      ∙ ap (plus (replicate 8 (sum (take 16 (chunk 0 16 (cut row i)))))) is
-      ∙ ap (replicate 8) (wraps (sum (take 16 (chunk 0 16 (cut row i)))) (sum (take i row)) (sum (take n row)) (sum_after 16 (omega arith) ∙ ap (λ m. sum (take m row)) (sym next)))
-    where
-      wraps : (a b c : ℕ) → a + b ≡ c → (a + b % 4294967296) % 4294967296 ≡ c % 4294967296
-      wraps a b c is = omega arith
+      ∙ ap (plus (replicate 8 (sum (take 16 (chunk 0 16 (cut row i)))))) is ∙ ap (replicate 8) wraps
 
   -- the sums of the block
   pub block_is : (sums total : List ℕ) → i + 16 ≤ length above → sums ≡ first_sums (chunk 0 16 (cut row i)) → total ≡ replicate 8 (sum (take i row) % 4294967296)
       → plus (chunk 0 16 (cut above i)) (plus sums (doubled total)) ≡ map (sum_below above row) (range_with_len i 16)
   block_is sums total room are is =
-      ap (λ l. plus l (plus sums (doubled total))) (loaded_is above i room)
-      ∙ ap (λ l. plus (map (λ k. get_or above k 0) (range_with_len i 16)) (plus l (doubled total))) are
-      ∙ ap (λ l. plus (map (λ k. get_or above k 0) (range_with_len i 16)) (plus (first_sums (chunk 0 16 (cut row i))) (doubled l))) is
-      ∙ along (λ k. sum (take k (chunk 0 16 (cut row i)))) (sum_below above row) (λ k. get_or above k 0) (sum (take i row) % 4294967296) 1 i 16 lane
+      rw (loaded_is above i room, are, is) (along (λ k. sum (take k (chunk 0 16 (cut row i)))) (sum_below above row) (λ k. get_or above k 0) (sum (take i row) % 4294967296) 1 i 16 lane)
 
   -- the sums that stand in a row once the block is written
   pub block_written : (block out : List ℕ) (n m : ℕ) → n ≡ i + 16 → length out ≡ length row → block ≡ map (sum_below above row) (range_with_len i 16)
@@ -164,10 +135,7 @@ module _ (row above : List ℕ) (i : ℕ) (inside : i + 16 ≤ length row) where
       let start : 0 + i ≡ i = omega arith in
       ap (λ l. take n (put_mid i m out l)) (put_chunk_whole (cut out i) block same ∙ is)
       ∙ take-put_mid i m out (map g (range_with_len i 16)) n next (omega arith)
-      ∙ ap (λ l. l ++ map g (range_with_len i 16)) before
-      ∙ ap (λ k. map g (range_with_len 0 i) ++ map g (range_with_len k 16)) (sym start)
-      ∙ sym (map-append g (range_with_len 0 i) (range_with_len (0 + i) 16))
-      ∙ ap (map g) (sym (range-append 0 i 16) ∙ ap (range_with_len 0) (sym next))
+      ∙ cc (before, start, next, map-append g (range_with_len 0 i) (range_with_len (0 + i) 16), range-append 0 i 16)
 
   -- what stands past the block
   pub block_past : (block out before : List ℕ) (n m : ℕ) → n ≡ i + 16 → m ≡ 16 → length out ≡ length row → block ≡ map (sum_below above row) (range_with_len i 16) → drop i out ≡ drop i before
@@ -195,15 +163,12 @@ total_more row k total x below is at =
 
 -- the sum below a place
 pub place_sum : (above row : List ℕ) (k total : ℕ) → total ≡ sum (take (k + 1) row) % 4294967296 → (get_or above k 0 + total) % 4294967296 ≡ sum_below above row k
-place_sum above row k total is = wraps (get_or above k 0) total (sum (take (k + 1) row)) is
-  where
-    wraps : (a b c : ℕ) → b ≡ c % 4294967296 → (a + b) % 4294967296 ≡ (a + c) % 4294967296
-    wraps a b c is = omega arith
+place_sum above row k total is = omega (arith, is)
 
 pub place_written : (g : ℕ → ℕ) (out : List ℕ) (k v : ℕ) → k < length out → take k out ≡ map g (range_with_len 0 k) → v ≡ g k → take (k + 1) (set out k v) ≡ map g (range_with_len 0 (k + 1))
 place_written g out k v room before is =
     let next : 0 + k ≡ k = omega arith in
-    take_more_set out k v room ∙ ap (λ l. l ++ v ∷ []) before ∙ ap (λ n. map g (range_with_len 0 k) ++ n ∷ []) is ∙ sym (map-range_with_len_more g 0 k k next)
+    cc (take_more_set out k v room, before, is, map-range_with_len_more g 0 k k next)
 
 -- a place that is read where nothing is written yet
 pub unwritten_place : (out before : List ℕ) (k : ℕ) → drop k out ≡ drop k before → get_or out k 0 ≡ get_or before k 0

@@ -1,7 +1,6 @@
 -- Rows of an integral image from the row above them.
 use Rattle.std.proofs.Common.{false, true, ◌%◌, ◌≡◌, ◌⊎◌, inl, inr, ℕ, pos, zero, suc, ◌+◌, ◌-◌, ◌*◌, ◌<◌, ◌≤◌, List, ◌++◌, length, map, take, drop, get_or, replicate, Option, Some, None, IfSome, subst, ap, ◌∙◌, sym, refl, arith, unwrap_or, option_map, Bool, if◌then◌else◌, ◌==◌, Bor, option_copied, unsigned_abs, drop_at, get_or-drop, get_or-take}
 use Rattle.stat_kernels.proofs.Common.{sum_by, range_with_len, flat_map, cases_lt, nat_tests, drop-map, get_or-map, get_or-replicate, length-replicate, length-chunk, Rectangle, ImageValue, IsImage, at, band, run, within, row_places, sum_to, band-more, get_or-run, run-same, Part, IsValidPart, AreSums, IsRowAbove, sum_before, sums_below}
-use Rattle.std.proofs.lemmas.Bool.{false_from_ne_true}
 use Rattle.vx_base.specs.Rectangle.{inside}
 use Rattle.vx_base.proofs.TableLaws.{length-band, run-constant, within_beside, within_inside}
 use Rattle.stat_kernels.specs.Part.{has_row}
@@ -43,33 +42,20 @@ same_columns r s y line same some above below =
       bottom = other.bottom;
     }
 
+outside : (part : ImageValue) (y : ℕ) (p : Part) → IsValidPart part p → has_row p y ≡ false → (x : ℕ) → inside part.valid x y ≡ false
+outside part y p is none x = grind (arith, nat_tests, is.count, is.top, is.bottom)
+
 -- where it has none, the integral image is 0 there
 pub no_sums : (part whole : ImageValue) (y line : ℕ) (p : Part) → IsValidPart part p → has_row p y ≡ false → IsRowOf part y whole line → sums_row whole line ≡ replicate whole.width (pos 0)
 no_sums part whole y line p is none same =
     run-same (λ x. within whole.valid (sum_to whole) x line) (λ _. pos 0) 0 whole.width
-    (λ x a b. ap (λ (t : Bool). if t then sum_to whole x line else pos 0) (sym (same.valid x) ∙ outside x))
+    (λ x a b. ap (λ (t : Bool). if t then sum_to whole x line else pos 0) (sym (same.valid x) ∙ outside part y p is none x))
     ∙ run-constant (pos 0) 0 whole.width
-  where
-    outside : (x : ℕ) → inside part.valid x y ≡ false
-    outside x = false_from_ne_true (inside part.valid x y) (λ e.
-        let here = inside_parts part.valid x y e in
-        let some : 0 < p.count = omega (arith, is.count, here.left, here.right) in
-        let top : p.top ≤ y = omega (arith, is.top, here.top) in
-        let bottom : y < p.bottom = omega (arith, is.bottom, here.bottom) in
-        let yes : has_row p y ≡ true = grind (arith, nat_tests, some, top, bottom) in
-        cc)
-
--- where a part has a row
-pub row_there : (p : Part) (y : ℕ) → has_row p y ≡ true → (1 ≤ p.count) × (p.top ≤ y) × (y < p.bottom)
-row_there p y e = (grind (arith, nat_tests, e), grind (arith, nat_tests, e), grind (arith, nat_tests, e))
 
 -- what is said of a row that is lent
 pub lent_long : (above : Option (Bor (List ℕ))) (n : ℕ) → IfSome above (λ r. length r.now ≡ n) → IfSome (option_copied above) (λ row. length row ≡ n)
 lent_long None n h = tt
 lent_long (Some r) n h = h
-
-zeros_long : (n : ℕ) → length (replicate {A = ℕ} n 0) ≡ n
-zeros_long n = length-replicate n 0
 
 -- ---- a row through the valid part
 
@@ -96,7 +82,7 @@ module _ (whole : ImageValue) (is : IsImage whole) where
   sums_none : (n : ℕ) → AreSums whole whole.valid.y0 (replicate n 0)
   sums_none n k h =
       let none : whole.valid.y0 - whole.valid.y0 ≡ 0 = omega arith in
-      get_or-replicate n k 0 0 (omega (arith, h, zeros_long n))
+      get_or-replicate n k 0 0 (omega (arith, h, length-replicate {A = ℕ} n 0))
       ∙ ap (λ m. sum_by unsigned_abs (map (λ (p : ℕ × ℕ). at whole p.0 p.1) (flat_map (row_places whole.valid.x0 (whole.valid.x0 + k + 1 - whole.valid.x0)) (range_with_len whole.valid.y0 m))) % 4294967296) (sym none)
 
   abbrev cut : List ℕ → List ℕ
@@ -112,12 +98,16 @@ module _ (whole : ImageValue) (is : IsImage whole) where
         let below : k < its_part.count = omega (arith, h, cut_long row long) in
         let x = whole.valid.x0 + k in
         let inside_row : x < whole.width = omega (arith, below, valid_part.in_columns) in
+        let here : 0 + x ≡ x = omega arith in
         let value : pos (get_or (cut row) k 0) ≡ within whole.valid (sum_to whole) x (line - 1) =
-        ap pos (get_or-take its_part.count (drop its_part.x row) k 0 below ∙ get_or-drop its_part.x row k 0)
-        ∙ sym (get_or-map pos row x 0 (pos 0) (omega (arith, long, inside_row)))
-        ∙ ap (λ l. get_or l x (pos 0)) is_row
-        ∙ get_or-run (λ j. within whole.valid (sum_to whole) j (line - 1)) 0 whole.width x (pos 0) inside_row
-        ∙ ap (λ j. within whole.valid (sum_to whole) j (line - 1)) {x = 0 + x} {y = x} (omega arith) in
+        cc (
+          get_or-take its_part.count (drop its_part.x row) k 0 below,
+          get_or-drop its_part.x row k 0,
+          get_or-map pos row x 0 (pos 0) (omega (arith, long, inside_row)),
+          is_row,
+          here,
+          get_or-run (λ j. within whole.valid (sum_to whole) j (line - 1)) 0 whole.width x (pos 0) inside_row,
+        ) in
         ap unsigned_abs (value ∙ of_row k below (cases_lt whole.valid.y0 line))
       where
         of_row : (k : ℕ) → k < its_part.count → (whole.valid.y0 < line) ⊎ (line ≤ whole.valid.y0) → within whole.valid (sum_to whole) (whole.valid.x0 + k) (line - 1) ≡ pos (sum_before whole (whole.valid.x0 + k + 1) line % 4294967296)
@@ -128,7 +118,7 @@ module _ (whole : ImageValue) (is : IsImage whole) where
         of_row k below (inr first) =
             let at : whole.valid.y0 ≡ line = omega (arith, top, first) in
             within_beside whole.valid (sum_to whole) (whole.valid.x0 + k) (line - 1) (inr (inl (omega (arith, at, some))))
-            ∙ ap pos (sym (get_or-replicate (k + 1) k 0 0 (omega arith)) ∙ sums_none (k + 1) k (omega (arith, zeros_long (k + 1))))
+            ∙ ap pos (sym (get_or-replicate (k + 1) k 0 0 (omega arith)) ∙ sums_none (k + 1) k (omega (arith, length-replicate {A = ℕ} (k + 1) 0)))
             ∙ ap (λ n. pos (sum_before whole (whole.valid.x0 + k + 1) n % 4294967296)) at
 
     sums_above : (above : Option (List ℕ)) → IfSome above (λ row. length row ≡ whole.width) → IsRowAbove whole line above → AreSums whole line (unwrap_or (option_map cut above) (replicate its_part.count 0))
@@ -151,9 +141,6 @@ module _ (whole : ImageValue) (is : IsImage whole) where
 
 -- ---- rows one after the other
 
-none_or : (n : ℕ) → 1 ≤ n → (n == 0) ≡ false
-none_or n h = grind (arith, nat_tests)
-
 -- above the next row stands the last of those that are there, or the one above them all
 pub row_above : (whole : ImageValue) (line k width : ℕ) (before : List ℕ) (above : Option (List ℕ)) → 1 ≤ width → width ≡ whole.width → map pos before ≡ band width line k (within whole.valid (sum_to whole))
     → length before ≡ k * width → IsRowAbove whole line above → IsRowAbove whole (line + k) (last_row_or width before above)
@@ -167,12 +154,15 @@ row_above whole line k width before above wide same are long is_above = by_count
     by_count (suc m) are long =
         let f = within whole.valid (sum_to whole) in
         let more : length before ≡ m * width + width = omega (arith, long) in
+        let some : (length before == 0) ≡ false = grind (arith, nat_tests, more, wide) in
         let last : last_row_or width before above ≡ Some (drop (length before - width) before) =
-        ap (λ (t : Bool). if t then above else Some (drop (length before - width) before)) (none_or (length before) (omega (arith, more, wide))) in
+        ap (λ (t : Bool). if t then above else Some (drop (length before - width) before)) some in
         let cut : length before - width ≡ m * width = omega (arith, more) in
+        let next : suc m ≡ m + 1 = omega arith in
+        let at : line + m ≡ line + suc m - 1 = omega arith in
+        let rest = drop_at (band width line m f) (run 0 width (λ x. f x (line + m))) (m * width) (length-band width line m f) in
         let is_last : map pos (drop (length before - width) before) ≡ run 0 width (λ x. f x (line + m)) =
-        ap (λ n. map pos (drop n before)) cut ∙ sym (drop-map pos (m * width) before) ∙ ap (drop (m * width)) (are ∙ ap (λ n. band width line n f) {x = suc m} {y = m + 1} (omega arith) ∙ band-more width line m f)
-        ∙ drop_at (band width line m f) (run 0 width (λ x. f x (line + m))) (m * width) (length-band width line m f) in
+        cc (cut, drop-map pos (m * width) before, are, next, band-more width line m f, rest) in
         let row : map pos (drop (length before - width) before) ≡ sums_row whole (line + suc m - 1) =
-        is_last ∙ ap (λ w. run 0 w (λ x. f x (line + m))) same ∙ ap (λ n. run 0 whole.width (λ x. f x n)) {x = line + m} {y = line + suc m - 1} (omega arith) in
+        is_last ∙ ap (λ w. run 0 w (λ x. f x (line + m))) same ∙ ap (λ n. run 0 whole.width (λ x. f x n)) at in
         subst (IsRowAbove whole (line + suc m)) (sym last) (omega arith, row)

@@ -44,6 +44,9 @@ length-places r = length-rows r.x0 (r.x1 - r.x0) r.y0 (r.y1 - r.y0)
 pub length-samples : (r : Rectangle) (image : ImageValue) → length (samples_in r image) ≡ (r.y1 - r.y0) * (r.x1 - r.x0)
 length-samples r image = length-map (places r) (λ p. at image p.0 p.1) ∙ length-places r
 
+pub area_fits : (m n : ℕ) → m < 65536 → n < 65536 → m * n < 4294967296
+area_fits m n rows columns = grind arith
+
 rows_fit : (m n : ℕ) → m < 65535 → n < 65536 → m * n + n < 4294967296
 rows_fit m n rows columns = grind arith
 
@@ -66,10 +69,7 @@ module _ (image : ImageValue) (part : Part) (is : IsValidPart image part) where
 
   -- so many samples are counted in 32 bits
   pub samples_fit : length (samples_in image.valid image) < 4294967296
-  samples_fit = omega (arith, length-samples image.valid image, all_fit (image.valid.y1 - image.valid.y0) (image.valid.x1 - image.valid.x0) (omega (arith, is.rows_fit, is.bottom)) (omega (arith, is.count, is.columns_fit)))
-    where
-      all_fit : (m n : ℕ) → m < 65536 → n < 65536 → m * n < 4294967296
-      all_fit m n rows columns = grind arith
+  samples_fit = omega (arith, length-samples image.valid image, area_fits (image.valid.y1 - image.valid.y0) (image.valid.x1 - image.valid.x0) (omega (arith, is.rows_fit, is.bottom)) (omega (arith, is.count, is.columns_fit)))
 
 -- the places of a row, cut in two
 pub row_places-append : (x m n y : ℕ) → row_places x (m + n) y ≡ row_places x m y ++ row_places (x + m) n y

@@ -1,12 +1,11 @@
 -- Sums to the left and above, row by row.
-use Rattle.std.proofs.Common.{false, ◌%◌, ◌≡◌, ◌⊎◌, inl, inr, ℕ, ℤ, pos, ◌+◌, ◌-◌, ◌*◌, ◌<◌, ◌≤◌, List, [], ◌∷◌, ◌++◌, length, map, take, drop, get_or, subst, ap, ◌∙◌, sym, refl, arith, replicate, unsigned_abs, ◌==◌, if◌then◌else◌, Option, Some, None, IfSome, ext_get_or, length-append}
+use Rattle.std.proofs.Common.{false, ◌%◌, ◌≡◌, ◌⊎◌, inl, inr, ℕ, ℤ, pos, ◌+◌, ◌-◌, ◌*◌, ◌<◌, ◌≤◌, List, [], ◌∷◌, ◌++◌, length, map, take, drop, get_or, subst, ap, ◌∙◌, sym, refl, arith, replicate, unsigned_abs, ◌==◌, if◌then◌else◌, Some, None, IfSome, ext_get_or, length-append}
 use Rattle.stat_kernels.proofs.Common.{sum, sum_by, range_with_len, length-chunk, nat_tests, take-map, get_or-map, length-map, map-append, take-map-range_with_len, get_or-map-range_with_len, sum_by-append, sum_by-cons, Rectangle, ImageValue, at, run, band, within, samples_in, sum_to, map-replicate, get_or-run, length-range, band-more, Part, IsValidPart, sum_before, sum_below, sums_below, AreSums, AreAbove, last_row}
 use Rattle.std.proofs.Math.Seq.{take-append_seam, take-append-add, drop-append_seam}
 use Rattle.vx_base.specs.Rectangle.{whole, meet_of}
 use Rattle.vx_base.proofs.TableLaws.{length-run, row_across, row_outside}
 use Rattle.stat_kernels.proofs.Rows.{above}
 use Rattle.stat_kernels.specs.Sums.{corner}
-use Rattle.stat_kernels.proofs.LaneSums.{sum_wraps}
 use Rattle.stat_kernels.proofs.PlaceLaws.{samples_more}
 
 sum_of_run : (row : List ℕ) → sum row ≡ sum_by unsigned_abs (map pos row)
@@ -53,38 +52,31 @@ module _ (image : ImageValue) (part : Part) (is : IsValidPart image part) (y : �
   pub sums_next : (row old sums : List ℕ) → map pos row ≡ run part.x part.count (λ k. at image k y) → length row ≡ part.count → length old ≡ part.count → sums ≡ sums_below old row → AreSums image y old → AreSums image (y + 1) sums
   sums_next row old sums same wide old_long is_below are k h =
       let inside_row : k < length row = omega (arith, h, ap length is_below, length-map (range_with_len 0 (length row)) (sum_below old row), length-range 0 (length row)) in
-      let e : 0 + k ≡ k = omega arith in
-      ap (λ l. get_or l k 0) is_below
-      ∙ get_or-map-range_with_len (sum_below old row) 0 (length row) k k 0 inside_row e
-      ∙ sum_wraps (get_or old k 0) (sum (take (k + 1) row)) (sum_before image (image.valid.x0 + k + 1) y) (are k (omega arith))
-      ∙ ap (λ n. n % 4294967296)
-      (ap (λ n. sum_before image (image.valid.x0 + k + 1) y + n)
-      (row_sum row part.x part.count (k + 1) (λ k. at image k y) same (omega arith)
-      ∙ ap (λ x. sum_by unsigned_abs (run x (k + 1) (λ k. at image k y))) is.x
-      ∙ ap (λ n. sum_by unsigned_abs (run image.valid.x0 n (λ k. at image k y))) (let e : k + 1 ≡ image.valid.x0 + k + 1 - image.valid.x0 = omega arith in e))
-      ∙ sym (sum_more image (image.valid.x0 + k + 1) y (omega (arith, is.top))))
+      let here = get_or-map-range_with_len (sum_below old row) 0 (length row) k k 0 inside_row (omega arith) in
+      let wide_here : k + 1 ≡ image.valid.x0 + k + 1 - image.valid.x0 = omega arith in
+      let row_is : sum (take (k + 1) row) ≡ sum_by unsigned_abs
+      (run image.valid.x0 (image.valid.x0 + k + 1 - image.valid.x0) (λ k. at image k y)) =
+      row_sum row part.x part.count (k + 1) (λ k. at image k y) same (omega arith) ∙ cc (is.x, wide_here) in
+      ap (λ l. get_or l k 0) is_below ∙ here
+      ∙ omega (arith, are k (omega arith), row_is, sum_more image (image.valid.x0 + k + 1) y (omega (arith, is.top)))
 
   -- the same from the row above, of which a part is read
   pub sums_from : (row above sums : List ℕ) (x : ℕ) → x ≡ part.x → map pos row ≡ run part.x part.count (λ k. at image k y) → length row ≡ part.count → length above ≡ image.width
       → sums ≡ sums_below (take (x + part.count - x) (drop x above)) row → AreSums image y (take part.count (drop part.x above)) → AreSums image (y + 1) sums
   sums_from row above sums x at_x same wide above_wide is_below are =
-      let old = take (x + part.count - x) (drop x above) in
       let e : x + part.count - x ≡ part.count = omega arith in
-      let cut : old ≡ take part.count (drop part.x above) = ap (λ n. take n (drop x above)) e ∙ ap (λ k. take part.count (drop k above)) at_x in
-      sums_next row old sums same wide (ap length cut ∙ length-chunk part.x part.count above (omega (arith, above_wide, is.in_columns))) is_below (subst (AreSums image y) (sym cut) are)
+      let cut : take (x + part.count - x) (drop x above) ≡ take part.count (drop part.x above) = cc (e, at_x) in
+      sums_next row _ sums same wide (ap length cut ∙ length-chunk part.x part.count above (omega (arith, above_wide, is.in_columns))) is_below (rw cut are)
 
   -- a row through the valid part
   pub row_of_parts : (left sums right : List ℕ) → y < part.bottom → left ≡ replicate part.x 0 → right ≡ replicate (image.width - (part.x + part.count)) 0 → length sums ≡ part.count → AreSums image (y + 1) sums
       → map pos (left ++ (sums ++ right)) ≡ run 0 image.width (λ x. within image.valid (sum_to image) x y)
   row_of_parts left sums right above_bottom at_left at_right long are =
       let r = image.valid in
-      map-append pos left (sums ++ right)
-      ∙ ap (λ l. l ++ map pos (sums ++ right)) (ap (map pos) at_left ∙ map-zeros part.x ∙ ap (λ n. replicate n (pos 0)) is.x)
-      ∙ ap (λ l. replicate r.x0 (pos 0) ++ l) (map-append pos sums right)
-      ∙ ap (λ l. replicate r.x0 (pos 0) ++ (l ++ map pos right))
-      (run_of_sums sums r.x0 (r.x1 - r.x0) (λ x. sum_to image x y) (long ∙ is.count)
-      (λ k h. ap pos (are k (omega (arith, long, is.count))) ∙ sym (sum_at image (r.x0 + k) y (omega arith) (omega arith) (omega (arith, is.top)) (omega (arith, is.bottom)))))
-      ∙ ap (λ l. replicate r.x0 (pos 0) ++ (run r.x0 (r.x1 - r.x0) (λ x. sum_to image x y) ++ l)) (ap (map pos) at_right ∙ map-zeros (image.width - (part.x + part.count)) ∙ ap (λ n. replicate n (pos 0)) (let e : image.width - (part.x + part.count) ≡ image.width - r.x1 = omega (arith, is.x, is.count, is.columns) in e))
+      let sums_are = run_of_sums sums r.x0 (r.x1 - r.x0) (λ x. sum_to image x y) (long ∙ is.count)
+      (λ k h. ap pos (are k (omega (arith, long, is.count))) ∙ sym (sum_at image (r.x0 + k) y (omega arith) (omega arith) (omega (arith, is.top)) (omega (arith, is.bottom)))) in
+      let beside : image.width - (part.x + part.count) ≡ image.width - r.x1 = omega (arith, is.x, is.count, is.columns) in
+      cc (map-append pos left (sums ++ right), map-append pos sums right, at_left, at_right, map-zeros part.x, is.x, sums_are, map-zeros (image.width - (part.x + part.count)), beside)
       ∙ sym (row_across r (sum_to image) image.width r.x0 r.x1 y refl refl is.columns (omega (arith, is.x, is.count, is.columns, is.in_columns)) (omega (arith, is.top)) (omega (arith, is.bottom)))
 
 -- ---- the row above
@@ -93,27 +85,25 @@ module _ (image : ImageValue) (part : Part) (is : IsValidPart image part) (y : �
 pub above_at : (image : ImageValue) (part : Part) (m n : ℕ) (row : List ℕ) → m ≡ n → AreAbove image part m row → AreAbove image part n row
 above_at image part m n row same are = subst (λ k. AreAbove image part k row) same are
 
-some : (n : ℕ) → 1 ≤ n → (n == 0) ≡ false
-some n h = grind (arith, nat_tests)
-
 -- above the others stands the row that was written last
 pub last_row_is : (width : ℕ) (before row : List ℕ) → 1 ≤ width → length row ≡ width → last_row width (before ++ row) ≡ Some row
 last_row_is width before row wide long =
-    let count : length (before ++ row) - width ≡ length before = omega (arith, length-append before row, long) in
-    ap (λ t. if t then None else Some (drop (length (before ++ row) - width) (before ++ row))) (some (length (before ++ row)) (omega (arith, length-append before row, long)))
-    ∙ ap (λ n. Some (drop n (before ++ row))) count ∙ ap Some (drop-append_seam before row)
+    let more : length (before ++ row) ≡ length before + length row = length-append before row in
+    let count : length (before ++ row) - width ≡ length before = omega (arith, more, long) in
+    let some : (length (before ++ row) == 0) ≡ false = grind (arith, nat_tests, more, long, wide) in
+    ap (λ t. if t then None else Some (drop (length (before ++ row) - width) (before ++ row))) some ∙ cc (count, drop-append_seam before row)
 
 -- one more row is written
 module _ (y width : ℕ) (before row rest : List ℕ) (start : length before ≡ y * width) (long : length row ≡ width) where
   rows_so_far : take ((y + 1) * width) (before ++ (row ++ rest)) ≡ before ++ row
   rows_so_far =
       let e : (y + 1) * width ≡ length before + length row = omega arith in
-      ap (λ n. take n (before ++ (row ++ rest))) e ∙ take-append-add before (row ++ rest) (length row) ∙ ap (λ l. before ++ l) (take-append_seam row rest)
+      cc (e, take-append-add before (row ++ rest) (length row), take-append_seam row rest)
 
   pub above_next : (P : List ℕ → Type 0) → 1 ≤ width → P row → IfSome (last_row width (take ((y + 1) * width) (before ++ (row ++ rest)))) P
   above_next P wide holds =
-      subst (λ (l : Option (List ℕ)). IfSome l P) (sym (ap (last_row width) rows_so_far ∙ last_row_is width before row wide long)) holds
+      rw (rows_so_far, last_row_is width before row wide long) holds
 
   pub rows_written : (top : ℕ) (f : ℕ → ℕ → ℤ) → map pos before ≡ band width top y f → map pos row ≡ run 0 width (λ x. f x (top + y)) → map pos (take ((y + 1) * width) (before ++ (row ++ rest))) ≡ band width top (y + 1) f
   rows_written top f are is =
-      ap (map pos) rows_so_far ∙ map-append pos before row ∙ ap (λ l. l ++ map pos row) are ∙ ap (λ l. band width top y f ++ l) is ∙ sym (band-more width top y f)
+      cc (rows_so_far, map-append pos before row, are, is, band-more width top y f)

@@ -1,6 +1,6 @@
 -- Counts by value, and those in bins.
-use Rattle.std.proofs.Common.{◌≡◌, ◌≢◌, ◌⊎◌, inl, inr, ℕ, ℤ, pos, ◌+◌, ◌*◌, ◌<◌, ◌≤◌, List, [], ◌∷◌, ◌++◌, length, map, take, get_or, set, replicate, cond, Bool, true, false, ◌&&◌, suc, refl, ap, ◌∙◌, sym, arith, Some, None, unsigned_abs, ◌==◌, nat_lt, length-set, get_or-set_same, get_or-set_other, length-take}
-use Rattle.stat_kernels.proofs.Common.{range_with_len, All, cases_eq, cases_lt, nat_tests, same_lists, get_or_past, get_or-map, length-map, length-replicate, get_or-replicate, All-nil, All-cons, All-head, All-tail, sum_by-cons, sum_by-append, sum_by_more, count_by-le-length, length-map-range_with_len, get_or-map-range_with_len, BinsValue, bin_of, is_bin, tallies, count_at, count_in_all}
+use Rattle.std.proofs.Common.{◌≡◌, ℕ, ℤ, pos, ◌+◌, ◌*◌, ◌<◌, ◌≤◌, List, [], ◌∷◌, ◌++◌, length, map, take, get_or, set, replicate, cond, Bool, ◌&&◌, suc, refl, ap, ◌∙◌, sym, arith, if◌then◌else◌, Some, None, unsigned_abs, ◌==◌, nat_lt, length-set, get_or-set_same, get_or-set_other, length-take}
+use Rattle.stat_kernels.proofs.Common.{range_with_len, All, cases_eq, cases_lt, nat_tests, get_or_past, get_or-map, length-map, length-replicate, get_or-replicate, All-nil, All-cons, All-head, All-tail, sum_by-cons, sum_by-append, sum_by_more, count_by-le-length, length-map-range_with_len, get_or-map-range_with_len, fill_by_all, BinsValue, bin_of, is_bin, tallies, count_at, count_in_all}
 use Rattle.std.specs.List.{count_by}
 
 -- of these samples how many are below v and fall into bin k
@@ -25,94 +25,68 @@ none_below b [] k = refl
 none_below b (z ∷ zs) k = grind (arith, nat_tests, sum_by-cons, none_below b zs k)
 
 pub tallies_none : (b : BinsValue) (zs : List ℤ) (n : ℕ) → n ≡ b.bins → replicate n 0 ≡ tallies_below b 0 zs
+unfolding tallies_below
 tallies_none b zs n size =
-    same_lists (replicate n 0) (tallies_below b 0 zs) (length-replicate n 0 ∙ size ∙ sym (length-tallies b 0 zs))
-    (λ k d h. let below : k < n = omega (arith, length-replicate {A = ℕ} n 0) in
-    get_or-replicate n k 0 d below ∙ sym (tally_at b 0 zs k d (omega arith) ∙ none_below b zs k))
+    fill_by_all (count_below b 0 zs) (replicate n 0) b.bins 0 (length-replicate n 0 ∙ size)
+    (λ k below. get_or-replicate n k 0 0 (omega (arith, below)) ∙ sym (none_below b zs k))
 
 -- what one sample adds
-module _ (q : ℕ → Bool) (v : ℕ) where
-  abbrev item : ℕ → ℕ → ℕ
-  item v x = cond (nat_lt x v && q x) 1 0
-
-  item_more : (x : ℕ) → q v ≡ true → item (v + 1) x ≡ item v x + cond (x == v) 1 0
-  item_more x is = grind (arith, nat_tests, cases_eq x v, cases_lt x v)
-
-  item_same : (x : ℕ) → q v ≡ false → item (v + 1) x ≡ item v x
-  item_same x not = grind (arith, nat_tests, cases_eq x v, cases_lt x v)
+item_next : (q : ℕ → Bool) (v x : ℕ) → cond (nat_lt x (v + 1) && q x) 1 0 ≡ cond (nat_lt x v && q x) 1 0 + (if q v then cond (x == v) 1 0 else 0)
+item_next q v x = grind (arith, nat_tests, cases_eq x v, cases_lt x v)
 
 count_below-cons : (b : BinsValue) (v k : ℕ) (z : ℤ) (zs : List ℤ) → count_below b v (z ∷ zs) k ≡ cond (nat_lt (unsigned_abs z) v && is_bin k (bin_of b (unsigned_abs z))) 1 0 + count_below b v zs k
 count_below-cons b v k z zs = sum_by-cons (λ s. cond (nat_lt (unsigned_abs s) v && is_bin k (bin_of b (unsigned_abs s))) 1 0) z zs
 
--- the samples of one more value fall into a bin, or into none
-count_more : (b : BinsValue) (v k : ℕ) (zs : List ℤ) → is_bin k (bin_of b v) ≡ true → count_below b (v + 1) zs k ≡ count_below b v zs k + count_at v zs
-count_more b v k [] is = refl
-count_more b v k (z ∷ zs) is =
-    let here = item_more (λ x. is_bin k (bin_of b x)) v (unsigned_abs z) is in
-    omega (arith, here, count_below-cons b (v + 1) k z zs, count_below-cons b v k z zs, sum_by-cons (λ s. cond (unsigned_abs s == v) 1 0) z zs, count_more b v k zs is)
+if_sum : (t : Bool) (m n : ℕ) → (if t then m + n else 0) ≡ (if t then m else 0) + (if t then n else 0)
+if_sum t m n = grind arith
 
-count_same : (b : BinsValue) (v k : ℕ) (zs : List ℤ) → is_bin k (bin_of b v) ≡ false → count_below b (v + 1) zs k ≡ count_below b v zs k
-count_same b v k [] not = refl
-count_same b v k (z ∷ zs) not =
-    omega (arith, count_below-cons b (v + 1) k z zs, count_below-cons b v k z zs, item_same (λ x. is_bin k (bin_of b x)) v (unsigned_abs z) not, count_same b v k zs not)
+-- one more value adds its samples to its bin, if it has one, and to no other
+count_next : (b : BinsValue) (v k : ℕ) (zs : List ℤ) → count_below b (v + 1) zs k ≡ count_below b v zs k + (if is_bin k (bin_of b v) then count_at v zs else 0)
+count_next b v k [] = grind arith
+count_next b v k (z ∷ zs) =
+    let q = is_bin k (bin_of b v) in
+    let here = item_next (λ x. is_bin k (bin_of b x)) v (unsigned_abs z) in
+    let counts = ap (λ n. let m : ℕ = if q then n else 0 in m) (sum_by-cons (λ s. cond (unsigned_abs s == v) 1 0) z zs) in
+    omega (arith, here, count_below-cons b (v + 1) k z zs, count_below-cons b v k z zs, counts, if_sum q (cond (unsigned_abs z == v) 1 0) (count_at v zs), count_next b v k zs)
 
--- one more value, whose samples fall into no bin
-pub tallies_same : (b : BinsValue) (v : ℕ) (zs : List ℤ) → bin_of b v ≡ None → tallies_below b v zs ≡ tallies_below b (v + 1) zs
-tallies_same b v zs outside =
-    same_lists (tallies_below b v zs) (tallies_below b (v + 1) zs) (length-tallies b v zs ∙ sym (length-tallies b (v + 1) zs))
-    (λ k d h. let below : k < b.bins = omega (arith, length-tallies b v zs) in
-    tally_at b v zs k d below ∙ sym (count_same b v k zs (ap (is_bin k) outside)) ∙ sym (tally_at b (v + 1) zs k d below))
+tallies_next : (b : BinsValue) (v : ℕ) (zs : List ℤ) (next : List ℕ) → length next ≡ b.bins
+    → ((k : ℕ) → k < b.bins → get_or next k 0 ≡ get_or (tallies_below b v zs) k 0 + (if is_bin k (bin_of b v) then count_at v zs else 0)) → next ≡ tallies_below b (v + 1) zs
+unfolding tallies_below
+tallies_next b v zs next size each =
+    fill_by_all (count_below b (v + 1) zs) next b.bins 0 size
+    (λ k below. omega (arith, each k below, tally_at b v zs k 0 below, count_next b v k zs))
 
--- one more value, whose samples fall into a bin
-pub tallies_more : (b : BinsValue) (v : ℕ) (zs : List ℤ) (bin : ℕ) → bin_of b v ≡ Some bin → bin < b.bins → set (tallies_below b v zs) bin (get_or (tallies_below b v zs) bin 0 + count_at v zs) ≡ tallies_below b (v + 1) zs
-tallies_more b v zs bin is room =
+-- at each way through the code
+pub value_some : (b : BinsValue) (v : ℕ) (zs : List ℤ) (counts next : List ℕ) (i bin total : ℕ) → counts ≡ tallies_below b v zs → next ≡ set counts i (get_or counts i 0 + total) → i ≡ bin → bin_of b v ≡ Some bin → bin < b.bins → total ≡ count_at v zs → next ≡ tallies_below b (v + 1) zs
+value_some b v zs counts next i bin total are is at falls below counted =
     let was = tallies_below b v zs in
     let n = get_or was bin 0 + count_at v zs in
-    same_lists (set was bin n) (tallies_below b (v + 1) zs) (length-set was bin n ∙ length-tallies b v zs ∙ sym (length-tallies b (v + 1) zs))
-    (λ k d h. let below : k < b.bins = omega (arith, length-tallies b v zs, length-set was bin n) in
-    at k d below (cases_eq bin k) ∙ sym (tally_at b (v + 1) zs k d below))
-  where
-    at : (k d : ℕ) → k < b.bins → (bin ≡ k) ⊎ (bin ≢ k) → get_or (set (tallies_below b v zs) bin (get_or (tallies_below b v zs) bin 0 + count_at v zs)) k d ≡ count_below b (v + 1) zs k
-    at k d below (inl same) = rw (← same) (
-        get_or-set_same (tallies_below b v zs) bin (get_or (tallies_below b v zs) bin 0 + count_at v zs) d (omega (arith, length-tallies b v zs))
-        ∙ ap (λ n. n + count_at v zs) (tally_at b v zs bin 0 room) ∙ sym (count_more b v bin zs (ap (is_bin bin) is ∙ grind (arith, nat_tests))))
-    at k d below (inr other) =
-        get_or-set_other (tallies_below b v zs) bin k (get_or (tallies_below b v zs) bin 0 + count_at v zs) d (λ e. other (sym e))
-        ∙ tally_at b v zs k d below ∙ sym (count_same b v k zs (ap (is_bin k) is ∙ grind (arith, nat_tests, other)))
-
--- one more value, at each way through the code
-pub value_some : (b : BinsValue) (v : ℕ) (zs : List ℤ) (counts next : List ℕ) (i bin total : ℕ) → counts ≡ tallies_below b v zs → next ≡ set counts i (get_or counts i 0 + total) → i ≡ bin → bin_of b v ≡ Some bin → bin < b.bins → total ≡ count_at v zs → next ≡ tallies_below b (v + 1) zs
-value_some b v zs counts next i bin total are is at falls below counted = rw (is, at, are, counted) (tallies_more b v zs bin falls below)
+    let room : bin < length was = omega (arith, below, length-tallies b v zs) in
+    rw (is, at, are, counted) (tallies_next b v zs (set was bin n) (length-set was bin n ∙ length-tallies b v zs)
+    (λ k h. grind (arith, nat_tests, cases_eq k bin, get_or-set_same was bin n 0 room, get_or-set_other was bin k n 0, ap (is_bin k) falls)))
 
 pub value_none : (b : BinsValue) (v : ℕ) (zs : List ℤ) (counts next : List ℕ) → counts ≡ tallies_below b v zs → next ≡ counts → bin_of b v ≡ None → next ≡ tallies_below b (v + 1) zs
-value_none b v zs counts next are is outside = is ∙ are ∙ tallies_same b v zs outside
+value_none b v zs counts next are is outside =
+    tallies_next b v zs next (ap length (is ∙ are) ∙ length-tallies b v zs) (λ k h. ap (λ l. get_or l k 0) (is ∙ are) ∙ rw outside (omega arith))
 
 -- no count is above the number of samples
 pub tallies_at_most : (b : BinsValue) (v : ℕ) (zs : List ℤ) (bin : ℕ) → bin_of b v ≡ Some bin → bin < b.bins → get_or (tallies_below b v zs) bin 0 + count_at v zs ≤ length zs
 tallies_at_most b v zs bin is room =
-    omega (
-      arith,
-      tally_at b v zs bin 0 room,
-      count_more b v bin zs (ap (is_bin bin) is ∙ grind (arith, nat_tests)),
-      count_by-le-length (λ z. nat_lt (unsigned_abs z) (v + 1) && is_bin bin (bin_of b (unsigned_abs z))) zs,
-    )
+    let few = count_by-le-length (λ z. nat_lt (unsigned_abs z) (v + 1) && is_bin bin (bin_of b (unsigned_abs z))) zs in
+    grind (arith, nat_tests, tally_at b v zs bin 0 room, count_next b v bin zs, ap (is_bin bin) is, few)
 
 -- all values are counted
 all_below : (b : BinsValue) (k : ℕ) (zs : List ℤ) → All (λ z. unsigned_abs z < 256) zs → count_below b 256 zs k ≡ count_by (λ z. is_bin k (bin_of b (unsigned_abs z))) zs
 all_below b k [] small = refl
 all_below b k (z ∷ zs) small =
-    let here : nat_lt (unsigned_abs z) 256 ≡ true = grind (arith, nat_tests, All-head (λ z. unsigned_abs z < 256) z zs small) in
-    let counts = ap (λ t. let m : ℕ = cond (t && is_bin k (bin_of b (unsigned_abs z))) 1 0 in m) here in
+    let here = All-head (λ z. unsigned_abs z < 256) z zs small in
     let rest = all_below b k zs (All-tail (λ z. unsigned_abs z < 256) z zs small) in
-    omega (arith, counts, rest, count_below-cons b 256 k z zs, sum_by-cons (λ s. cond (is_bin k (bin_of b (unsigned_abs s))) 1 0) z zs)
+    grind (arith, nat_tests, here, rest, count_below-cons b 256 k z zs, sum_by-cons (λ s. cond (is_bin k (bin_of b (unsigned_abs s))) 1 0) z zs)
 
 pub tallies_all : (b : BinsValue) (zs : List ℤ) → All (λ z. unsigned_abs z < 256) zs → tallies_below b 256 zs ≡ tallies b zs
-unfolding tallies_below
-tallies_all b zs small = map-same (count_below b 256 zs) (λ k. count_by (λ z. is_bin k (bin_of b (unsigned_abs z))) zs) (range_with_len 0 b.bins) (λ k. all_below b k zs small)
-  where
-    map-same : (f g : ℕ → ℕ) (xs : List ℕ) → ((k : ℕ) → f k ≡ g k) → map f xs ≡ map g xs
-    map-same f g [] same = refl
-    map-same f g (x ∷ xs) same = cc (same x, map-same f g xs same)
+tallies_all b zs small =
+    fill_by_all (λ k. count_by (λ z. is_bin k (bin_of b (unsigned_abs z))) zs) (tallies_below b 256 zs)
+    b.bins 0 (length-tallies b 256 zs) (λ k below. tally_at b 256 zs k 0 below ∙ all_below b k zs small)
 
 -- ---- four tables
 
@@ -124,14 +98,11 @@ pub zeros_counted : (v : ℕ) → count_in_all (replicate 256 0) (replicate 256 
 zeros_counted v = omega (arith, zero_at 256 v)
 
 -- one sample more
-one_at : (v : ℕ) (row : List ℕ) (i j : ℕ) → i < length row → j ≡ i + 1 → count_at v (take j (map pos row)) ≡ count_at v (take i (map pos row)) + cond (get_or row i 0 == v) 1 0
+pub one_at : (v : ℕ) (row : List ℕ) (i j : ℕ) → i < length row → j ≡ i + 1 → count_at v (take j (map pos row)) ≡ count_at v (take i (map pos row)) + cond (get_or row i 0 == v) 1 0
 one_at v row i j below next =
     ap (λ n. count_at v (take n (map pos row))) next
     ∙ sum_by_more (λ z. cond (unsigned_abs z == v) 1 0) (map pos row) i (pos 0) (omega (arith, length-map row pos))
     ∙ ap (λ z. count_at v (take i (map pos row)) + cond (unsigned_abs z == v) 1 0) (get_or-map pos row i 0 (pos 0) below)
-
-pub one_more : (v : ℕ) (row : List ℕ) (i : ℕ) → i < length row → count_at v (take (i + 1) (map pos row)) ≡ count_at v (take i (map pos row)) + cond (get_or row i 0 == v) 1 0
-one_more v row i below = one_at v row i (i + 1) below refl
 
 pub four_more : (v : ℕ) (row : List ℕ) (k : ℕ) → 4 * k + 3 < length row → count_at v (take (4 * (k + 1)) (map pos row))
     ≡ count_at v (take (4 * k) (map pos row)) + (((cond (get_or row (4 * k) 0 == v) 1 0 + cond (get_or row (4 * k + 1) 0 == v) 1 0) + cond (get_or row (4 * k + 2) 0 == v) 1 0) + cond (get_or row (4 * k + 3) 0 == v) 1 0)

@@ -1,10 +1,9 @@
 -- No answer of the model has the code NO_MEMORY.
 use Rattle.std.proofs.Common.{◌≡◌, ◌≢◌, ℕ, false, List, Result, Ok, Err, refl, ◌==◌}
-use Rattle.vx_requests.proofs.Common.{Code, NoMemory, Request, Reply, Refused, Picture, Allowance, State, answer_to, BodyFault, request_of, said_of, answer_spelled}
+use Rattle.vx_requests.proofs.Common.{Code, NoMemory, Request, Reply, Refused, Allowance, State, answer_to, BodyFault, request_of, said_of, answer_spelled}
 use Rattle.vx_base.specs.Code.{code_number}
-use Rattle.client_model.specs.declared.reply.Reply.TheVariants.{Empty, Name, Node, Described, Text, Counts, Extremes}
 use Rattle.client_laws.proofs.RefusalLaws.{never_no_memory}
-use Rattle.vx_wire.specs.declared.body_fault.BodyFault.TheVariants.{InvalidParameters, InvalidFormat, InvalidDimension, InvalidValue}
+use Rattle.vx_wire.specs.declared.body_fault.BodyFault.TheVariants.{InvalidValue}
 use Rattle.vx_requests.specs.Serving.Answer.{answer}
 
 -- every other code has another number
@@ -15,21 +14,12 @@ other_number code other = refl
 -- a reply that does not say so has another code
 said-other : (reply : Reply) → reply ≢ Refused NoMemory → ((said_of reply).code == 1) ≡ false
 said-other (Refused code) other = other_number code (λ e. other cc)
-said-other Empty other = refl
-said-other (Name n) other = refl
-said-other (Node n) other = refl
-said-other (Described d) other = refl
-said-other (Picture p) other = refl
-said-other (Text text) other = refl
-said-other (Counts counts) other = refl
-said-other (Extremes e) other = refl
+said-other other_reply other = refl
 
 spelled-other : (limits : Allowance) (state : State) (spelled : Result Request BodyFault) → ((answer_spelled limits state spelled).0.code == 1) ≡ false
 spelled-other limits state (Ok request) = said-other (answer_to limits state request).0 (never_no_memory limits state request)
-spelled-other limits state (Err InvalidParameters) = refl
-spelled-other limits state (Err InvalidFormat) = refl
-spelled-other limits state (Err InvalidDimension) = refl
 spelled-other limits state (Err InvalidValue) = refl
+spelled-other limits state other = refl
 
 pub answer-other : (limits : Allowance) (state : State) (op : ℕ) (body : List ℕ) → ((answer limits state op body).0.code == 1) ≡ false
 unfolding answer

@@ -1,6 +1,7 @@
 -- What a frame is answered: no request, the model's reply, or NO_MEMORY.
 use Rattle.std.proofs.Common.{◌≡◌, ◌≢◌, ℕ, Bool, true, false, cond, List, Some, None, Result, Ok, Err, inl, inr, refl, sym, ap, ◌∙◌, subst, eq-eqb, ◌&&◌, ◌==◌, if◌then◌else◌, eqb-true}
-use Rattle.vx_requests.proofs.Common.{cases_Bool, Request, ReadImage, ReadImagePgm, Reply, Refused, Allowance, State, answer_to, image_of, pgm_text, U8, picture_of, Cell, BodyFault, answer_spelled, spelled, reply_to, state_then, frame_of, MayBeLost, IsReply, said_in, Said, said_of, parse_fault, fault_code, request_of}
+use Rattle.vx_requests.proofs.Common.{cases_Bool, Request, ReadImage, ReadImagePgm, Reply, Refused, Allowance, State, answer_to, image_of, pgm_text, U8, picture_of, Cell, BodyFault, answer_spelled, spelled, state_then, frame_of, MayBeLost, IsReply, said_in, Said, said_of, parse_fault, fault_code, request_of, Text}
+use Rattle.vx_requests.specs.Serving.Clients.{reply_to}
 use Rattle.client_model.specs.Answer.{answered}
 use Rattle.client_model.specs.Images.{read_from, read_text_from}
 use Rattle.client_model.specs.Refusal.{unless}
@@ -11,7 +12,7 @@ use Rattle.vx_base.specs.declared.code.Code.TheVariants.{NoMemory as CodeNoMemor
 use Rattle.vx_wire.specs.declared.parse_fault.ParseFault.{ParseFault}
 use Rattle.vx_requests.specs.Serving.Answer.{answer}
 use Rattle.vx_requests.specs.Serving.Lost.{NeedsMemory, SpellsTaking}
-use Rattle.vx_requests.specs.declared.serving.answered.Content.TheVariants.{Samples, Text}
+use Rattle.vx_requests.specs.declared.serving.answered.Content.TheVariants.{Samples}
 use Rattle.client_model.specs.Request.{TakesMemory}
 use Rattle.vx_wire.specs.Faults.{MayFailWith}
 use Rattle.vx_wire.specs.Requests.{HoldsSamples}

@@ -1,7 +1,7 @@
 -- Frames keep the limits of a client's state.
 use Rattle.std.proofs.Common.{◌≡◌, ℕ, List, [], ◌∷◌, Option, Some, None, Result, Ok, Err, refl, sym, subst, All, IfSome, IfOk}
-use Rattle.vx_requests.proofs.Common.{Cell, IsImage, Request, Allowance, State, image_of, IsRequest, BodyFault, request_of, Frame, IsFrame, answer_spelled, Summary, StreamFault, Received, is_kept_of, answer_frame, after, frames_of, mine, Session}
-use Rattle.std.proofs.lemmas.List.Elements.{All-head, All-tail, All-filter, All-map}
+use Rattle.vx_requests.proofs.Common.{All-head, All-tail, Cell, IsImage, Request, Allowance, State, image_of, IsRequest, BodyFault, request_of, Frame, IsFrame, answer_spelled, Summary, StreamFault, Received, is_kept_of, answer_frame, after, frames_of, mine, Session}
+use Rattle.std.proofs.lemmas.List.Elements.{All-filter, All-map}
 use Rattle.client_model.proofs.ImageStepLaws.{image_of_is}
 use Rattle.object_table.proofs.HeldLemmas.{All-from_map}
 use Rattle.client_model.proofs.OutcomeLaws.{StateKeeps}

@@ -28,17 +28,14 @@ picture_frame client op p samples are fills =
 -- a picture is its description and its samples
 pub picture_is : (p : PictureValue) (d : Description) (samples : List ℤ) → d ≡ p.description → samples ≡ p.samples → record { description = d; samples = samples } ≡ p
 picture_is p d samples described are =
-    let of : Description → List ℤ → PictureValue = λ d samples. record { description = d; samples = samples } in
-    ap (λ e. of e samples) described ∙ ap (of p.description) are
+    rw (described, are)
 
 -- the frame of a picture, with the description and the head as they were made
 pub picture_parts : (client op : ℕ) (p : PictureValue) (samples : Samples) (d : Description) (head : List ℕ) → values samples ≡ p.samples → Describes p.description samples
     → d ≡ p.description → head ≡ reply_head (byte_count d + 9) client op 0 ++ description_bytes d
     → head ++ samples_in samples ≡ reply_bytes (spelled client op (record { code = 0; body = picture_bytes p }))
 picture_parts client op p samples d head are fills is made =
-    ap (λ l. l ++ samples_in samples) made
-    ∙ ap (λ (e : Description). (reply_head (byte_count e + 9) client op 0 ++ description_bytes e) ++ samples_in samples) is
-    ∙ picture_frame client op p samples are fills
+    rw (made, is) (picture_frame client op p samples are fills)
 
 -- ---- texts
 
@@ -56,14 +53,11 @@ text_image_parts client op image d head is described made =
     let raster : List ℕ = map unsigned_abs image.samples in
     let many : length raster ≡ length image.samples = length-map image.samples unsigned_abs in
     let long : length header + sample_count (description_of image) + 4 ≡ length (header ++ raster) + 4 = omega (arith, length-append header raster, is.size) in
-    ap (λ l. l ++ raster) made
-    ∙ ap (λ (e : Description). (reply_head (length (written_header e) + sample_count e + 4) client op 0 ++ written_header e) ++ raster) described
-    ∙ ap (λ k. (reply_head k client op 0 ++ header) ++ raster) long
-    ∙ append_assoc (reply_head (length (header ++ raster) + 4) client op 0) header raster
+    rw (made, described, long)
+    (append_assoc (reply_head (length (header ++ raster) + 4) client op 0) header raster)
 
 -- and with its samples as they are written
 pub text_image_written : (image : ImageValue) (samples : Samples) (head frame : List ℕ) → image.format ≡ U8 → values samples ≡ image.samples → samples_format samples ≡ image.format
     → head ++ map unsigned_abs image.samples ≡ frame → head ++ samples_in samples ≡ frame
 text_image_written image samples head frame bytes are same joined =
-    ap (λ f. head ++ flat_map (encoded_sample f) (values samples)) (same ∙ bytes) ∙ ap (λ zs. head ++ flat_map (encoded_sample U8) zs) are ∙ ap (λ l. head ++ l) (byte_samples image.samples)
-    ∙ joined
+    rw (same, bytes, are, byte_samples image.samples) joined

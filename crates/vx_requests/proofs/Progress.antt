@@ -1,6 +1,6 @@
 -- How far serve has come, and how it ends.
-use Rattle.std.proofs.Common.{◌≡◌, ℕ, ◌+◌, Bool, true, false, cond, not, List, [], ◌∷◌, ◌++◌, Option, Result, Ok, Err, inl, inr, length, arith, refl, sym, ap, ◌∙◌, subst, append-nil, zero-add, All, count_by, ◌==◌}
-use Rattle.vx_requests.proofs.Common.{Consumes, Appends, Appends-nil, Consumes-trans, Appends-trans, map_push, StreamFault, WriteFailed, Allowance, State, Summary, Frame, ReplyFrame, IsFrame, frame_bytes, reply_bytes, joined, Received, frames_of, served, reply_in, state_then, states_after, answer, MayBeLost, BreaksOff, ServesFrame, Turn, Session}
+use Rattle.std.proofs.Common.{◌≡◌, ℕ, ◌+◌, true, cond, not, List, [], ◌∷◌, ◌++◌, Option, Result, Ok, Err, inl, inr, length, arith, refl, sym, ap, ◌∙◌, subst, append-nil, All, count_by, ◌==◌}
+use Rattle.vx_requests.proofs.Common.{Consumes, Appends, Appends-nil, Consumes-trans, Appends-trans, map_push, StreamFault, WriteFailed, Allowance, State, Summary, ReplyFrame, IsFrame, frame_bytes, reply_bytes, joined, Received, frames_of, served, reply_in, state_then, states_after, answer, MayBeLost, BreaksOff, ServesFrame, Turn, Session}
 use Rattle.std.proofs.KnownBytes.{Consumes-nil}
 use Rattle.std.proofs.lemmas.List.{flat_map_more, length_push}
 use Rattle.std.proofs.lemmas.List.Elements.{All-push}
@@ -32,23 +32,8 @@ started limits left taken states = record {
   refused_are = refl;
 }
 
-joined_push : (frames : List Frame) (f : Frame) → joined (frames ++ f ∷ []) ≡ joined frames ++ frame_bytes f
-joined_push frames f = sym (flat_map_more frame_bytes [] frames f)
-
-joined_replies_push : (replies : List ReplyFrame) (r : ReplyFrame) → joined_replies (replies ++ r ∷ []) ≡ joined_replies replies ++ reply_bytes r
-joined_replies_push replies r = sym (flat_map_more reply_bytes [] replies r)
-
-frames_of-push : (marked : List Received) (m : Received) → frames_of (marked ++ m ∷ []) ≡ frames_of marked ++ m.frame ∷ []
-frames_of-push marked m = map_push (λ (x : Received). x.frame) marked m
-
-turned : (b : Bool) → cond {A = ℕ} (not b) 1 0 ≡ cond b 0 1
-turned true = refl
-turned false = refl
-
 count_push : (replies : List ReplyFrame) (r : ReplyFrame) → count_by (λ x. not (x.code == 0)) (replies ++ r ∷ []) ≡ count_by (λ x. not (x.code == 0)) replies + cond (r.code == 0) 0 1
-count_push replies r =
-    sum_by-append (λ (x : ReplyFrame). cond (not (x.code == 0)) 1 0) replies (r ∷ [])
-    ∙ ap (λ n. count_by (λ x. not (x.code == 0)) replies + n) (zero-add (cond (not (r.code == 0)) 1 0) ∙ turned (r.code == 0))
+count_push replies r = grind (arith, sum_by-append)
 
 -- what a reader's fault leaves
 breaks_ends : (e : StreamFault) (rest : List ℕ) (left to u : Option (List ℕ)) (replies : List ReplyFrame) → BreaksOff e rest left → Appends to u (joined_replies replies) → EndsBy e rest left to u replies
@@ -58,10 +43,11 @@ breaks_ends e rest left to u replies breaks wrote = (breaks, wrote)
 module _ (limits : Allowance) (a b c to t u : Option (List ℕ)) (old mid new : ℕ → State) where
   -- the marked frame of a turn
   frames_more : {requests refused : ℕ} (p : Progress limits a b to t old mid requests refused) (m : Received) → IsFrame m.frame → All IsFrame (frames_of (p.marked ++ m ∷ []))
-  frames_more p m is = subst (All IsFrame) (sym (frames_of-push p.marked m)) (All-push IsFrame (frames_of p.marked) m.frame p.frames is)
+  frames_more p m is = rw (map_push (λ (x : Received). x.frame) p.marked m) (All-push IsFrame (frames_of p.marked) m.frame p.frames is)
 
   read_more : {requests refused : ℕ} (p : Progress limits a b to t old mid requests refused) (m : Received) → Consumes b c (frame_bytes m.frame) → Consumes a c (joined (frames_of (p.marked ++ m ∷ [])))
-  read_more p m read = subst (Consumes a c) (sym (ap joined (frames_of-push p.marked m) ∙ joined_push (frames_of p.marked) m.frame)) (Consumes-trans a b c _ _ p.read read)
+  read_more p m read =
+      rw (map_push (λ (x : Received). x.frame) p.marked m, ← flat_map_more frame_bytes [] (frames_of p.marked) m.frame) (Consumes-trans a b c (joined (frames_of p.marked)) _ p.read read)
 
   states_more : {requests refused : ℕ} (p : Progress limits a b to t old mid requests refused) (m : Received) → ((client : ℕ) → new client ≡ state_then (answer limits) mid m client)
       → (client : ℕ) → new client ≡ states_after (answer limits) old (p.marked ++ m ∷ []) client
@@ -81,12 +67,12 @@ module _ (limits : Allowance) (a b c to t u : Option (List ℕ)) (old mid new : 
         frames = frames_more p m is;
         lost = All-push (λ (x : Received). x.lost ≡ true → MayBeLost x.frame) p.marked m p.lost answered.may;
         read = read_more p m read;
-        wrote = subst (Appends to u) (sym (ap joined_replies more ∙ joined_replies_push (served (answer limits) old p.marked) (reply_in (answer limits) mid m))) (Appends-trans to t u _ _ p.wrote (subst (λ r. Appends t u (reply_bytes r)) answered.said writes.0));
+        wrote =
+            rw (more, ← flat_map_more reply_bytes [] (served (answer limits) old p.marked) (reply_in (answer limits) mid m))
+            (Appends-trans to t u (joined_replies (served (answer limits) old p.marked)) _ p.wrote (subst (λ r. Appends t u (reply_bytes r)) answered.said writes.0));
         states = states_more p m answered.states;
-        requests_are = ap (λ n. n + 1) p.requests_are ∙ sym (ap length more ∙ length_push (served (answer limits) old p.marked) (reply_in (answer limits) mid m));
-        refused_are = ap (λ n. n + cond (code == 0) 0 1) p.refused_are
-            ∙ ap (λ n. count_by (λ r. not (r.code == 0)) (served (answer limits) old p.marked) + cond (n == 0) 0 1) (writes.1 ∙ ap (λ (r : ReplyFrame). r.code) answered.said)
-            ∙ sym (ap (count_by (λ r. not (r.code == 0))) more ∙ count_push (served (answer limits) old p.marked) (reply_in (answer limits) mid m));
+        requests_are = rw (p.requests_are, more, length_push);
+        refused_are = rw (p.refused_are, more, count_push, writes.1, answered.said);
       }
 
   pub broke_off : (requests refused : ℕ) (e : StreamFault) → Progress limits a b to t old mid requests refused → Turn limits b c t u mid new (Err e) → Session limits a c to u old new (Err e)

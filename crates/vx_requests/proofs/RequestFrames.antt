@@ -1,6 +1,6 @@
 -- The frames of requests that hold samples, a text or coefficients: a head, and then these.
 use Rattle.std.proofs.Common.{◌≡◌, ℕ, ℤ, ◌+◌, ◌*◌, List, [], ◌∷◌, ◌++◌, length, arith, refl, ap, ◌∙◌}
-use Rattle.vx_requests.proofs.Common.{flat_map, w16, w32, to_be_bytes, Format, sample_bytes, Cell, Description, sample_count, byte_count, PictureValue, Describes, values, samples_format, WriteImage, WriteImagePgm, CreateLut, CreateConvolution, frame_bytes, request_frame, encoded_sample, description_bytes, length-encoded}
+use Rattle.vx_requests.proofs.Common.{flat_map, w16, w32, to_be_bytes, Format, sample_bytes, Cell, Description, byte_count, PictureValue, Describes, values, samples_format, WriteImage, WriteImagePgm, CreateLut, CreateConvolution, frame_bytes, request_frame, encoded_sample, description_bytes, length-encoded}
 use Rattle.vx_base.specs.declared.samples.Samples.{Samples}
 use Rattle.vx_base.specs.Lut.{LutValue}
 use Rattle.vx_base.specs.declared.format.Format.TheVariants.{S16}
@@ -17,31 +17,28 @@ pub write_image_frame : (client : ℕ) (cell : Cell) (p : PictureValue) (samples
     → d ≡ p.description → head ≡ frame_head (13 + byte_count d) client 5 ++ (reference_bytes cell ++ description_bytes d)
     → head ++ spelled samples ≡ frame_bytes (request_frame client (WriteImage cell p))
 write_image_frame client cell p samples d head are fills is made =
-    let front : Description → List ℕ = λ d. frame_head (13 + byte_count d) client 5 ++ (reference_bytes cell ++ description_bytes d) in
     let kept = p.description in
     let same : spelled samples ≡ flat_map (encoded_sample kept.format) p.samples = rw (fills.format, are) refl in
     let size : length (spelled samples) ≡ byte_count kept =
-    length-encoded (samples_format samples) (values samples) ∙ ap (λ n. n * sample_bytes (samples_format samples)) fills.size
-    ∙ ap (λ format. sample_count kept * sample_bytes format) fills.format in
+    rw (length-encoded (samples_format samples) (values samples), fills.size, fills.format) in
     let body : List ℕ = reference_bytes cell ++ (description_bytes kept ++ spelled samples) in
     let long : 13 + byte_count kept ≡ length body + 3 = omega (arith, size) in
-    ap (λ l. l ++ spelled samples) (made ∙ ap front is)
-    ∙ ap (λ n. to_be_bytes w32 n ++ (to_be_bytes w16 client ++ 5 ∷ body)) long
-    ∙ ap (λ l. frame_bytes (record { client = client; op = 5; body = reference_bytes cell ++ (description_bytes kept ++ l) })) same
+    rw (made, is)
+    (ap (λ n. to_be_bytes w32 n ++ (to_be_bytes w16 client ++ 5 ∷ body)) long
+    ∙ ap (λ l. frame_bytes (record { client = client; op = 5; body = reference_bytes cell ++ (description_bytes kept ++ l) })) same)
 
 pub create_lut_frame : (client : ℕ) (lut : LutValue) (entries : Samples) (format : Format) (count : ℕ) (head : List ℕ) → values entries ≡ lut.entries → samples_format entries ≡ lut.format
     → format ≡ samples_format entries → count ≡ length (values entries) → head ≡ frame_head (4 + count * sample_bytes format) client 11 ++ format_number format ∷ []
     → head ++ spelled entries ≡ frame_bytes (request_frame client (CreateLut lut))
 create_lut_frame client lut entries format count head are same_format is_format is_count made =
-    let front : Format → ℕ → List ℕ = λ format count. frame_head (4 + count * sample_bytes format) client 11 ++ format_number format ∷ [] in
     let kept = samples_format entries in
     let same : spelled entries ≡ flat_map (encoded_sample lut.format) lut.entries = rw (same_format, are) refl in
     let body : List ℕ = format_number kept ∷ spelled entries in
     let long : 4 + length (values entries) * sample_bytes kept ≡ length body + 3 = omega (arith, length-encoded kept (values entries)) in
-    ap (λ l. l ++ spelled entries) (made ∙ ap (λ f. front f count) is_format ∙ ap (front kept) is_count)
-    ∙ ap (λ n. to_be_bytes w32 n ++ (to_be_bytes w16 client ++ 11 ∷ body)) long
+    rw (made, is_format, is_count)
+    (ap (λ n. to_be_bytes w32 n ++ (to_be_bytes w16 client ++ 11 ∷ body)) long
     ∙ ap (λ f. frame_bytes (record { client = client; op = 11; body = format_number f ∷ spelled entries })) same_format
-    ∙ ap (λ l. frame_bytes (record { client = client; op = 11; body = format_number lut.format ∷ l })) same
+    ∙ ap (λ l. frame_bytes (record { client = client; op = 11; body = format_number lut.format ∷ l })) same)
 
 pub write_image_pgm_frame : (client : ℕ) (cell : Cell) (text bytes head : List ℕ) → bytes ≡ text → head ≡ frame_head (8 + length bytes) client 6 ++ reference_bytes cell
     → head ++ bytes ≡ frame_bytes (request_frame client (WriteImagePgm cell text))

@@ -1,8 +1,8 @@
 -- Samples that are read piece by piece.
-use Rattle.std.proofs.Common.{◌≡◌, ℕ, ℤ, pos, zero, suc, ◌+◌, ◌*◌, ◌-◌, ◌<◌, ◌≤◌, ◌^◌, List, [], ◌∷◌, ◌++◌, Option, arith, length, take, drop, map, sym, ap, subst, ◌∙◌, zero-add, length-append, length-take-le, length-drop, All}
+use Rattle.std.proofs.Common.{◌≡◌, ℕ, ℤ, pos, zero, suc, ◌+◌, ◌*◌, ◌-◌, ◌<◌, ◌≤◌, ◌^◌, List, [], ◌∷◌, ◌++◌, Option, arith, length, take, drop, map, sym, ap, ◌∙◌, zero-add, length-append, length-take-le, length-drop, All}
 use Rattle.vx_requests.proofs.Common.{Consumes, Consumes-trans, length-map, All-append, Format, U8, sample_bytes, decoded, StreamFault, ReadsPart, ReadsSamples, put_mid}
+use Rattle.std.proofs.Math.Nat.{add-mul}
 use Rattle.std.proofs.lemmas.List.{map-append, take-append-le, drop-append-le}
-use Rattle.vx_wire.specs.Samples.{decoded_sample}
 use Rattle.vx_wire.proofs.SampleBytes.{decoded-U8}
 use Rattle.vx_requests.proofs.Pieces.{part_after}
 use Rattle.vx_requests.proofs.TransferSteps.{take-put_mid}
@@ -18,10 +18,7 @@ decoded-append format (suc n) m xs ys long =
     let front : take w (xs ++ ys) ≡ take w xs = take-append-le w xs ys fits in
     let back : drop w (xs ++ ys) ≡ drop w xs ++ ys = drop-append-le w xs ys fits in
     let rest : length (drop w xs) ≡ n * w = omega (arith, suc_times n w, length-drop w xs) in
-    ap (λ k. decoded format k (xs ++ ys)) more
-    ∙ ap (λ l. decoded_sample format l ∷ decoded format (n + m) (drop w (xs ++ ys))) front
-    ∙ ap (λ l. decoded_sample format (take w xs) ∷ decoded format (n + m) l) back
-    ∙ ap (λ l. decoded_sample format (take w xs) ∷ l) (decoded-append format n m (drop w xs) ys rest)
+    rw (more, front, back, decoded-append format n m (drop w xs) ys rest)
   where
     suc_times : (n w : ℕ) → suc n * w ≡ w + n * w
     suc_times n w = omega arith
@@ -32,24 +29,20 @@ reads_both a b c format xs ys (front, read, size, bytes, are) (back, read', size
     let n = length xs in
     let m = length ys in
     let many : length (xs ++ ys) ≡ n + m = length-append xs ys in
-    let long : length (front ++ back) ≡ length (xs ++ ys) * sample_bytes format =
-    length-append front back ∙ times n m (sample_bytes format) (length front) (length back) size size' ∙ ap (λ k. k * sample_bytes format) (sym many) in (
+    let long : length (front ++ back) ≡ length (xs ++ ys) * sample_bytes format = rw (length-append, size, size', many, add-mul) in (
       front ++ back,
       Consumes-trans a b c front back read read',
       long,
       All-append (λ b. b < 2 ^ 8) front back bytes bytes',
-      ap (λ l. l ++ ys) are ∙ ap (λ l. decoded format n front ++ l) are' ∙ sym (decoded-append format n m front back size) ∙ ap (λ k. decoded format k (front ++ back)) (sym many),
+      rw (many, decoded-append format n m front back size, ← are, ← are'),
     )
-  where
-    times : (n m w p q : ℕ) → p ≡ n * w → q ≡ m * w → p + q ≡ (n + m) * w
-    times n m w p q e f = omega arith
 
 -- n samples more were read, after the first ones
 pub reads_piece : {S : Type 0} (value : S → ℤ) (a b c : Option (List ℕ)) (format : Format) (from n : ℕ) (xs ys : List S) → from ≤ length xs → n ≤ length ys
     → ReadsSamples a b format (map value (take from xs)) → ReadsSamples b c format (map value (take n ys))
     → ReadsSamples a c format (map value (take (from + n) (put_mid from (length xs - from) xs ys)))
 reads_piece value a b c format from n xs ys within fits before read =
-    subst (ReadsSamples a c format) (sym (ap (map value) (take-put_mid from n xs ys within fits) ∙ map-append value (take from xs) (take n ys)))
+    rw (take-put_mid from n xs ys within fits, map-append value (take from xs) (take n ys))
     (reads_both a b c format (map value (take from xs)) (map value (take n ys)) before read)
 
 -- less than the samples was read, after the first ones
@@ -58,12 +51,8 @@ pub part_of_samples : {S : Type 0} (value : S → ℤ) (a b c : Option (List ℕ
 part_of_samples value a b c format from more all xs e within whole (bytes, read, size, each, are) part =
     let many : length (map value (take from xs)) ≡ from = length-map (take from xs) value ∙ length-take-le from xs within in
     let long : length bytes ≡ from * sample_bytes format = size ∙ ap (λ k. k * sample_bytes format) many in
-    let room : from * sample_bytes format + more * sample_bytes format ≡ all * sample_bytes format =
-    times from more (sample_bytes format) ∙ ap (λ k. k * sample_bytes format) whole in
+    let room : from * sample_bytes format + more * sample_bytes format ≡ all * sample_bytes format = rw (← whole, add-mul) in
     part_after a b c bytes (more * sample_bytes format) (all * sample_bytes format) e read (omega (arith, long, room)) part
-  where
-    times : (n m w : ℕ) → n * w + m * w ≡ (n + m) * w
-    times n m w = omega arith
 
 -- the bytes of U8 samples are the samples
 pub reads_bytes : (a b : Option (List ℕ)) (bytes : List ℕ) → All (λ x. x < 2 ^ 8) bytes → Consumes a b bytes → ReadsSamples a b U8 (map pos bytes)

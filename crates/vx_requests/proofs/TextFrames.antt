@@ -1,6 +1,7 @@
 -- The frames of texts and of counts: a head, and then the text or the counts.
 use Rattle.std.proofs.Common.{◌≡◌, ℕ, ◌+◌, ◌*◌, pos, List, [], ◌∷◌, ◌++◌, length, arith, ap, ◌∙◌}
-use Rattle.vx_requests.proofs.Common.{flat_map, w16, w32, to_be_bytes, U32, encoded_sample, reply_bytes, reply_head, spelled}
+use Rattle.vx_requests.proofs.Common.{flat_map, w16, w32, to_be_bytes, encoded_sample, reply_bytes, reply_head, spelled}
+use Rattle.vx_base.specs.declared.format.Format.TheVariants.{U32}
 use Rattle.vx_wire.specs.Counts.{counts_bytes}
 
 pub text_parts : (client op : ℕ) (text bytes head : List ℕ) → bytes ≡ text → head ≡ reply_head (length bytes + 4) client op 0

@@ -1,8 +1,8 @@
 -- What is told of an image that is read where it stands.
 use Rattle.std.proofs.Common.{◌≡◌, ℕ, List, sym, ap, ◌∙◌}
-use Rattle.vx_requests.proofs.Common.{Cell, ReadImage, ReadImagePgm, Reply, State, World, state_of, said_of, Answered, Content, reply_bytes, states_of, spelled, said_in, reply_frame}
+use Rattle.vx_requests.proofs.Common.{Cell, ReadImage, ReadImagePgm, Reply, State, World, state_of, said_of, Answered, Content, reply_bytes, states_of, spelled, said_in, reply_frame, Text}
 use Rattle.client_contexts.specs.Applies.{IsAnswered}
-use Rattle.vx_requests.specs.declared.serving.answered.Content.TheVariants.{Samples, Text}
+use Rattle.vx_requests.specs.declared.serving.answered.Content.TheVariants.{Samples}
 
 module _ (world : World) (a : Answered) (image : Cell) (reply : Reply) where
   abbrev frame_with : Content → List ℕ

@@ -1,27 +1,18 @@
 -- What a WriteImage frame is answered, once the head of its body was read.
 use Rattle.std.proofs.Common.{◌≡◌, ◌≢◌, ℕ, ℤ, ◌*◌, ◌-◌, ◌<◌, ◌^◌, List, ◌++◌, Option, Some, Result, Ok, Err, inl, inr, ◌⊎◌, refl, arith, length, sym, ap, subst, ◌∙◌, length-append, All, OnOk, IfOk, IfErr}
-use Rattle.vx_requests.proofs.Common.{Consumes, Consumes-trans, All-append, Cell, Description, sample_count, byte_count, PictureValue, sample_bytes, Code, NoMemory, Request, WriteImage, Reply, Refused, Allowance, State, answer_to, BodyFault, Op, op_numbered, parse_fault, fault_code, said_of, request_of, request_with_known, decoded, StreamFault, Content, Made, frame_of, ReadsPart, ReadsSome, ReadsSamples, spelled, IsReply, reply_frame, AnswersBody}
+use Rattle.vx_requests.proofs.Common.{Consumes, Consumes-trans, All-append, Cell, Description, sample_count, byte_count, PictureValue, sample_bytes, Code, NoMemory, Request, WriteImage, Reply, Refused, Allowance, State, answer_to, BodyFault, op_numbered, parse_fault, fault_code, said_of, decoded, StreamFault, Content, Made, frame_of, ReadsPart, ReadsSome, ReadsSamples, spelled, IsReply, reply_frame, AnswersBody}
 use Rattle.vx_wire.specs.declared.op.Op.TheVariants as ops
 use Rattle.vx_wire.specs.Images.{write_image_in, write_image_of}
 use Rattle.vx_requests.proofs.Pieces.{part_after}
 use Rattle.vx_requests.proofs.FrameReplies.{lost_reply, refused_reply, kept_reply}
 
--- what a body of the op spells is what the definition of WriteImage says
-spelled_by : (op : ℕ) (body : List ℕ) (spelled : Result Request BodyFault) → op_numbered op ≡ Some ops.WriteImage → write_image_in body ≡ spelled → request_of op body ≡ spelled
-spelled_by op body spelled is e = ap (λ (o : Option Op). request_with_known o body) is ∙ e
-
 module _ (limits : Allowance) (old new : ℕ → State) (client op len : ℕ) (head : List ℕ) where
-  -- a body for whose samples there is no memory is lost
-  lost_rest : 64 < len → length head ≡ 10 → ((each : ℕ) → new each ≡ old each) → (rest : List ℕ) → length rest ≡ len - 10
-      → IsReply limits (frame_of client op (head ++ rest)) old new (spelled client op (said_of (Refused NoMemory)))
-  lost_rest long ten same rest size = lost_reply limits old new client op (head ++ rest) (inl (omega (arith, length-append head rest))) same
-
-  -- one with a fault is refused
+  -- a body with a fault is refused
   pub refused_rest : (fault : BodyFault) → op_numbered op ≡ Some ops.WriteImage → ((rest : List ℕ) → length rest ≡ len - 10 → write_image_in (head ++ rest) ≡ Err fault)
       → ((each : ℕ) → new each ≡ old each) → (rest : List ℕ) → length rest ≡ len - 10
       → IsReply limits (frame_of client op (head ++ rest)) old new (spelled client op (said_of (Refused (fault_code (parse_fault fault)))))
   refused_rest fault is none same rest size =
-      refused_reply limits old new client op (head ++ rest) fault (spelled_by op (head ++ rest) (Err fault) is (none rest size)) same
+      refused_reply limits old new client op (head ++ rest) fault (rw is (none rest size)) same
 
   -- one whose picture the image doesn't take is refused, and one for whose samples there is no memory is lost
   pub unwritten_rest : (image : Cell) (d : Description) (code : Code) → op_numbered op ≡ Some ops.WriteImage → 64 < len → length head ≡ 10
@@ -30,11 +21,11 @@ module _ (limits : Allowance) (old new : ℕ → State) (client op len : ℕ) (h
       → ((each : ℕ) → new each ≡ old each) → (rest : List ℕ) → length rest ≡ len - 10
       → IsReply limits (frame_of client op (head ++ rest)) old new (spelled client op (said_of (Refused code)))
   unwritten_rest image d code is long ten spells (inl none) same rest size =
-      subst (λ (k : Code). IsReply limits (frame_of client op (head ++ rest)) old new (spelled client op (said_of (Refused k)))) (sym none) (lost_rest long ten same rest size)
+      subst (λ (k : Code). IsReply limits (frame_of client op (head ++ rest)) old new (spelled client op (said_of (Refused k)))) (sym none) (lost_reply limits old new client op (head ++ rest) (inl (omega (arith, length-append head rest))) same)
   unwritten_rest image d code is long ten spells (inr refused) same rest size =
       let request = write_image_of image d rest in
       let told : answer_to limits (old client) request ≡ (Refused code, old client) = refused (record { description = d; samples = decoded d.format (sample_count d) rest }) refl in
-      kept_reply limits old new client op (head ++ rest) request (Refused code) (spelled_by op (head ++ rest) (Ok request) is (spells rest size))
+      kept_reply limits old new client op (head ++ rest) request (Refused code) (rw is (spells rest size))
       (sym (ap (λ (t : Reply × State). t.0) told)) (same client ∙ sym (ap (λ (t : Reply × State). t.1) told)) (λ other differs. same other)
 
 module _ (limits : Allowance) (a b c : Option (List ℕ)) (old new : ℕ → State) (client op len : ℕ) (head : List ℕ) where
@@ -74,5 +65,5 @@ module _ (limits : Allowance) (a b c : Option (List ℕ)) (old new : ℕ → Sta
         Consumes-trans a b c head rest front read,
         omega (arith, length-append head rest),
         All-append (λ x. x < 2 ^ 8) head rest bytes others,
-        kept_reply limits old new client op (head ++ rest) (WriteImage image p) reply (spelled_by op (head ++ rest) (Ok (WriteImage image p)) is made) replied own same,
+        kept_reply limits old new client op (head ++ rest) (WriteImage image p) reply (rw is made) replied own same,
       )

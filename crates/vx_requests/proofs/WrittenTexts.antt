@@ -1,24 +1,20 @@
 -- What a WriteImagePgm frame is answered.
-use Rattle.std.proofs.Common.{◌≡◌, ℕ, List, Option, Some, Result, Ok, Err, ap, ◌∙◌}
-use Rattle.vx_requests.proofs.Common.{Cell, Request, WriteImagePgm, Reply, Refused, World, state_of, BodyFault, Op, parse_fault, fault_code, op_numbered, said_of, request_of, request_with_known, frame_of, states_of, spelled, IsReply}
+use Rattle.std.proofs.Common.{◌≡◌, ℕ, List, Some, Ok, Err, ap}
+use Rattle.vx_requests.proofs.Common.{Cell, WriteImagePgm, Reply, Refused, World, state_of, BodyFault, parse_fault, fault_code, op_numbered, said_of, frame_of, states_of, spelled, IsReply}
 use Rattle.client_contexts.specs.Applies.{Applies}
 use Rattle.vx_wire.specs.declared.op.Op.TheVariants as ops
 use Rattle.vx_wire.specs.Images.{write_image_pgm_in}
 use Rattle.vx_requests.proofs.FrameReplies.{refused_reply, kept_reply}
-
--- what a body of the op spells is what the definition of WriteImagePgm says
-spelled_by : (op : ℕ) (body : List ℕ) (spelled : Result Request BodyFault) → op_numbered op ≡ Some ops.WriteImagePgm → write_image_pgm_in body ≡ spelled → request_of op body ≡ spelled
-spelled_by op body spelled is e = ap (λ (o : Option Op). request_with_known o body) is ∙ e
 
 module _ (client op : ℕ) (body : List ℕ) (is : op_numbered op ≡ Some ops.WriteImagePgm) (old new : World) where
   -- a body with a fault is refused
   pub refused_text : (fault : BodyFault) → write_image_pgm_in body ≡ Err fault → new ≡ old
       → IsReply old.limits (frame_of client op body) (states_of old) (states_of new) (spelled client op (said_of (Refused (fault_code (parse_fault fault)))))
   refused_text fault e same =
-      refused_reply old.limits (states_of old) (states_of new) client op body fault (spelled_by op body (Err fault) is e) (λ each. ap (state_of each) same)
+      refused_reply old.limits (states_of old) (states_of new) client op body fault (rw is e) (λ each. ap (state_of each) same)
 
   -- the runtime did what the request says
   pub written_text : (image : Cell) (text : List ℕ) (reply : Reply) → write_image_pgm_in body ≡ Ok (WriteImagePgm image text) → Applies client (WriteImagePgm image text) old new (Ok reply)
       → IsReply old.limits (frame_of client op body) (states_of old) (states_of new) (spelled client op (said_of reply))
   written_text image text reply e did =
-      kept_reply old.limits (states_of old) (states_of new) client op body (WriteImagePgm image text) reply (spelled_by op body (Ok (WriteImagePgm image text)) is e) did.reply did.own did.others
+      kept_reply old.limits (states_of old) (states_of new) client op body (WriteImagePgm image text) reply (rw is e) did.reply did.own did.others

@@ -12,10 +12,10 @@ pub use Rattle.vx_base.specs.Convolution.{ConvolutionValue, IsConvolution, is_od
 pub use Rattle.vx_base.specs.Description.{Description, IsDescription, is_side, sample_count}
 pub use Rattle.vx_base.specs.Function.{function_number, function_numbered, parameters}
 pub use Rattle.vx_base.specs.Lut.{IsLut, LutValue, is_full}
-pub use Rattle.vx_base.specs.Node.{IsBorder, IsNode, all_named, has_amount, has_operands, is_named, is_nothing, is_wrap}
+pub use Rattle.vx_base.specs.Node.{IsBorder, IsNode, is_named, is_nothing, is_wrap}
 pub use Rattle.vx_base.specs.Outline.{IsOutline, Outline, may_be_side}
 pub use Rattle.vx_base.specs.Picture.{IsPicture, PictureValue}
-pub use Rattle.vx_base.specs.Rectangle.{IsRectangle, Rectangle, rectangle}
+pub use Rattle.vx_base.specs.Rectangle.{IsRectangle, Rectangle}
 pub use Rattle.vx_base.specs.Sample.{IsSample, range_size, sample_bytes}
 pub use Rattle.vx_base.specs.Slots.{is_slot_count}
 pub use Rattle.vx_base.specs.Statistics.{BinsValue, are_bins}
@@ -31,13 +31,13 @@ pub use Rattle.vx_base.specs.declared.policy.Policy.{Policy}
 pub use Rattle.vx_base.specs.declared.policy.Policy.TheVariants.{Saturate, Wrap}
 pub use Rattle.vx_base.specs.declared.threshold.ThresholdKind.{ThresholdKind}
 pub use Rattle.vx_base.specs.declared.threshold.ThresholdKind.TheVariants.{Binary, Range}
-pub use Rattle.vx_wire.specs.Bins.{bins_bytes, is_up_to_256, take_bins, take_offset, take_up_to_256}
-pub use Rattle.vx_wire.specs.Convolution.{convolution_bytes, take_convolution, take_exponent, take_odd_side}
+pub use Rattle.vx_wire.specs.Bins.{bins_bytes, is_up_to_256, take_bins}
+pub use Rattle.vx_wire.specs.Convolution.{convolution_bytes, take_convolution}
 pub use Rattle.vx_wire.specs.Description.{description_bytes, take_description, take_side}
 pub use Rattle.vx_wire.specs.Fields.{Taken, allowed, and_then, at_end, one_field, take_byte, take_bytes, take_long, take_short, two_fields}
 pub use Rattle.vx_wire.specs.Format.{format_number, open_format_number, take_format, take_input_format, take_open_format}
 pub use Rattle.vx_wire.specs.Lut.{lut_bytes, take_lut}
-pub use Rattle.vx_wire.specs.Node.{amount_allowed, border_bytes, node_bytes, policy_number, take_amount, take_border, take_function, take_node, take_policy}
+pub use Rattle.vx_wire.specs.Node.{amount_allowed, border_bytes, node_bytes, policy_number, take_border, take_function, take_node, take_policy}
 pub use Rattle.vx_wire.specs.Numbered.{numbered}
 pub use Rattle.vx_wire.specs.Op.{op_number, op_of}
 pub use Rattle.vx_wire.specs.Operand.{first_output, is_operand, operand, operand_bytes, second_input, second_output, take_first_input, take_operand, take_operands}

@@ -1,6 +1,6 @@
 -- A node whose fields are as its function wants them is one.
-use Rattle.std.proofs.Common.{◌≡◌, ℕ, Bool, true, false, not, ◌&&◌, ◌||◌, nat_le, Option, Some, None, is_some, is_none, unwrap_or, if◌then◌else◌, IsTrue, refl, ap, ◌∙◌, List, ◌++◌, append_assoc, Ok}
-use Rattle.vx_wire.proofs.Common.{Node, Parameters, parameters, Cell, is_nothing, is_named, is_wrap, has_amount, has_operands, all_named, Required, Absent, Free, second_input, first_output, second_output, is_operand, take_first_input, take_operands, take_function, take_border, take_policy, take_amount, take_node}
+use Rattle.std.proofs.Common.{◌≡◌, ℕ, Bool, true, false, not, ◌&&◌, ◌||◌, nat_le, Option, Some, None, is_some, is_none, unwrap_or, if◌then◌else◌, IsTrue, refl, ap, ◌∙◌, List, ◌++◌, append_assoc}
+use Rattle.vx_wire.proofs.Common.{Node, Parameters, parameters, Cell, is_nothing, is_named, is_wrap, Required, Absent, Free, second_input, first_output, second_output, is_operand}
 use Rattle.vx_base.specs.Node.{is_node}
 
 pub both : (a b : Bool) → IsTrue a → IsTrue b → IsTrue (a && b)
@@ -28,35 +28,15 @@ outputs_have false None out2 h k = cc
 outputs_have false (Some cell) None h k = (refl, h, refl)
 outputs_have false (Some cell) (Some other) h k = cc
 
-pub is_node-from_fields : (n : Node) → IsTrue ((parameters n.function).policy || is_wrap n.policy) →
-    IsTrue (nat_le n.amount (unwrap_or (parameters n.function).greatest_amount 0)) → IsTrue (not (is_nothing n.in1)) →
-    IsTrue (is_operand (second_input (parameters n.function)) n.in2) → IsTrue (is_operand (first_output (parameters n.function)) n.out1) →
-    IsTrue (is_operand (second_output (parameters n.function) n.out1) n.out2) → IsTrue (is_node n)
-is_node-from_fields n policy amount in1 in2 out1 out2 =
-    let p = parameters n.function in
-    let second = second_has (is_some p.second_input) n.in2 in2 in
-    let outputs = outputs_have p.output_pair n.out1 n.out2 out1 out2 in
-    let amounts : IsTrue (has_amount p n.policy n.amount) = both (p.policy || is_wrap n.policy) (nat_le n.amount (unwrap_or p.greatest_amount 0)) policy amount in
-    let operands : IsTrue (has_operands p n) =
-    both (if is_some p.second_input then is_some n.in2 else is_none n.in2) (if p.output_pair then (is_some n.out1 || is_some n.out2) else (is_some n.out1 && is_none n.out2)) second.0 outputs.0 in
-    let others : IsTrue (is_named n.out1 && is_named n.out2) = both (is_named n.out1) (is_named n.out2) outputs.1 outputs.2 in
-    let given : IsTrue (all_named n) = both (not (is_nothing n.in1)) (is_named n.in2 && (is_named n.out1 && is_named n.out2)) in1 (both (is_named n.in2) (is_named n.out1 && is_named n.out2) second.1 others) in
-    both (has_amount p n.policy n.amount) (has_operands p n && all_named n) amounts (both (has_operands p n) (all_named n) operands given)
-
--- the same, of the parameters that were read from the function
+-- of the parameters that were read from the function
 pub is_node-from_parameters : (n : Node) (p : Parameters) → p ≡ parameters n.function → IsTrue (p.policy || is_wrap n.policy) →
     IsTrue (nat_le n.amount (unwrap_or p.greatest_amount 0)) → IsTrue (not (is_nothing n.in1)) →
     IsTrue (is_operand (second_input p) n.in2) → IsTrue (is_operand (first_output p) n.out1) →
     IsTrue (is_operand (second_output p n.out1) n.out2) → IsTrue (is_node n)
 is_node-from_parameters n p e policy amount in1 in2 out1 out2 =
-    is_node-from_fields n (rw e at policy) (rw e at amount) in1 (rw e at in2) (rw e at out1) (rw e at out2)
-
--- the fields one after the other
-pub take_node-fields : (n : Node) (p : Parameters) (a b c d e f rest : List ℕ) → p ≡ parameters n.function → take_function a ≡ Ok (n.function, b) →
-    take_border b ≡ Ok (n.border, c) → take_policy p c ≡ Ok (n.policy, d) → take_amount p d ≡ Ok (n.amount, e) → take_first_input e ≡ Ok (n.in1, f) →
-    take_operands p f ≡ Ok ((n.in2, n.out1, n.out2), rest) → take_node a ≡ Ok (n, rest)
-take_node-fields n p a b c d e f rest is function border policy amount in1 others =
-    rw (function, border, ← is, policy, amount, in1, others) refl
+    let second = second_has (is_some p.second_input) n.in2 in2 in
+    let outputs = outputs_have p.output_pair n.out1 n.out2 out1 out2 in
+    rw (← e, policy, amount, second.0, outputs.0, in1, second.1, outputs.1, outputs.2) refl
 
 -- three lists joined, and what follows them
 pub three_joined : (a b c rest : List ℕ) → (a ++ (b ++ c)) ++ rest ≡ a ++ (b ++ (c ++ rest))

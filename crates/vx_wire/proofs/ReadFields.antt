@@ -1,6 +1,8 @@
 -- What is read has one spelling: the bytes that it was read from.
-use Rattle.std.proofs.Common.{◌≡◌, ℕ, ◌+◌, ◌*◌, ◌<◌, ◌≤◌, nat_le, nat_lt, ◌&&◌, length, take, drop, sym, take-append-drop, length-take-le, ◌^◌, ◌%◌, ◌/◌, ◌==◌, List, [], ◌∷◌, ◌++◌, Option, Some, None, Result, Ok, Err, Bool, true, false, ◌⊎◌, inl, inr, IsTrue, if◌then◌else◌, unwrap_or, arith, refl, ap, subst, ◌∙◌, append_assoc, All, IfSome, eqb-true, eq-eqb, leb-true}
-use Rattle.vx_wire.proofs.Common.{w16, w32, to_be_bytes, All-head, All-tail, All-take, All-drop, Format, U8, S16, U32, Cell, IsCell, Description, is_side, IsDescription, Outline, may_be_side, IsOutline, is_slot_count, Rectangle, rectangle, IsRectangle, BinsValue, are_bins, BodyFault, InvalidParameters, InvalidFormat, InvalidDimension, InvalidValue, Taken, and_then, allowed, take_byte, take_short, take_long, take_bytes, take_format, format_number, open_format_number, take_open_format, take_side, take_description, description_bytes, open_side_number, open_side_numbered, take_open_side, take_outline, outline_bytes, slot_numbered, take_reference, reference_bytes, take_slots, take_rectangle, rectangle_bytes, is_up_to_256, take_up_to_256, take_offset, take_bins, bins_bytes}
+use Rattle.std.proofs.Common.{◌≡◌, ℕ, ◌+◌, ◌*◌, ◌<◌, ◌≤◌, nat_le, nat_lt, length, take, drop, sym, take-append-drop, length-take-le, ◌^◌, ◌%◌, ◌/◌, ◌==◌, List, [], ◌∷◌, ◌++◌, Option, Some, None, Result, Ok, Err, Bool, true, false, ◌⊎◌, inl, inr, IsTrue, if◌then◌else◌, unwrap_or, arith, refl, ap, subst, ◌∙◌, append_assoc, All, IfSome, eqb-true, leb-true}
+use Rattle.vx_wire.proofs.Common.{nat_tests, w16, w32, to_be_bytes, All-head, All-tail, All-take, All-drop, U8, S16, U32, IsCell, is_side, IsDescription, may_be_side, IsOutline, is_slot_count, IsRectangle, are_bins, BodyFault, InvalidParameters, InvalidFormat, InvalidDimension, InvalidValue, Taken, and_then, allowed, take_byte, take_short, take_long, take_bytes, take_format, format_number, open_format_number, take_open_format, take_side, take_description, description_bytes, open_side_number, open_side_numbered, take_open_side, take_outline, outline_bytes, slot_numbered, take_reference, reference_bytes, take_slots, take_rectangle, rectangle_bytes, is_up_to_256, take_bins, bins_bytes}
+use Rattle.vx_base.specs.Rectangle.{rectangle}
+use Rattle.std.proofs.lemmas.Option.{cond_some}
 use Rattle.vx_base.specs.Rectangle.{is_rectangle}
 use Rattle.vx_wire.specs.Format.{format_numbered, open_format_numbered}
 use Rattle.vx_wire.proofs.NodeShape.{both}
@@ -85,7 +87,7 @@ pub one_made : {A B : Type 0} {take : List ℕ → Taken A} {field : A → List 
 one_made first fault made are = then_reads first (λ x rest. allowed fault (made x) rest) (λ x x_is. made_of fault (made x) (λ y same. are x y x_is same))
 
 pub passed : {A : Type 0} (test : A → Bool) (x y : A) → (if test x then Some x else None) ≡ Some y → (x ≡ y) × IsTrue (test y)
-passed test x y e = elim (if_some (test x) x None y e) [ inl h ↦ (h.1, subst (λ z. IsTrue (test z)) h.1 h.0) | inr h ↦ cc ]
+passed test x y e = let (is, same) = cond_some (test x) x y e in (same, subst (λ z. IsTrue (test z)) same is)
 
 -- a field that passes a test
 pub tested : {A : Type 0} {take : List ℕ → Taken A} {bytes : A → List ℕ} {P : A → Type 0} → Reads [] take bytes P → (fault : BodyFault) (test : A → Bool)
@@ -107,16 +109,14 @@ bytes_joined a b n is below =
 
 short_reads : Reads [] take_short (λ n. to_be_bytes w16 n) (λ n. n < 2 ^ 16)
 short_reads =
-    let last : ℕ → ℕ → List ℕ → Taken ℕ = λ a b rest. ok (256 * a + b) rest in
-    then_reads byte_reads (λ a rest. and_then (take_byte rest) (last a)) (λ a a_below. then_reads byte_reads (last a) (λ b b_below.
+    then_reads byte_reads _ (λ a a_below. then_reads byte_reads _ (λ b b_below.
     let high : a ≡ (256 * a + b) / 256 % 256 = omega arith in
     let low : b ≡ (256 * a + b) % 256 = omega arith in
-    made (256 * a + b) (ap (λ x. x ∷ b ∷ []) high ∙ ap (λ x. (256 * a + b) / 256 % 256 ∷ x ∷ []) low) (omega arith)))
+    made (256 * a + b) (cc) (omega arith)))
 
 pub long_reads : Reads [] take_long (λ n. to_be_bytes w32 n) (λ n. n < 2 ^ 32)
 long_reads =
-    let last : ℕ → ℕ → List ℕ → Taken ℕ = λ a b rest. ok (65536 * a + b) rest in
-    then_reads short_reads (λ a rest. and_then (take_short rest) (last a)) (λ a a_below. then_reads short_reads (last a) (λ b b_below.
+    then_reads short_reads _ (λ a a_below. then_reads short_reads _ (λ b b_below.
     made (65536 * a + b) (bytes_joined a b (65536 * a + b) refl b_below) (omega arith)))
 
 enough_of : (b : Bool) (x y rest others : List ℕ) → (if b then ok x rest else Err InvalidParameters) ≡ ok y others → (b ≡ true) × (x ≡ y) × (rest ≡ others)
@@ -145,12 +145,8 @@ side_reads = tested short_reads InvalidDimension is_side
 
 pub description_reads : Reads [] take_description description_bytes IsDescription
 description_reads =
-    let of : Format → ℕ → ℕ → Description = λ format width height. record { width = width; height = height; format = format } in
-    let third : Format → ℕ → ℕ → List ℕ → Taken Description = λ format width height rest. ok (of format width height) rest in
-    let second : Format → ℕ → List ℕ → Taken Description = λ format width rest. and_then (take_side rest) (third format width) in
-    then_reads format_reads (λ format rest. and_then (take_side rest) (second format)) (λ format f.
-    then_reads side_reads (second format) (λ width w. then_reads side_reads (third format width) (λ height h.
-    made (of format width height) refl (record { width = w; height = h }))))
+    then_reads format_reads _ (λ format f. then_reads side_reads _ (λ width w. then_reads side_reads _ (λ height h.
+    made (record { width = width; height = height; format = format }) refl (record { width = w; height = h }))))
 
 open_format_reads : Reads [] take_open_format (λ format. open_format_number format ∷ []) (λ format. Unit {0})
 open_format_reads =
@@ -158,15 +154,10 @@ open_format_reads =
     (ap (λ x. x ∷ []) (number_is open_format_number (None ∷ Some U8 ∷ Some S16 ∷ Some U32 ∷ []) n format e), tt))
 
 number_of_side : (n : ℕ) (side : Option ℕ) → open_side_numbered n ≡ Some side → (n ≡ open_side_number side) × IsTrue (may_be_side side)
-number_of_side n side e =
-    let known : Option (Option ℕ) = if is_side n then Some (Some n) else None in
-    elim (if_some (n == 0) None known side e) [
-      | inl h ↦ (eqb-true n 0 h.0 ∙ ap open_side_number h.1, subst (λ s. IsTrue (may_be_side s)) h.1 refl)
-      | inr h ↦ elim (if_some (is_side n) (Some n) None side h.1) [
-        | inl k ↦ (ap open_side_number k.1, subst (λ s. IsTrue (may_be_side s)) k.1 k.0)
-        | inr k ↦ cc
-      ]
-    ]
+number_of_side n side e = elim (if_some (n == 0) None (if is_side n then Some (Some n) else None) side e) [
+  | inl h ↦ (eqb-true n 0 h.0 ∙ ap open_side_number h.1, subst (λ s. IsTrue (may_be_side s)) h.1 refl)
+  | inr h ↦ let (is, same) = cond_some (is_side n) (Some n) side h.1 in (ap open_side_number same, subst (λ s. IsTrue (may_be_side s)) same is)
+]
 
 open_side_reads : Reads [] take_open_side (λ side. to_be_bytes w16 (open_side_number side)) (λ side. IsTrue (may_be_side side))
 open_side_reads =
@@ -174,50 +165,30 @@ open_side_reads =
 
 pub outline_reads : Reads [] take_outline outline_bytes IsOutline
 outline_reads =
-    let of : Option Format → Option ℕ → Option ℕ → Outline = λ format width height. record { width = width; height = height; format = format } in
-    let third : Option Format → Option ℕ → Option ℕ → List ℕ → Taken Outline = λ format width height rest. ok (of format width height) rest in
-    let second : Option Format → Option ℕ → List ℕ → Taken Outline = λ format width rest. and_then (take_open_side rest) (third format width) in
-    then_reads open_format_reads (λ format rest. and_then (take_open_side rest) (second format)) (λ format f.
-    then_reads open_side_reads (second format) (λ width w. then_reads open_side_reads (third format width) (λ height h.
-    made (of format width height) refl (both (may_be_side width) (may_be_side height) w h))))
+    then_reads open_format_reads _ (λ format f. then_reads open_side_reads _ (λ width w. then_reads open_side_reads _ (λ height h.
+    made (record { width = width; height = height; format = format }) refl (both (may_be_side width) (may_be_side height) w h))))
 
 number_of_slot : (n : ℕ) → n < 256 → (n ≡ unwrap_or (slot_numbered n) 255) × IfSome (slot_numbered n) (λ k. k < 255)
-number_of_slot n below = slot (n == 255) refl
-  where
-    slot : (b : Bool) → (n == 255) ≡ b → (n ≡ unwrap_or (if b then None else Some n) 255) × IfSome (if b then None else Some n) (λ k. k < 255)
-    slot true e = (eqb-true n 255 e, tt)
-    slot false e = (refl, let other : n ≡ 255 → ⊥ = λ same. let is : (n == 255) ≡ true = eq-eqb n 255 same in cc in omega arith)
+number_of_slot n below = (grind (arith, nat_tests), grind (arith, nat_tests))
 
 pub cell_reads : Reads [] take_reference reference_bytes IsCell
 cell_reads =
-    let of : ℕ → ℕ → Cell = λ name slot. record { name = name; slot = slot_numbered slot } in
-    let second : ℕ → ℕ → List ℕ → Taken Cell = λ name slot rest. ok (of name slot) rest in
-    then_reads long_reads (λ name rest. and_then (take_byte rest) (second name)) (λ name n. then_reads byte_reads (second name) (λ slot s.
+    then_reads long_reads _ (λ name n. then_reads byte_reads _ (λ slot s.
     let (slot_is, within) = number_of_slot slot s in
-    made (of name slot) (ap (λ k. to_be_bytes w32 name ++ k ∷ []) slot_is) (record { name = n; slot = within })))
+    made (record { name = name; slot = slot_numbered slot }) (ap (λ k. to_be_bytes w32 name ++ k ∷ []) slot_is) (record { name = n; slot = within })))
 
 pub rectangle_reads : Reads [] take_rectangle rectangle_bytes IsRectangle
 rectangle_reads =
-    let of : ℕ → ℕ → ℕ → ℕ → Rectangle = λ x0 y0 x1 y1. record { x0 = x0; y0 = y0; x1 = x1; y1 = y1 } in
-    let fourth : ℕ → ℕ → ℕ → ℕ → List ℕ → Taken Rectangle = λ x0 y0 x1 y1 rest. allowed InvalidValue (rectangle x0 y0 x1 y1) rest in
-    let third : ℕ → ℕ → ℕ → List ℕ → Taken Rectangle = λ x0 y0 x1 rest. and_then (take_short rest) (fourth x0 y0 x1) in
-    let second : ℕ → ℕ → List ℕ → Taken Rectangle = λ x0 y0 rest. and_then (take_short rest) (third x0 y0) in
-    then_reads short_reads (λ x0 rest. and_then (take_short rest) (second x0)) (λ x0 a. then_reads short_reads (second x0) (λ y0 b.
-    then_reads short_reads (third x0 y0) (λ x1 c. then_reads short_reads (fourth x0 y0 x1) (λ y1 d.
-    made_of InvalidValue (rectangle x0 y0 x1 y1) (λ r e. elim (if_some (is_rectangle x0 y0 x1 y1) (of x0 y0 x1 y1) None r e) [
-      | inl h ↦ (ap rectangle_bytes h.1, subst IsRectangle h.1 (record { bounds = h.0; columns = c; rows = d }))
-      | inr h ↦ cc
-    ])))))
+    then_reads short_reads _ (λ x0 a. then_reads short_reads _ (λ y0 b. then_reads short_reads _ (λ x1 c. then_reads short_reads _ (λ y1 d.
+    made_of InvalidValue (rectangle x0 y0 x1 y1) (λ r e.
+    let (bounds, same) = cond_some (is_rectangle x0 y0 x1 y1) (record { x0 = x0; y0 = y0; x1 = x1; y1 = y1 }) r e in
+    (ap rectangle_bytes same, subst IsRectangle same (record { bounds = bounds; columns = c; rows = d })))))))
 
 pub slots_reads : Reads [] take_slots (λ n. n ∷ []) (λ n. IsTrue (is_slot_count n))
 slots_reads = tested byte_reads InvalidValue is_slot_count
 
 pub bins_reads : Reads [] take_bins bins_bytes (λ b. IsTrue (are_bins b.bins b.offset b.range))
 bins_reads =
-    let of : ℕ → ℕ → ℕ → BinsValue = λ bins offset range. record { bins = bins; offset = offset; range = range } in
-    let third : ℕ → ℕ → ℕ → List ℕ → Taken BinsValue = λ bins offset range rest. ok (of bins offset range) rest in
-    let second : ℕ → ℕ → List ℕ → Taken BinsValue = λ bins offset rest. and_then (take_up_to_256 rest) (third bins offset) in
     let up_to_256 = tested short_reads InvalidValue is_up_to_256 in
-    then_reads up_to_256 (λ bins rest. and_then (take_offset rest) (second bins)) (λ bins b.
-    then_reads (tested short_reads InvalidValue (λ n. nat_lt n 256)) (second bins) (λ offset o. then_reads up_to_256 (third bins offset) (λ range r.
-    made (of bins offset range) refl (both (is_up_to_256 bins && nat_lt offset 256) (is_up_to_256 range) (both (is_up_to_256 bins) (nat_lt offset 256) b o) r))))
+    then_reads up_to_256 _ (λ bins b. then_reads (tested short_reads InvalidValue (λ n. nat_lt n 256)) _ (λ offset o. then_reads up_to_256 _ (λ range r.
+    made (record { bins = bins; offset = offset; range = range }) refl (rw (b, o, r) refl))))

@@ -1,11 +1,12 @@
 -- A node that is read has one spelling.
-use Rattle.std.proofs.Common.{◌≡◌, ℕ, ◌<◌, ◌==◌, List, [], ◌∷◌, ◌++◌, Option, Some, None, Bool, true, false, not, ◌&&◌, ◌||◌, IsTrue, if◌then◌else◌, nat_le, is_none, unwrap_or, arith, refl, sym, ap, subst, ◌∙◌, append_assoc, All, IfSome, eqb-true, le-leb}
-use Rattle.vx_wire.proofs.Common.{All-nil, All-cons, numbered, Border, Undefined, Constant, Replicate, Policy, Wrap, Saturate, Function, Parameters, Node, function_number, function_numbered, parameters, Cell, IsCell, is_nothing, is_wrap, IsBorder, IsNode, InvalidParameters, InvalidValue, Presence, Required, Absent, Free, Taken, and_then, allowed, take_byte, reference_bytes, operand, take_operand, second_input, first_output, second_output, take_operands, take_first_input, is_operand, operand_bytes, take_function, take_border, take_policy, amount_allowed, take_amount, take_node, border_bytes, policy_number, node_bytes}
+use Rattle.std.proofs.Common.{◌≡◌, ℕ, ◌<◌, ◌==◌, List, [], ◌∷◌, ◌++◌, Option, Some, None, Bool, true, false, not, ◌&&◌, ◌||◌, IsTrue, if◌then◌else◌, nat_le, is_none, unwrap_or, arith, refl, ap, subst, ◌∙◌, append_assoc, All, IfSome, eqb-true, le-leb}
+use Rattle.vx_wire.proofs.Common.{All-nil, All-cons, numbered, Border, Undefined, Constant, Replicate, Policy, Wrap, Saturate, Function, Parameters, Node, function_number, function_numbered, parameters, Cell, IsCell, is_nothing, is_wrap, IsBorder, IsNode, InvalidParameters, InvalidValue, Presence, Required, Absent, Free, reference_bytes, operand, take_operand, second_input, first_output, second_output, take_operands, take_first_input, is_operand, operand_bytes, take_function, take_border, take_policy, amount_allowed, take_node, border_bytes, policy_number, node_bytes}
+use Rattle.vx_wire.specs.Node.{take_amount}
 use Rattle.vx_wire.proofs.Numbers.{found_passes, found_each, number_is}
 use Rattle.vx_wire.specs.Node.{border_mode, border_constant, border_with, policies}
-use Rattle.vx_wire.proofs.NodeShape.{both_of, is_node-from_fields}
+use Rattle.vx_wire.proofs.NodeShape.{both_of, is_node-from_parameters}
 use Rattle.vx_wire.proofs.FunctionNumbers.{number_of_function}
-use Rattle.vx_wire.proofs.ReadFields.{ok, if_none, Reads, then_reads, made_of, made, one_made, passed, byte_reads, cell_reads}
+use Rattle.vx_wire.proofs.ReadFields.{if_none, Reads, then_reads, made_of, made, one_made, passed, byte_reads, cell_reads}
 
 function_reads : Reads [] take_function (λ function. function_number function ∷ []) (λ function. Unit {0})
 function_reads = one_made byte_reads InvalidParameters function_numbered (λ n function below e. (ap (λ x. x ∷ []) (number_of_function n function e), tt))
@@ -24,8 +25,7 @@ bytes_of_border mode constant border below e =
 
 border_reads : Reads [] take_border border_bytes IsBorder
 border_reads =
-    let last : ℕ → ℕ → List ℕ → Taken Border = λ mode constant rest. allowed InvalidParameters (border_with mode constant) rest in
-    then_reads byte_reads (λ mode rest. and_then (take_byte rest) (last mode)) (λ mode m. then_reads byte_reads (last mode) (λ constant below.
+    then_reads byte_reads _ (λ mode m. then_reads byte_reads _ (λ constant below.
     made_of InvalidParameters (border_with mode constant) (λ border e. bytes_of_border mode constant border below e)))
 
 -- the policies that a node may have, of a function that has one or lacks it
@@ -53,7 +53,7 @@ allowed_amount (Some greatest) n below =
     let (same, is) = passed (λ n. nat_le n greatest) n amount e in (ap (λ x. x ∷ []) same, (subst (λ x. x < 256) same below, is)))
 
 amount_reads : (p : Parameters) → Reads [] (take_amount p) (λ amount. amount ∷ []) (λ amount. (amount < 256) × IsTrue (nat_le amount (unwrap_or p.greatest_amount 0)))
-amount_reads p = then_reads byte_reads (λ n rest. amount_allowed p.greatest_amount n rest) (λ n below. allowed_amount p.greatest_amount n below)
+amount_reads p = then_reads byte_reads _ (λ n below. allowed_amount p.greatest_amount n below)
 
 -- name 0 without a slot
 nothing_is : (cell : Cell) → is_nothing cell ≡ true → cell ≡ record { name = 0; slot = None }
@@ -70,25 +70,22 @@ bytes_of_operand : (presence : Presence) (cell : Cell) (o : Option Cell) → IsC
     → (reference_bytes cell ≡ operand_bytes o) × IsTrue (is_operand presence o) × IfSome o IsCell
 bytes_of_operand presence cell o is e = known (is_nothing cell) refl presence e
   where
-    given : is_nothing cell ≡ false → IsTrue (not (is_nothing cell))
-    given f = ap not f
+    Spells : Presence → Option Cell → Type 0
+    Spells presence o = (reference_bytes cell ≡ operand_bytes o) × IsTrue (is_operand presence o) × IfSome o IsCell
 
-    there : is_nothing cell ≡ false → (presence : Presence) → IsTrue (is_operand presence (Some cell)) → (p : Some cell ≡ o)
-        → (reference_bytes cell ≡ operand_bytes o) × IsTrue (is_operand presence o) × IfSome o IsCell
-    there f presence has p = (ap operand_bytes p, subst (λ o. IsTrue (is_operand presence o)) p has, subst (λ o. IfSome o IsCell) p is)
+    there : is_nothing cell ≡ false → (presence : Presence) → IsTrue (is_operand presence (Some cell)) → Some cell ≡ o → Spells presence o
+    there f presence has same = subst (Spells presence) same (refl, has, is)
 
-    absent : is_nothing cell ≡ true → (presence : Presence) → IsTrue (is_operand presence None) → (p : None ≡ o)
-        → (reference_bytes cell ≡ operand_bytes o) × IsTrue (is_operand presence o) × IfSome o IsCell
-    absent t presence has p = (ap reference_bytes (nothing_is cell t) ∙ ap operand_bytes p, subst (λ o. IsTrue (is_operand presence o)) p has, subst (λ o. IfSome o IsCell) p tt)
+    absent : is_nothing cell ≡ true → (presence : Presence) → IsTrue (is_operand presence None) → None ≡ o → Spells presence o
+    absent t presence has same = subst (Spells presence) same (ap reference_bytes (nothing_is cell t), has, tt)
 
-    known : (b : Bool) → is_nothing cell ≡ b → (presence : Presence) → operand presence cell ≡ Some o
-        → (reference_bytes cell ≡ operand_bytes o) × IsTrue (is_operand presence o) × IfSome o IsCell
-    known true t Required e = let e' : None ≡ Some o = ap (λ b. if b then None else Some (Some cell)) (sym t) ∙ e in cc
-    known true t Absent e = let e' : Some None ≡ Some o = ap (λ b. if b then Some None else None) (sym t) ∙ e in absent t Absent refl cc
-    known true t Free e = let e' : Some None ≡ Some o = ap (λ b. if b then Some None else Some (Some cell)) (sym t) ∙ e in absent t Free refl cc
-    known false f Required e = let e' : Some (Some cell) ≡ Some o = ap (λ b. if b then None else Some (Some cell)) (sym f) ∙ e in there f Required (given f) cc
-    known false f Absent e = let e' : None ≡ Some o = ap (λ b. if b then Some None else None) (sym f) ∙ e in cc
-    known false f Free e = let e' : Some (Some cell) ≡ Some o = ap (λ b. if b then Some None else Some (Some cell)) (sym f) ∙ e in there f Free (given f) cc
+    known : (b : Bool) → is_nothing cell ≡ b → (presence : Presence) → operand presence cell ≡ Some o → Spells presence o
+    known true t Required e = let e = rw t at e in cc
+    known true t Absent e = let e = rw t at e in absent t Absent refl cc
+    known true t Free e = let e = rw t at e in absent t Free refl cc
+    known false f Required e = let e = rw f at e in there f Required (ap not f) cc
+    known false f Absent e = let e = rw f at e in cc
+    known false f Free e = let e = rw f at e in there f Free (ap not f) cc
 
 operand_reads : (presence : Presence) → Reads [] (take_operand presence) operand_bytes (λ o. IsTrue (is_operand presence o) × IfSome o IsCell)
 operand_reads presence =
@@ -111,12 +108,8 @@ operands_reads : (p : Parameters) → Reads [] (take_operands p) others_bytes (�
     (IsTrue (is_operand (second_input p) o.0) × IsTrue (is_operand (first_output p) o.1) × IsTrue (is_operand (second_output p o.1) o.2))
     × (IfSome o.0 IsCell × IfSome o.1 IsCell × IfSome o.2 IsCell))
 operands_reads p =
-    let of : Option Cell → Option Cell → Option Cell → Others = λ in2 out1 out2. (in2, out1, out2) in
-    let third : Option Cell → Option Cell → Option Cell → List ℕ → Taken Others = λ in2 out1 out2 rest. ok (of in2 out1 out2) rest in
-    let second : Option Cell → Option Cell → List ℕ → Taken Others = λ in2 out1 rest. and_then (take_operand (second_output p out1) rest) (third in2 out1) in
-    then_reads (operand_reads (second_input p)) (λ in2 rest. and_then (take_operand (first_output p) rest) (second in2)) (λ in2 a.
-    then_reads (operand_reads (first_output p)) (second in2) (λ out1 b. then_reads (operand_reads (second_output p out1)) (third in2 out1) (λ out2 c.
-    made (of in2 out1 out2) (append_assoc (operand_bytes in2) (operand_bytes out1) (operand_bytes out2)) ((a.0, b.0, c.0), (a.1, b.1, c.1)))))
+    then_reads (operand_reads (second_input p)) _ (λ in2 a. then_reads (operand_reads (first_output p)) _ (λ out1 b. then_reads (operand_reads (second_output p out1)) _ (λ out2 c.
+    made (in2, out1, out2) (append_assoc (operand_bytes in2) (operand_bytes out1) (operand_bytes out2)) ((a.0, b.0, c.0), (a.1, b.1, c.1)))))
 
 -- ---- the node
 
@@ -124,25 +117,12 @@ abbrev node : Function → Border → Policy → ℕ → Cell → Others → Nod
 node function border policy amount in1 others =
     record { function = function; border = border; policy = policy; amount = amount; in1 = in1; in2 = others.0; out1 = others.1; out2 = others.2 }
 
-abbrev last_fields : Function → Border → Policy → ℕ → Cell → List ℕ → Taken Node
-last_fields function border policy amount in1 rest =
-    and_then (take_operands (parameters function) rest) (λ others rest. ok (node function border policy amount in1 others) rest)
-
-abbrev later_fields : Function → Border → Policy → List ℕ → Taken Node
-later_fields function border policy rest =
-    and_then (take_amount (parameters function) rest) (λ amount rest. and_then (take_first_input rest) (last_fields function border policy amount))
-
 pub node_reads : Reads [] take_node node_bytes IsNode
 node_reads =
-    let second : Function → Border → List ℕ → Taken Node = λ f b rest. and_then (take_policy (parameters f) rest) (later_fields f b) in
-    then_reads function_reads (λ f rest. and_then (take_border rest) (second f)) (λ f t.
-    then_reads border_reads (second f) (λ b border.
-    then_reads (policy_reads (parameters f)) (later_fields f b) (λ p policy.
-    then_reads (amount_reads (parameters f)) (λ n rest. and_then (take_first_input rest) (last_fields f b p n)) (λ n amount.
-    then_reads first_reads (last_fields f b p n) (λ in1 first.
-    then_reads (operands_reads (parameters f)) (λ others rest. ok (node f b p n in1 others) rest) (λ others are.
+    then_reads function_reads _ (λ f t. then_reads border_reads _ (λ b border. then_reads (policy_reads (parameters f)) _ (λ p policy.
+    then_reads (amount_reads (parameters f)) _ (λ n amount. then_reads first_reads _ (λ in1 first. then_reads (operands_reads (parameters f)) _ (λ others are.
     made (node f b p n in1 others) refl (record {
-      shape = is_node-from_fields (node f b p n in1 others) policy amount.1 first.0 are.0.0 are.0.1 are.0.2;
+      shape = is_node-from_parameters (node f b p n in1 others) (parameters f) refl policy amount.1 first.0 are.0.0 are.0.1 are.0.2;
       border = border;
       amount = amount.0;
       in1 = first.1;

@@ -1,20 +1,18 @@
 -- Samples that are read have one spelling.
-use Rattle.std.proofs.Common.{◌≡◌, ℕ, ℤ, ◌*◌, List, [], length, sym, refl, All}
-use Rattle.vx_wire.proofs.Common.{Format, Description, sample_count, IsSample, sample_bytes, PictureValue, IsPicture, Taken, and_then, decoded, encoded, take_samples, take_picture, picture_bytes}
-use Rattle.vx_wire.proofs.ReadFields.{ok, Reads, then_reads, made, bytes_reads, description_reads}
+use Rattle.std.proofs.Common.{◌≡◌, ℕ, ◌*◌, [], length, sym, refl, All}
+use Rattle.vx_wire.proofs.Common.{Format, sample_count, IsSample, sample_bytes, IsPicture, decoded, encoded, take_samples, take_picture, picture_bytes}
+use Rattle.vx_wire.proofs.ReadFields.{Reads, then_reads, made, bytes_reads, description_reads}
 use Rattle.vx_wire.proofs.SampleBytes.{encoded_back}
 
 -- so many samples
 pub samples_reads : (format : Format) (count : ℕ) → Reads [] (take_samples format count) (λ samples. encoded format samples) (λ samples. (length samples ≡ count) × All (IsSample format) samples)
 samples_reads format count =
-    then_reads (bytes_reads (count * sample_bytes format)) (λ bytes rest. ok (decoded format count bytes) rest) (λ bytes are.
+    then_reads (bytes_reads (count * sample_bytes format)) _ (λ bytes are.
     let (back, size, each) = encoded_back format count bytes are.1 are.0 in
     made (decoded format count bytes) (sym back) (size, each))
 
 -- a picture
 pub picture_reads : Reads [] take_picture picture_bytes IsPicture
 picture_reads =
-    let last : Description → List ℤ → List ℕ → Taken PictureValue = λ d samples rest. ok (record { description = d; samples = samples }) rest in
-    let next : Description → List ℕ → Taken PictureValue = λ d rest. and_then (take_samples d.format (sample_count d) rest) (last d) in
-    then_reads description_reads next (λ d d_is. then_reads (samples_reads d.format (sample_count d)) (last d) (λ samples are.
+    then_reads description_reads _ (λ d d_is. then_reads (samples_reads d.format (sample_count d)) _ (λ samples are.
     made (record { description = d; samples = samples }) refl (record { description = d_is; size = are.0; sampled = are.1 })))

@@ -1,8 +1,7 @@
 -- Samples and their bytes: each is had back from the other.
-use Rattle.std.proofs.Common.{◌≡◌, ℕ, ℤ, pos, negsuc, zero, suc, ◌+◌, ◌-ℤ◌, ◌*◌, ◌<◌, ◌≤◌, ◌-◌, ◌^◌, List, [], ◌∷◌, ◌++◌, inl, inr, if◌then◌else◌, length, take, drop, map, get_or, arith, refl, ap, ◌∙◌, take_at, drop_at, take-append-drop, length-take-le, length-append, All, lt-ltb, le-ltb}
-use Rattle.vx_wire.proofs.Common.{w16, w32, to_be_bytes, cast_unsigned, ints, from_be_bytes-to_be_bytes_4, All-head, All-tail, All-nil, All-cons, All-take, All-drop, Format, U8, S16, U32, IsSample, sample_bytes, decoded_sample, encoded_sample, decoded, encoded}
+use Rattle.std.proofs.Common.{◌≡◌, ℕ, ℤ, pos, negsuc, zero, suc, ◌+◌, ◌*◌, ◌<◌, ◌≤◌, ◌^◌, List, [], ◌∷◌, ◌++◌, length, take, drop, map, get_or, arith, refl, ap, ◌∙◌, take_at, drop_at, take-append-drop, length-take-le, length-append, All}
+use Rattle.vx_wire.proofs.Common.{w16, w32, to_be_bytes, cast_unsigned, ints, nat_tests, from_be_bytes-to_be_bytes_4, All-head, All-tail, All-nil, All-cons, All-take, All-drop, Format, U8, S16, U32, IsSample, sample_bytes, decoded_sample, encoded_sample, decoded, encoded}
 use Rattle.std.specs.Int.{from_be_bytes}
-use Rattle.std.proofs.lemmas.Bool.{cases_lt}
 use Rattle.std.proofs.lemmas.Nat.{be_bytes_2, be_bytes_4, from_be_bytes-to_be_bytes_2}
 use Rattle.vx_base.specs.Sample.{signed_of}
 use Rattle.vx_wire.proofs.ReadFields.{AllBytes}
@@ -17,16 +16,7 @@ length-encoded_sample U32 z = refl
 
 -- an S16 sample as a number from 0 to 65535
 short_back : (z : ℤ) → IsSample S16 z → (cast_unsigned w16 z < 2 ^ 16) × (signed_of (pos (cast_unsigned w16 z)) ≡ z)
-short_back (pos n) is =
-    let low : n < 32768 = omega (arith, ints, is.at_most) in
-    (omega arith, ap (λ b. if b then pos n else (pos n -ℤ pos 65536)) (lt-ltb n 32768 low))
-short_back (negsuc n) is =
-    let low : n < 32768 = omega (arith, ints, is.at_least) in
-    let c = cast_unsigned w16 (negsuc n) in
-    let is_c : c + suc n ≡ 65536 = omega (arith, ints) in
-    let high : 32768 ≤ c = omega arith in
-    let down : (pos c -ℤ pos 65536) ≡ negsuc n = omega (arith, ints) in
-    (omega arith, ap (λ b. if b then pos c else (pos c -ℤ pos 65536)) (le-ltb c 32768 high) ∙ down)
+short_back z is = (omega (arith, ints), grind (arith, nat_tests, ints, is.at_least, is.at_most))
 
 -- a sample is decoded from its bytes
 pub sample_back : (format : Format) (z : ℤ) → IsSample format z → decoded_sample format (encoded_sample format z) ≡ z
@@ -42,18 +32,7 @@ sample_back U32 (negsuc n) is = absurd (omega (arith, ints, is.at_least))
 
 -- a number below 65536 as a signed one: its two bytes, and its range
 signed_of_is : (m : ℕ) → m < 65536 → (cast_unsigned w16 (signed_of (pos m)) ≡ m) × IsSample S16 (signed_of (pos m))
-signed_of_is m below = elim (cases_lt m 32768) [ inl low ↦ small low | inr high ↦ great high ]
-  where
-    small : m < 32768 → (cast_unsigned w16 (signed_of (pos m)) ≡ m) × IsSample S16 (signed_of (pos m))
-    small low =
-        let same : signed_of (pos m) ≡ pos m = ap (λ b. if b then pos m else (pos m -ℤ pos 65536)) (lt-ltb m 32768 low) in
-        rw same (refl, record { at_least = omega (arith, ints); at_most = omega (arith, ints) })
-
-    great : 32768 ≤ m → (cast_unsigned w16 (signed_of (pos m)) ≡ m) × IsSample S16 (signed_of (pos m))
-    great high =
-        let down : (pos m -ℤ pos 65536) ≡ negsuc (65535 - m) = omega (arith, ints) in
-        let same : signed_of (pos m) ≡ negsuc (65535 - m) = ap (λ b. if b then pos m else (pos m -ℤ pos 65536)) (le-ltb m 32768 high) ∙ down in
-        rw same (omega (arith, ints), record { at_least = omega (arith, ints); at_most = omega (arith, ints) })
+signed_of_is m below = (grind (arith, nat_tests, ints), record { at_least = grind (arith, nat_tests, ints); at_most = grind (arith, nat_tests, ints) })
 
 -- a byte at any place
 each_byte : (bytes : List ℕ) → AllBytes bytes → (i : ℕ) → get_or bytes i 0 < 256
@@ -63,13 +42,10 @@ each_byte (b ∷ bytes) is (suc i) = each_byte bytes (All-tail (λ b. b < 256) b
 
 -- two bytes are a number below 65536
 short_below : (bytes : List ℕ) → AllBytes bytes → length bytes ≡ 2 → from_be_bytes w16 bytes < 65536
-short_below [] is long = absurd (omega arith)
-short_below (a ∷ []) is long = absurd (omega arith)
-short_below (a ∷ b ∷ []) is long =
-    let first : a < 256 = All-head (λ b. b < 256) a (b ∷ []) is in
-    let second : b < 256 = All-head (λ b. b < 256) b [] (All-tail (λ b. b < 256) a (b ∷ []) is) in
+short_below bytes is long =
+    let b0 = each_byte bytes is 0 in
+    let b1 = each_byte bytes is 1 in
     omega arith
-short_below (a ∷ b ∷ c ∷ bytes) is long = absurd (omega arith)
 
 -- four bytes are a number below 2 ^ 32
 word_below : (bytes : List ℕ) → AllBytes bytes → length bytes ≡ 4 → from_be_bytes w32 bytes < 2 ^ 32
@@ -110,14 +86,11 @@ length-encoded format (z ∷ samples) =
 pub decoded_back : (format : Format) (samples : List ℤ) → All (IsSample format) samples → decoded format (length samples) (encoded format samples) ≡ samples
 decoded_back format [] is = refl
 decoded_back format (z ∷ samples) is =
-    let w = sample_bytes format in
     let first = encoded_sample format z in
     let others = encoded format samples in
-    let long : length first ≡ w = length-encoded_sample format z in
-    ap (λ l. decoded_sample format l ∷ decoded format (length samples) (drop w (first ++ others))) (take_at first others w long)
-    ∙ ap (λ l. decoded_sample format first ∷ decoded format (length samples) l) (drop_at first others w long)
-    ∙ ap (λ y. y ∷ decoded format (length samples) others) (sample_back format z (All-head (IsSample format) z samples is))
-    ∙ ap (λ l. z ∷ l) (decoded_back format samples (All-tail (IsSample format) z samples is))
+    let long : length first ≡ sample_bytes format = length-encoded_sample format z in
+    rw (take_at first others (sample_bytes format) long, drop_at first others (sample_bytes format) long, sample_back format z (All-head (IsSample format) z samples is))
+    (rw (decoded_back format samples (All-tail (IsSample format) z samples is)) refl)
 
 -- as many bytes as so many samples take are those of the samples that they encode
 pub encoded_back : (format : Format) (count : ℕ) (bytes : List ℕ) → AllBytes bytes → length bytes ≡ count * sample_bytes format

@@ -1,18 +1,18 @@
 -- A request is read back from its op and body.
-use Rattle.std.proofs.Common.{◌≡◌, List, [], ◌∷◌, ◌++◌, ℕ, Ok, refl, sym, ap, ◌∙◌, append-nil}
-use Rattle.vx_wire.proofs.Common.{w32, to_be_bytes, Request, OpenContext, ReleaseContext, CreateImage, QueryImage, WriteImage, WriteImagePgm, ReadImage, ReadImagePgm, SetValid, Release, CreateLut, CreateThreshold, CreateConvolution, CreateDistribution, ReadDistribution, CreateMinMax, ReadMinMax, CreateGraph, CreateVirtualImage, AddNode, RemoveNode, VerifyGraph, ProcessGraph, Immediate, CreateDelay, AgeDelay, RegisterAutoAging, op_number, op_of, Taken, at_end, one_field, two_fields, take_long, request_of, body_of, take_description, description_bytes, take_outline, outline_bytes, take_reference, reference_bytes, take_picture, picture_bytes, take_lut, lut_bytes, take_threshold, threshold_bytes, take_convolution, convolution_bytes, take_bins, bins_bytes, take_node, node_bytes, take_slots, take_rectangle, rectangle_bytes, IsRequest}
-use Rattle.vx_wire.proofs.SpelledFields.{then_ok, long_back, description_back, outline_back, cell_back, rectangle_back, slots_back, bins_back, picture_back}
+use Rattle.std.proofs.Common.{◌≡◌, List, [], ◌∷◌, ◌++◌, ℕ, Ok, refl, ap, append-nil}
+use Rattle.vx_wire.proofs.Common.{w32, to_be_bytes, Request, OpenContext, ReleaseContext, CreateImage, QueryImage, WriteImage, WriteImagePgm, ReadImage, ReadImagePgm, SetValid, Release, CreateLut, CreateThreshold, CreateConvolution, CreateDistribution, ReadDistribution, CreateMinMax, ReadMinMax, CreateGraph, CreateVirtualImage, AddNode, RemoveNode, VerifyGraph, ProcessGraph, Immediate, CreateDelay, AgeDelay, RegisterAutoAging, op_number, op_of, Taken, and_then, one_field, two_fields, take_long, request_of, body_of, take_description, description_bytes, take_outline, outline_bytes, take_reference, reference_bytes, take_picture, picture_bytes, take_lut, lut_bytes, take_threshold, threshold_bytes, take_convolution, convolution_bytes, take_bins, bins_bytes, take_node, node_bytes, take_slots, take_rectangle, rectangle_bytes, IsRequest}
+use Rattle.vx_wire.proofs.SpelledFields.{long_back, description_back, outline_back, cell_back, rectangle_back, slots_back, bins_back, picture_back}
 use Rattle.vx_wire.proofs.SpelledObjects.{lut_back, threshold_back, convolution_back}
 use Rattle.vx_wire.proofs.SpelledNode.{node_back}
 
 -- a body of one field and of two
 
 one_back : {A : Type 0} (take : List ℕ → Taken A) (made : A → Request) (bytes : List ℕ) (x : A) → take (bytes ++ []) ≡ Ok (x, []) → one_field take made bytes ≡ Ok (made x)
-one_back take made bytes x e = then_ok (take bytes) x [] (λ x rest. at_end (made x) rest) (ap take (sym (append-nil bytes)) ∙ e)
+one_back take made bytes x e = rw (← append-nil bytes, e) refl
 
 two_back : {A B : Type 0} (take : List ℕ → Taken A) (next : List ℕ → Taken B) (made : A → B → Request) (bytes others : List ℕ) (x : A) (y : B)
     → take (bytes ++ others) ≡ Ok (x, others) → next (others ++ []) ≡ Ok (y, []) → two_fields take next made (bytes ++ others) ≡ Ok (made x y)
-two_back take next made bytes others x y first second = then_ok (take (bytes ++ others)) x others (λ x rest. one_field next (made x) rest) first ∙ one_back next (made x) others y second
+two_back take next made bytes others x y first second = rw (first, ← append-nil others, second) refl
 
 pub read_back : (request : Request) → IsRequest request → request_of (op_number (op_of request)) (body_of request) ≡ Ok request
 read_back OpenContext is = refl
@@ -22,7 +22,7 @@ read_back (QueryImage cell) is = one_back take_reference QueryImage (reference_b
 read_back (WriteImage cell p) is =
     let bytes = picture_bytes p in
     two_back take_reference take_picture WriteImage (reference_bytes cell) bytes cell p (cell_back cell bytes is.0) (picture_back p [] is.1)
-read_back (WriteImagePgm cell text) is = then_ok (take_reference (reference_bytes cell ++ text)) cell text (λ cell text. Ok (WriteImagePgm cell text)) (cell_back cell text is.0)
+read_back (WriteImagePgm cell text) is = ap (λ t. and_then t (λ cell text. Ok (WriteImagePgm cell text))) (cell_back cell text is.0)
 read_back (ReadImage cell) is = one_back take_reference ReadImage (reference_bytes cell) cell (cell_back cell [] is)
 read_back (ReadImagePgm cell) is = one_back take_reference ReadImagePgm (reference_bytes cell) cell (cell_back cell [] is)
 read_back (SetValid cell r) is =

@@ -1,6 +1,6 @@
 -- The bodies of requests are bytes.
-use Rattle.std.proofs.Common.{ℕ, ℤ, zero, suc, pos, negsuc, ◌<◌, ◌^◌, List, [], ◌∷◌, ◌++◌, length, Option, Some, None, Bool, true, false, arith, IsTrue, rules, All, IfSome, leb-true, unwrap_or, unsigned_abs}
-use Rattle.vx_wire.proofs.Common.{w16, w32, to_be_bytes, cast_unsigned, ints, nat_tests, All-nil, All-cons, All-head, All-tail, Format, U8, S16, U32, Border, Undefined, Constant, Replicate, Policy, Wrap, Saturate, Function, Node, ThresholdKind, Binary, Range, Cell, IsCell, ConvolutionValue, is_odd_side, IsConvolution, Description, function_number, LutValue, IsLut, IsBorder, IsNode, Outline, PictureValue, IsPicture, Rectangle, IsSample, is_slot_count, BinsValue, ThresholdValue, IsThreshold, Request, OpenContext, ReleaseContext, CreateImage, QueryImage, WriteImage, WriteImagePgm, ReadImage, ReadImagePgm, SetValid, Release, CreateLut, CreateThreshold, CreateConvolution, CreateDistribution, ReadDistribution, CreateMinMax, ReadMinMax, CreateGraph, CreateVirtualImage, AddNode, RemoveNode, VerifyGraph, ProcessGraph, Immediate, CreateDelay, AgeDelay, RegisterAutoAging, IsRequest, format_number, open_format_number, description_bytes, encoded_sample, encoded, picture_bytes, reference_bytes, operand_bytes, rectangle_bytes, lut_bytes, range_number, limit_bytes, threshold_bytes, convolution_bytes, bins_bytes, outline_bytes, open_side_number, border_bytes, policy_number, node_bytes, body_of}
+use Rattle.std.proofs.Common.{ℕ, ℤ, zero, suc, pos, negsuc, ◌<◌, ◌^◌, List, [], ◌∷◌, ◌++◌, length, Option, Some, None, Bool, arith, IsTrue, rules, All, IfSome, leb-true, unwrap_or, unsigned_abs}
+use Rattle.vx_wire.proofs.Common.{w16, w32, to_be_bytes, cast_unsigned, ints, nat_tests, All-nil, All-cons, All-head, All-tail, Format, U8, S16, U32, Border, Undefined, Constant, Replicate, Policy, Function, Node, ThresholdKind, Binary, Range, Cell, IsCell, ConvolutionValue, is_odd_side, IsConvolution, Description, function_number, LutValue, IsLut, IsBorder, IsNode, Outline, PictureValue, IsPicture, Rectangle, IsSample, is_slot_count, BinsValue, ThresholdValue, IsThreshold, Request, OpenContext, ReleaseContext, CreateImage, QueryImage, WriteImage, WriteImagePgm, ReadImage, ReadImagePgm, SetValid, Release, CreateLut, CreateThreshold, CreateConvolution, CreateDistribution, ReadDistribution, CreateMinMax, ReadMinMax, CreateGraph, CreateVirtualImage, AddNode, RemoveNode, VerifyGraph, ProcessGraph, Immediate, CreateDelay, AgeDelay, RegisterAutoAging, IsRequest, format_number, open_format_number, description_bytes, encoded_sample, encoded, picture_bytes, reference_bytes, operand_bytes, rectangle_bytes, lut_bytes, range_number, limit_bytes, threshold_bytes, convolution_bytes, bins_bytes, outline_bytes, open_side_number, border_bytes, policy_number, node_bytes, body_of}
 use Rattle.std.specs.Int.{Width, byte_len, byte_at, bytes_high_first}
 use Rattle.std.proofs.lemmas.List.Elements.{All-append}
 use Rattle.vx_wire.proofs.TableSizes.{convolution_parts}
@@ -47,13 +47,10 @@ samples format (z ∷ zs) are =
 -- ---- fields
 
 format_byte : (format : Format) → format_number format < 2 ^ 8
-format_byte U8 = omega arith
-format_byte S16 = omega arith
-format_byte U32 = omega arith
+format_byte format = search rules
 
 open_format_byte : (format : Option Format) → open_format_number format < 2 ^ 8
-open_format_byte None = omega arith
-open_format_byte (Some format) = format_byte format
+open_format_byte format = search rules
 
 description : (d : Description) → AreBytes (description_bytes d)
 description d = more _ _ (format_byte d.format) (joined _ _ (number w16 d.width) (number w16 d.height))
@@ -86,8 +83,7 @@ limits (Binary t) = number w16 (cast_unsigned w16 t)
 limits (Range lower upper) = joined _ _ (number w16 (cast_unsigned w16 lower)) (number w16 (cast_unsigned w16 upper))
 
 range_byte : (b : Bool) → range_number b < 2 ^ 8
-range_byte true = omega arith
-range_byte false = omega arith
+range_byte b = search rules
 
 threshold : (t : ThresholdValue) → IsThreshold t → AreBytes (threshold_bytes t)
 threshold t is =
@@ -117,8 +113,7 @@ border (Constant value) is = more 1 _ (omega arith) (more value [] (omega (arith
 border Replicate is = more 2 _ (omega arith) (more 0 [] (omega arith) none)
 
 policy_byte : (policy : Policy) → policy_number policy < 2 ^ 8
-policy_byte Wrap = omega arith
-policy_byte Saturate = omega arith
+policy_byte policy = search rules
 
 node : (n : Node) → IsNode n → AreBytes (node_bytes n)
 node n is =

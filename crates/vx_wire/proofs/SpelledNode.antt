@@ -1,12 +1,14 @@
 -- A node is read back from its bytes.
-use Rattle.std.proofs.Common.{◌≡◌, ℕ, ◌==◌, List, [], ◌∷◌, ◌++◌, Option, Some, None, Ok, Bool, true, false, not, ◌&&◌, ◌||◌, IsTrue, if◌then◌else◌, cond, nat_le, is_some, is_none, unwrap_or, arith, refl, ap, ◌∙◌, IfSome, eq-eqb, leb-true}
-use Rattle.vx_wire.proofs.Common.{numbered, Border, Undefined, Constant, Replicate, Policy, Wrap, Saturate, Function, Parameters, Node, function_number, parameters, Cell, IsCell, is_nothing, is_named, is_wrap, has_amount, has_operands, all_named, IsNode, InvalidParameters, InvalidValue, Presence, Required, Absent, Free, Taken, and_then, allowed, take_reference, reference_bytes, operand, take_operand, second_input, first_output, second_output, take_operands, take_first_input, is_operand, operand_bytes, take_function, take_border, take_policy, amount_allowed, take_node, border_bytes, policy_number, node_bytes}
-use Rattle.vx_wire.proofs.NodeShape.{both_of, take_node-fields, three_joined}
+use Rattle.std.proofs.Common.{◌≡◌, ℕ, ◌==◌, List, [], ◌∷◌, ◌++◌, Option, Some, None, Ok, Bool, true, false, not, ◌&&◌, ◌||◌, IsTrue, if◌then◌else◌, cond, nat_le, is_some, is_none, unwrap_or, arith, refl, ap, IfSome, eq-eqb, leb-true}
+use Rattle.vx_wire.proofs.Common.{numbered, Border, Undefined, Constant, Replicate, Policy, Wrap, Saturate, Function, Parameters, Node, function_number, parameters, Cell, IsCell, is_nothing, is_named, is_wrap, IsNode, InvalidParameters, InvalidValue, Presence, Required, Absent, Free, allowed, take_reference, reference_bytes, operand, take_operand, second_input, first_output, second_output, take_operands, take_first_input, is_operand, operand_bytes, take_function, take_border, take_policy, amount_allowed, take_node, border_bytes, policy_number, node_bytes}
+use Rattle.vx_base.specs.Node.{has_amount, has_operands, all_named}
+use Rattle.vx_wire.proofs.NodeShape.{both_of, three_joined}
 use Rattle.vx_wire.proofs.FunctionNumbers.{numbered_back}
-use Rattle.vx_wire.proofs.SpelledFields.{then_ok, cell_back}
+use Rattle.std.proofs.lemmas.Bool.{not-true}
+use Rattle.vx_wire.proofs.SpelledFields.{allowed_back, cell_back}
 
 function_back : (function : Function) (rest : List ℕ) → take_function (function_number function ∷ rest) ≡ Ok (function, rest)
-function_back function rest = ap (λ f. allowed InvalidParameters f rest) (numbered_back function)
+function_back function rest = rw (numbered_back function) refl
 
 border_back : (border : Border) (rest : List ℕ) → take_border (border_bytes border ++ rest) ≡ Ok (border, rest)
 border_back Undefined rest = refl
@@ -28,57 +30,30 @@ amount_back None n rest is = let e : (n == 0) ≡ true = eq-eqb n 0 (omega (arit
 amount_back (Some greatest) n rest is = ap (λ b. allowed InvalidValue (if b then Some n else None) rest) is
 
 -- an operand that is there as its presence wants
-allowed_operand : (presence : Presence) (o : Option Cell) (cell : Cell) → IsTrue (is_operand presence o) → unwrap_or o (record { name = 0; slot = None }) ≡ cell
-    → operand presence cell ≡ Some o
-allowed_operand Required None cell is e = cc
-allowed_operand Required (Some c) cell is e = rw (← e) (given (is_nothing c) is)
-  where
-    given : (b : Bool) → IsTrue (not b) → (if b then None else Some (Some c)) ≡ Some (Some c)
-    given true is = cc
-    given false is = refl
-allowed_operand Absent None cell is e = rw (← e) refl
-allowed_operand Absent (Some c) cell is e = cc
-allowed_operand Free None cell is e = rw (← e) refl
-allowed_operand Free (Some c) cell is e = rw (← e) (given (is_nothing c) is)
-  where
-    given : (b : Bool) → IsTrue (not b) → (if b then Some None else Some (Some c)) ≡ Some (Some c)
-    given true is = cc
-    given false is = refl
+allowed_operand : (presence : Presence) (o : Option Cell) → IsTrue (is_operand presence o) → operand presence (unwrap_or o (record { name = 0; slot = None })) ≡ Some o
+allowed_operand Required None is = cc
+allowed_operand Required (Some c) is = rw (not-true (is_nothing c) is) refl
+allowed_operand Absent None is = refl
+allowed_operand Absent (Some c) is = cc
+allowed_operand Free None is = refl
+allowed_operand Free (Some c) is = rw (not-true (is_nothing c) is) refl
 
 operand_back : (presence : Presence) (o : Option Cell) (rest : List ℕ) → IsTrue (is_operand presence o) → IfSome o IsCell
     → take_operand presence (operand_bytes o ++ rest) ≡ Ok (o, rest)
-operand_back presence None rest is cell =
-    let nothing : Cell = record { name = 0; slot = None } in
-    let next : Cell → List ℕ → Taken (Option Cell) = λ cell rest. allowed InvalidParameters (operand presence cell) rest in
-    then_ok (take_reference (reference_bytes nothing ++ rest)) nothing rest next (cell_back nothing rest (record { name = omega arith; slot = tt }))
-    ∙ ap (λ o. allowed InvalidParameters o rest) (allowed_operand presence None nothing is refl)
+operand_back presence None rest is cell = rw (allowed_operand presence None is) refl
 operand_back presence (Some c) rest is cell =
-    let next : Cell → List ℕ → Taken (Option Cell) = λ cell rest. allowed InvalidParameters (operand presence cell) rest in
-    then_ok (take_reference (reference_bytes c ++ rest)) c rest next (cell_back c rest cell)
-    ∙ ap (λ o. allowed InvalidParameters o rest) (allowed_operand presence (Some c) c is refl)
+    allowed_back (take_reference (reference_bytes c ++ rest)) c (Some c) rest InvalidParameters (operand presence) (cell_back c rest cell) (allowed_operand presence (Some c) is)
 
 first_back : (cell : Cell) (rest : List ℕ) → IsTrue (not (is_nothing cell)) → IsCell cell → take_first_input (reference_bytes cell ++ rest) ≡ Ok (cell, rest)
 first_back cell rest given is =
-    let next : Cell → List ℕ → Taken Cell = λ cell rest. allowed InvalidParameters (if is_nothing cell then None else Some cell) rest in
-    then_ok (take_reference (reference_bytes cell ++ rest)) cell rest next (cell_back cell rest is) ∙ there (is_nothing cell) given
-  where
-    there : (b : Bool) → IsTrue (not b) → allowed InvalidParameters (if b then None else Some cell) rest ≡ Ok (cell, rest)
-    there true is = cc
-    there false is = refl
+    allowed_back (take_reference (reference_bytes cell ++ rest)) cell cell rest InvalidParameters (λ cell. if is_nothing cell then None else Some cell) (cell_back cell rest is)
+    (rw (not-true (is_nothing cell) given) refl)
 
 operands_back : (p : Parameters) (in2 out1 out2 : Option Cell) (rest : List ℕ) → IsTrue (is_operand (second_input p) in2) → IsTrue (is_operand (first_output p) out1)
     → IsTrue (is_operand (second_output p out1) out2) → IfSome in2 IsCell → IfSome out1 IsCell → IfSome out2 IsCell
     → take_operands p (operand_bytes in2 ++ (operand_bytes out1 ++ (operand_bytes out2 ++ rest))) ≡ Ok ((in2, out1, out2), rest)
 operands_back p in2 out1 out2 rest has2 has_out1 has_out2 is2 is_out1 is_out2 =
-    let Others : Type 0 = Option Cell × Option Cell × Option Cell in
-    let third : Option Cell → Option Cell → List ℕ → Taken Others =
-    λ in2 out1 rest. and_then (take_operand (second_output p out1) rest) (λ out2 rest. Ok ((in2, out1, out2), rest)) in
-    let second : Option Cell → List ℕ → Taken Others = λ in2 rest. and_then (take_operand (first_output p) rest) (third in2) in
-    let after_out1 = operand_bytes out2 ++ rest in
-    let behind = operand_bytes out1 ++ after_out1 in
-    then_ok (take_operand (second_input p) (operand_bytes in2 ++ behind)) in2 behind second (operand_back (second_input p) in2 behind has2 is2)
-    ∙ then_ok (take_operand (first_output p) behind) out1 after_out1 (third in2) (operand_back (first_output p) out1 after_out1 has_out1 is_out1)
-    ∙ then_ok (take_operand (second_output p out1) after_out1) out2 rest (λ out2 rest. Ok ((in2, out1, out2), rest)) (operand_back (second_output p out1) out2 rest has_out2 is_out2)
+    rw (operand_back (second_input p) in2 _ has2 is2, operand_back (first_output p) out1 _ has_out1 is_out1, operand_back (second_output p out1) out2 rest has_out2 is_out2) refl
 
 -- ---- what is_node says of the operands
 
@@ -109,13 +84,6 @@ node_back n rest is =
     let (given2, given_outputs) = both_of (is_named n.in2) (is_named n.out1 && is_named n.out2) given_others in
     let (given_out1, given_out2) = both_of (is_named n.out1) (is_named n.out2) given_outputs in
     let are = outputs_are p.output_pair n.out1 n.out2 outputs given_out1 given_out2 in
-    let f = operand_bytes n.in2 ++ (operand_bytes n.out1 ++ (operand_bytes n.out2 ++ rest)) in
-    let e = reference_bytes n.in1 ++ f in
-    let d = n.amount ∷ e in
-    let c = policy_number n.policy ∷ d in
-    let b = border_bytes n.border ++ c in
-    let front : List ℕ → List ℕ = λ l. function_number n.function ∷ (border_bytes n.border ++ policy_number n.policy ∷ n.amount ∷ (reference_bytes n.in1 ++ l)) in
-    ap (λ l. take_node (front l)) (three_joined (operand_bytes n.in2) (operand_bytes n.out1) (operand_bytes n.out2) rest)
-    ∙ take_node-fields n p (function_number n.function ∷ b) b c d e f rest refl (function_back n.function b) (border_back n.border c) (policy_back p n.policy d policy)
-    (amount_back p.greatest_amount n.amount e amount) (first_back n.in1 f given1 is.in1)
-    (operands_back p n.in2 n.out1 n.out2 rest (second_is (is_some p.second_input) n.in2 second given2) are.0 are.1 is.in2 is.out1 is.out2)
+    rw (three_joined (operand_bytes n.in2) (operand_bytes n.out1) (operand_bytes n.out2) rest, function_back n.function _, border_back n.border _, policy_back p n.policy _ policy)
+    (rw (amount_back p.greatest_amount n.amount _ amount, first_back n.in1 _ given1 is.in1)
+    (rw (operands_back p n.in2 n.out1 n.out2 rest (second_is (is_some p.second_input) n.in2 second given2) are.0 are.1 is.in2 is.out1 is.out2) refl))

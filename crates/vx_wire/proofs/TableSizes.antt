@@ -1,10 +1,8 @@
 -- Tables and thresholds are of U8 or S16; what the numbers of a convolution are.
-use Rattle.std.proofs.Common.{◌≡◌, ◌≢◌, ℕ, ℤ, ◌≤◌, ◌*◌, ◌==◌, ◌≤ℤ◌, ◌&&◌, nat_le, int_le, T, IsTrue, arith, refl, sym, subst, eqb-true, eq-eqb}
-use Rattle.vx_wire.proofs.Common.{ints, Format, U8, S16, U32, Binary, Range, IsSample, range_size, sample_bytes, is_full, is_sample, has_limits, is_odd_side}
+use Rattle.std.proofs.Common.{◌≡◌, ◌≢◌, ℕ, ℤ, ◌≤◌, ◌*◌, ◌≤ℤ◌, nat_le, int_le, T, IsTrue, arith, refl, sym, subst, eqb-true, eq-eqb}
+use Rattle.vx_wire.proofs.Common.{nat_tests, ints, Format, U8, S16, U32, Binary, Range, IsSample, range_size, sample_bytes, is_full, is_sample, has_limits, is_odd_side}
 use Rattle.std.specs.Int.Signed.{le_z_yes}
-use Rattle.vx_base.specs.Sample.{least, greatest}
 use Rattle.vx_base.specs.Convolution.{is_convolution}
-use Rattle.vx_wire.proofs.NodeShape.{both, both_of}
 
 -- ---- how many entries a table has
 
@@ -35,14 +33,8 @@ in_order a b is = le_z_yes (subst T (sym is) tt)
 
 -- a sample of U8 is one of S16
 pub sample_of : (format : Format) → format ≢ U32 → (z : ℤ) → IsTrue (is_sample format z) → IsSample S16 z
-sample_of U8 input z is =
-    let (low, high) = both_of (int_le (least U8) z) (int_le z (greatest U8)) is in
-    let at_least : least U8 ≤ℤ z = in_order (least U8) z low in
-    let at_most : z ≤ℤ greatest U8 = in_order z (greatest U8) high in
-    record { at_least = omega (arith, ints); at_most = omega (arith, ints) }
-sample_of S16 input z is =
-    let (low, high) = both_of (int_le (least S16) z) (int_le z (greatest S16)) is in
-    record { at_least = in_order (least S16) z low; at_most = in_order z (greatest S16) high }
+sample_of U8 input z is = record { at_least = grind (arith, ints, nat_tests); at_most = grind (arith, ints, nat_tests) }
+sample_of S16 input z is = record { at_least = grind (arith, ints, nat_tests); at_most = grind (arith, ints, nat_tests) }
 sample_of U32 input z is = absurd (input refl)
 
 pub has_binary : (format : Format) → format ≢ U32 → (t : ℤ) → IsTrue (is_sample format t) → IsTrue (has_limits format (Binary t))
@@ -52,8 +44,8 @@ has_binary U32 input t is = absurd (input refl)
 
 pub has_range : (format : Format) → format ≢ U32 → (lower upper : ℤ) → IsTrue (is_sample format lower) → IsTrue (is_sample format upper) → IsTrue (int_le lower upper)
     → IsTrue (has_limits format (Range lower upper))
-has_range U8 input lower upper low up ordered = both (is_sample U8 lower) (is_sample U8 upper && int_le lower upper) low (both (is_sample U8 upper) (int_le lower upper) up ordered)
-has_range S16 input lower upper low up ordered = both (is_sample S16 lower) (is_sample S16 upper && int_le lower upper) low (both (is_sample S16 upper) (int_le lower upper) up ordered)
+has_range U8 input lower upper low up ordered = rw (low, up, ordered) refl
+has_range S16 input lower upper low up ordered = rw (low, up, ordered) refl
 has_range U32 input lower upper low up ordered = absurd (input refl)
 
 pub binary_of : (format : Format) (t : ℤ) → IsTrue (has_limits format (Binary t)) → (format ≢ U32) × IsTrue (is_sample format t)
@@ -63,14 +55,8 @@ binary_of U32 t is = cc
 
 pub range_of : (format : Format) (lower upper : ℤ) → IsTrue (has_limits format (Range lower upper))
     → (format ≢ U32) × IsTrue (is_sample format lower) × IsTrue (is_sample format upper) × IsTrue (int_le lower upper)
-range_of U8 lower upper is =
-    let (low, others) = both_of (is_sample U8 lower) (is_sample U8 upper && int_le lower upper) is in
-    let (up, ordered) = both_of (is_sample U8 upper) (int_le lower upper) others in
-    (λ e. cc, low, up, ordered)
-range_of S16 lower upper is =
-    let (low, others) = both_of (is_sample S16 lower) (is_sample S16 upper && int_le lower upper) is in
-    let (up, ordered) = both_of (is_sample S16 upper) (int_le lower upper) others in
-    (λ e. cc, low, up, ordered)
+range_of U8 lower upper is = (λ e. cc, grind (arith, nat_tests), grind (arith, nat_tests), grind (arith, nat_tests))
+range_of S16 lower upper is = (λ e. cc, grind (arith, nat_tests), grind (arith, nat_tests), grind (arith, nat_tests))
 range_of U32 lower upper is = cc
 
 -- ---- the numbers of a convolution
@@ -83,13 +69,8 @@ pub record ConvolutionParts (columns rows exponent count : ℕ) : Type 0 where
 
 pub convolution_parts : (columns rows exponent count : ℕ) → IsTrue (is_convolution columns rows exponent count) → ConvolutionParts columns rows exponent count
 convolution_parts columns rows exponent count is =
-    let (sides, others) = both_of (is_odd_side columns && is_odd_side rows) (nat_le exponent 31 && count == rows * columns) is in
-    let (across, down) = both_of (is_odd_side columns) (is_odd_side rows) sides in
-    let (power, many) = both_of (nat_le exponent 31) (count == rows * columns) others in
-    record { across = across; down = down; power = power; many = eqb-true count (rows * columns) many }
+    record { across = grind (arith, nat_tests); down = grind (arith, nat_tests); power = grind (arith, nat_tests); many = grind (arith, nat_tests) }
 
 pub convolution_from_parts : (columns rows exponent count : ℕ) → IsTrue (is_odd_side columns) → IsTrue (is_odd_side rows) → IsTrue (nat_le exponent 31) → count ≡ rows * columns
     → IsTrue (is_convolution columns rows exponent count)
-convolution_from_parts columns rows exponent count across down power many =
-    both (is_odd_side columns && is_odd_side rows) (nat_le exponent 31 && count == rows * columns) (both (is_odd_side columns) (is_odd_side rows) across down)
-    (both (nat_le exponent 31) (count == rows * columns) power (eq-eqb count (rows * columns) many))
+convolution_from_parts columns rows exponent count across down power many = rw (across, down, power, eq-eqb count (rows * columns) many) refl

@@ -129,21 +129,16 @@ odds_bits v len fits =
 -- the multiplication of lanes whose bits are these
 product_bits : (A B : List ℕ) (s t : List ℤ) → A ≡ map (of_z w32) s → B ≡ map (of_z w32) t → Each1 (IsUpTo 255) s → Each1 (FitsSigned w16) t → zip2 (λ a b. (a * b) % 4294967296) A B ≡ map (of_z w32) (zip2 ◌*ℤ◌ s t)
 product_bits A B s t a b near fits =
-    ap (λ l. zip2 (λ a b. (a * b) % 4294967296) l B) a
-    ∙ ap (λ l. zip2 (λ a b. (a * b) % 4294967296) (map (of_z w32) s) l) b
-    ∙ times_bits s t
-    (each_fits_32 s (up_to_more 255 752025600 s (omega arith) near))
-    (Each1-weaker (FitsSigned w16) (FitsSigned w32) wider t fits)
-    (each_fits_32 (zip2 ◌*ℤ◌ s t) (up_to_more 8355840 752025600 (zip2 ◌*ℤ◌ s t) (omega arith) (products_up_to s t near fits)))
+    rw (a, b)
+    (times_bits s t (each_fits_32 s (up_to_more 255 752025600 s (omega arith) near)) (Each1-weaker (FitsSigned w16) (FitsSigned w32) wider t fits)
+    (each_fits_32 (zip2 ◌*ℤ◌ s t) (up_to_more 8355840 752025600 (zip2 ◌*ℤ◌ s t) (omega arith) (products_up_to s t near fits))))
 
 -- the addition of lanes whose bits are these
 pub total_bits : (A B : List ℕ) (s t : List ℤ) (m n : ℕ) → A ≡ map (of_z w32) s → B ≡ map (of_z w32) t → Each1 (IsUpTo m) s → Each1 (IsUpTo n) t → m + n ≤ 752025600 → map (to_z w32) (zip2 (λ a b. (a + b) % 4294967296) A B) ≡ zip2 ◌+ℤ◌ s t
 total_bits A B s t m n a b near far small =
     let fits = each_fits_32 (zip2 ◌+ℤ◌ s t) (up_to_more (m + n) 752025600 (zip2 ◌+ℤ◌ s t) small (sums_up_to m n s t near far)) in
-    ap (λ l. map (to_z w32) (zip2 (λ a b. (a + b) % 4294967296) l B)) a
-    ∙ ap (λ l. map (to_z w32) (zip2 (λ a b. (a + b) % 4294967296) (map (of_z w32) s) l)) b
-    ∙ ap (map (to_z w32)) (plus_bits s t (each_fits_32 s (up_to_more m 752025600 s (omega arith) near)) (each_fits_32 t (up_to_more n 752025600 t (omega arith) far)) fits)
-    ∙ of_bits w32 (zip2 ◌+ℤ◌ s t) fits
+    rw (a, b, plus_bits s t (each_fits_32 s (up_to_more m 752025600 s (omega arith) near)) (each_fits_32 t (up_to_more n 752025600 t (omega arith) far)) fits)
+    (of_bits w32 (zip2 ◌+ℤ◌ s t) fits)
 
 pub pair_products_are : (s c : List ℤ) → length s ≡ 16 → length c ≡ 16 → Each1 (IsUpTo 255) s → Each1 (FitsSigned w16) c
     → map (to_z w32) (zip2 (λ a b. (a + b) % 4294967296)
@@ -176,9 +171,7 @@ pair_products_up_to s c near fits =
 -- ---- loads
 
 cut : (xs : List ℤ) (i : ℕ) → i + 16 ≤ length xs → chunk 0 16 (take (i + 16 - i) (drop i xs)) ≡ chunk i 16 xs
-cut xs i room =
-    let count : i + 16 - i ≡ 16 = omega arith in
-    ap (λ n. take 16 (take n (drop i xs))) count ∙ take-take 16 16 (drop i xs) (omega arith)
+cut xs i room = let count : i + 16 - i ≡ 16 = omega arith in rw count (take-take 16 16 (drop i xs) (omega arith))
 
 -- sixteen items of a slice of numbers that fit
 pub loaded : (xs : List ℤ) (i : ℕ) → i + 16 ≤ length xs → Each1 (FitsSigned w16) xs → map (to_z w16) (map (of_z w16) (chunk 0 16 (take (i + 16 - i) (drop i xs)))) ≡ chunk i 16 xs

@@ -1,5 +1,5 @@
 -- What columns of three samples give along a row.
-use Rattle.std.proofs.Common.{◌≡◌, ℕ, ℤ, pos, ◌+◌, ◌-◌, ◌<◌, ◌≤◌, ◌+ℤ◌, ◌-ℤ◌, List, [], ◌∷◌, ◌++◌, length, map, replicate, min, max, get_or, ap, ◌∙◌, sym, arith, zero-add}
+use Rattle.std.proofs.Common.{◌≡◌, ℕ, ℤ, pos, ◌+◌, ◌-◌, ◌<◌, ◌≤◌, ◌+ℤ◌, ◌-ℤ◌, List, [], ◌∷◌, ◌++◌, length, map, replicate, min, max, get_or, refl, ap, ◌∙◌, sym, arith, zero-add}
 use Rattle.window_kernels.proofs.Common.{ints, get_or-map, Border, ImageValue, run, look, nine_around, get_or-run, run_shifted, column_in, column_seen}
 use Rattle.std.proofs.lemmas.List.{length-replicate}
 use Rattle.vx_base.proofs.ZeroLaws.{map-replicate}
@@ -51,10 +51,8 @@ columns_around g image border x first m before n y over on under above here belo
     -- the column beside the valid ones whose nearest is column e, which is item i of the rows
     beside_seen : (c i e : ℕ) → i < m → first + i ≡ e → ((v : ℤ) → f (pos c -ℤ pos 1) v ≡ value_beside border (f (pos e) v)) → seen c ≡ beside_at i
     beside_seen c i e inside at edge =
-        same_three g _ _ _ _ _ _
-        (edge (y -ℤ pos 1) ∙ ap (value_beside border) (sym (item_at f first m i over (y -ℤ pos 1) above a inside is_over ∙ ap (λ k. f (pos k) (y -ℤ pos 1)) at)))
-        (edge y ∙ ap (value_beside border) (sym (item_at f first m i on y here b inside is_on ∙ ap (λ k. f (pos k) y) at)))
-        (edge (y +ℤ pos 1) ∙ ap (value_beside border) (sym (item_at f first m i under (y +ℤ pos 1) below d inside is_under ∙ ap (λ k. f (pos k) (y +ℤ pos 1)) at)))
+        rw (edge (y -ℤ pos 1), edge y, edge (y +ℤ pos 1), ← at)
+        (rw (← item_at f first m i over (y -ℤ pos 1) above a inside is_over, ← item_at f first m i on y here b inside is_on, ← item_at f first m i under (y +ℤ pos 1) below d inside is_under) refl)
 
     to_left : (c : ℕ) → c < x + before → x ≤ c → seen c ≡ beside_at 0
     to_left c h k =
@@ -71,12 +69,9 @@ columns_around g image border x first m before n y over on under above here belo
       where
         place : (k : ℕ) → k < m → seen (x + before + k) ≡ column_in g above here below (0 + k)
         place k h =
-            ap (λ u. column_seen g f u y) (let e : pos (x + before + k) -ℤ pos 1 ≡ pos (first + k) = omega (arith, ints) in e)
-            ∙ sym (same_three g _ _ _ _ _ _
-            (item_at f first m k over (y -ℤ pos 1) above a h is_over)
-            (item_at f first m k on y here b h is_on)
-            (item_at f first m k under (y +ℤ pos 1) below d h is_under))
-            ∙ ap (column_in g above here below) (sym (zero-add k))
+            let e : pos (x + before + k) -ℤ pos 1 ≡ pos (first + k) = omega (arith, ints) in
+            rw (e, ← item_at f first m k over (y -ℤ pos 1) above a h is_over, ← item_at f first m k on y here b h is_on, ← item_at f first m k under (y +ℤ pos 1) below d h is_under)
+            (ap (column_in g above here below) (sym (zero-add k)))
 
 -- three columns are the nine samples around a place
 pub nine_of_columns : (gives joined : ℤ → ℤ → ℤ → ℤ) (of_nine : List ℤ → ℤ)
@@ -87,8 +82,7 @@ pub nine_of_columns : (gives joined : ℤ → ℤ → ℤ → ℤ) (of_nine : Li
 nine_of_columns gives joined of_nine law f x k y =
     let middle : pos (x + (k + 1)) -ℤ pos 1 ≡ pos (x + k) = omega (arith, ints) in
     let right : pos (x + (k + 2)) -ℤ pos 1 ≡ pos (x + k) +ℤ pos 1 = omega (arith, ints) in
-    same_three joined _ _ _ _ _ _ (ap (λ u. column_seen gives f u y) (let e : pos (x + k) -ℤ pos 1 ≡ pos (x + k) -ℤ pos 1 = omega (arith, ints) in e)) (ap (λ u. column_seen gives f u y) middle) (ap (λ u. column_seen gives f u y) right)
-    ∙ law _ _ _ _ _ _ _ _ _
+    rw (middle, right) (law _ _ _ _ _ _ _ _ _)
 
 -- a run from a column on, counted from 0
 pub from_zero : (h : ℤ → ℤ) (x n : ℕ) → run x n (λ c. h (pos c -ℤ pos 1)) ≡ run 0 n (λ i. h (pos (x + i) -ℤ pos 1))
@@ -120,11 +114,8 @@ nines_in_place gives joined of_nine law f x first m n y over on under above here
   where
     column : (i : ℕ) → i < m → column_in gives above here below i ≡ column_seen gives f (pos (x + i) -ℤ pos 1) y
     column i inside =
-        same_three gives _ _ _ _ _ _
-        (item_at f first m i over (y -ℤ pos 1) above a inside is_over)
-        (item_at f first m i on y here b inside is_on)
-        (item_at f first m i under (y +ℤ pos 1) below d inside is_under)
-        ∙ ap (λ u. column_seen gives f u y) (let e : pos (first + i) ≡ pos (x + i) -ℤ pos 1 = omega (arith, ints) in e)
+        let e : pos (first + i) ≡ pos (x + i) -ℤ pos 1 = omega (arith, ints) in
+        rw (item_at f first m i over (y -ℤ pos 1) above a inside is_over, item_at f first m i on y here b inside is_on, item_at f first m i under (y +ℤ pos 1) below d inside is_under, e) refl
 
     place : (k : ℕ) → k < n → joined (column_in gives above here below (0 + k)) (column_in gives above here below (0 + k + 1)) (column_in gives above here below (0 + k + 2)) ≡ of_nine (nine_around f (pos (x + k)) y)
     place k h =

@@ -3,7 +3,6 @@ pub use Rattle.image_core.proofs.BandLaws.{written_alike}
 pub use Rattle.image_core.proofs.SizeLaws.{same_sides}
 pub use Rattle.image_core.specs.Target.{written}
 pub use Rattle.std.proofs.Math.ListN.{get_or-map}
-pub use Rattle.std.proofs.lemmas.Bool.Decides.{nat_tests}
 pub use Rattle.std.proofs.lemmas.Int.{fits_signed_from_abs, ints, to_z-of_z}
 pub use Rattle.std.proofs.lemmas.List.{length-map, map-append, take_more_set}
 pub use Rattle.std.proofs.lemmas.Simd.{Each1-chunk, Each1-get_or, length-chunk, put_chunk_whole}

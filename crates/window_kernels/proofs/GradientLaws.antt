@@ -70,18 +70,12 @@ module _ (f g h : ℕ → ℕ) (f_byte : (i : ℕ) → f i < 256) (g_byte : (i :
   pub xs_in_lanes : (a : ℕ) (c2 a0 c0 a2 b2 b0 : List ℕ) → c2 ≡ map h (range_with_len (a + 2) 16) → a0 ≡ map f (range_with_len a 16) → c0 ≡ map h (range_with_len a 16) → a2 ≡ map f (range_with_len (a + 2) 16)
       → b2 ≡ map g (range_with_len (a + 2) 16) → b0 ≡ map g (range_with_len a 16) → x_of c2 a0 c0 a2 b2 b0 ≡ map x_is (range_with_len a 16)
   xs_in_lanes a c2 a0 c0 a2 b2 b0 p q r s t u =
-      same _ _ _ _ _ _ _ _ _ _ _ _ (p ∙ further h 2 a 16) q r (s ∙ further f 2 a 16) (t ∙ further g 2 a 16) u ∙ xs_are (range_with_len a 16)
-    where
-      same : (a b c d e f a' b' c' d' e' f' : List ℕ) → a ≡ a' → b ≡ b' → c ≡ c' → d ≡ d' → e ≡ e' → f ≡ f' → x_of a b c d e f ≡ x_of a' b' c' d' e' f'
-      same a b c d e f a' b' c' d' e' f' p q r s t u = cc
+      rw (p ∙ further h 2 a 16, q, r, s ∙ further f 2 a 16, t ∙ further g 2 a 16, u) (xs_are (range_with_len a 16))
 
   pub ys_in_lanes : (a : ℕ) (c2 a0 c0 a2 c1 a1 : List ℕ) → c2 ≡ map h (range_with_len (a + 2) 16) → a0 ≡ map f (range_with_len a 16) → c0 ≡ map h (range_with_len a 16) → a2 ≡ map f (range_with_len (a + 2) 16)
       → c1 ≡ map h (range_with_len (a + 1) 16) → a1 ≡ map f (range_with_len (a + 1) 16) → y_of c2 a0 c0 a2 c1 a1 ≡ map y_is (range_with_len a 16)
   ys_in_lanes a c2 a0 c0 a2 c1 a1 p q r s t u =
-      same _ _ _ _ _ _ _ _ _ _ _ _ (p ∙ further h 2 a 16) q r (s ∙ further f 2 a 16) (t ∙ further h 1 a 16) (u ∙ further f 1 a 16) ∙ ys_are (range_with_len a 16)
-    where
-      same : (a b c d e f a' b' c' d' e' f' : List ℕ) → a ≡ a' → b ≡ b' → c ≡ c' → d ≡ d' → e ≡ e' → f ≡ f' → y_of a b c d e f ≡ y_of a' b' c' d' e' f'
-      same a b c d e f a' b' c' d' e' f' p q r s t u = cc
+      rw (p ∙ further h 2 a 16, q, r, s ∙ further f 2 a 16, t ∙ further h 1 a 16, u ∙ further f 1 a 16) (ys_are (range_with_len a 16))
 
 -- one more block of sixteen
 pub block_written : (g : ℕ → ℤ) (out ws : List ℤ) (k m : ℕ) → 16 * k + 16 ≤ length out → take (16 * k) out ≡ run 0 (16 * k) g → ws ≡ run (16 * k) 16 g
@@ -89,20 +83,11 @@ pub block_written : (g : ℕ → ℤ) (out ws : List ℤ) (k m : ℕ) → 16 * k
 block_written g out ws k m room before is =
     let end : 16 * (k + 1) ≡ 16 * k + length ws = omega (arith, ap length is, length-run g (16 * k) 16) in
     let next : 16 * k + 16 ≡ 16 * (k + 1) = omega arith in
-    let start : 16 * k ≡ 0 + 16 * k = omega arith in
-    take-put_mid (16 * k) m out ws (16 * (k + 1)) end (omega arith)
-    ∙ ap (λ l. l ++ ws) before
-    ∙ ap (λ l. run 0 (16 * k) g ++ l) (is ∙ ap (λ n. run n 16 g) start)
-    ∙ sym (run-append g 0 (16 * k) 16)
-    ∙ ap (λ n. run 0 n g) next
+    let these = is ∙ ap (λ n. run n 16 g) (let start : 16 * k ≡ 0 + 16 * k = omega arith in start) in
+    rw (take-put_mid (16 * k) m out ws (16 * (k + 1)) end (omega arith), before, these, ← next) (sym (run-append g 0 (16 * k) 16))
 
 -- a run that is written in three parts
 pub parts_joined : (f : ℕ → ℤ) (x n a m b second third : ℕ) (xs ys zs : List ℤ) → xs ≡ run x a f → ys ≡ run second m f → zs ≡ run third b f
     → second ≡ x + a → third ≡ x + a + m → n ≡ a + (m + b) → xs ++ (ys ++ zs) ≡ run x n f
 parts_joined f x n a m b second third xs ys zs one two three to_second to_third whole =
-    ap (λ l. l ++ (ys ++ zs)) one
-    ∙ ap (λ l. run x a f ++ (l ++ zs)) (two ∙ ap (λ k. run k m f) to_second)
-    ∙ ap (λ l. run x a f ++ (run (x + a) m f ++ l)) (three ∙ ap (λ k. run k b f) to_third)
-    ∙ ap (λ l. run x a f ++ l) (sym (run-append f (x + a) m b))
-    ∙ sym (run-append f x a (m + b))
-    ∙ ap (λ k. run x k f) (sym whole)
+    rw (one, two, three, to_second, to_third, whole, run-append f x a (m + b), run-append f (x + a) m b) refl

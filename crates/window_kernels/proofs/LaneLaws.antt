@@ -69,15 +69,8 @@ module _ (f g h : ℕ → ℕ) where
       → r ≡ mid (zip2 max (zip2 max f0 f1) f2) (zip2 min (zip2 min h0 h1) h2) (mid g0 g1 g2)
       → r ≡ map m_at (range_with_len a 32)
   medians_in_lanes a f0 f1 f2 g0 g1 g2 h0 h1 h2 r p0 p1 p2 q0 q1 q2 r0 r1 r2 is =
-      let ks = range_with_len a 32 in
-      let same : mid (zip2 max (zip2 max f0 f1) f2) (zip2 min (zip2 min h0 h1) h2) (mid g0 g1 g2)
-      ≡ mid (zip2 max (zip2 max (map f ks) (map (λ i. f (i + 1)) ks)) (map (λ i. f (i + 2)) ks)) (zip2 min (zip2 min (map h ks) (map (λ i. h (i + 1)) ks)) (map (λ i. h (i + 2)) ks)) (mid (map g ks) (map (λ i. g (i + 1)) ks) (map (λ i. g (i + 2)) ks))
-      = same_nine _ _ _ _ _ _ _ _ _ _ _ _ _ _ _ _ _ _ p0 (p1 ∙ further f 1 a 32) (p2 ∙ further f 2 a 32) q0 (q1 ∙ further g 1 a 32) (q2 ∙ further g 2 a 32) r0 (r1 ∙ further h 1 a 32) (r2 ∙ further h 2 a 32) in
-      is ∙ same ∙ in_lanes ks
-    where
-      same_nine : (a b c d e f g h i a' b' c' d' e' f' g' h' i' : List ℕ) → a ≡ a' → b ≡ b' → c ≡ c' → d ≡ d' → e ≡ e' → f ≡ f' → g ≡ g' → h ≡ h' → i ≡ i'
-          → mid (zip2 max (zip2 max a b) c) (zip2 min (zip2 min g h) i) (mid d e f) ≡ mid (zip2 max (zip2 max a' b') c') (zip2 min (zip2 min g' h') i') (mid d' e' f')
-      same_nine a b c d e f g h i a' b' c' d' e' f' g' h' i' p1 p2 p3 p4 p5 p6 p7 p8 p9 = cc
+      rw (is, p0, p1 ∙ further f 1 a 32, p2 ∙ further f 2 a 32, q0, q1 ∙ further g 1 a 32, q2 ∙ further g 2 a 32, r0, r1 ∙ further h 1 a 32, r2 ∙ further h 2 a 32)
+      (in_lanes (range_with_len a 32))
 
 numbers : (f : ℕ → ℕ) (ks : List ℕ) → map pos (map f ks) ≡ map (λ i. pos (f i)) ks
 numbers f [] = refl

@@ -1,6 +1,7 @@
 -- What a matrix that is turned gives of the rows that its windows see.
 use Rattle.std.proofs.Common.{◌≡◌, ℕ, ℤ, pos, zero, suc, ◌+◌, ◌-◌, ◌*◌, ◌/◌, ◌%◌, ◌<◌, ◌≤◌, ◌+ℤ◌, ◌-ℤ◌, List, length, map, take, get_or, refl, zero-add, ap, ◌∙◌, sym, subst, arith, ◌*ℤ◌, map-id, IsTrue}
-use Rattle.window_kernels.proofs.Common.{chunk, Each1, ints, nat_tests, put_mid, run, table, length-run, get_or-run, run_part, run-same, run_shifted, alternating, sum_of_first, line_of, row_sum, sum_of_rows, first_of_pair, second_of_pair, IsPairTable, turned, turned_pairs}
+use Rattle.window_kernels.proofs.Common.{chunk, Each1, ints, put_mid, run, table, length-run, get_or-run, run_part, run-same, run_shifted, alternating, sum_of_first, line_of, row_sum, sum_of_rows, first_of_pair, second_of_pair, IsPairTable, turned, turned_pairs}
+use Rattle.std.proofs.lemmas.Bool.Decides.{nat_tests}
 use Rattle.std.proofs.lemmas.Simd.{get_or-chunk}
 use Rattle.vx_base.specs.Convolution.{ConvolutionValue, is_odd_side, coefficient}
 use Rattle.vx_base.specs.Window.{row_product, matrix_product}
@@ -58,29 +59,21 @@ in_turn g a b zero x first second = refl
 in_turn g a b (suc n) x first second =
     let begin : x ≡ x + 2 * 0 = omega arith in
     let next : x + 1 ≡ x + 2 * 0 + 1 = omega arith in
+    let even : (k : ℕ) → x + 1 + 1 + 2 * k ≡ x + 2 * (k + 1) = λ k. omega arith in
+    let odd : (k : ℕ) → x + 1 + 1 + 2 * k + 1 ≡ x + 2 * (k + 1) + 1 = λ k. omega arith in
     cc (
       ap g begin ∙ first 0 (omega arith),
       ap g next ∙ second 0 (omega arith),
       in_turn g a b n (x + 1 + 1) (λ k h. ap g (even k) ∙ first (k + 1) (omega arith)) (λ k h. ap g (odd k) ∙ second (k + 1) (omega arith)),
     )
-  where
-    even : (k : ℕ) → x + 1 + 1 + 2 * k ≡ x + 2 * (k + 1)
-    even k = omega arith
-
-    odd : (k : ℕ) → x + 1 + 1 + 2 * k + 1 ≡ x + 2 * (k + 1) + 1
-    odd k = omega arith
 
 -- a pair of them, eight times
 pair_run : (m : ConvolutionValue) (l j : ℕ) → alternating 8 (turned m l (2 * j)) (turned m l (2 * j + 1)) ≡ run 0 16 (λ i. turned_pairs m l (16 * j + i))
 unfolding twice
 pair_run m l j =
+    let first : (k : ℕ) → k < 8 → (16 * j + (0 + 2 * k)) / 16 * 2 + (16 * j + (0 + 2 * k)) % 2 ≡ 2 * j = λ k h. omega arith in
+    let second : (k : ℕ) → k < 8 → (16 * j + (0 + 2 * k + 1)) / 16 * 2 + (16 * j + (0 + 2 * k + 1)) % 2 ≡ 2 * j + 1 = λ k h. omega arith in
     sym (in_turn (λ i. turned_pairs m l (16 * j + i)) (turned m l (2 * j)) (turned m l (2 * j + 1)) 8 0 (λ k h. ap (turned m l) (first k h)) (λ k h. ap (turned m l) (second k h)))
-  where
-    first : (k : ℕ) → k < 8 → (16 * j + (0 + 2 * k)) / 16 * 2 + (16 * j + (0 + 2 * k)) % 2 ≡ 2 * j
-    first k h = omega arith
-
-    second : (k : ℕ) → k < 8 → (16 * j + (0 + 2 * k + 1)) / 16 * 2 + (16 * j + (0 + 2 * k + 1)) % 2 ≡ 2 * j + 1
-    second k h = omega arith
 
 -- one more pair of a row, eight times
 pub pair_written : (m : ConvolutionValue) (l j k : ℕ) (out ws : List ℤ) (a b : ℤ) → 16 * j ≤ length out → map (λ z. z) (take (16 * j) out) ≡ run 0 (16 * j) (turned_pairs m l) → ws ≡ alternating 8 a b → a ≡ turned m l (2 * j) → b ≡ turned m l (2 * j + 1)
@@ -88,11 +81,7 @@ pub pair_written : (m : ConvolutionValue) (l j k : ℕ) (out ws : List ℤ) (a b
 pair_written m l j k out ws a b room before is first second =
     let long : length ws ≡ 16 = ap length is in
     part_written (λ z. z) (turned_pairs m l) out ws (16 * j) k (16 * (j + 1)) room (omega (arith, long)) before
-    (map-id ws ∙ is
-    ∙ ap (λ z. alternating 8 z b) first
-    ∙ ap (alternating 8 (turned m l (2 * j))) second
-    ∙ pair_run m l j
-    ∙ ap (λ n. run 0 n (λ i. turned_pairs m l (16 * j + i))) (sym long))
+    (rw (long, map-id ws, is, first, second) (pair_run m l j))
 
 -- two numbers in turn fit, if both do
 alternating_fits : (P : ℤ → Type 0) (n : ℕ) (a b : ℤ) → P a → P b → Each1 P (alternating n a b)
@@ -108,13 +97,10 @@ pair_fits P j k out ws a b room before is p q =
 -- the table of a row is that row of the tables
 row_of_turned : (m : ConvolutionValue) (l : ℕ) → run 0 80 (turned_pairs m l) ≡ run 0 80 (λ n. entry m (80 * l + n))
 unfolding entry
-row_of_turned m l = run-same (turned_pairs m l) (λ n. entry m (80 * l + n)) 0 80 (λ n a b. sym (ap (λ i. turned m i ((80 * l + n) % 80 / 16 * 2 + (80 * l + n) % 2)) (row n (omega arith)) ∙ ap (turned m l) (column n (omega arith))))
-  where
-    row : (n : ℕ) → n < 80 → (80 * l + n) / 80 ≡ l
-    row n h = omega arith
-
-    column : (n : ℕ) → n < 80 → (80 * l + n) % 80 / 16 * 2 + (80 * l + n) % 2 ≡ n / 16 * 2 + n % 2
-    column n h = omega arith
+row_of_turned m l =
+    let row : (n : ℕ) → n < 80 → (80 * l + n) / 80 ≡ l = λ n h. omega arith in
+    let column : (n : ℕ) → n < 80 → (80 * l + n) % 80 / 16 * 2 + (80 * l + n) % 2 ≡ n / 16 * 2 + n % 2 = λ n h. omega arith in
+    run-same (turned_pairs m l) (λ n. entry m (80 * l + n)) 0 80 (λ n a b. rw (row n (omega arith), column n (omega arith)) refl)
 
 -- one more row of the tables
 pub table_written : (m : ConvolutionValue) (l k : ℕ) (out ws : List ℤ) → 80 * l ≤ length out → map (λ z. z) (take (80 * l) out) ≡ run 0 (80 * l) (λ n. turned m (n / 80) (n % 80 / 16 * 2 + n % 2)) → ws ≡ run 0 80 (turned_pairs m l)
@@ -123,7 +109,7 @@ unfolding entry
 table_written m l k out ws room before is =
     let long : length ws ≡ 80 = ap length is ∙ length-run (turned_pairs m l) 0 80 in
     part_written (λ z. z) (entry m) out ws (80 * l) k (80 * (l + 1)) room (omega (arith, long)) before
-    (map-id ws ∙ is ∙ row_of_turned m l ∙ ap (λ n. run 0 n (λ n. entry m (80 * l + n))) (sym long))
+    (rw (long, map-id ws, is) (row_of_turned m l))
 
 -- the tables of a matrix are tables
 pub are_tables : (m : ConvolutionValue) (tables : List ℤ) (pairs : ℕ) → tables ≡ turned_tables m → pairs ≤ 5 → (l : ℕ) → l < m.rows → IsPairTable pairs (line_of tables 80 l)

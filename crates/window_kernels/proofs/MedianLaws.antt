@@ -1,6 +1,6 @@
 -- The median of nine.
-use Rattle.std.proofs.Common.{◌≡◌, ℕ, ℤ, pos, ◌+◌, ◌<◌, ◌≤◌, ◌<ℤ◌, Bool, true, false, ◌&&◌, ◌||◌, List, [], ◌∷◌, length, map, get_or, ◌+ℤ◌, ◌-ℤ◌, nat_le, min, max, refl, ap, ◌∙◌, sym, arith, cond, zero, suc, subst, int_lt, int_le, unwrap_or, Option, Some, None, Contains}
-use Rattle.window_kernels.proofs.Common.{nat_tests, ints, get_or-map, run, median, nine_around, get_or-run, column_seen, three_at, median_of_sorted}
+use Rattle.std.proofs.Common.{◌≡◌, ℕ, ℤ, pos, ◌+◌, ◌<◌, ◌≤◌, ◌<ℤ◌, Bool, true, false, ◌&&◌, ◌||◌, List, [], ◌∷◌, length, map, get_or, ◌+ℤ◌, ◌-ℤ◌, nat_le, min, max, refl, ap, ◌∙◌, sym, arith, leb-true, le-leb, cond, zero, suc, subst, int_lt, int_le, unwrap_or, Option, Some, Contains}
+use Rattle.window_kernels.proofs.Common.{ints, get_or-map, run, median, nine_around, get_or-run, column_seen, three_at, median_of_sorted}
 use Rattle.std.specs.Int.{int_min, int_max}
 use Rattle.std.specs.List.{count_by, find}
 use Rattle.std.proofs.lemmas.Int.{by_lt_z}
@@ -81,26 +81,6 @@ nine_agree l = true
 agree : (a b c d e f g h i : Bool) → agrees a b c d e f g h i ≡ true
 agree a b c d e f g h i = from_all 9 nine_agree refl (a ∷ b ∷ c ∷ d ∷ e ∷ f ∷ g ∷ h ∷ i ∷ []) refl
 
-true_has_five : (m : Bool) (p q : Bool) → cond m p q ≡ true → m ≡ true → p ≡ true
-true_has_five true p q h e = h
-true_has_five false p q h e = cc
-
-false_has_four : (m : Bool) (p q : Bool) → cond m p q ≡ true → m ≡ false → q ≡ true
-false_has_four true p q h e = cc
-false_has_four false p q h e = h
-
-le_from_test : (m n : ℕ) → nat_le m n ≡ true → m ≤ n
-le_from_test m n h = grind (arith, nat_tests)
-
-test_from_le : (m n : ℕ) → m ≤ n → nat_le m n ≡ true
-test_from_le m n h = grind (arith, nat_tests)
-
-reaches_itself : (v : ℤ) → int_le v v ≡ true
-reaches_itself v = grind (arith, ints)
-
-not_above_itself : (v : ℤ) → int_lt v v ≡ false
-not_above_itself v = grind (arith, ints)
-
 one_or_other : (x v : ℤ) → one (int_lt x v) + one (int_le v x) ≡ 1
 one_or_other x v = grind (arith, ints)
 
@@ -118,28 +98,20 @@ pub record IsMiddle (zs : List ℤ) (v : ℤ) : Type 0 where
   pub fewer : count_by (λ z. int_lt z v) zs ≤ 4
   pub more : count_by (λ z. int_lt v z) zs ≤ 4
 
-from_bits : (v a b c d e f g h i : ℤ)
-    → 5 ≤ ones (int_le v a) (int_le v b) (int_le v c) (int_le v d) (int_le v e) (int_le v f) (int_le v g) (int_le v h) (int_le v i)
-    → ones (int_lt v a) (int_lt v b) (int_lt v c) (int_lt v d) (int_lt v e) (int_lt v f) (int_lt v g) (int_lt v h) (int_lt v i) ≤ 4
-    → IsMiddle (a ∷ b ∷ c ∷ d ∷ e ∷ f ∷ g ∷ h ∷ i ∷ []) v
-from_bits v a b c d e f g h i low high =
-    let nine : count_by (λ z. int_lt z v) (a ∷ b ∷ c ∷ d ∷ e ∷ f ∷ g ∷ h ∷ i ∷ []) + count_by (λ z. int_le v z) (a ∷ b ∷ c ∷ d ∷ e ∷ f ∷ g ∷ h ∷ i ∷ []) ≡ 9
-    = below_or_not v (a ∷ b ∷ c ∷ d ∷ e ∷ f ∷ g ∷ h ∷ i ∷ []) in
-    record { fewer = omega arith; more = omega arith }
-
 -- what the minima and maxima leave in the middle is in the middle
 middle_is_middle : (a b c d e f g h i : ℤ) → IsMiddle (a ∷ b ∷ c ∷ d ∷ e ∷ f ∷ g ∷ h ∷ i ∷ []) (middle_of_nine int_min int_max a b c d e f g h i)
 middle_is_middle a b c d e f g h i = known (middle_of_nine int_min int_max a b c d e f g h i) refl
   where
     known : (v : ℤ) → middle_of_nine int_min int_max a b c d e f g h i ≡ v → IsMiddle (a ∷ b ∷ c ∷ d ∷ e ∷ f ∷ g ∷ h ∷ i ∷ []) v
     known v is =
-        let low : middle_of_nine ◌&&◌ ◌||◌ (int_le v a) (int_le v b) (int_le v c) (int_le v d) (int_le v e) (int_le v f) (int_le v g) (int_le v h) (int_le v i) ≡ true
-        = sym (through (int_le v) int_min int_max ◌&&◌ ◌||◌ (at_least v) a b c d e f g h i) ∙ ap (int_le v) is ∙ reaches_itself v in
-        let high : middle_of_nine ◌&&◌ ◌||◌ (int_lt v a) (int_lt v b) (int_lt v c) (int_lt v d) (int_lt v e) (int_lt v f) (int_lt v g) (int_lt v h) (int_lt v i) ≡ false
-        = sym (through (int_lt v) int_min int_max ◌&&◌ ◌||◌ (above v) a b c d e f g h i) ∙ ap (int_lt v) is ∙ not_above_itself v in
-        from_bits v a b c d e f g h i
-        (le_from_test 5 _ (true_has_five _ _ _ (agree (int_le v a) (int_le v b) (int_le v c) (int_le v d) (int_le v e) (int_le v f) (int_le v g) (int_le v h) (int_le v i)) low))
-        (le_from_test _ 4 (false_has_four _ _ _ (agree (int_lt v a) (int_lt v b) (int_lt v c) (int_lt v d) (int_lt v e) (int_lt v f) (int_lt v g) (int_lt v h) (int_lt v i)) high))
+        let zs = a ∷ b ∷ c ∷ d ∷ e ∷ f ∷ g ∷ h ∷ i ∷ [] in
+        let itself : int_le v v ≡ true = grind (arith, ints) in
+        let not_above : int_lt v v ≡ false = grind (arith, ints) in
+        let low = sym (through (int_le v) int_min int_max ◌&&◌ ◌||◌ (at_least v) a b c d e f g h i) ∙ ap (int_le v) is ∙ itself in
+        let high = sym (through (int_lt v) int_min int_max ◌&&◌ ◌||◌ (above v) a b c d e f g h i) ∙ ap (int_lt v) is ∙ not_above in
+        let five = rw low at (agree (int_le v a) (int_le v b) (int_le v c) (int_le v d) (int_le v e) (int_le v f) (int_le v g) (int_le v h) (int_le v i)) in
+        let four = rw high at (agree (int_lt v a) (int_lt v b) (int_lt v c) (int_lt v d) (int_lt v e) (int_lt v f) (int_lt v g) (int_lt v h) (int_lt v i)) in
+        record { fewer = omega (arith, leb-true 5 _ five, below_or_not v zs); more = omega (arith, leb-true _ 4 four) }
 
 -- ---- there is one
 
@@ -159,37 +131,23 @@ same_middle zs v w long a b =
     (λ h. by_lt_z w v (λ k. absurd (omega (arith, all_counted w v zs k, b.more, a.fewer))) (λ k. omega (arith, ints)))
 
 is_middle_test : (zs : List ℤ) (v : ℤ) → IsMiddle zs v → is_middle zs v ≡ true
-is_middle_test zs v h = let a = test_from_le (count_by (λ z. int_lt z v) zs) 4 h.fewer in let b = test_from_le (count_by (λ z. int_lt v z) zs) 4 h.more in cc
+is_middle_test zs v h = rw (le-leb _ 4 h.fewer, le-leb _ 4 h.more) refl
 
 from_middle_test : (zs : List ℤ) (v : ℤ) → is_middle zs v ≡ true → IsMiddle zs v
 from_middle_test zs v h =
     let p = both_true (nat_le (count_by (λ z. int_lt z v) zs) 4) (nat_le (count_by (λ z. int_lt v z) zs) 4) h in
-    record { fewer = le_from_test _ 4 p.0; more = le_from_test _ 4 p.1 }
-
--- a number that is neither below nor above
-equal_or_counted : (z v : ℤ) → one (int_lt z v) + one (int_lt v z) ≡ 0 → z ≡ v
-equal_or_counted z v h = by_lt_z z v (λ a. absurd (below a)) (λ a. by_lt_z v z (λ b. absurd (over b)) (λ b. omega (arith, ints)))
-  where
-    below : z <ℤ v → ⊥
-    below a = grind (arith, ints)
-
-    over : v <ℤ z → ⊥
-    over b = grind (arith, ints)
+    record { fewer = leb-true _ 4 p.0; more = leb-true _ 4 p.1 }
 
 -- another number is below or above
-other_counted : (z v : ℤ) → (z ≡ v → ⊥) → (n : ℕ) → one (int_lt z v) + one (int_lt v z) ≡ n → 1 ≤ n
-other_counted z v other zero h = absurd (other (equal_or_counted z v h))
-other_counted z v other (suc n) h = omega arith
-
-not_true : (b : Bool) → b ≡ false → b ≡ true → ⊥
-not_true b h k = cc
+other_counted : (z v : ℤ) → (z ≡ v → ⊥) → 1 ≤ one (int_lt z v) + one (int_lt v z)
+other_counted z v other = grind (arith, ints)
 
 found_here : (p : ℤ → Bool) (v z : ℤ) (zs : List ℤ) (b : Bool) → p z ≡ b → p v ≡ true → ((z : ℤ) → p z ≡ true → z ≡ v)
     → (count_by (λ z. int_lt z v) zs + count_by (λ z. int_lt v z) zs < length zs → find p zs ≡ Some v)
     → count_by (λ z. int_lt z v) (z ∷ zs) + count_by (λ z. int_lt v z) (z ∷ zs) < length (z ∷ zs) → cond b (Some z) (find p zs) ≡ Some v
 found_here p v z zs true e is unique later room = ap Some (unique z e)
 found_here p v z zs false e is unique later room =
-    let other : 1 ≤ one (int_lt z v) + one (int_lt v z) = other_counted z v (λ same. not_true (p z) e (ap p same ∙ is)) (one (int_lt z v) + one (int_lt v z)) refl in
+    let other = other_counted z v (λ same. let here : p z ≡ true = ap p same ∙ is in cc) in
     later (omega (arith, counted (λ z. int_lt z v) z zs, counted (λ z. int_lt v z) z zs, other, room))
 
 -- the first of the numbers that is in the middle is the one that is
@@ -210,11 +168,8 @@ among_here : (v z : ℤ) (zs : List ℤ) (o : Option ℤ) (b : Bool) → (o ≡ 
 among_here v z zs o true later e = let same : z ≡ v = cc in (0, omega arith, same)
 among_here v z zs o false later e = let k = later e in (suc k.0, omega (arith, k.1), k.2)
 
-not_found : (v : ℤ) (o : Option ℤ) → o ≡ None → o ≡ Some v → ⊥
-not_found v o e h = cc
-
 among : (p : ℤ → Bool) (v : ℤ) (zs : List ℤ) → find p zs ≡ Some v → Contains zs v
-among p v [] e = absurd (not_found v (find p []) refl e)
+among p v [] e = cc
 among p v (z ∷ zs) e = among_here v z zs (find p zs) (p z) (λ h. among p v zs h) e
 
 pub median_of_nine : (a b c d e f g h i : ℤ) → median (a ∷ b ∷ c ∷ d ∷ e ∷ f ∷ g ∷ h ∷ i ∷ []) ≡ middle_of_nine int_min int_max a b c d e f g h i

@@ -9,14 +9,9 @@ twice (suc n) = suc (suc (twice n))
 
 drop_two : (row : List ℤ) (q : ℕ) → q + 2 ≤ length row → drop q row ≡ get_or row q (pos 0) ∷ get_or row (q + 1) (pos 0) ∷ drop (q + 2) row
 drop_two row q room =
-    let x = get_or row q (pos 0) in
-    let y = get_or row (q + 1) (pos 0) in
     let one : suc q ≡ q + 1 = omega arith in
     let two : suc (q + 1) ≡ q + 2 = omega arith in
-    drop-cons row q (pos 0) (omega arith)
-    ∙ ap (λ n. x ∷ drop n row) one
-    ∙ ap (λ l. x ∷ l) (drop-cons row (q + 1) (pos 0) (omega arith))
-    ∙ ap (λ n. x ∷ y ∷ drop n row) two
+    rw (drop-cons row q (pos 0) (omega arith), one, drop-cons row (q + 1) (pos 0) (omega arith), two) refl
 
 -- what two coefficients in turn give along a row
 pairs_along : (row : List ℤ) (a b : ℤ) (n k p : ℕ) → p + 2 * k + 2 * n ≤ length row
@@ -44,11 +39,8 @@ eight_along row coefficients a b p room is =
 -- eight places and eight further ones
 pub run_joined : (f : ℕ → ℤ) (p : ℕ) → run 0 8 (λ i. f (p + 2 * i)) ++ run 0 8 (λ i. f (p + 16 + 2 * i)) ≡ run 0 16 (λ i. f (p + 2 * i))
 run_joined f p =
-    ap (λ l. run 0 8 (λ i. f (p + 2 * i)) ++ l) (run_shifted (λ i. f (p + 16 + 2 * i)) (λ i. f (p + 2 * i)) 0 8 8 (λ k h. ap f (at k)))
-    ∙ sym (run-append (λ i. f (p + 2 * i)) 0 8 8)
-  where
-    at : (k : ℕ) → p + 16 + 2 * (0 + k) ≡ p + 2 * (8 + k)
-    at k = omega arith
+    let at : (k : ℕ) → p + 16 + 2 * (0 + k) ≡ p + 2 * (8 + k) = λ k. omega arith in
+    rw (run_shifted (λ i. f (p + 16 + 2 * i)) (λ i. f (p + 2 * i)) 0 8 8 (λ k h. ap f (at k))) (sym (run-append (λ i. f (p + 2 * i)) 0 8 8))
 
 run-plus : (f g : ℕ → ℤ) (x n : ℕ) → zip2 ◌+ℤ◌ (run x n f) (run x n g) ≡ run x n (λ k. f k +ℤ g k)
 run-plus f g x zero = refl

@@ -11,12 +11,7 @@ sum_of_bits sum small = omega (arith, ints)
 
 -- one more item is what a function gives of another row's
 pub item_mapped : {S T : Type 0} (value : T → ℤ) (f : S → ℤ) (items : List S) (out : List T) (i : ℕ) (d : S) (z : T) → map value (take i out) ≡ map f (take i items) → i < length out → i < length items → value z ≡ f (get_or items i d) → map value (take (i + 1) (set out i z)) ≡ map f (take (i + 1) items)
-item_mapped value f items out i d z before room below is =
-    ap (map value) (take_more_set out i z room)
-    ∙ map_push value (take i out) z
-    ∙ ap (λ l. l ++ value z ∷ []) before
-    ∙ ap (λ w. map f (take i items) ++ w ∷ []) is
-    ∙ sym (map_more f items i d below)
+item_mapped value f items out i d z before room below is = rw (take_more_set out i z room, map_push value (take i out) z, before, is) (sym (map_more f items i d below))
 
 -- ---- sums
 

@@ -1,5 +1,5 @@
 -- Rows that are loaded, and rows that are written block by block.
-use Rattle.std.proofs.Common.{◌≡◌, ℕ, ℤ, pos, zero, suc, zero-add, ◌+◌, ◌-◌, ◌*◌, ◌/◌, ◌%◌, ◌<◌, ◌≤◌, ◌+ℤ◌, ◌-ℤ◌, List, [], ◌∷◌, ◌++◌, length, map, take, set, min, ap, ◌∙◌, sym, subst, arith, w32, to_z, of_z, unsigned_abs, map-id}
+use Rattle.std.proofs.Common.{◌≡◌, ℕ, ℤ, pos, zero, suc, zero-add, ◌+◌, ◌-◌, ◌*◌, ◌/◌, ◌%◌, ◌<◌, ◌≤◌, ◌+ℤ◌, ◌-ℤ◌, List, [], ◌∷◌, length, map, take, set, min, ap, ◌∙◌, sym, subst, arith, w32, to_z, of_z, unsigned_abs, map-id}
 use Rattle.window_kernels.proofs.Common.{Each1, ints, map-append, take_more_set, take-put_mid, put_mid, Border, U8, ImageValue, run, look, run-append, run_shifted, IsUpTo}
 use Rattle.vx_base.specs.Image.{IsImage}
 use Rattle.vx_base.specs.Node.{IsBorder}
@@ -38,35 +38,24 @@ small z near = omega (arith, ints)
 pub row_in_bits : (y h l : ℕ) (a b d : ℤ) → a ≡ pos y → b ≡ pos h → d ≡ pos l → y < 65536 → h < 256 → l < 256 → to_z w32 (of_z w32 (to_z w32 (of_z w32 (to_z w32 (of_z w32 a) +ℤ to_z w32 (of_z w32 b))) -ℤ to_z w32 (of_z w32 d))) ≡ pos y +ℤ pos h -ℤ pos l
 row_in_bits y h l a b d first second third low half row =
     let s = small (pos y +ℤ pos h) (omega (arith, ints)) in
-    ap (λ z. to_z w32 (of_z w32 (to_z w32 (of_z w32 (z +ℤ to_z w32 (of_z w32 b))) -ℤ to_z w32 (of_z w32 d)))) (ap (λ z. to_z w32 (of_z w32 z)) first ∙ small (pos y) (omega (arith, ints)))
-    ∙ ap (λ z. to_z w32 (of_z w32 (to_z w32 (of_z w32 (pos y +ℤ z)) -ℤ to_z w32 (of_z w32 d)))) (ap (λ z. to_z w32 (of_z w32 z)) second ∙ small (pos h) (omega (arith, ints)))
-    ∙ ap (λ z. to_z w32 (of_z w32 (to_z w32 (of_z w32 (pos y +ℤ pos h)) -ℤ z))) (ap (λ z. to_z w32 (of_z w32 z)) third ∙ small (pos l) (omega (arith, ints)))
-    ∙ ap (λ z. to_z w32 (of_z w32 (z -ℤ pos l))) s
-    ∙ small (pos y +ℤ pos h -ℤ pos l) (omega (arith, ints))
+    rw (first, second, third, small (pos y) (omega (arith, ints)), small (pos h) (omega (arith, ints)), small (pos l) (omega (arith, ints)), s)
+    (small (pos y +ℤ pos h -ℤ pos l) (omega (arith, ints)))
 
 -- what is seen in a row of the image, as a row of what the windows see
 pub line_seen : (f : ℤ → ℤ → ℤ) (row : List ℤ) (x n line r y h l : ℕ) (at : ℤ) → row ≡ run x n (λ c. f (pos c -ℤ pos r) at) → n ≡ line → at ≡ pos y +ℤ pos h -ℤ pos l
     → map (λ z. z) row ≡ run 0 line (λ c. f (pos (x + c) -ℤ pos r) (pos y +ℤ pos h -ℤ pos l))
 line_seen f row x n line r y h l at are long is =
-    map-id row ∙ are
-    ∙ ap (λ v. run x n (λ c. f (pos c -ℤ pos r) v)) is
-    ∙ ap (λ m. run x m (λ c. f (pos c -ℤ pos r) (pos y +ℤ pos h -ℤ pos l))) long
-    ∙ run_shifted (λ c. f (pos c -ℤ pos r) (pos y +ℤ pos h -ℤ pos l)) (λ c. f (pos (x + c) -ℤ pos r) (pos y +ℤ pos h -ℤ pos l)) x 0 line
-    (λ k b. ap (λ c. f (pos (x + c) -ℤ pos r) (pos y +ℤ pos h -ℤ pos l)) (sym (zero-add k)))
+    rw (map-id row, are, is, long)
+    (run_shifted (λ c. f (pos c -ℤ pos r) (pos y +ℤ pos h -ℤ pos l)) (λ c. f (pos (x + c) -ℤ pos r) (pos y +ℤ pos h -ℤ pos l)) x 0 line
+    (λ k b. ap (λ c. f (pos (x + c) -ℤ pos r) (pos y +ℤ pos h -ℤ pos l)) (sym (zero-add k))))
 
 -- one more part of a run, from item `at` on
 pub part_written : {T : Type 0} (value : T → ℤ) (g : ℕ → ℤ) (out ws : List T) (at m end : ℕ) → at ≤ length out → end ≡ at + length ws
     → map value (take at out) ≡ run 0 at g → map value ws ≡ run 0 (length ws) (λ i. g (at + i)) → map value (take end (put_mid at m out ws)) ≡ run 0 end g
 part_written value g out ws at m end room more before is =
-    ap (map value) (take-put_mid at m out ws end more room)
-    ∙ map-append value (take at out) ws
-    ∙ ap (λ l. l ++ map value ws) before
-    ∙ ap (λ l. run 0 at g ++ l) (is ∙ run_shifted (λ i. g (at + i)) g 0 (0 + at) (length ws) (λ i h. ap g (place i)))
-    ∙ sym (run-append g 0 at (length ws))
-    ∙ ap (λ i. run 0 i g) (sym more)
-  where
-    place : (i : ℕ) → at + (0 + i) ≡ 0 + at + i
-    place i = omega arith
+    let place : (i : ℕ) → at + (0 + i) ≡ 0 + at + i = λ i. omega arith in
+    let these = is ∙ run_shifted (λ i. g (at + i)) g 0 (0 + at) (length ws) (λ i h. ap g (place i)) in
+    rw (take-put_mid at m out ws end more room, map-append value (take at out) ws, before, these, more) (sym (run-append g 0 at (length ws)))
 
 -- one more block of at most 32 items
 pub block_written : {T : Type 0} (value : T → ℤ) (g : ℕ → ℤ) (out ws : List T) (k m n e : ℕ) → length out ≡ n → e ≡ min (32 * k + 32) n → 32 * k ≤ n

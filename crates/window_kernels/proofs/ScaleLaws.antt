@@ -50,8 +50,5 @@ below_scaled z e near few h =
     let small : 2 ^ e ≤ 2147483648 = pow_mono few in
     let fits : FitsSigned w32 z = fits_signed_from_abs w32 z (omega arith) in
     let read : to_z w32 (of_z w32 z) ≡ z = to_z-of_z w32 z fits in
-    ap (λ v. to_z w32 (of_z w32 (int_shr (to_z w32 (of_z w32 (v +ℤ to_z w32 (1 * 2 ^ e % 4294967296 - 1)))) e))) read
-    ∙ ap (λ v. to_z w32 (of_z w32 (int_shr (to_z w32 (of_z w32 (z +ℤ v))) e))) (rest_in_bits (2 ^ e) some small)
-    ∙ ap (λ v. to_z w32 (of_z w32 (int_shr v e))) (sum_in_bits z (2 ^ e) some small h near)
-    ∙ ap (λ v. to_z w32 (of_z w32 v)) (shifted_up z e some h)
-    ∙ to_z-of_z w32 (int_div z (pos (2 ^ e))) (quot_fits w32 z (pos (2 ^ e)) fits (positive (2 ^ e) some))
+    rw (read, rest_in_bits (2 ^ e) some small, sum_in_bits z (2 ^ e) some small h near, shifted_up z e some h)
+    (to_z-of_z w32 (int_div z (pos (2 ^ e))) (quot_fits w32 z (pos (2 ^ e)) fits (positive (2 ^ e) some)))

@@ -8,9 +8,7 @@ use Rattle.window_kernels.proofs.BitLaws.{of_bits, picked, fits_32, each_fits_32
 pub row_cut : {A : Type 0} (items : List A) (first line step l : ℕ) → first ≡ l → step ≡ line → take (first * step + step - first * step) (drop (first * step) items) ≡ chunk (l * line) line items
 row_cut items first line step l is same =
     let e : first * step + step - first * step ≡ step = omega arith in
-    ap (λ n. take n (drop (first * step) items)) e
-    ∙ ap (λ n. take step (drop (n * step) items)) is
-    ∙ ap (λ n. take n (drop (l * n) items)) same
+    rw (e, is, same) refl
 
 -- the sums at sixteen places, in bits, once l rows of a matrix are added
 pub record AreSums (rows : List ℤ) (line : ℕ) (tables : List ℤ) (pairs place l : ℕ) (now : List ℕ) : Type 0 where
@@ -36,12 +34,7 @@ row_added rows line tables pairs place l sums next row table before is_row is_ta
     let near = up_to_more (l * 83558400 + pairs * 16711680) ((l + 1) * 83558400) next (omega arith) (limit (l * 83558400) before.limit) in
     let same : map (to_z w32) (map (of_z w32) next) ≡ next = of_bits w32 next (each_fits_32 next (up_to_more ((l + 1) * 83558400) 752025600 next (omega arith) near)) in
     record {
-      value =
-          same
-          ∙ value (S l) before.value
-          ∙ ap (λ r. run 0 16 (λ i. S l i +ℤ row_sum r table pairs (place + 2 * i))) is_row
-          ∙ ap (λ t. run 0 16 (λ i. S l i +ℤ row_sum (line_of rows line l) t pairs (place + 2 * i))) is_table
-          ∙ ap (λ n. run 0 16 (S n)) (sym (add-one l));
+      value = rw (same, value (S l) before.value, is_row, is_table, add-one l) refl;
       len = length-map next (of_z w32) ∙ len;
       limit = subst (Each1 (IsUpTo ((l + 1) * 83558400))) (sym same) near;
     }
@@ -109,14 +102,9 @@ pub block_stored : (f : ℕ → ℤ) (place : ℕ) (E O : List ℤ) → E ≡ ru
     ≡ run 0 32 (λ i. f (place + i))
 unfolding stored in_turn
 block_stored f place E O e o even odd =
-    bits_in_turn E O even odd
-    ∙ ap (λ l. pick_l (pos 0) (l ++ O) in_turn) e
-    ∙ ap (λ l. pick_l (pos 0) (run 0 16 (λ i. f (place + 2 * i)) ++ l) in_turn)
-    (o ∙ run-same (λ i. f (place + 1 + 2 * i)) (λ i. f (place + (2 * i + 1))) 0 16 (λ k a b. ap f (at k)))
-    ∙ runs_in_turn (λ i. f (place + i))
-  where
-    at : (k : ℕ) → place + 1 + 2 * k ≡ place + (2 * k + 1)
-    at k = omega arith
+    let at : (k : ℕ) → place + 1 + 2 * k ≡ place + (2 * k + 1) = λ k. omega arith in
+    let others = o ∙ run-same (λ i. f (place + 1 + 2 * i)) (λ i. f (place + (2 * i + 1))) 0 16 (λ k a b. ap f (at k)) in
+    bits_in_turn E O even odd ∙ rw (e, others) (runs_in_turn (λ i. f (place + i)))
 
 pub block_up_to : (E O : List ℤ) → Each1 (IsUpTo 752025600) E → Each1 (IsUpTo 752025600) O
     → All (IsUpTo 752025600) (map (λ b. to_z w32 (of_z w32 (to_z w32 b))) (pick_l 0 (map (of_z w32) E ++ map (of_z w32) O) (0 ∷ 16 ∷ 1 ∷ 17 ∷ 2 ∷ 18 ∷ 3 ∷ 19 ∷ 4 ∷ 20 ∷ 5 ∷ 21 ∷ 6 ∷ 22 ∷ 7 ∷ 23 ∷ 8 ∷ 24 ∷ 9 ∷ 25 ∷ 10 ∷ 26 ∷ 11 ∷ 27 ∷ 12 ∷ 28 ∷ 13 ∷ 29 ∷ 14 ∷ 30 ∷ 15 ∷ 31 ∷ [])))

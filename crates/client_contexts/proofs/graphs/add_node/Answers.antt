@@ -1,9 +1,7 @@
-use Rattle.std.proofs.Common.{rules, Ok, ap, sym, subst, ◌∙◌, ◌==◌, Some, ◌∷◌}
-use Rattle.client_contexts.proofs.Common.{Node, operands, cell_of, with_node, KeepsBlocks, Context, graph_under, operands_refusal, add_node, OperandsStand}
+use Rattle.std.proofs.Common.{rules, sym, subst, ◌==◌, ap, ◌∙◌, Some, ◌∷◌}
+use Rattle.client_contexts.proofs.Common.{with_node, KeepsBlocks, Context, graph_under, OperandsStand, Node, operands, cell_of, operands_refusal, KeepsBut}
 use Rattle.vx_base.specs.declared.kind.Kind.TheVariants as kind
-use Rattle.client_model.specs.declared.reply.Reply.TheVariants as reply
 use Rattle.client_model.proofs.GraphStepLaws.{add_node_keeps}
-use Rattle.client_contexts.proofs.KeptLemmas.{may_kept_by}
 use Rattle.client_contexts.proofs.BlockLemmas.{graph_keeps_blocks}
 use Rattle.client_contexts.proofs.AddLemmas.{names_held, node_added, node_refused}
 use Rattle.client_contexts.proofs.graphs.add_node.Goals as goal
@@ -22,18 +20,13 @@ returns-in_err-add_node-clause-comes c =
 pub returns-clause-comes : goal.returns-clause-comes
 returns-clause-comes c =
     let found = c.in_ok-find_graph_for.ensures in
-    let known = found.err ∙ ap (λ (n : Node). operands_refusal (Some c.args.graph) c.args.table.now.objects ((cell_of c.args.graph, kind.Graph) ∷ operands n)) c.node.ensures.value in
     let added = c.in_ok-add_node.ensures in
+    let known = found.err ∙ ap (λ (n : Node). operands_refusal (Some c.args.graph) c.args.table.now.objects ((cell_of c.args.graph, kind.Graph) ∷ operands n)) c.node.ensures.value in
     node_added c.requires.0 c.args.table.now c.args.graph c.requires.1 found.ok.0 found.ok.1 c.args.node known _ _ added.room added.number added.ok
 
 pub returns-clause-kept : goal.returns-clause-kept
 returns-clause-kept c = λ limits h.
-    let found = c.in_ok-find_graph_for.ensures in
-    let known = found.err ∙ ap (λ (n : Node). operands_refusal (Some c.args.graph) c.args.table.now.objects ((cell_of c.args.graph, kind.Graph) ∷ operands n)) c.node.ensures.value in
-    let added = c.in_ok-add_node.ensures in
-    let comes = node_added limits c.args.table.now c.args.graph h found.ok.0 found.ok.1 c.args.node known _ _ added.room added.number added.ok in
-    may_kept_by (λ other. c.args.graph == other) limits (add_node c.args.table.now c.args.graph c.args.node) c.args.table.now c.add_node.new.self (Ok (reply.Node c.in_ok-add_node.field-0)) comes
-    (add_node_keeps limits c.args.table.now c.args.graph c.args.node h c.node.ensures.node) h
+    (subst (KeepsBut (λ other. c.args.graph == other) limits c.args.table.now) (returns-clause-comes c).done (add_node_keeps limits c.args.table.now c.args.graph c.args.node h c.node.ensures.node)).keeps
 
 pub returns-clause-blocks : goal.returns-clause-blocks
 returns-clause-blocks c =

@@ -4,7 +4,7 @@ use Rattle.client_model.proofs.DelayStepLaws.{aged_under_last}
 use Rattle.client_model.proofs.OutcomeLaws.{Keeps}
 use Rattle.client_laws.proofs.RunStepLaws.{process_graph_keeps}
 use Rattle.client_contexts.proofs.BlockLemmas.{lasting_blocks}
-use Rattle.client_contexts.proofs.ReadyLemmas.{fails_to_run, graph_left, aged_to, kept_runs, kept_plan, kept_after_run}
+use Rattle.client_contexts.proofs.ReadyLemmas.{fails_to_run, graph_left, aged_to, kept_runs, kept_there, kept_after_run}
 use Rattle.client_contexts.proofs.graphs.process_graph.Goals as goal
 use Rattle.client_contexts.proofs.graphs.process_graph.Goals.{In-Some}
 
@@ -28,7 +28,7 @@ run-requires-clause-ready c = let graph = kept_graph (goal.at.run-requires-claus
 
 pub run-requires-clause-plan : goal.run-requires-clause-plan
 run-requires-clause-plan c =
-    kept_plan c.args.table.now c.args.graph c.in-Some.kept.now c.verify_graph.new.kept.entries c.verify_graph.ensures.kept (sym c.in-Some.ensures.value)
+    (kept_there c.args.table.now c.args.graph c.in-Some.kept.now c.verify_graph.new.kept.entries c.verify_graph.ensures.kept (sym c.in-Some.ensures.value)).plan
 
 pub age_registered-requires : goal.age_registered-requires
 age_registered-requires c =
@@ -40,13 +40,9 @@ pub returns-clause-comes : goal.returns-clause-comes
 returns-clause-comes c =
     let t = c.args.table.now in
     let graph = kept_graph (goal.at.returns-clause-comes c).In-Some in
-    record {
-      done =
-          aged_to c.args.limits t c.args.graph c.requires.context graph.0 c.run.new.table c.age_registered.new.self graph.1 graph.2 (c.in_ok-run.ensures.value (nodes_of graph.0) graph.3)
-          c.age_registered.ensures;
-      refused = tt;
-      kept = tt;
-    }
+    let done = aged_to c.args.limits t c.args.graph c.requires.context graph.0 c.run.new.table c.age_registered.new.self graph.1 graph.2 (c.in_ok-run.ensures.value (nodes_of graph.0) graph.3)
+    c.age_registered.ensures in
+    record { done = done; refused = tt; kept = tt }
 
 pub returns-clause-limits : goal.returns-clause-limits
 returns-clause-limits c =

@@ -10,13 +10,9 @@ pub returns-then-is_kept-clause-comes : goal.returns-then-is_kept-clause-comes
 returns-then-is_kept-clause-comes c =
     let t = c.args.table.now in
     let found = found_kept t c.args.graph c.work-work.result c.args.kept.now.entries c.requires.kept (c.is_kept.ensures.kept c.if-is_kept.true) in
-    record {
-      done =
-          kept_verifies c.requires.context.0 t c.args.graph c.in_ok-object.object.now c.requires.context.1 c.in_ok-object.ensures.ok c.args.limits found.0 found.2
-          (found.1 ∙ c.work-work.ensures);
-      refused = tt;
-      kept = tt;
-    }
+    let done = kept_verifies c.requires.context.0 t c.args.graph c.in_ok-object.object.now c.requires.context.1 c.in_ok-object.ensures.ok c.args.limits found.0 found.2
+    (found.1 ∙ c.work-work.ensures) in
+    record { done = done; refused = tt; kept = tt }
 
 pub verify_in-requires : goal.verify_in-requires
 verify_in-requires c =

@@ -1,20 +1,16 @@
 use Rattle.std.proofs.Common.{◌≡◌, ℕ, ℤ, ◌+◌, ◌-◌, ◌*◌, ◌++◌, ◌∙◌, List, length, take, drop, refl, ap, sym}
-use Rattle.graph_run.proofs.Common.{First, Description, ImageValue, band, at, ImageObject, values, Rectangle, with_objects, with_object, image_held, part_of, with_band, scene, added_to, sum_made}
+use Rattle.graph_run.proofs.Common.{First, Description, ImageValue, band, at, values, image_held, part_of, scene, added_to}
 use Rattle.node_rows.specs.Parts.{rows_of}
 use Rattle.graph_run.proofs.AddedLemmas.{nothing_beside, rows_lent}
-use Rattle.graph_run.proofs.SeenLemmas.{as_target, band_count, first_image, first_is, first_rows, first_there, has_room, left_described, rows_put, runs_there, takes_back}
+use Rattle.graph_run.proofs.SeenLemmas.{as_target, band_count, first_is, inputs_there, has_room, left_described, rows_put, runs_there, takes_back}
 use Rattle.graph_run.proofs.StepLemmas.{put_keeps, resized_alike, still_for}
 use Rattle.graph_run.proofs.adding.add_band.Goals as goal
 use Rattle.graph_run.proofs.adding.add_band.Goals.{After-add_rows}
 
-pub part-image-requires-clause-there : goal.part-image-requires-clause-there
-part-image-requires-clause-there c = first_there _ _ _ _ c.requires.adds.sees c.take-desc.new.self _ c.take-desc.ensures.left (resized_alike _ _ _ _ c.take-desc.ensures.none)
-
-pub part-image-requires-clause-image : goal.part-image-requires-clause-image
-part-image-requires-clause-image c = first_image _ _ _ _ c.requires.adds.sees c.take-desc.new.self _ c.take-desc.ensures.left (resized_alike _ _ _ _ c.take-desc.ensures.none)
-
-pub part-image-requires-clause-rows : goal.part-image-requires-clause-rows
-part-image-requires-clause-rows c = first_rows _ _ _ _ c.requires.adds.sees c.take-desc.new.self _ c.take-desc.ensures.left (resized_alike _ _ _ _ c.take-desc.ensures.none)
+pub part-image-requires : goal.part-image-requires
+part-image-requires c =
+    let reads = inputs_there _ _ _ _ c.requires.adds.sees c.take-desc.new.self _ c.take-desc.ensures.left (resized_alike _ _ _ _ c.take-desc.ensures.none) in
+    record { stage = c.take-desc.ensures.stage; there = reads.in1; image = reads.first; some = reads.some_rows; rows = reads.in1_rows }
 
 pub add_rows-requires-clause-room : goal.add_rows-requires-clause-room
 add_rows-requires-clause-room c =
@@ -79,10 +75,7 @@ returns-clause-value c =
     rows_put _ _ _ _ c.requires.adds.sees c.take-desc.new.self _ c.take-desc.ensures.left (resized_alike _ _ _ _ c.take-desc.ensures.none) _ _ c.part-image.ensures second First refl
     c.take-desc.result.0 c.take-desc.ensures.desc _ _ _ c.put.ensures.value c.args.strip c.requires.strip c.requires.adds.rows c.with_sides-part.result (part_described here) _
     (c.take-desc.ensures.samples.exact c.requires.adds.slot) (added_to c.args.node.now c.part-image.result (rows here)) c.take-desc.ensures.value (added here)
-    ∙ ap (λ (i : ImageValue). with_objects (scene s) (with_object (scene s).objects c.args.output (ImageObject (record (with_band c.args.strip (added_to c.args.node.now i (rows here)) (out here)) { valid = c.valid-valid.result }))))
-    (first_is _ _ _ _ c.requires.adds.sees c.take-desc.new.self _ c.take-desc.ensures.left (resized_alike _ _ _ _ c.take-desc.ensures.none) _ _ c.part-image.ensures second)
-    ∙ ap (λ (r : Rectangle). with_objects (scene s) (with_object (scene s).objects c.args.output (ImageObject (record (with_band c.args.strip (sum_made c.args.strip.rows s c.args.node.now c.args.output) (out here)) { valid = r }))))
-    (valid_is here)
+    ∙ rw (first_is _ _ _ _ c.requires.adds.sees c.take-desc.new.self _ c.take-desc.ensures.left (resized_alike _ _ _ _ c.take-desc.ensures.none) _ _ c.part-image.ensures second, valid_is here) refl
 
 pub returns-clause-keeps : goal.returns-clause-keeps
 returns-clause-keeps c =

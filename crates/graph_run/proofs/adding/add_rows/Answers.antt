@@ -1,5 +1,5 @@
 use Rattle.std.proofs.Common.{◌≡◌, ◌+◌, ◌++◌, ◌*◌, ◌∙◌, take, drop, length, ap, sym, arith, map-id}
-use Rattle.graph_run.proofs.Common.{length-map, Band, ImageValue, image_over, band, at, values, added_to, rows_in}
+use Rattle.graph_run.proofs.Common.{Band, ImageValue, image_over, band, at, values, added_to, rows_in}
 use Rattle.graph_run.proofs.BandRowsLemmas.{band_from, band_end, stand_among}
 use Rattle.graph_run.proofs.adding.add_rows.Goals as goal
 

@@ -1,5 +1,5 @@
 use Rattle.std.proofs.Common.{◌≡◌, ◌==◌, ◌∙◌, ap, sym, rules, map-id, eqb-true}
-use Rattle.graph_run.proofs.Common.{and_parts, S16, ImageValue, image_over, description_of, band, at, Band, written, added_to, rows_in, SameSlices}
+use Rattle.graph_run.proofs.Common.{and_parts, S16, ImageValue, image_over, description_of, band, at, Band, written, SameSlices, added_to, rows_in}
 use Rattle.graph_run.proofs.adding.sum_rows.Goals as goal
 
 pub returns : goal.returns

@@ -87,20 +87,13 @@ returns-clause-slots c = λ j.
 pub returns-in_default-desc_of-clause-slots : goal.returns-in_default-desc_of-clause-slots
 returns-in_default-desc_of-clause-slots c = λ j.
     let shared = c.requires.shared in
-    let p = plan_in (Some shared.0) (told c.args.plan.now) in
     let how = c.requires.verified in
-    let count = c.args.rows.count in
-    let outs = c.args.verified.now.virtual_outputs.items in
-    none_claims _ _ p (strip_slots count outs shared.0 shared.1 shared.2 _ _ (planned_slots _ _ _ c.requires.plan)) (parts_apart count outs c.requires.outputs.apart) c.in-Some.cell
-    (other_cells count outs c.in-Some.cell (undescribed how.0 how.1 c.args.verified.now how.2 c.in-Some.cell (sym c.in_default-desc_of.is ∙ c.desc_of.ensures how.0 how.1 how.2)))
+    none_claims _ _ _ (strip_slots _ _ shared.0 shared.1 shared.2 _ _ (planned_slots _ _ _ c.requires.plan)) (parts_apart c.args.rows.count _ c.requires.outputs.apart) c.in-Some.cell
+    (other_cells _ _ c.in-Some.cell (undescribed how.0 how.1 c.args.verified.now how.2 c.in-Some.cell (sym c.in_default-desc_of.is ∙ c.desc_of.ensures how.0 how.1 how.2)))
     c.args.output c.in-Some.is j (slice_get c.args.stage.now.slots.items j)
 
 pub returns-in_default-slot_of-clause-slots : goal.returns-in_default-slot_of-clause-slots
 returns-in_default-slot_of-clause-slots c = λ j.
     let shared = c.requires.shared in
-    let p = plan_in (Some shared.0) (told c.args.plan.now) in
-    let how = c.requires.verified in
-    let count = c.args.rows.count in
-    let outs = c.args.verified.now.virtual_outputs.items in
-    unplaced _ _ p (strip_slots count outs shared.0 shared.1 shared.2 _ _ (planned_slots _ _ _ c.requires.plan)) (parts_apart count outs c.requires.outputs.apart) c.in-Some.cell
+    unplaced _ _ _ (strip_slots _ _ shared.0 shared.1 shared.2 _ _ (planned_slots _ _ _ c.requires.plan)) (parts_apart c.args.rows.count _ c.requires.outputs.apart) c.in-Some.cell
     (sym c.in_default-slot_of.is ∙ c.slot_of.ensures) c.args.output c.in-Some.is j (slice_get c.args.stage.now.slots.items j)

@@ -46,11 +46,6 @@ returns-clause-value c = λ nodes ready.
 
 pub returns-clause-lasts : goal.returns-clause-lasts
 returns-clause-lasts c =
-    let objects = c.args.stage.now.table.objects in
-    let v = c.args.verified.now in
-    let nodes = c.requires.ready.0 in
-    let ready = c.requires.ready.1 in
-    let last : c.loop-y.y ≡ c.args.bands.now.height = omega (arith, c.loop-y-test.false, c.loop-y.invariant.within) in
-    let finished = subst (λ (n : ℕ). IsFinished (λ _. n) v objects (final_of objects nodes v) c.loop-y.stage.table.objects) last (c.loop-y.invariant.finished nodes ready) in
-    let value = c.set_areas.ensures.value objects nodes (c.requires.bands nodes ready) (c.requires.areas nodes ready) finished in
-    subst (λ l. Lasts objects l) (sym value) (lasts_in_the_end objects nodes v c.args.bands.now.height c.args.bands.now.beside (c.requires.bands nodes ready))
+    let ready = c.requires.ready in
+    subst (λ (t : Context). Lasts c.args.stage.now.table.objects t.objects) (sym (returns-clause-value c ready.0 ready.1))
+    (lasts_in_the_end c.args.stage.now.table.objects ready.0 c.args.verified.now c.args.bands.now.height c.args.bands.now.beside (c.requires.bands ready.0 ready.1))

@@ -1,6 +1,5 @@
-use Rattle.std.proofs.Common.{◌∙◌, ap}
-use Rattle.graph_run.proofs.Common.{First, Second, ImageObject, ObjectValue, Context, with_objects, with_object, made_seen, scene}
-use Rattle.graph_run.specs.Bands.{part_made}
+use Rattle.std.proofs.Common.{◌≡◌, ◌∙◌, ap, refl}
+use Rattle.graph_run.proofs.Common.{First, Second, ObjectValue, Context, with_objects, with_object, made_seen, scene}
 use Rattle.graph_run.proofs.SeenLemmas.{found_here, as_high_there, part_becomes, still_seen, still_becomes, both_stage}
 use Rattle.graph_run.proofs.StepLemmas.{Keeps-trans, stage_arranged}
 use Rattle.graph_run.proofs.bands.run_pair.Goals as goal
@@ -23,12 +22,12 @@ pub returns-in-Some-Some : goal.returns-in-Some-Some
 returns-in-Some-Some c =
     let s = c.args.stage.now in
     let n = c.args.node.now in
-    let value =
+    let value : _ ≡ with_objects (scene s) (with_object (with_object (scene s).objects c.args.out1 (made_seen c.args.strip s n First c.args.out1)) c.args.out2 (made_seen c.args.strip s n Second c.args.out2)) =
     c.write_parts.ensures.value
-    ∙ ap (λ (o : ObjectValue). with_objects (scene s) (with_object (with_object (scene s).objects c.args.out1 o) c.args.out2 (ImageObject (part_made c.args.strip.rows s n Second c.args.out2))))
-    (part_becomes c.args.strip s n c.args.out1 c.requires.first First (found_here s _ _ c.name.ensures.value _ c.place_of.ensures _ c.in-Some-Some.is-0))
-    ∙ ap (λ (o : ObjectValue). with_objects (scene s) (with_object (with_object (scene s).objects c.args.out1 (made_seen c.args.strip s n First c.args.out1)) c.args.out2 o))
-    (part_becomes c.args.strip s n c.args.out2 c.requires.second Second (found_here s _ _ c.name-2.ensures.value _ c.place_of-2.ensures _ c.in-Some-Some.is-1)) in
+    ∙ rw (
+      part_becomes c.args.strip s n c.args.out1 c.requires.first First (found_here s _ _ c.name.ensures.value _ c.place_of.ensures _ c.in-Some-Some.is-0),
+      part_becomes c.args.strip s n c.args.out2 c.requires.second Second (found_here s _ _ c.name-2.ensures.value _ c.place_of-2.ensures _ c.in-Some-Some.is-1),
+    ) refl in
     record {
       value = value;
       stage = both_stage c.args.strip s c.write_parts.new.stage n c.requires.strip c.requires.stage c.write_parts.ensures.stage c.write_parts.ensures.keeps c.args.out1 c.args.out2 c.requires.first c.requires.second value;

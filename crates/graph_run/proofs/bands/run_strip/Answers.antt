@@ -19,9 +19,7 @@ loop-node-init c =
     }
 
 pub claim_part-requires-clause-verified : goal.claim_part-requires-clause-verified
-claim_part-requires-clause-verified c =
-    let runs = c.requires.runs in
-    (operand_held runs.0, runs.1, runs.2.ready.verified)
+claim_part-requires-clause-verified c = let runs = c.requires.runs in (operand_held runs.0, runs.1, runs.2.ready.verified)
 
 pub claim_part-requires-clause-outputs : goal.claim_part-requires-clause-outputs
 claim_part-requires-clause-outputs c =
@@ -39,9 +37,7 @@ claim_part-requires-clause-shared c =
     )
 
 pub claim_part-requires-in-loop-node-clause-verified : goal.claim_part-requires-in-loop-node-clause-verified
-claim_part-requires-in-loop-node-clause-verified c =
-    let runs = c.requires.runs in
-    (operand_held runs.0, runs.1, runs.2.ready.verified)
+claim_part-requires-in-loop-node-clause-verified c = let runs = c.requires.runs in (operand_held runs.0, runs.1, runs.2.ready.verified)
 
 pub claim_part-requires-in-loop-node-clause-outputs : goal.claim_part-requires-in-loop-node-clause-outputs
 claim_part-requires-in-loop-node-clause-outputs c =

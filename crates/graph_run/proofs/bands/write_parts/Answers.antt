@@ -1,5 +1,5 @@
 use Rattle.std.proofs.Common.{◌∙◌, sym}
-use Rattle.graph_run.proofs.PairSeenLemmas.{both_put, can_one, can_other, described_one, described_other, reads_image, reads_rows, reads_there, sees_other, takes_one, takes_other}
+use Rattle.graph_run.proofs.PairSeenLemmas.{both_put, can_one, can_other, described_one, described_other, inputs_read, sees_other, takes_one, takes_other}
 use Rattle.graph_run.proofs.StepLemmas.{put_keeps, still_for, still_out}
 use Rattle.graph_run.proofs.bands.write_parts.Goals as goal
 
@@ -8,17 +8,10 @@ take-desc_y-requires c =
     let other = sees_other _ _ _ _ _ c.requires.first c.requires.second c.requires.apart _ c.take-desc_x.ensures.left c.take-desc_x.ensures.none in
     record { stage = c.take-desc_x.ensures.stage; there = other.out; image = other.out_image }
 
-pub part-image-requires-clause-there : goal.part-image-requires-clause-there
-part-image-requires-clause-there c =
-    reads_there _ _ _ _ _ c.requires.first c.requires.second c.requires.apart _ c.take-desc_x.ensures.left c.take-desc_x.ensures.none _ c.take-desc_y.ensures.left c.take-desc_y.ensures.none
-
-pub part-image-requires-clause-image : goal.part-image-requires-clause-image
-part-image-requires-clause-image c =
-    reads_image _ _ _ _ _ c.requires.first c.requires.second c.requires.apart _ c.take-desc_x.ensures.left c.take-desc_x.ensures.none _ c.take-desc_y.ensures.left c.take-desc_y.ensures.none
-
-pub part-image-requires-clause-rows : goal.part-image-requires-clause-rows
-part-image-requires-clause-rows c =
-    reads_rows _ _ _ _ _ c.requires.first c.requires.second c.requires.apart _ c.take-desc_x.ensures.left c.take-desc_x.ensures.none _ c.take-desc_y.ensures.left c.take-desc_y.ensures.none
+pub part-image-requires : goal.part-image-requires
+part-image-requires c =
+    let reads = inputs_read _ _ _ _ _ c.requires.first c.requires.second c.requires.apart _ c.take-desc_x.ensures.left c.take-desc_x.ensures.none _ c.take-desc_y.ensures.left c.take-desc_y.ensures.none in
+    record { stage = c.take-desc_y.ensures.stage; there = reads.in1; image = reads.first; some = reads.some_rows; rows = reads.in1_rows }
 
 pub write_gradients-x-requires-clause-can_x : goal.write_gradients-x-requires-clause-can_x
 write_gradients-x-requires-clause-can_x c =

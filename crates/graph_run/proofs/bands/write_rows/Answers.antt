@@ -37,30 +37,24 @@ module _ (c : After-band_seen-rows) where
 
 pub returns-in-U8-clause-samples : goal.returns-in-U8-clause-samples
 returns-in-U8-clause-samples c =
-    let items = c.in-U8.samples.items in
     let lent = c.deref_mut.ensures.value in
-    stand (goal.at.returns-in-U8-clause-samples c).After-band_seen-rows pos
-    c.split_at_mut-rest.result.0.now c.rows_u8.new.samples c.split_at_mut-to.result.1.now c.split_at_mut-rest.result.1.now items c.in-U8.samples.len
+    stand (goal.at.returns-in-U8-clause-samples c).After-band_seen-rows pos _ _ _ _ _ _
     (c.split_at_mut-rest.ensures.front ∙ ap (take _) lent) (c.split_at_mut-rest.ensures.back ∙ ap (drop _) lent) c.split_at_mut-to.ensures.back
     (omega (arith, c.rows_u8.auto.samples, c.split_at_mut-to.ensures.front_len)) (omega (arith, c.deref_mut.ensures.len, ap length lent))
     (ap values (sym c.in-U8.is)) (c.rows_u8.ensures ∙ seen_rows (goal.at.returns-in-U8-clause-samples c).After-band_seen-rows)
 
 pub returns-in-S16-clause-samples : goal.returns-in-S16-clause-samples
 returns-in-S16-clause-samples c =
-    let items = c.in-S16.samples.items in
     let lent = c.deref_mut-in-S16.ensures.value in
-    sym (map-id _) ∙ stand (goal.at.returns-in-S16-clause-samples c).After-band_seen-rows (λ z. z)
-    c.split_at_mut-rest-in-S16.result.0.now c.rows_s16.new.samples c.split_at_mut-to-in-S16.result.1.now c.split_at_mut-rest-in-S16.result.1.now items c.in-S16.samples.len
+    sym (map-id _) ∙ stand (goal.at.returns-in-S16-clause-samples c).After-band_seen-rows (λ z. z) _ _ _ _ _ _
     (c.split_at_mut-rest-in-S16.ensures.front ∙ ap (take _) lent) (c.split_at_mut-rest-in-S16.ensures.back ∙ ap (drop _) lent) c.split_at_mut-to-in-S16.ensures.back
     (omega (arith, c.rows_s16.auto.samples, c.split_at_mut-to-in-S16.ensures.front_len)) (omega (arith, c.deref_mut-in-S16.ensures.len, ap length lent))
-    (map-id items ∙ ap values (sym c.in-S16.is)) (map-id _ ∙ c.rows_s16.ensures ∙ seen_rows (goal.at.returns-in-S16-clause-samples c).After-band_seen-rows)
+    (map-id c.in-S16.samples.items ∙ ap values (sym c.in-S16.is)) (map-id _ ∙ c.rows_s16.ensures ∙ seen_rows (goal.at.returns-in-S16-clause-samples c).After-band_seen-rows)
 
 pub returns-in-U32-clause-samples : goal.returns-in-U32-clause-samples
 returns-in-U32-clause-samples c =
-    let items = c.in-U32.samples.items in
     let lent = c.deref_mut-in-U32.ensures.value in
-    stand (goal.at.returns-in-U32-clause-samples c).After-band_seen-rows pos
-    c.split_at_mut-rest-in-U32.result.0.now c.rows_u32.new.samples c.split_at_mut-to-in-U32.result.1.now c.split_at_mut-rest-in-U32.result.1.now items c.in-U32.samples.len
+    stand (goal.at.returns-in-U32-clause-samples c).After-band_seen-rows pos _ _ _ _ _ _
     (c.split_at_mut-rest-in-U32.ensures.front ∙ ap (take _) lent) (c.split_at_mut-rest-in-U32.ensures.back ∙ ap (drop _) lent) c.split_at_mut-to-in-U32.ensures.back
     (omega (arith, c.rows_u32.auto.samples, c.split_at_mut-to-in-U32.ensures.front_len)) (omega (arith, c.deref_mut-in-U32.ensures.len, ap length lent))
     (ap values (sym c.in-U32.is)) (c.rows_u32.ensures ∙ seen_rows (goal.at.returns-in-U32-clause-samples c).After-band_seen-rows)

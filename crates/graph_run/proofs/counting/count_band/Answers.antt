@@ -1,10 +1,10 @@
-use Rattle.std.proofs.Common.{◌≡◌, ◌<◌, ◌+◌, ◌^◌, ◌∙◌, ℕ, List, [], ◌∷◌, length, slice_index, Option, Some, IfSome, refl, ap, sym, subst, arith, unwrap_or, option_map}
-use Rattle.graph_run.proofs.Common.{All-cons, All-nil, BinsValue, histogram, cell_of, ImageValue, IsObject, ObjectValue, with_objects, object_held, with_object, object_held_has, image_value, object_under, IsUnder, Band, Strip, Stage, IsArranged, IsStage, scene, DistributionObject, DistributionValue, valid_samples, distribution_value, with_counts, added, valid_in, band_seen, counted_before, tallied_too}
+use Rattle.std.proofs.Common.{◌≡◌, ◌<◌, ◌+◌, ◌^◌, ◌∙◌, ℕ, List, length, slice_index, Option, Some, IfSome, refl, ap, sym, subst, arith, unwrap_or, option_map}
+use Rattle.graph_run.proofs.Common.{cell_of, ImageValue, IsObject, ObjectValue, DistributionObject, DistributionValue, with_objects, object_held, with_object, object_held_has, image_value, distribution_value, with_counts, object_under, IsUnder, Band, Strip, Stage, IsArranged, IsStage, scene, valid_samples, valid_in, band_seen, counted_before, tallied_too}
 use Rattle.graph_run.specs.Bands.{seen}
 use Rattle.vx_base.specs.declared.kind.Kind.TheVariants as kind
 use Rattle.graph_run.proofs.CellLemmas.{IsReplacement}
 use Rattle.graph_run.proofs.CountLemmas.{tallied_replaces, distribution_of_kind}
-use Rattle.graph_run.proofs.SeenLemmas.{written_stage}
+use Rattle.graph_run.proofs.SeenLemmas.{one_written}
 use Rattle.graph_run.proofs.StepLemmas.{nothing, stage_arranged, under_there, under_kind, under_found, under_set}
 use Rattle.graph_run.proofs.counting.count_band.Goals as goal
 use Rattle.graph_run.proofs.counting.count_band.Goals.{After-part}
@@ -78,19 +78,11 @@ returns c =
     let set = under_set s (arranged at) kind.Distribution name c.requires.counts.kind tt (with_counts (object_under s.table.objects name) counts) refl _ c.set_counts.ensures in
     let held = ap (λ (o : Option ObjectValue). unwrap_or o nothing) (found at) in
     let bins : c.bins-bins.result ≡ (distribution_value old).bins = c.bins-bins.ensures ∙ ap (λ (d : DistributionValue). d.bins) (distribution at) in
-    let value =
+    let value : _ ≡ with_objects (scene s) (with_object (scene s).objects (cell_of name) (tallied_too strip part old)) =
     set.1
-    ∙ ap (λ x. with_objects (scene s) (with_object (scene s).objects (cell_of name) (with_counts x counts))) (held ∙ sym (here at))
-    ∙ ap (λ l. with_objects (scene s) (with_object (scene s).objects (cell_of name) (with_counts old l)))
-    (c.add_histogram.ensures
-    ∙ ap (λ l. added l (histogram c.bins-bins.result (valid_in c.band_seen-band.result c.part.result))) (before at)
-    ∙ ap (λ (b : BinsValue). added (counted_before strip (distribution_value old)) (histogram b (valid_in c.band_seen-band.result c.part.result))) bins
-    ∙ ap (λ (rows : Band). added (counted_before strip (distribution_value old)) (histogram (distribution_value old).bins (valid_in rows c.part.result))) c.band_seen-band.ensures
-    ∙ ap (λ (i : ImageValue). added (counted_before strip (distribution_value old)) (histogram (distribution_value old).bins (valid_in (band_seen strip) i))) (part_is at)) in
+    ∙ rw (held ∙ sym (here at), c.add_histogram.ensures, before at, bins, c.band_seen-band.ensures, part_is at) refl in
     record {
       value = value;
-      stage = written_stage s _ ((cell_of name, tallied_too strip part old) ∷ [])
-          (All-cons (IsReplacement (scene s).objects) (cell_of name, tallied_too strip part old) [] (replaces strip part name s c.requires.stage c.requires.counts.kind) (All-nil (IsReplacement (scene s).objects)))
-          c.requires.stage set.0 set.2 value;
+      stage = one_written s _ (cell_of name) (tallied_too strip part old) (replaces strip part name s c.requires.stage c.requires.counts.kind) c.requires.stage set.0 set.2 value;
       keeps = set.2;
     }

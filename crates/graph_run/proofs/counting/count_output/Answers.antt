@@ -30,7 +30,7 @@ locate_band-requires-clause-counts c =
     let s = c.args.stage.now in
     let n = c.args.node.now in
     subst (CanLocate c.args.strip s n.in1) (sym c.name-in_default-function.ensures.value)
-    ((can_count c.args.strip s n c.in-Some.output c.in-Some.is c.requires.counts).locate (tallies_not n c.in_default-function.not-Histogram))
+    ((can_count c.args.strip s n c.in-Some.output c.in-Some.is c.requires.counts).locate (tallies_not n.function c.in_default-function.not-Histogram))
 
 pub returns-in-Histogram-clause-value : goal.returns-in-Histogram-clause-value
 returns-in-Histogram-clause-value c =
@@ -38,5 +38,5 @@ returns-in-Histogram-clause-value c =
 
 pub returns-in_default-function-clause-value : goal.returns-in_default-function-clause-value
 returns-in_default-function-clause-value c =
-    counted_so c.args.strip c.args.stage.now c.args.node.now c.in-Some.output c.name-in_default-function.result _ false (tallies_not c.args.node.now c.in_default-function.not-Histogram) c.in-Some.is
+    counted_so c.args.strip c.args.stage.now c.args.node.now c.in-Some.output c.name-in_default-function.result _ false (tallies_not c.args.node.now.function c.in_default-function.not-Histogram) c.in-Some.is
     c.name-in_default-function.ensures.value c.locate_band.ensures.value

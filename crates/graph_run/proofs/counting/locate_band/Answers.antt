@@ -1,10 +1,9 @@
-use Rattle.std.proofs.Common.{arith, ◌≡◌, ◌∙◌, [], ◌∷◌, Some, refl, ap, sym, option_map}
-use Rattle.graph_run.proofs.Common.{All-cons, All-nil, ExtremesObject, ObjectValue, extremes, cell_of, Band, ImageValue, with_objects, object_held, with_object, image_value, object_under, Stage, IsArranged, scene, Extremes, added_extremes, valid_in, band_seen, extremes_value, located_before, located_too}
+use Rattle.std.proofs.Common.{arith, ◌≡◌, ◌∙◌, Some, refl, ap, sym, option_map}
+use Rattle.graph_run.proofs.Common.{ExtremesObject, ObjectValue, extremes, cell_of, Band, ImageValue, with_objects, object_held, with_object, image_value, object_under, Stage, IsArranged, scene, Extremes, added_extremes, valid_in, band_seen, extremes_value, located_before, located_too}
 use Rattle.graph_run.specs.Bands.{seen}
 use Rattle.vx_base.specs.declared.kind.Kind.TheVariants as kind
-use Rattle.graph_run.proofs.CellLemmas.{IsReplacement}
 use Rattle.graph_run.proofs.CountLemmas.{located_replaces}
-use Rattle.graph_run.proofs.SeenLemmas.{written_stage}
+use Rattle.graph_run.proofs.SeenLemmas.{one_written}
 use Rattle.graph_run.proofs.StepLemmas.{stage_arranged, held_is_under, under_there, under_found, under_set}
 use Rattle.graph_run.proofs.counting.locate_band.Goals as goal
 use Rattle.graph_run.proofs.counting.locate_band.Goals.{After-band_seen}
@@ -62,7 +61,6 @@ returns c =
     let name = c.args.output in
     let old = object_under (scene s).objects name in
     let part = image_value (seen strip.rows s c.args.input) in
-    let made = located_too strip part old in
     let set = under_set s (arranged at) kind.Extremes name c.requires.counts.kind tt (ExtremesObject c.add_min_max-extremes.result) refl _ c.set_extremes.ensures in
     let value =
     set.1
@@ -72,8 +70,6 @@ returns c =
     ∙ ap (added_extremes strip.rows.start (located_before strip (extremes_value old))) (band_is at)) in
     record {
       value = value;
-      stage = written_stage s _ ((cell_of name, made) ∷ [])
-          (All-cons (IsReplacement (scene s).objects) (cell_of name, made) [] (located_replaces (scene s).objects name strip part old c.requires.counts.kind) (All-nil (IsReplacement (scene s).objects)))
-          c.requires.stage set.0 set.2 value;
+      stage = one_written s _ (cell_of name) (located_too strip part old) (located_replaces (scene s).objects name strip part old c.requires.counts.kind) c.requires.stage set.0 set.2 value;
       keeps = set.2;
     }

@@ -21,11 +21,7 @@ returns-in-Some-matrix_of c = λ nodes v height beside after r parts are no_coun
     let first = c.area_of-first.result in
     let matrix : ConvolutionValue = c.in-Some-matrix_of.matrix.now in
     let value : window_valid n.border (matrix.columns / 2) (matrix.rows / 2) first ≡ c.window_valid.result =
-    ap (λ k. window_valid n.border (k / 2) (matrix.rows / 2) first) (sym c.columns.ensures.value)
-    ∙ ap (λ k. window_valid n.border (c.columns.result / 2) (k / 2) first) (sym c.rows.ensures.value)
-    ∙ ap (λ k. window_valid n.border k (c.rows.result / 2) first) (sym c.from.ensures)
-    ∙ ap (λ k. window_valid n.border c.from.result k first) (sym c.from-in-Some-matrix_of.ensures)
-    ∙ sym c.window_valid.ensures.value in
+    cc (c.columns.ensures.value, c.rows.ensures.value, c.from.ensures, c.from-in-Some-matrix_of.ensures, c.window_valid.ensures.value) in
     subst (λ area. All (λ x. (image_held (final_of c.args.table.now.objects nodes v) x).valid ≡ area) (outputs n)) value
     (area_by_matrix c.args.table.now.objects nodes v height beside r c.args.before.now after n parts c.args.areas.now are no_count (sym c.accumulates.ensures ∙ c.if-accumulates.false) c.in-Some.second c.in-Some.is
     first matrix c.area_of-first.ensures (sym c.matrix_of.ensures ∙ ap option_copied c.in-Some-matrix_of.is))

@@ -1,5 +1,5 @@
 use Rattle.std.proofs.Common.{◌≡◌, ◌∙◌, ℕ, List, Option, Some, refl, ap, sym, unwrap_or, option_map}
-use Rattle.graph_run.proofs.Common.{histogram, BinsValue, cell_of, ObjectValue, with_objects, object_held, with_object, object_under, scene, DistributionValue, distribution_value, with_counts}
+use Rattle.graph_run.proofs.Common.{histogram, BinsValue, cell_of, ObjectValue, DistributionValue, with_objects, object_held, with_object, object_under, scene, distribution_value, with_counts}
 use Rattle.vx_base.specs.declared.kind.Kind.TheVariants as kind
 use Rattle.graph_run.proofs.StepLemmas.{nothing, under_there, under_kind, under_found, under_set}
 use Rattle.graph_run.proofs.step.count_to.Goals as goal

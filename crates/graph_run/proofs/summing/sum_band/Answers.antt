@@ -1,22 +1,18 @@
-use Rattle.std.proofs.Common.{◌≡◌, ◌==◌, ◌+◌, ◌-◌, ◌*◌, ◌++◌, ◌≤◌, ◌∙◌, List, ℤ, None, take, drop, length, refl, ap, sym, subst, arith, option_map, take_all, eqb-true}
-use Rattle.graph_run.proofs.Common.{and_parts, First, Description, sample_count, ImageValue, band, at, values, image_held, image_value, part_of, scene, with_band, Rectangle, with_objects, with_object, ImageObject, within, integral, sum_to, AreRowsOf, band_seen}
+use Rattle.std.proofs.Common.{◌≡◌, ◌==◌, ◌+◌, ◌-◌, ◌*◌, ◌++◌, ◌≤◌, ◌∙◌, take, drop, length, refl, ap, sym, subst, arith, take_all, eqb-true}
+use Rattle.graph_run.proofs.Common.{and_parts, First, Description, sample_count, ImageValue, band, at, within, values, image_held, image_value, part_of, scene, with_band, band_seen, Rectangle, with_objects, with_object, ImageObject, integral, sum_to, AreRowsOf}
 use Rattle.graph_run.specs.Bands.{seen}
 use Rattle.vx_base.specs.Rectangle.{whole}
-use Rattle.graph_run.proofs.SeenLemmas.{first_image, first_is, first_rows, first_there, has_room, left_described, rows_put, takes_back}
+use Rattle.graph_run.proofs.SeenLemmas.{first_is, inputs_there, has_room, left_described, rows_put, takes_back}
 use Rattle.graph_run.proofs.StepLemmas.{put_keeps, resized_alike, still_for}
 use Rattle.graph_run.proofs.SummedLemmas.{band_among, band_fits, nothing_more, same_width}
 use Rattle.graph_run.proofs.SumLemmas.{integral_formats}
 use Rattle.graph_run.proofs.summing.sum_band.Goals as goal
 use Rattle.graph_run.proofs.summing.sum_band.Goals.{After-part-image}
 
-pub part-image-requires-clause-there : goal.part-image-requires-clause-there
-part-image-requires-clause-there c = first_there _ _ _ _ c.requires.sums.1.sees c.take-desc.new.self _ c.take-desc.ensures.left (resized_alike _ _ _ _ c.take-desc.ensures.none)
-
-pub part-image-requires-clause-image : goal.part-image-requires-clause-image
-part-image-requires-clause-image c = first_image _ _ _ _ c.requires.sums.1.sees c.take-desc.new.self _ c.take-desc.ensures.left (resized_alike _ _ _ _ c.take-desc.ensures.none)
-
-pub part-image-requires-clause-rows : goal.part-image-requires-clause-rows
-part-image-requires-clause-rows c = first_rows _ _ _ _ c.requires.sums.1.sees c.take-desc.new.self _ c.take-desc.ensures.left (resized_alike _ _ _ _ c.take-desc.ensures.none)
+pub part-image-requires : goal.part-image-requires
+part-image-requires c =
+    let reads = inputs_there _ _ _ _ c.requires.sums.1.sees c.take-desc.new.self _ c.take-desc.ensures.left (resized_alike _ _ _ _ c.take-desc.ensures.none) in
+    record { stage = c.take-desc.ensures.stage; there = reads.in1; image = reads.first; some = reads.some_rows; rows = reads.in1_rows }
 
 -- what is lent to the kernel
 module _ (c : After-part-image) where

@@ -1,5 +1,7 @@
-use Rattle.std.proofs.Common.{◌≡◌, ◌<◌, ◌≤◌, ◌⊎◌, inl, inr, ◌+◌, ◌++◌, ◌*◌, ◌∙◌, None, IfSome, option_copied, map, pos, take, drop, length, refl, ap, sym, subst, arith}
-use Rattle.graph_run.proofs.Common.{length-map, take-map, mul-le-mul_right, Band, Description, band, values, cases_lt, within, sum_to, AreRowsOf, IsRowAbove, last_row, row_above}
+use Rattle.std.proofs.Common.{◌≡◌, ◌≤◌, ◌⊎◌, inl, inr, ◌+◌, ◌*◌, ◌∙◌, None, IfSome, option_copied, map, pos, take, drop, length, refl, ap, sym, subst, arith}
+use Rattle.graph_run.proofs.Common.{length-map, take-map, mul-le-mul_right, Band, Description, band, within, values, cases_lt, sum_to, AreRowsOf, last_row}
+use Rattle.stat_kernels.specs.Sums.{IsRowAbove}
+use Rattle.stat_kernels.proofs.NextRowLaws.{row_above}
 use Rattle.graph_run.proofs.BandRowsLemmas.{band_from, band_end, stand_among}
 use Rattle.graph_run.proofs.SummedLemmas.{above_lent, table_begins}
 use Rattle.graph_run.proofs.summing.sum_on.Goals as goal

@@ -1,8 +1,7 @@
-use Rattle.std.proofs.Common.{[], ◌∷◌, Option, IfSome, subst}
-use Rattle.graph_run.proofs.Common.{All-cons, All-nil, Cell, ImageValue, ObjectValue, ImageObject, image_held, part_of, with_band, scene, integral, CanSum}
+use Rattle.std.proofs.Common.{Option, IfSome, subst}
+use Rattle.graph_run.proofs.Common.{Cell, ImageValue, CanSum}
 use Rattle.graph_run.proofs.SummedLemmas.{sum_replaces}
-use Rattle.graph_run.proofs.CellLemmas.{IsReplacement}
-use Rattle.graph_run.proofs.SeenLemmas.{written_stage}
+use Rattle.graph_run.proofs.SeenLemmas.{one_written}
 use Rattle.graph_run.proofs.summing.sum_output.Goals as goal
 
 pub returns-in-Some-clause-stage : goal.returns-in-Some-clause-stage
@@ -12,7 +11,5 @@ returns-in-Some-clause-stage c =
     let strip = c.args.strip in
     let output = c.in-Some.output in
     let can : (image : ImageValue) × CanSum strip s n output image = subst (λ (o : Option Cell). IfSome o (λ cell. (image : ImageValue) × CanSum strip s n cell image)) c.in-Some.is c.requires.sums in
-    let May = IsReplacement (scene s).objects in
-    let sums : Cell × ObjectValue = (output, ImageObject (with_band strip (part_of strip.rows.start strip.rows.count (integral can.0)) (image_held (scene s).objects output))) in
-    written_stage s _ (sums ∷ []) (All-cons May sums [] (sum_replaces strip s n output can.0 c.requires.strip can.1) (All-nil May)) c.requires.stage c.sum_band.ensures.stage c.sum_band.ensures.keeps
+    one_written s _ output _ (sum_replaces strip s n output can.0 c.requires.strip can.1) c.requires.stage c.sum_band.ensures.stage c.sum_band.ensures.keeps
     (c.sum_band.ensures.value can.0 can.1)

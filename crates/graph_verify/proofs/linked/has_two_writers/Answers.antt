@@ -1,4 +1,4 @@
-use Rattle.std.proofs.Common.{◌≡◌, Bool, true, false, List, ◌∷◌, ap, sym, ◌∙◌, ◌||◌}
+use Rattle.std.proofs.Common.{◌≡◌, Bool, true, false, List, ◌∷◌, arith, ◌||◌}
 use Rattle.graph_verify.proofs.Common.{list_any, outputs, Linked, linked_nodes, is_written, two_writers, writes_twice}
 use Rattle.graph_verify.proofs.LinkLemmas.{two_writers-cons}
 use Rattle.graph_verify.proofs.linked.has_two_writers.Goals as goal
@@ -7,11 +7,7 @@ use Rattle.graph_verify.proofs.linked.has_two_writers.Goals as goal
 of_the_rest : {rest : List Linked} {asked : Bool} (first : Linked) (others : List Linked) (shares : Bool)
     → shares ≡ (writes_twice first.node || list_any (is_written (linked_nodes others)) (outputs first.node)) → rest ≡ first ∷ others
     → two_writers (linked_nodes rest) ≡ asked → (shares || two_writers (linked_nodes others)) ≡ asked
-of_the_rest {rest} {asked} first others shares is split of_all =
-    ap (λ b. b || two_writers (linked_nodes others)) is
-    ∙ sym (two_writers-cons first.node (linked_nodes others))
-    ∙ ap (λ l. two_writers (linked_nodes l)) (sym split)
-    ∙ of_all
+of_the_rest {rest} {asked} first others shares is split of_all = grind (arith, two_writers-cons first.node (linked_nodes others))
 
 pub returns-then-shares_output : goal.returns-then-shares_output
 returns-then-shares_output c =

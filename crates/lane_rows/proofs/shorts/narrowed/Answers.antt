@@ -1,4 +1,4 @@
-use Rattle.std.proofs.Common.{map, ap, ◌∙◌, sym, w16, w32, to_z}
+use Rattle.std.proofs.Common.{map, ap, ◌∙◌, w16, w32}
 use Rattle.lane_rows.proofs.Common.{S16, Wrap, Saturate, narrow}
 use Rattle.lane_rows.proofs.ShortLaws.{of_bits, fit_as_bits, told}
 use Rattle.lane_rows.proofs.NarrowLaws.{narrow_fits}
@@ -17,11 +17,7 @@ returns c =
     let read = of_bits w32 ns c.requires.fits in
     elim c.match-policy.branch [
       | in-Wrap w ↦
-          ap (map (to_z w16)) w.result-is
-          ∙ told w16 w.wrapped.result (map (narrow S16 Wrap) ns) (w.wrapped.ensures ∙ ap (map (narrow S16 Wrap)) read) (narrow_fits Wrap ns c.requires.fits)
-          ∙ ap (λ p. map (narrow S16 p) ns) (sym w.in-Wrap.is)
+          rw (w.result-is, w.in-Wrap.is) (told w16 w.wrapped.result _ (w.wrapped.ensures ∙ ap (map (narrow S16 Wrap)) read) (narrow_fits Wrap ns c.requires.fits))
       | in-Saturate w ↦
-          ap (map (to_z w16)) w.result-is
-          ∙ told w16 w.clamped.result (map (narrow S16 Saturate) ns) (w.clamped.ensures ∙ ap (map (narrow S16 Saturate)) read) (narrow_fits Saturate ns c.requires.fits)
-          ∙ ap (λ p. map (narrow S16 p) ns) (sym w.in-Saturate.is)
+          rw (w.result-is, w.in-Saturate.is) (told w16 w.clamped.result _ (w.clamped.ensures ∙ ap (map (narrow S16 Saturate)) read) (narrow_fits Saturate ns c.requires.fits))
     ]

@@ -1,4 +1,4 @@
-use Rattle.pgm_images.proofs.HeaderLemmas.{header_of, header_back}
+use Rattle.pgm_images.proofs.StandsLemmas.{header_of, header_back}
 use Rattle.pgm_images.proofs.laws.headers.Goals as goal
 
 pub returns-clause-found : goal.returns-clause-found

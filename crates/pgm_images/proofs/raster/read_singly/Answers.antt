@@ -1,6 +1,6 @@
 use Rattle.std.proofs.Common.{◌≡◌, ◌-◌, ◌||◌, ◌∙◌, Option, Some, None, length, ap, pos, arith, subst, IfNone, length-set}
 use Rattle.pgm_images.proofs.Common.{take_next, ends, PlainUpTo}
-use Rattle.pgm_images.proofs.RasterLemmas.{filling_next, filling_none}
+use Rattle.pgm_images.proofs.RasterLemmas.{filling_set, filling_none}
 use Rattle.pgm_images.proofs.raster.read_singly.Goals as goal
 
 if_none : {A : Type 0} (o : Option A) (P : Type 0) → P → IfNone o P
@@ -15,8 +15,10 @@ returns-in_err-number-clause-none g c =
 pub loop-index-preserved : goal.loop-index-preserved
 loop-index-preserved g c = (
   length-set c.loop-index.samples c.loop-index.index c.of_number.result ∙ c.loop-index.invariant.0,
-  λ above whole before. filling_next g.T.Number.value take_next ends c.args.maxval c.in_ok-number.number c.loop-index.index above c.loop-index.high c.loop-index.samples c.of_number.result _ _ whole
-      (omega arith) c.requires.maxval c.in_ok-number.ensures.some (c.of_number.ensures ∙ ap pos c.min.ensures) (c.loop-index.invariant.1 above whole before),
+  λ above whole before. filling_set g.T.Number.value take_next ends c.args.maxval c.in_ok-number.number
+      c.loop-index.index (above || c.loop-index.high) _ c.loop-index.samples c.of_number.result _ _ whole
+      (omega arith) c.requires.maxval c.in_ok-number.ensures.some (c.of_number.ensures ∙ ap pos c.min.ensures)
+      (grind arith) (c.loop-index.invariant.1 above whole before),
 )
 
 pub returns-clause-some : goal.returns-clause-some

@@ -1,6 +1,6 @@
-use Rattle.std.proofs.Common.{◌+◌, ◌*◌, get_or, ap, pos, map, arith, take_all}
+use Rattle.std.proofs.Common.{◌+◌, ◌*◌, get_or, ap, pos, map, arith, refl, take_all}
 use Rattle.stat_kernels.proofs.Common.{length-map, count_at}
-use Rattle.stat_kernels.proofs.TallyLaws.{one_more, four_more, few_of_first, all_bytes}
+use Rattle.stat_kernels.proofs.TallyLaws.{one_at, four_more, few_of_first, all_bytes}
 use Rattle.stat_kernels.proofs.counts.count_row.Goals as goal
 
 pub count_one-requires-in-loop-k : goal.count_one-requires-in-loop-k
@@ -37,7 +37,7 @@ count_one-requires-in-loop-i c =
 
 pub loop-i-preserved : goal.loop-i-preserved
 loop-i-preserved c v =
-    omega (arith, c.loop-i.invariant v, c.count_one-in-loop-i.ensures v, one_more v c.args.row.now c.loop-i.i c.loop-i-test.true)
+    omega (arith, c.loop-i.invariant v, c.count_one-in-loop-i.ensures v, one_at v c.args.row.now c.loop-i.i (c.loop-i.i + 1) c.loop-i-test.true refl)
 
 pub returns-clause-counted : goal.returns-clause-counted
 returns-clause-counted c v =

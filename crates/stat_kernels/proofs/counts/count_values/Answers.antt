@@ -1,6 +1,6 @@
 use Rattle.std.proofs.Common.{◌<◌, ◌∙◌, sym, ap, pos, map, arith, unsigned_abs, ◌==◌}
 use Rattle.stat_kernels.proofs.Common.{count_by-le-length, samples_in, count_at, valid_in}
-use Rattle.std.proofs.lemmas.List.Elements.{All-append, All-same}
+use Rattle.std.proofs.lemmas.List.Elements.{All-same, All-append}
 use Rattle.stat_kernels.proofs.Rows.{above}
 use Rattle.stat_kernels.proofs.PlaceLaws.{next_row, places_fit, length-samples, length-places, samples_fit}
 use Rattle.stat_kernels.proofs.TallyLaws.{row_counted}

@@ -1,8 +1,8 @@
 use Rattle.std.proofs.Common.{◌≡◌, ◌∙◌, sym, ap, map, length, arith}
-use Rattle.stat_kernels.proofs.Common.{int_min, int_max, at, places, Found, valid_in, found_in}
+use Rattle.stat_kernels.proofs.Common.{at, places, valid_in, found_in}
 use Rattle.stat_kernels.proofs.Rows.{above}
-use Rattle.stat_kernels.proofs.PlaceLaws.{places_none, places_fit}
-use Rattle.stat_kernels.proofs.LocatedLaws.{at_most, next_found}
+use Rattle.stat_kernels.proofs.PlaceLaws.{places_none}
+use Rattle.stat_kernels.proofs.LocatedLaws.{found_room, next_found}
 use Rattle.stat_kernels.proofs.extremes.locate.Goals as goal
 
 pub loop-y-init : goal.loop-y-init
@@ -13,25 +13,13 @@ loop-y-init g c =
 
 pub joined-found-requires-clause-least_room : goal.joined-found-requires-clause-least_room
 joined-found-requires-clause-least_room g c =
-    let image = valid_in c.args.rows c.args.image.now in
-    omega (
-      arith,
-      ap (λ (f : Found). f.least.count) c.loop-y.invariant,
-      at_most int_min (at image) (places (above image.valid c.loop-y.y)),
-      places_fit image c.in_rows-part.result (c.in_rows-part.ensures c.args.image.now c.requires.rows c.of.ensures) c.loop-y.y c.loop-y.auto.y c.loop-y-test.true,
-      c.part_of_row-row.ensures.len,
-    )
+    (found_room (valid_in c.args.rows c.args.image.now) c.in_rows-part.result (c.in_rows-part.ensures c.args.image.now c.requires.rows c.of.ensures)
+    c.loop-y.y _ c.loop-y.found c.loop-y.invariant c.loop-y.auto.y c.loop-y-test.true c.part_of_row-row.ensures.len).0
 
 pub joined-found-requires-clause-greatest_room : goal.joined-found-requires-clause-greatest_room
 joined-found-requires-clause-greatest_room g c =
-    let image = valid_in c.args.rows c.args.image.now in
-    omega (
-      arith,
-      ap (λ (f : Found). f.greatest.count) c.loop-y.invariant,
-      at_most int_max (at image) (places (above image.valid c.loop-y.y)),
-      places_fit image c.in_rows-part.result (c.in_rows-part.ensures c.args.image.now c.requires.rows c.of.ensures) c.loop-y.y c.loop-y.auto.y c.loop-y-test.true,
-      c.part_of_row-row.ensures.len,
-    )
+    (found_room (valid_in c.args.rows c.args.image.now) c.in_rows-part.result (c.in_rows-part.ensures c.args.image.now c.requires.rows c.of.ensures)
+    c.loop-y.y _ c.loop-y.found c.loop-y.invariant c.loop-y.auto.y c.loop-y-test.true c.part_of_row-row.ensures.len).1
 
 pub loop-y-preserved : goal.loop-y-preserved
 loop-y-preserved g c =

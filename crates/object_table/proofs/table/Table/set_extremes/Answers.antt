@@ -1,5 +1,6 @@
 use Rattle.std.proofs.Common.{refl, sym, ap}
-use Rattle.object_table.proofs.Common.{object_kind, ExtremesObject}
+use Rattle.object_table.proofs.Common.{object_kind}
+use Rattle.vx_base.specs.Object.{ExtremesObject}
 use Rattle.vx_base.specs.declared.kind.Kind.TheVariants as kind
 use Rattle.object_table.proofs.EntryLemmas.{nothing_under, kind_under, shown_name, IsTable-written, none_of_kind}
 use Rattle.object_table.proofs.table.Table.set_extremes.Goals as goal

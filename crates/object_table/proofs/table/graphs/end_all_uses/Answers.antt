@@ -28,9 +28,6 @@ end_uses-left-requires-clause-held c =
     let old = c.args.entries.now.entries in
     held-left (flat_map used_names (take c.loop-k.k (nodes_at c.args.graph old))) old c.loop-k.entries.entries c.loop-k.invariant.left_over
 
-pub end_uses-left-requires-clause-charge : goal.end_uses-left-requires-clause-charge
-end_uses-left-requires-clause-charge c = c.loop-k.invariant.charge
-
 pub loop-k-preserved : goal.loop-k-preserved
 loop-k-preserved c =
     let old = c.args.entries.now.entries in

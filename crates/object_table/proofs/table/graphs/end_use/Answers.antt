@@ -1,10 +1,11 @@
-use Rattle.std.proofs.Common.{◌≡◌, true, map, refl, sym, ap, ◌∙◌, nat_lt, ◌||◌, lt-ltb, le-ltb}
-use Rattle.object_table.proofs.Common.{remove_entry, set_value, is_at, nat_cmp, or_left, or_from, charge_of, named, kept}
+use Rattle.std.proofs.Common.{◌≡◌, arith, true, map, refl, sym, ap, ◌∙◌, nat_lt, ◌||◌, le-ltb}
+use Rattle.object_table.proofs.Common.{remove_entry, set_value, is_at, nat_cmp, charge_of, named, kept, nat_tests}
+use Rattle.std.proofs.lemmas.Bool.{or_from}
 use Rattle.object_table.proofs.UseLemmas.{with_uses, less, less_is, used-one, used-none, operand_uses, no_operand_uses}
 use Rattle.object_table.proofs.KeptLemmas.{all_kept, held-written, dropped, charge-written, left_of, left-nil}
 use Rattle.object_table.proofs.EntryBlockLemmas.{owns-written, Balances-written, Balances-written_then}
 use Rattle.object_table.proofs.table.graphs.end_use.Goals as goal
-use Rattle.object_table.proofs.table.graphs.end_use.Goals.{Joined-then-entry, then-entry-via-then-entry, then-entry-via-else-entry+then-entry-gt0}
+use Rattle.object_table.proofs.table.graphs.end_use.Goals.{Joined-then-entry}
 
 pub returns-in_default-clause-entries : goal.returns-in_default-clause-entries
 returns-in_default-clause-entries c =
@@ -23,10 +24,7 @@ returns-in_default-get_mut-clause-entries c =
 then_is : (c : Joined-then-entry) → c.then-entry.entries.entries ≡ set_value (is_at (nat_cmp c.name-name.result)) c.args.entries.now.entries (with_uses c.in-Some-get_mut.entry.now c.saturating_sub-entry.result)
 then_is c =
     let written = (c.get_mut.follows.holds (with_uses c.in-Some-get_mut.entry.now c.saturating_sub-entry.result)).0 in
-    elim c.then-entry.branch [
-      | then-entry-via-then-entry w ↦ ap (λ m. m.entries) w.entries-is ∙ written
-      | then-entry-via-else-entry+then-entry-gt0 w ↦ ap (λ m. m.entries) w.entries-is ∙ written
-    ]
+    grind (arith, written, c.then-entry.branch)
 
 pub returns-then-entry-clause-entries : goal.returns-then-entry-clause-entries
 returns-then-entry-clause-entries c =
@@ -37,10 +35,7 @@ returns-then-entry-clause-entries c =
     let new = with_uses old left in
     let found = sym c.in-Some-get_mut.ensures.value in
     let is : (old.live || nat_lt 0 left) ≡ true =
-    elim c.then-entry.branch [
-      | then-entry-via-then-entry w ↦ or_left old.live (nat_lt 0 left) w.if-entry.true
-      | then-entry-via-else-entry+then-entry-gt0 w ↦ ap (λ b. b || nat_lt 0 left) w.if-entry.false ∙ lt-ltb 0 left w.if-entry-gt0.true
-    ] in
+    grind (arith, nat_tests, c.then-entry.branch) in
     then_is c ∙ held-written entries name old new found c.requires.held is
     ∙ ap (λ n. kept (set_value (is_at (nat_cmp name)) entries (with_uses old n))) c.saturating_sub-entry.ensures
     ∙ ap kept (used-one less less_is entries name old c.get_mut.ensures.ordered found)

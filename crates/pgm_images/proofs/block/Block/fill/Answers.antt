@@ -1,8 +1,8 @@
-use Rattle.std.proofs.Common.{◌+◌, ◌-◌, ℕ, get_or, drop, sym, subst, arith, bit_and, length-set}
-use Rattle.pgm_images.proofs.Common.{count_trailing_zeros, take_next, ends, Kept}
+use Rattle.std.proofs.Common.{◌+◌, ◌-◌, ℕ, drop, ◌∙◌, ap, pos, arith, length-set}
+use Rattle.pgm_images.proofs.Common.{nat_tests, count_trailing_zeros, take_next, ends, Kept}
 use lib.Bits.{and_le_r}
-use Rattle.pgm_images.proofs.RasterLemmas.{filling_low}
-use Rattle.pgm_images.proofs.BlockLemmas.{Walks, walk_lowest}
+use Rattle.pgm_images.proofs.RasterLemmas.{filling_set}
+use Rattle.pgm_images.proofs.BlockLemmas.{walk_lowest}
 use Rattle.pgm_images.proofs.block.Block.fill.Goals as goal
 
 pub of_number-requires : goal.of_number-requires
@@ -20,14 +20,16 @@ loop-left-preserved g c =
     let place : ℕ = count_trailing_zeros 64 c.loop-left.left in
     let bytes = c.from-in-loop-left.ensures in
     let same = length-set c.loop-left.samples c.loop-left.next c.of_number.result in
-    let kept = subst (λ n. Kept (take_next (drop c.loop-left.end text)) n (drop (place + c.from-in-loop-left.result) text)) (sym c.from.ensures)
-    (subst (λ b. Kept (take_next (drop c.loop-left.end text)) (get_or c.args.self.now.numbers place 0) (drop (place + b) text)) (sym bytes) next.kept) in (
-      subst (λ b. Walks c.args.self.now.bytes text (bit_and c.loop-left.left (c.loop-left.left - 1)) (place + b)) (sym bytes) next.walk,
+    let kept : Kept (take_next (drop c.loop-left.end text)) c.from.result (drop (place + c.from-in-loop-left.result) text) =
+    rw (c.from.ensures, bytes) next.kept in (
+      rw bytes next.walk,
       omega (arith, bytes, next.fits),
       λ none. omega arith,
       omega arith,
       omega (arith, same),
       omega (arith, same),
-      λ above whole before. filling_low g.T.Number.value take_next ends c.args.maxval c.from.result c.loop-left.next above c.loop-left.samples c.of_number.result _ _ whole
-          c.if-next-samples.true c.requires.maxval kept (omega (arith, next.low, c.from.ensures)) c.of_number.ensures (c.loop-left.invariant.6 above whole before),
+      λ above whole before. filling_set g.T.Number.value take_next ends c.args.maxval
+          c.from.result c.loop-left.next above above c.loop-left.samples c.of_number.result _ _ whole
+          c.if-next-samples.true c.requires.maxval kept (c.of_number.ensures ∙ ap pos (omega (arith, next.low, c.from.ensures)))
+          (grind (arith, nat_tests, next.low, c.from.ensures)) (c.loop-left.invariant.6 above whole before),
     )

@@ -1,16 +1,13 @@
-use Rattle.std.proofs.Common.{◌+◌, ◌||◌, Bool, true, false, drop, subst, sym, arith, ◌≡◌, refl}
+use Rattle.std.proofs.Common.{◌+◌, false, drop, subst, sym, arith, ◌≡◌}
 use Rattle.pgm_images.proofs.Common.{Tells}
 use Rattle.pgm_images.proofs.ShortLemmas.{five}
 use Rattle.pgm_images.proofs.BlockLemmas.{one_told}
 use Rattle.pgm_images.proofs.block.Block.look.Goals as goal
 
-neither : (a b : Bool) → (a || b) ≡ false → (a ≡ false) × (b ≡ false)
-neither true b e = cc
-neither false b e = (refl, e)
-
 pub loop-i-preserved : goal.loop-i-preserved
 loop-i-preserved c none =
-    let (before, now) = neither c.loop-i.others c.short_number-number.result.2 none in
+    let before : c.loop-i.others ≡ false = grind (arith, none) in
+    let now : c.short_number-number.result.2 ≡ false = grind (arith, none) in
     let text = c.args.text.now in
     let i = c.loop-i.i in
     let number = c.short_number-number.result.0 in

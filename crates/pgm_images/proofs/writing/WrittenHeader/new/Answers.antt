@@ -3,13 +3,10 @@ use Rattle.pgm_images.proofs.Common.{nat_tests, is_side}
 use Rattle.std.proofs.lemmas.Fmt.{length-decimal-le}
 use Rattle.pgm_images.proofs.writing.WrittenHeader.new.Goals as goal
 
-side_limit : (n : ℕ) → IsTrue (is_side n) → n < 10000
-side_limit n is = grind (arith, nat_tests)
-
 -- a side has at most four digits
 side_digits : (side n : ℕ) → IsTrue (is_side side) → n ≡ side → length (decimal n) ≤ 4
 side_digits side n is e =
-    let below = side_limit side is in
+    let below : side < 10000 = grind (arith, nat_tests) in
     length-decimal-le 4 n (omega arith) (omega arith) (omega arith)
 
 pub write_digits-height-requires : goal.write_digits-height-requires

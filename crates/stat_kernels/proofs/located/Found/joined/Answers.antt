@@ -1,13 +1,7 @@
-use Rattle.std.proofs.Common.{◌≡◌, ◌<◌, ◌++◌, ◌∙◌, ap, sym, rules, to_z, of_z, w16, FitsSigned, map, length, arith, int_lt, append-nil}
-use Rattle.stat_kernels.proofs.Common.{int_min, int_max, nat_tests, to_z-of_z, length-map, row_places, Found, Located, found_in}
+use Rattle.std.proofs.Common.{◌≡◌, ◌<◌, ◌++◌, ◌∙◌, ap, sym, rules, w16, FitsSigned, map, length, arith, int_lt, append-nil, refl}
+use Rattle.stat_kernels.proofs.Common.{int_min, int_max, nat_tests, to_z-of_z, length-map, row_places, Found, found_in}
 use Rattle.stat_kernels.proofs.LocatedLaws.{downwards, upwards, chosen_among}
 use Rattle.stat_kernels.proofs.located.Found.joined.Goals as goal
-
-abbrev both : Located → Located → Found
-both least greatest = record { least = least; greatest = greatest }
-
-same_both : (a b p q : Located) → a ≡ p → b ≡ q → both a b ≡ both p q
-same_both a b p q first second = ap (λ l. both l b) first ∙ ap (both p) second
 
 pub returns-then-is_empty : goal.returns-then-is_empty
 returns-then-is_empty g c f before same row =
@@ -32,10 +26,8 @@ returns g c f before same row =
     let high_fits : FitsSigned w16 c.short-2.result = search rules in
     let least_fits : FitsSigned w16 c.args.self.least.value = search rules in
     let greatest_fits : FitsSigned w16 c.args.self.greatest.value = search rules in
-    let low = to_z-of_z w16 c.short.result low_fits ∙ c.short.ensures in
-    let high = to_z-of_z w16 c.short-2.result high_fits ∙ c.short-2.ensures in
-    same_both c.joined.result c.joined-2.result _ _
-    (c.joined.ensures int_min int_lt f before downwards (ap (λ (s : Found). s.least) same)
-    (ap (λ z. int_lt z (to_z w16 (of_z w16 c.args.self.least.value))) low ∙ ap (int_lt (g.T.Number.value c.least_of-low.result)) (to_z-of_z w16 c.args.self.least.value least_fits)) c.least_of-low.ensures row)
-    (c.joined-2.ensures int_max (λ z v. int_lt v z) f before upwards (ap (λ (s : Found). s.greatest) same)
-    (ap (λ z. int_lt (to_z w16 (of_z w16 c.args.self.greatest.value)) z) high ∙ ap (λ v. int_lt v (g.T.Number.value c.greatest_of-high.result)) (to_z-of_z w16 c.args.self.greatest.value greatest_fits)) c.greatest_of-high.ensures row)
+    let least = c.joined.ensures int_min int_lt f before downwards (ap (λ (s : Found). s.least) same)
+    (rw (to_z-of_z w16 _ low_fits, to_z-of_z w16 _ least_fits, c.short.ensures) refl) c.least_of-low.ensures row in
+    let greatest = c.joined-2.ensures int_max (λ z v. int_lt v z) f before upwards (ap (λ (s : Found). s.greatest) same)
+    (rw (to_z-of_z w16 _ high_fits, to_z-of_z w16 _ greatest_fits, c.short-2.ensures) refl) c.greatest_of-high.ensures row in
+    cc (least, greatest)

@@ -1,37 +1,31 @@
 use Rattle.std.proofs.Common.{◌≡◌, ◌+◌, inl, inr, ◌∙◌, sym, ap, arith, rules, to_z, of_z, w16, FitsSigned}
-use Rattle.stat_kernels.proofs.Common.{to_z-of_z, length-map}
-use Rattle.stat_kernels.proofs.CountLaws.{some_of_row, none_of_first}
-use Rattle.stat_kernels.proofs.LocatedLaws.{parts, joins_first, joins_beyond, joins_equal, joins_other}
+use Rattle.stat_kernels.proofs.Common.{to_z-of_z}
+use Rattle.stat_kernels.proofs.CountLaws.{none_of_first}
+use Rattle.stat_kernels.proofs.LocatedLaws.{parts, joins_taken, joins_equal, joins_other}
 use Rattle.stat_kernels.proofs.located.Located.joined.Goals as goal
 
 pub returns-then-is_beyond : goal.returns-then-is_beyond
 returns-then-is_beyond g c choose beyond f before d same test is row =
-    let value = g.T.Number.value in
-    let v = value c.args.sample in
+    let v = g.T.Number.value c.args.sample in
     let fits : FitsSigned w16 c.short-value.result = search rules in
-    let some = some_of_row value v c.args.row.now c.requires.among in
-    let before_it = none_of_first v _ c.first_of.result c.first_of.ensures.none_before in
     ap (λ z. parts z c.count_of.result (c.args.x + c.first_of.result, c.args.y)) (to_z-of_z w16 c.short-value.result fits ∙ c.short-value.ensures)
-    ∙ elim c.if-is_beyond.either [
-      | inl none ↦ joins_first choose beyond d f _ c.args.x _ c.args.y (length-map c.args.row.now value) some row v is before c.args.self same none c.count_of.result c.first_of.result c.count_of.ensures c.first_of.ensures.below c.first_of.ensures.here before_it
-      | inr above ↦ joins_beyond choose beyond d f _ c.args.x _ c.args.y (length-map c.args.row.now value) some row v is before c.args.self same (sym test ∙ above.1) c.count_of.result c.first_of.result c.count_of.ensures c.first_of.ensures.below c.first_of.ensures.here before_it
-    ]
+    ∙ joins_taken choose beyond d f c.args.x _ c.args.y _ row v is c.requires.among before c.args.self
+    same (elim c.if-is_beyond.either [ inl none ↦ inl none | inr above ↦ inr (sym test ∙ above.1) ])
+    c.count_of.result c.first_of.result c.count_of.ensures c.first_of.ensures.below
+    c.first_of.ensures.here (none_of_first v _ c.first_of.result c.first_of.ensures.none_before)
 
 pub returns-then-value-self : goal.returns-then-value-self
 returns-then-value-self g c choose beyond f before d same test is row =
-    let value = g.T.Number.value in
-    let v = value c.args.sample in
+    let v = g.T.Number.value c.args.sample in
     let fits : FitsSigned w16 c.short-value.result = search rules in
     let old_fits : FitsSigned w16 c.args.self.value = search rules in
     let told = to_z-of_z w16 c.short-value.result fits in
     let equal : v ≡ c.args.self.value = sym c.short-value.ensures ∙ sym told ∙ ap (to_z w16) c.if-value-self.true ∙ to_z-of_z w16 c.args.self.value old_fits in
     ap (λ z. parts z (c.args.self.count + c.count_of-then-value-self.result) c.args.self.at) (told ∙ c.short-value.ensures)
-    ∙ joins_equal choose beyond d f _ c.args.x _ c.args.y (length-map c.args.row.now value) (some_of_row value v c.args.row.now c.requires.among) row v is before c.args.self same
+    ∙ joins_equal choose beyond d f c.args.x _ c.args.y _ row v is c.requires.among before c.args.self same
     c.count_of-then-value-self.result (omega (arith, c.if-is_beyond.false.0)) (sym test ∙ c.if-is_beyond.false.1) equal c.count_of-then-value-self.ensures
 
 pub returns-else-value-self : goal.returns-else-value-self
 returns-else-value-self g c choose beyond f before d same test is row =
-    let value = g.T.Number.value in
-    let v = value c.args.sample in
-    joins_other choose beyond d f _ c.args.x _ c.args.y (length-map c.args.row.now value) (some_of_row value v c.args.row.now c.requires.among) row v is before c.args.self same
+    joins_other choose beyond d f c.args.x _ c.args.y _ row (g.T.Number.value c.args.sample) is c.requires.among before c.args.self same
     (omega (arith, c.if-is_beyond.false.0)) (sym test ∙ c.if-is_beyond.false.1) (λ equal. c.if-value-self.false (ap (of_z w16) (c.short-value.ensures ∙ equal)))

@@ -1,5 +1,6 @@
 use Rattle.std.proofs.Common.{subst}
-use Rattle.vx_requests.proofs.Common.{Picture, PictureValue, values, reply_bytes, spelled, Sends, said_of}
+use Rattle.vx_requests.proofs.Common.{PictureValue, values, reply_bytes, spelled, Sends, said_of}
+use Rattle.client_model.specs.declared.reply.Reply.TheVariants.{Picture}
 use Rattle.vx_requests.proofs.PictureFrames.{picture_is}
 use Rattle.vx_requests.proofs.frame.replies.write_reply.Goals as goal
 

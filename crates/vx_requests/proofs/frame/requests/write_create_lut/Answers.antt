@@ -1,14 +1,12 @@
-use Rattle.vx_requests.proofs.Common.{err_from_is_err_and}
 use Rattle.vx_requests.proofs.RequestFrames.{create_lut_frame}
 use Rattle.vx_requests.proofs.WrittenPieces.{Writes-first, Writes-then}
 use Rattle.vx_requests.proofs.frame.requests.write_create_lut.Goals as goal
 
 pub returns-in_err-write_all : goal.returns-in_err-write_all
 returns-in_err-write_all g c =
-    let p = err_from_is_err_and c.from_residual.result c.from_residual.ensures.1 in
     let samples = c.entries-entries.ensures in
     let joined = create_lut_frame c.args.client c.args.lut.now _ _ _ _ samples.value samples.format c.format.ensures c.len.ensures c.create_lut_head.ensures in
-    rw (p.1, p.2) (Writes-first _ _ _ _ _ _ _ _ joined c.in_err-write_all.ensures)
+    Writes-first _ _ _ _ _ _ _ _ c.from_residual.result c.from_residual.ensures.1 joined c.in_err-write_all.ensures
 
 pub returns : goal.returns
 returns g c =
