@@ -34,6 +34,14 @@ def gaussian(a, out):
     cv2.GaussianBlur(a, (3, 3), 0, out, borderType=REPLICATE)
 
 
+def difference(a, out):
+    cv2.absdiff(a, second, out)
+
+
+def great(a, out):
+    cv2.threshold(a, 100, 255, cv2.THRESH_BINARY, out)
+
+
 def erode(a, out):
     cv2.erode(a, square, out, borderType=REPLICATE)
 
@@ -49,12 +57,7 @@ PIXELWISE = (
     lambda a, out: cv2.add(a, first, out),
 )
 WINDOWS = (gaussian, lambda a, out: cv2.medianBlur(a, 3, out), erode, dilate)
-MOTION = (
-    lambda a, out: cv2.absdiff(a, second, out),
-    lambda a, out: cv2.threshold(a, 100, 255, cv2.THRESH_BINARY, out),
-    erode,
-    dilate,
-)
+MOTION = (difference, great, erode, dilate)
 
 
 def run(calls, length=4):
@@ -64,19 +67,17 @@ def run(calls, length=4):
         source = arrays[k]
 
 
-def measured():
-    difference, out = arrays[:2]
-    cv2.absdiff(first, second, difference)
-    cv2.calcHist([difference], [0], None, [256], [0, 256], counts)
-    cv2.minMaxLoc(difference)
-    cv2.threshold(difference, 100, 255, cv2.THRESH_BINARY, out)
+def looked_at(look):
+    """The difference, what is found in it, and where it is great."""
+    apart, out = arrays[:2]
+    difference(first, apart)
+    look(apart)
+    great(apart, out)
 
 
-def summed():
-    difference, out = arrays[:2]
-    cv2.absdiff(first, second, difference)
-    cv2.integral(difference, sums)
-    cv2.threshold(difference, 100, 255, cv2.THRESH_BINARY, out)
+def measure(a):
+    cv2.calcHist([a], [0], None, [256], [0, 256], counts)
+    cv2.minMaxLoc(a)
 
 
 # A quarter of a gradient, rounded down, is this with what OpenCV does, which rounds to nearest.
@@ -108,8 +109,8 @@ CHAINS = {
     "16 nodes, windows": (lambda: run(WINDOWS, 16),),
     "motion": (lambda: run(MOTION),),
     "edges": (edges_of_both, edges_of_each),
-    "measured": (measured,),
-    "summed": (summed,),
+    "measured": (lambda: looked_at(measure),),
+    "summed": (lambda: looked_at(lambda a: cv2.integral(a, sums)),),
 }
 times = {
     name: min(best_seconds(way, count) for way in CHAINS[name])

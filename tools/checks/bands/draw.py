@@ -234,7 +234,7 @@ class Draw:
             self.node(function, first.cell, None, self.output(U8, size))
 
     def statistics(self, size: Size) -> None:
-        """What looks at all rows, or adds to an image, which is not virtual then."""
+        """What counts or sums up an image, or adds to one, which is not virtual then."""
         function = self.rng.choice(self.style.statistics)
         first = self.pick(size, (U8, S16) if function == wire.MIN_MAX_LOCATION else (U8,))
         if function in ADDING:
