@@ -1,5 +1,6 @@
 mod RowLaws
 mod UpdateLaws
 mod PieceLaws
+pub mod HeldRows
 pub mod SizeLaws
 pub mod BandLaws

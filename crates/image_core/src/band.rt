@@ -1,6 +1,6 @@
 //! Bands of rows.
 ghost use Rattle.std.specs.Prelude.{◌≡◌};
-ghost use Rattle.image_core.specs.Bands.{all_rows};
+ghost use Rattle.image_core.specs.Bands.{all_rows, has_row};
 
 use vx_base::Desc;
 
@@ -20,5 +20,12 @@ impl Band {
             start: 0,
             count: desc.height(),
         }
+    }
+
+    /// Whether row y is one of them.
+    pub fn has_row(self, y: u16) -> bool
+        ensures { result ≡ has_row self y }
+    {
+        self.start <= y && y - self.start < self.count
     }
 }

@@ -1,32 +1,41 @@
 //! Images that are read.
-ghost use Rattle.std.specs.Prelude.{◌≡◌, ◌+◌, ◌<◌, ◌≤◌, map, length};
+ghost use Rattle.std.specs.Prelude.{◌≡◌, ◌+◌, ◌*◌, ◌<◌, ◌≤◌, map, length};
 ghost use Rattle.vx_base.specs.Image.{IsImage, image_over, description_of, run, at};
+ghost use Rattle.image_core.specs.Bands.{IsInRows, image_over_rows};
 ghost use Rattle.image_core.specs.Rows.{row_of};
 
+use crate::band::Band;
 use crate::sample::Sample;
 use crate::slice::Slice;
 use std::marker::Model;
 use vx_base::{Desc, Rect};
 
-/// The samples of an image, lent to who reads it, with its description and valid rectangle.
+/// The samples of an image, or of a band of its rows, lent to who reads it, with the description and
+/// valid rectangle of the whole image. Each sample of the other rows is read as 0.
 #[derive(Drop)]
 pub struct Image<'a> {
     desc: Desc,
     valid: Rect,
+    /// The rows whose samples there are.
+    rows: Band,
     samples: Slice<'a>,
 }
 
 impl<'a> Model for Image<'a> {
-    ghost use Rattle.std.specs.Prelude.{◌≡◌};
-    ghost use Rattle.vx_base.specs.Image.{ImageValue, IsImage, image_over};
+    ghost use Rattle.std.specs.Prelude.{◌≡◌, ◌*◌, length};
+    ghost use Rattle.vx_base.specs.Image.{ImageValue, IsImage};
+    ghost use Rattle.image_core.specs.Bands.{IsInRows, image_over_rows};
     ghost use Rattle.image_core.specs.Slices.{slice_format, slice_values};
 
     ghost Value = { ImageValue };
 
-    ghost view = { λ i. image_over i.desc i.valid (slice_values i.samples) };
+    ghost view = { λ i. image_over_rows i.desc i.valid i.rows (slice_values i.samples) };
 
-    ghost invariant = { λ i. IsImage (image_over i.desc i.valid (slice_values i.samples)) ×
-        (slice_format i.samples ≡ i.desc.format) };
+    ghost invariant = { λ i.
+        IsImage (image_over_rows i.desc i.valid i.rows (slice_values i.samples)) ×
+        (slice_format i.samples ≡ i.desc.format) ×
+        IsInRows i.desc.height i.rows ×
+        (length (slice_values i.samples) ≡ i.rows.count * i.desc.width) };
 }
 
 impl<'a> Image<'a> {
@@ -40,6 +49,24 @@ impl<'a> Image<'a> {
         Image {
             desc,
             valid,
+            rows: Band::whole(desc),
+            samples: T::lend(samples),
+        }
+    }
+
+    /// The image over the samples of these rows alone, one for each place of them. The description
+    /// and the rectangle are those of the whole image, of which each other sample is 0.
+    pub fn of_rows<T: Sample>(desc: Desc, valid: Rect, rows: Band, samples: &'a [T]) -> Image<'a>
+        requires format { desc.format ≡ T.format }
+        requires rows { IsInRows desc.height rows }
+        requires size { length samples.now ≡ rows.count * desc.width }
+        requires image { IsImage (image_over_rows desc valid rows (map T.value samples.now)) }
+        ensures { result ≡ image_over_rows desc valid rows (map T.value samples.now) }
+    {
+        Image {
+            desc,
+            valid,
+            rows,
             samples: T::lend(samples),
         }
     }
@@ -66,7 +93,10 @@ impl<'a> Image<'a> {
         ensures len { length result.now ≡ self.now.width }
     {
         let width = usize::from(self.desc.width());
-        let start = usize::from(y) * width;
+        if !self.rows.has_row(y) {
+            return T::zeros(width);
+        }
+        let start = usize::from(y - self.rows.start) * width;
         &T::lent(self.samples)[start..start + width]
     }
 

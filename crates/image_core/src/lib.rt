@@ -1,9 +1,10 @@
 //! Images over slices of samples, images that are computed place by place, and what all kernels
 //! are given.
 //!
-//! An `Image` lends the samples of an image to who reads it: its rows are those of an image value,
-//! 0 outside the valid rectangle. An `ImageMut` lends the samples of an image to who writes it, or
-//! of a `Band` of its rows. Both are read and written by the number type of the format, a `Sample`.
+//! An `Image` lends the samples of an image to who reads it, or of a `Band` of its rows: its rows are
+//! those of an image value, 0 outside the valid rectangle and in the rows that are not lent. An
+//! `ImageMut` lends the samples of an image to who writes it, or of a band of its rows. Both are read
+//! and written by the number type of the format, a `Sample`.
 //! What is computed place by place is a `Formula`, and one that needs scratch memory for that, and
 //! takes no more of a row than a piece at once, a `RowFormula`; `ImageMut::write` and
 //! `write_by_rows` write a whole image of one, or the band's rows of it: each sample, and 0 outside

@@ -1,5 +1,6 @@
 //! Number types of the samples of each format.
-ghost use Rattle.std.specs.Prelude.{◌≡◌, ◌*◌, ◌≤◌, ℕ, map, length};
+ghost use Rattle.std.specs.Prelude.{◌≡◌, ◌*◌, ◌≤◌, ℕ, pos, map, length, replicate};
+ghost use Rattle.vx_base.specs.declared.desc.TheConstants.{GREATEST_SIDE};
 ghost use Rattle.vx_base.specs.declared.format.Format.{Format};
 ghost use Rattle.vx_base.specs.declared.format.Format.TheVariants.{U8, S16, U32};
 ghost use Rattle.vx_base.specs.Rectangle.{empty};
@@ -14,7 +15,7 @@ use crate::number::Number;
 use crate::row_change::RowChange;
 use crate::rows::change_rows;
 use crate::slice::Slice;
-use vx_base::{Desc, Rect};
+use vx_base::{Desc, GREATEST_SIDE, Rect};
 
 /// The number type of a format's samples. Images are read and written by it: `Image::row` and
 /// `ImageMut::write`.
@@ -34,6 +35,11 @@ pub trait Sample: Number {
     fn lent(samples: Slice<'_>) -> &[Self]
         requires { slice_format samples ≡ format }
         ensures { map Self.value result.now ≡ slice_values samples.entry };
+
+    /// So many samples that are 0, at most as many as an image is wide.
+    fn zeros<'a>(count: usize) -> &'a [Self]
+        requires { count ≤ GREATEST_SIDE }
+        ensures { map Self.value result.now ≡ replicate count (pos 0) };
 
     /// Of the slices of an image that is written the name of the one of such samples.
     ghost slice_name: { ImageMut → ℕ };
@@ -68,6 +74,16 @@ pub trait Sample: Number {
             (written output.old).samples x y)))) }
         ensures slices { SameSlices output.old output.new };
 }
+
+/// The samples of the longest row.
+const LONGEST_ROW: usize = GREATEST_SIDE as usize;
+
+/// Rows of zeros, as long as a row can be.
+static ZERO_BYTES: [u8; LONGEST_ROW] = [0; LONGEST_ROW];
+
+static ZERO_SHORTS: [i16; LONGEST_ROW] = [0; LONGEST_ROW];
+
+static ZERO_WORDS: [u32; LONGEST_ROW] = [0; LONGEST_ROW];
 
 /// The rows of an image over one of three slices, of which the others are empty.
 macro_rules! image_mut {
@@ -114,6 +130,10 @@ impl Sample for u8 {
         lent_as!(samples, U8)
     }
 
+    fn zeros<'a>(count: usize) -> &'a [u8] {
+        &ZERO_BYTES[..count]
+    }
+
     fn lend_mut<'a>(desc: Desc, rows: Band, samples: &'a mut [u8]) -> ImageMut<'a> {
         image_mut!(desc, rows, samples, &mut [], &mut [])
     }
@@ -140,6 +160,10 @@ impl Sample for i16 {
         lent_as!(samples, S16)
     }
 
+    fn zeros<'a>(count: usize) -> &'a [i16] {
+        &ZERO_SHORTS[..count]
+    }
+
     fn lend_mut<'a>(desc: Desc, rows: Band, samples: &'a mut [i16]) -> ImageMut<'a> {
         image_mut!(desc, rows, &mut [], samples, &mut [])
     }
@@ -164,6 +188,10 @@ impl Sample for u32 {
 
     fn lent(samples: Slice<'_>) -> &[u32] {
         lent_as!(samples, U32)
+    }
+
+    fn zeros<'a>(count: usize) -> &'a [u32] {
+        &ZERO_WORDS[..count]
     }
 
     fn lend_mut<'a>(desc: Desc, rows: Band, samples: &'a mut [u32]) -> ImageMut<'a> {

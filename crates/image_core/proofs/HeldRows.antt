@@ -1,0 +1,155 @@
+-- Images of which only some rows are held.
+use Rattle.std.proofs.Common.{◌≡◌, ℕ, ℤ, pos, ◌+◌, ◌-◌, ◌*◌, ◌<◌, ◌≤◌, true, false, List, [], ◌++◌, length, map, replicate, take, drop, get_or, ap, ◌∙◌, sym, subst, arith, length-append, append-nil, ltb, inl, inr}
+use Rattle.std.proofs.lemmas.Bool.{cases_Bool, ltb-true, ltb-false}
+use Rattle.std.proofs.lemmas.Bool.Decides.{nat_tests}
+use Rattle.std.proofs.lemmas.List.{length-map, take-replicate, length-replicate, get_or-replicate, get_or-append_right, get_or_append_left}
+use Rattle.vx_base.proofs.ResultLaws.{zero_sample}
+use Rattle.vx_base.proofs.ZeroLaws.{map-replicate}
+use Rattle.vx_base.proofs.TableLaws.{length-band, run-same, run-constant, row_part, row_fits}
+use Rattle.vx_base.specs.Sample.{IsSample}
+use Rattle.vx_base.specs.Description.{Description}
+use Rattle.vx_base.specs.Rectangle.{Rectangle}
+use Rattle.vx_base.specs.Image.{ImageValue, IsImage, description_of, image_over, band, run, at}
+use Rattle.image_core.specs.declared.band.Band.{Band}
+use Rattle.image_core.specs.Bands.{IsInRows, all_rows, has_row, zero_rows, image_over_rows, held_in}
+use Rattle.image_core.specs.Rows.{row_of, sample_from}
+use Rattle.image_core.proofs.BandLaws.{place_of_band}
+
+-- the first samples of a row of zeros
+pub zeros_taken : {T : Type 0} (value : T → ℤ) (zero : T) (m n : ℕ) → value zero ≡ pos 0 → n ≤ m → map value (take n (replicate m zero)) ≡ replicate n (pos 0)
+zeros_taken value zero m n is room = ap (map value) (take-replicate n m zero room) ∙ map-replicate value n zero ∙ ap (replicate n) is
+
+no_rows : (width : ℕ) → zero_rows width 0 ≡ []
+no_rows width = let none : 0 * width ≡ 0 = omega arith in ap (λ n. replicate n (pos 0)) none
+
+-- where all rows are held
+pub all_held : (d : Description) (valid : Rectangle) (rows : Band) (held samples : List ℤ) → rows ≡ all_rows d.height → held ≡ samples → image_over_rows d valid rows held ≡ image_over d valid samples
+all_held d valid rows held samples all same =
+    let none : d.height - (0 + d.height) ≡ 0 = omega arith in
+    ap (λ r. image_over_rows d valid r held) all
+    ∙ ap (image_over d valid)
+    (ap (λ zs. zs ++ (held ++ zero_rows d.width (d.height - (0 + d.height)))) (no_rows d.width)
+    ∙ ap (λ n. held ++ zero_rows d.width n) none
+    ∙ ap (λ zs. held ++ zs) (no_rows d.width)
+    ∙ append-nil held
+    ∙ same)
+
+module _ (d : Description) (valid : Rectangle) (rows : Band) (samples : List ℤ) (room : IsInRows d.height rows) (size : length samples ≡ rows.count * d.width) where
+  abbrev width : ℕ
+  width = d.width
+
+  abbrev end : ℕ
+  end = rows.start + rows.count
+
+  abbrev above : List ℤ
+  above = zero_rows width rows.start
+
+  abbrev below : List ℤ
+  below = zero_rows width (d.height - end)
+
+  long_above : length above ≡ rows.start * width
+  long_above = length-replicate (rows.start * width) (pos 0)
+
+  -- a place for each sample
+  pub held_size : length (above ++ (samples ++ below)) ≡ d.height * width
+  held_size =
+      let parts : d.height ≡ rows.start + (rows.count + (d.height - end)) = omega arith in
+      length-append above (samples ++ below) ∙ ap (λ n. n + length (samples ++ below)) long_above
+      ∙ ap (λ n. rows.start * width + n) (length-append samples below ∙ ap (λ n. n + length below) size ∙ ap (λ n. rows.count * width + n) (length-replicate ((d.height - end) * width) (pos 0)))
+      ∙ rows_and (rows.start) rows.count (d.height - end)
+      ∙ ap (λ n. n * width) (sym parts)
+    where
+      rows_and : (a b c : ℕ) → a * width + (b * width + c * width) ≡ (a + (b + c)) * width
+      rows_and a b c = grind arith
+
+  split : (x y s : ℕ) → s ≤ y → y * width + x ≡ s * width + ((y - s) * width + x)
+  split x y s h = times (y - s) (omega arith)
+    where
+      times : (k : ℕ) → y ≡ s + k → y * width + x ≡ s * width + (k * width + x)
+      times k e = grind arith
+
+  fits : (x k n : ℕ) → k < n → x < width → k * width + x < n * width
+  fits x k n a b = grind arith
+
+  -- the sample at a place of a row that is held
+  pub at_held : (x y : ℕ) → x < width → has_row rows y ≡ true → at (image_over_rows d valid rows samples) x y ≡ sample_from width rows.start samples x y
+  at_held x y across there =
+      let from : rows.start ≤ y = grind (arith, nat_tests) in
+      let inside : y - rows.start < rows.count = grind (arith, nat_tests) in
+      let place : y * width + x ≡ rows.start * width + ((y - rows.start) * width + x) = split x y rows.start from in
+      let short : (y - rows.start) * width + x < rows.count * width = fits x (y - rows.start) rows.count inside across in
+      get_or-append_right above (samples ++ below) (rows.start * width) (y * width + x) (pos 0) long_above (omega arith)
+      ∙ ap (λ n. get_or (samples ++ below) n (pos 0)) (omega arith)
+      ∙ get_or_append_left samples below (pos 0) ((y - rows.start) * width + x) (omega arith)
+
+  -- the sample at a place of any other row
+  pub at_other : (x y : ℕ) → x < width → y < d.height → has_row rows y ≡ false → at (image_over_rows d valid rows samples) x y ≡ pos 0
+  at_other x y across low absent = elim (cases_Bool (ltb y rows.start)) [
+    | inl e ↦
+        let high : y < rows.start = ltb-true y rows.start e in
+        let short : y * width + x < rows.start * width = fits x y rows.start high across in
+        get_or_append_left above (samples ++ below) (pos 0) (y * width + x) (omega (arith, long_above))
+        ∙ get_or-replicate (rows.start * width) (y * width + x) (pos 0) (pos 0) short
+    | inr e ↦
+        let from : rows.start ≤ y = ltb-false y rows.start e in
+        let past : end ≤ y = grind (arith, nat_tests) in
+        let place : y * width + x ≡ rows.start * width + ((y - rows.start) * width + x) = split x y rows.start from in
+        let rest : (y - rows.start) * width + x ≡ rows.count * width + ((y - end) * width + x) = split x (y - rows.start) rows.count (omega arith) ∙ ap (λ n. rows.count * width + (n * width + x)) (omega arith) in
+        let short : (y - end) * width + x < (d.height - end) * width = fits x (y - end) (d.height - end) (omega arith) across in
+        get_or-append_right above (samples ++ below) (rows.start * width) (y * width + x) (pos 0) long_above (omega arith)
+        ∙ get_or-append_right samples below (rows.count * width) (y * width + x - rows.start * width) (pos 0) size (omega arith)
+        ∙ get_or-replicate ((d.height - end) * width) (y * width + x - rows.start * width - rows.count * width) (pos 0) (pos 0) (omega arith)
+  ]
+
+  -- a row that is held
+  pub row_held : {T : Type 0} (value : T → ℤ) (xs : List T) (start step y : ℕ) → map value xs ≡ samples → start ≡ (y - rows.start) * width → step ≡ width → has_row rows y ≡ true
+      → map value (take (start + step - start) (drop start xs)) ≡ row_of (image_over_rows d valid rows samples) y
+  row_held value xs start step y same begin is there =
+      let inside : y - rows.start < rows.count = grind (arith, nat_tests) in
+      row_part value xs start step width rows.count (y - rows.start) (sym (length-map xs value) ∙ ap length same ∙ size) inside begin is
+      ∙ ap (λ zs. run 0 width (λ x. sample_from width rows.start zs x y)) same
+      ∙ run-same _ _ 0 width (λ x a b. sym (at_held x y (omega arith) there))
+
+  -- any other row
+  pub row_other : (y : ℕ) → y < d.height → has_row rows y ≡ false → replicate width (pos 0) ≡ row_of (image_over_rows d valid rows samples) y
+  row_other y low absent =
+      sym (run-same (λ x. at (image_over_rows d valid rows samples) x y) (λ _. pos 0) 0 width (λ x a b. at_other x y (omega arith) low absent) ∙ run-constant (pos 0) 0 width)
+
+-- a row that is held is a part of the samples
+pub row_in_held : (rows : Band) (width y : ℕ) → has_row rows y ≡ true → (y - rows.start) * width + width ≤ rows.count * width
+row_in_held rows width y there =
+    let inside : y - rows.start < rows.count = grind (arith, nat_tests) in
+    row_fits width rows.count (y - rows.start) inside
+
+-- rows of an image, held alone
+module _ (a : ImageValue) (rows : Band) (room : IsInRows a.height rows) where
+  size : length (band a.width rows.start rows.count (at a)) ≡ rows.count * a.width
+  size = length-band a.width rows.start rows.count (at a)
+
+  -- have the image's samples
+  pub at_held_in : (x y : ℕ) → x < a.width → has_row rows y ≡ true → at (held_in rows a) x y ≡ at a x y
+  at_held_in x y across there =
+      let from : rows.start ≤ y = grind (arith, nat_tests) in
+      let to : y < rows.start + rows.count = grind (arith, nat_tests) in
+      at_held (description_of a) a.valid rows (band a.width rows.start rows.count (at a)) room size x y across there
+      ∙ place_of_band a.width rows.start rows.count x y (at a) across from to
+
+  -- and are an image
+  pub held_in_is : IsImage a → IsImage (held_in rows a)
+  held_in_is is = record {
+    sides = is.sides;
+    size = held_size (description_of a) a.valid rows (band a.width rows.start rows.count (at a)) room size;
+    ordered = is.ordered;
+    room = is.room;
+    sampled = (λ x y across low. elim (cases_Bool (has_row rows y)) [
+      | inl e ↦ subst (IsSample a.format) (sym (at_held_in x y across e)) (is.sampled x y across low)
+      | inr e ↦ subst (IsSample a.format) (sym (absent x y across low e)) (zero_sample a.format)
+    ]);
+    outside = (λ x y across low beside. elim (cases_Bool (has_row rows y)) [
+      | inl e ↦ at_held_in x y across e ∙ is.outside x y across low beside
+      | inr e ↦ absent x y across low e
+    ]);
+  }
+    where
+      absent : (x y : ℕ) → x < a.width → y < a.height → has_row rows y ≡ false → at (held_in rows a) x y ≡ pos 0
+      absent x y across low e = at_other (description_of a) a.valid rows (band a.width rows.start rows.count (at a)) room size x y across low e
