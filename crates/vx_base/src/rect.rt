@@ -1,6 +1,6 @@
 //! Rectangles of places.
 ghost use Rattle.std.specs.Prelude.{◌≡◌};
-ghost use Rattle.vx_base.specs.Rectangle.{rectangle, empty, meet_of, IsRectangle, IsOrdered};
+ghost use Rattle.vx_base.specs.Rectangle.{rectangle, empty, meet_of, shrunk, IsRectangle, IsOrdered};
 
 use std::marker::Model;
 
@@ -66,6 +66,20 @@ impl Rect {
     {
         let (x0, x1) = (self.x0.max(other.x0), self.x1.min(other.x1));
         let (y0, y1) = (self.y0.max(other.y0), self.y1.min(other.y1));
+        if x0 < x1 && y0 < y1 {
+            Rect { x0, y0, x1, y1 }
+        } else {
+            Rect::empty()
+        }
+    }
+
+    /// Returns the places whose window of radius `rx` across and `ry` down, in pixels, lies wholly in
+    /// this rectangle: where the output of a window function is valid under an undefined border.
+    pub fn shrink(self, rx: u16, ry: u16) -> Rect
+        ensures { result ≡ shrunk self rx ry }
+    {
+        let (x0, x1) = (self.x0.saturating_add(rx), self.x1.saturating_sub(rx));
+        let (y0, y1) = (self.y0.saturating_add(ry), self.y1.saturating_sub(ry));
         if x0 < x1 && y0 < y1 {
             Rect { x0, y0, x1, y1 }
         } else {

@@ -93,7 +93,7 @@ impl Samples {
 
     /// Each of them is a sample of their format. Only the prover learns something: it knows of a
     /// signed number that it has 16 bits once that is read. Nothing is done when this runs.
-    pub(crate) fn are_samples(&self)
+    pub fn are_samples(&self)
         ensures { All (IsSample (samples_format self.now)) (values self.now) }
     {
         match self {
@@ -121,7 +121,9 @@ fn are_words(samples: &[u32])
     ensures { All (IsSample U32) (map pos samples.now) }
 {}
 
-pub(crate) fn are_shorts(samples: &[i16])
+/// Each item is a sample of S16. Only the prover learns something, by reading each; the compiler
+/// removes the loop.
+pub fn are_shorts(samples: &[i16])
     ensures { All (IsSample S16) samples.now }
 {
     for sample in samples {
