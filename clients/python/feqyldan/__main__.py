@@ -23,7 +23,7 @@ from .graph_files import GraphFile, drawing_of_file, read_graph
 from .images import AnyImage
 from .objects import Distribution, MinMax
 from .pictures import write_png
-from .samples import numpy_module
+from .samples import needed_numpy, numpy_module
 from .server import Server, connect
 
 DESCRIPTION = "Runs a graph that Graph.save() wrote on pictures, or draws it."
@@ -147,10 +147,18 @@ class Report:
             stem = os.path.splitext(os.path.basename(path))[0]
             for name in self._images:
                 ending = f".{name}" if len(self._images) > 1 else ""
-                write_png(os.path.join(self._folder, f"{stem}{ending}.png"), values[name])
+                write(os.path.join(self._folder, f"{stem}{ending}"), values[name])
         if self._lines is not None:
             self._lines.writerow([path, *(number for value in values.values()
                                           for number in numbers_in(value))])
+
+
+def write(path: str, picture: Any) -> None:
+    """Writes a PNG file; where PNG hasn't the samples, negative ones and U32, one of NumPy's."""
+    try:
+        write_png(f"{path}.png", picture)
+    except ValueError:
+        needed_numpy(f"{path}.npy").save(f"{path}.npy", picture)
 
 
 def columns_of(outputs: Dict[str, Any]) -> Iterator[str]:

@@ -65,10 +65,16 @@ def _key_of(drawing: Drawing, cell: Cell) -> str:
     """The key of an object, whose box is drawn once."""
     key = f"object{cell.reference.hex()}"
     title, _, about = cell.words.partition(" (")
-    label = title.split('"')[1] if '"' in title else title
+    slot, _, delay = title.partition(" of ")
+    label = _label_in(title) if not delay else f"{_label_in(delay)}[{slot.split()[1]}]"
     drawing.boxes.setdefault(key, Box(key, label, about.rstrip(")"),
                                       "virtual" if cell.is_virtual else "object"))
     return key
+
+
+def _label_in(words: str) -> str:
+    """The label that the words of an object have; without one its kind and number."""
+    return words.split('"')[1] if '"' in words else words
 
 
 def _quoted(words: str) -> str:

@@ -209,7 +209,7 @@ def _entered(drawing: Drawing, name: str, objects: Dict[str, Any]) -> str:
 
 def told_by(path: Path) -> Dict[str, Any]:
     """What a file says, which has objects and nodes."""
-    with open(path, encoding="utf-8") as file:
+    with open(path, "rb") as file:
         text = file.read()
     try:
         told = json.loads(text)

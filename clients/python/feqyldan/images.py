@@ -82,8 +82,11 @@ class AnyImage(Readable):
         given = samples_of(samples, Size(self.fmt, self.width, self.height))
         words = f"write {given.width} by {given.height} {given.fmt} samples to {self}"
         sides_of_frame(given.width, given.height)
+        shape = given.height, given.width
         self.context.tell(words, wire.write_image_head, self.reference, *given[:3],
-                          content=given.content)
+                          content=given.content,
+                          explain=lambda code: "" if code != wire.INVALID_DIMENSION else (
+                              f"The samples have the shape {shape}, and the image {self.shape}."))
 
     def fill(self, value: int) -> None:
         """Writes one value to all samples, after which the image is wholly valid."""

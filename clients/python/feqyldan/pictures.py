@@ -77,8 +77,9 @@ def write_png(path: Path, picture: Any) -> None:
     without negative samples; coloured of shape (height, width, 3), red, green and blue from 0 to
     255.
     """
+    content = png(picture)
     with open(path, "wb") as file:
-        file.write(png(picture))
+        file.write(content)
 
 
 def png(picture: Any) -> bytes:

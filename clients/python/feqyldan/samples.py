@@ -208,10 +208,10 @@ def _bytes_of(pixels: Any, numpy: Any) -> memoryview:
 
 def _hint_at(shape: Tuple[int, ...]) -> str:
     """What to do with an array of a shape that isn't that of a picture."""
-    if shape[2:] in ((3,), (4,)):
-        return ": make a grey one of it, as by cv2.cvtColor(array, cv2.COLOR_BGR2GRAY)"
     if len(shape) == 3 and shape[0] == 1:
         return ": that is a batch of one picture, which is array[0]"
+    if shape[2:] in ((3,), (4,)):
+        return ": make a grey one of it, as by cv2.cvtColor(array, cv2.COLOR_BGR2GRAY)"
     return ""
 
 

@@ -140,8 +140,8 @@ class TestEachLine(unittest.TestCase):
     """An exception before each line of a connection's code in turn."""
 
     def exchange(self, interrupted_at):
-        """Whether it was interrupted. Four requests of two lengths, whose replies differ, over pipes
-        that hold all requests, and a part of the replies."""
+        """Whether it was interrupted. Four requests of two lengths, whose replies differ, over
+        pipes that hold all requests, and a part of the replies."""
         (theirs, writer), (reader, ours) = os.pipe(), os.pipe()
         enlarge(writer)
         connection = Connection(writer, reader, lambda _: vx.ServerEnded("ended"), lambda: None)

@@ -157,8 +157,8 @@ class TestStreams(StationTest):
         self.graph.min_max_loc(self.part, extremes)
         self.graph.histogram(self.part, counts)
         pictures = [self.picture(3), self.picture(4)]
-        found = [values for _, values in self.graph.stream(pictures, self.part,
-                                                          [extremes, counts, self.out])]
+        outs = extremes, counts, self.out
+        found = [values for _, values in self.graph.stream(pictures, self.part, outs)]
         self.assertEqual([(one.max, count, out[0, 0]) for one, count, out in found],
                          [(3, (24,), 3), (4, (24,), 4)])
         self.assertEqual([one.max for _, one in self.graph.stream(pictures, self.part, extremes)],

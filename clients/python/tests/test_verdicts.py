@@ -77,8 +77,8 @@ class TestWords(ProgramTest):
         self.graph.not_(between, self.target)
         self.graph.add(self.source, self.source, vx.WRAP, between)
         self.says(vx.InvalidFormat,
-                  "Node 1, not_(virtual image 4 (open), image 2 (U8, 3 by 1)): not_ takes U8 to U8. "
-                  "Virtual image 4 (open) is S16, 3 by 1, because node 2, add, writes it and its "
+                  "Node 1, not_(virtual image 4 (open), image 2 (U8, 3 by 1)): not_ takes U8 to U8."
+                  " Virtual image 4 (open) is S16, 3 by 1, because node 2, add, writes it and its "
                   "format is open; graph.virtual_image(vx.U8) has one.")
 
     def test_sizes(self):
