@@ -53,7 +53,7 @@ def formats_in_words(function: str) -> str:
     """Which formats a function takes together."""
     outputs = sorted({formats[2] for formats in TAKEN[function]}, key=lambda fmt: fmt or 0)
     words = "; ".join(f"{_inputs_in_words(function, output)}{f' to {output}' if output else ''}"
-                        for output in outputs)
+                      for output in outputs)
     if function in _PARAMETERS:
         words += f", and {_PARAMETERS[function]} of the input's format"
     return words

@@ -3,6 +3,7 @@ right. Those of the other documents are in test_examples.py, test_against_cv2.py
 test_broker_programs.py."""
 
 import asyncio
+import collections.abc
 import importlib.util
 import os
 import re
@@ -19,6 +20,7 @@ from test_pictures import decoded
 
 numpy = samples.numpy_module()
 PROGRAMS = programs_in("docs", "python.md")
+TYPES = {name: getattr(collections.abc, name) for name in ("Callable", "Iterable", "Iterator")}
 WIDTH, HEIGHT = 640, 480
 needs_numpy = unittest.skipUnless(numpy, "NumPy isn't installed")
 
@@ -93,7 +95,8 @@ class TestParts(ProgramTest):
     def setUp(self):
         super().setUp()
         self.camera, self.out = (self.context.image(vx.U8, WIDTH, HEIGHT) for _ in range(2))
-        self.names = {"vx": vx, "context": self.context, "camera": self.camera, "out": self.out}
+        self.names = {"vx": vx, "context": self.context, "camera": self.camera, "out": self.out,
+                      **TYPES}
 
     def run_part(self, heading, which=0, **names):
         """What it calls its results."""
@@ -142,7 +145,7 @@ class TestParts(ProgramTest):
             camera, out = (context.image(vx.U8, WIDTH, HEIGHT) for _ in range(2))
             graph = context.graph()
             graph.not_(camera, out)
-            return graph, camera, out
+            return vx.Station(graph, camera, out)
 
         on_servers = self.run_part("Streams", 1)["on_servers"]
         with vx.Server() as one, vx.Server() as other:
@@ -175,7 +178,7 @@ SIDE = 40
 class TestRecipes(ProgramTest):
     def setUp(self):
         super().setUp()
-        self.names = {"vx": vx, "numpy": numpy}
+        self.names = {"vx": vx, "numpy": numpy, **TYPES}
         for programs in PROGRAMS.values():
             for program in programs:
                 if program.startswith(("def ", "class ")):
