@@ -62,7 +62,7 @@ def pack(folder):
     wheel's name."""
     subprocess.run([sys.executable, "-c", "from setuptools import setup\nsetup()", "-q",
                     "egg_info"], check=True)
-    about = {"METADATA": read("feqyldan.egg-info", "PKG-INFO"), "LICENSE": read("LICENSE"),
+    about = {"METADATA": metadata(), "LICENSE": read("LICENSE"),
              "entry_points.txt": read("feqyldan.egg-info", "entry_points.txt"),
              "top_level.txt": read("feqyldan.egg-info", "top_level.txt"),
              "WHEEL": b"Wheel-Version: 1.0\nGenerator: build_in_copy\nRoot-Is-Purelib: true\n"
@@ -81,6 +81,22 @@ def pack(folder):
             archive.writestr(path, content)
         archive.writestr(record, f"{records}{record},,\n")
     return f"{name}-py3-none-any.whl"
+
+
+def metadata():
+    """What setuptools says of the package. Before 67.8 it leaves the packages that the extras want
+    to the package wheel, and lists them in a file of its own."""
+    said = read("feqyldan.egg-info", "PKG-INFO").decode()
+    if "\nRequires-Dist:" in said:
+        return said.encode()
+    lines, extra = [], ""
+    for line in read("feqyldan.egg-info", "requires.txt").decode().split():
+        if line.startswith("["):
+            extra = line.strip("[]")
+        else:
+            lines.append(f"Requires-Dist: {line} ; extra == '{extra}'\n")
+    head, blank, text = said.partition("\n\n")
+    return f"{head}\n{''.join(lines)}{blank[1:]}{text}".encode()
 
 
 def sources():
