@@ -47,10 +47,12 @@ class Format(IntEnum):
 
     @property
     def sample_bytes(self) -> int:
-        return wire.sample_bytes(self)
+        # 1, 2 and 4: asked for with each frame.
+        return 1 << self._value_ - 1
 
     def __str__(self) -> str:
-        return self.name
+        # `name` is worked out each time that it is asked for, and these words are for each frame.
+        return self._name_
 
 
 def format_of(value: Any) -> Format:

@@ -13,12 +13,14 @@ import os
 import random
 import signal
 import sys
+import time
 import unittest
 
 from program import PROGRAM, ProgramTest, answering, needs_program, vx
 from feqyldan import wire
 from feqyldan.connection import Connection, Request
 from feqyldan.pipes import enlarge
+from test_processes import ProcessTest
 
 OPENED = wire.reply_frame(0, wire.OPEN_CONTEXT)
 SIZES = (16, 16), (640, 480), (1280, 720)
@@ -208,6 +210,43 @@ class TestEachLine(unittest.TestCase):
         while self.exchange(number):
             number += 1
         self.assertGreater(number, 100)
+
+
+LOOP = """
+import sys
+import feqyldan as vx
+
+with vx.Server(sys.argv[1]) as server, server.context() as context:
+    part, out = (context.image(vx.U8, 1280, 720) for _ in range(2))
+    graph = context.graph()
+    graph.not_(part, out)
+    picture = bytes(1280 * 720)
+    try:
+        print(server._process.pid, flush=True)
+        while True:
+            part.write(picture)
+            graph.process()
+            out.read()
+    except KeyboardInterrupt:
+        print("interrupted", flush=True)
+print("ended well", flush=True)
+"""
+
+
+@needs_program
+class TestPrograms(ProcessTest):
+    def test_ctrl_c_in_the_plainest_loop(self):
+        """It ends well, and no server is left."""
+        chance = random.Random(5)
+        for _ in range(5):
+            client = self.start(LOOP)
+            server = int(self.line_of(client)[0])
+            time.sleep(chance.uniform(0.01, 0.05))
+            os.killpg(client.pid, signal.SIGINT)
+            self.assertEqual(self.line_of(client), ["interrupted"])
+            self.assertEqual(self.line_of(client), ["ended", "well"])
+            self.assertEqual(client.wait(60), 0)
+            self.ends(server)
 
 
 class TestQuietEnds(ProgramTest):
