@@ -116,8 +116,8 @@ class AnyImage(Readable):
 
     def save(self, path: Path) -> None:
         """
-        Writes the picture to a file by the ending of its name: .pgm and .png by this package, .npy
-        by NumPy, any other by OpenCV or PIL, where one of them is installed.
+        Writes the picture to a file by the ending of its name: .pgm, .png and NumPy's .npy by this
+        package, any other by OpenCV or PIL, where one of them is installed.
         """
         save(path, self)
 

@@ -141,6 +141,8 @@ def samples_of(value: Any, size: Optional[Size] = None) -> Samples:
     have them, are of the size that is given, and stand in this machine's byte order; so are rows of
     numbers of its format, which is U8 where none is given.
     """
+    if isinstance(value, Readable):
+        value = value.read()
     if is_array(value):
         return _of_array(_unmasked(value), size)
     try:
