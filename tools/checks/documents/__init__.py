@@ -1,0 +1,36 @@
+"""Checks of the documents: that what they name exists, and how they are written."""
+
+import glob
+import os
+from typing import Iterator
+
+from . import names, prose, surface, tree
+
+
+def found() -> Iterator[str]:
+    """Each fault, as FILE:LINE and what is wrong."""
+    known = tree.names()
+    for path in names.DOCUMENTS:
+        for line, name in names.stale(tree.read(path), known):
+            yield f"{path}:{line}: `{name}` is defined nowhere: name what there is now"
+    for crate, name, wrong in surface.faults(tree.read(surface.LIST),
+                                             tree.read(surface.DECISIONS)):
+        yield f"{surface.DECISIONS}: `{name}` of {crate} {wrong}"
+    pages = sorted(glob.glob(f"{tree.ROOT}/docs/*.md"))
+    for path in ["README.md", "CONTRIBUTING.md", "CHANGELOG.md", "SECURITY.md",
+                 *(os.path.relpath(page, tree.ROOT) for page in pages)]:
+        if path not in prose.NOT_YET:
+            for line, wrong in prose.faults(tree.read(path)):
+                yield f"{path}:{line}: {wrong}"
+
+
+def main() -> int:
+    """Prints the faults, and gives the status that the command ends with."""
+    faults = list(found())
+    for fault in faults:
+        print(fault)
+    count = len(surface.expected(tree.read(surface.LIST)))
+    if not faults:
+        print(f"check_documents: every name is there, in {len(names.DOCUMENTS)} documents and of "
+              f"{count} crates, and no sentence is too long")
+    return 1 if faults else 0
