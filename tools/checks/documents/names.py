@@ -10,7 +10,7 @@ DOCUMENTS = ["README.md", "CONTRIBUTING.md", "docs/architecture.md", "docs/model
 # What others define: the toolchain, the language, tools of the system.
 FOREIGN = {
     "rt", "rattle-kit-13f", "ensures", "requires", "unfolding", "search", "grind", "proves",
-    "file:", "old:", "new:", "clap", "thiserror", "itoa", "assert", "assert_eq", "Option", "List",
+    "file:", "old:", "new:", "no", "TheVariants", "clap", "thiserror", "itoa", "assert", "assert_eq", "Option", "List",
     "Bool", "Type", "pos", "negsuc", "poll", "objdump", "cc",
 }
 # The names of OpenVX, and words that stand for any name or path.
