@@ -39,7 +39,7 @@ def units(text: str) -> Iterator[Tuple[int, str]]:
 
 def plain(text: str) -> str:
     """Without the marks of links and emphasis; what stands in backquotes is one word."""
-    text = re.sub(r"`[^`]*`", "code", text)
+    text = re.sub(r"`[^`]*`", "Code", text)
     return re.sub(r"!?\[([^\]]*)\]\([^)]*\)", r"\1", text).replace("**", "")
 
 
