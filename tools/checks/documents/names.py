@@ -10,8 +10,8 @@ DOCUMENTS = ["README.md", "CONTRIBUTING.md", "docs/architecture.md", "docs/model
 # What others define: the toolchain, the language, tools of the system.
 FOREIGN = {
     "rt", "rattle-kit-13f", "ensures", "requires", "unfolding", "search", "grind", "proves",
-    "file:", "old:", "new:", "no", "TheVariants", "clap", "thiserror", "itoa", "assert", "assert_eq", "Option", "List",
-    "Bool", "Type", "pos", "negsuc", "poll", "objdump", "cc",
+    "file:", "old:", "new:", "no", "TheVariants", "clap", "thiserror", "itoa", "assert",
+    "assert_eq", "Option", "List", "Bool", "Type", "pos", "negsuc", "poll", "objdump", "cc",
 }
 # The names of OpenVX, and words that stand for any name or path.
 FREE = re.compile(r"vx[A-Z]|VX_|vx_\w+_[et]$|Rattle\.|[A-Z]+$|.*(^|/)[A-Z]+(/|$)|.*\*")

@@ -3,11 +3,12 @@
 import functools
 import os
 import re
-import subprocess
 from typing import Iterator, List, Set
 
 ROOT = os.path.realpath(os.path.join(os.path.dirname(os.path.abspath(__file__)), "../../.."))
 NAME = r"[A-Za-z_][\w']*"
+# Folders that a build or a tool leaves.
+BUILT = {".git", "out", "build", "__pycache__", ".mypy_cache"}
 
 # A definition in each language; the last group is its name.
 RATTLE = [
@@ -38,10 +39,12 @@ def read(path: str) -> str:
 
 @functools.lru_cache(maxsize=None)
 def files() -> List[str]:
-    """Every file of the repository, by its path from the root."""
-    listed = subprocess.run(["git", "ls-files", "-co", "--exclude-standard"], cwd=ROOT, check=True,
-                            stdout=subprocess.PIPE, text=True).stdout.split("\n")
-    return [path for path in listed if path and os.path.isfile(os.path.join(ROOT, path))]
+    """Every file of the repository, by its path from the root, but for what is built."""
+    found = []
+    for folder, inner, names_here in os.walk(ROOT):
+        inner[:] = [name for name in inner if name not in BUILT]
+        found += [os.path.relpath(os.path.join(folder, name), ROOT) for name in names_here]
+    return found
 
 
 def is_code(path: str) -> bool:
