@@ -11,7 +11,8 @@ def found() -> Iterator[str]:
     """Each fault, as FILE:LINE and what is wrong."""
     known = tree.names()
     for path in names.DOCUMENTS:
-        for line, name in names.stale(tree.read(path), known):
+        text = tree.read(path).partition(f"\n## {surface.SECTION}\n")[0]
+        for line, name in names.stale(text, known):
             yield f"{path}:{line}: `{name}` is defined nowhere: name what there is now"
     for crate, name, wrong in surface.faults(tree.read(surface.LIST),
                                              tree.read(surface.DECISIONS)):

@@ -5,16 +5,17 @@ from typing import Iterator, Set, Tuple
 
 # Documents that speak of the code as it is. What docs/DECISIONS.md says isn't there is for
 # `surface`.
-DOCUMENTS = ["README.md", "CONTRIBUTING.md", "docs/architecture.md", "docs/model.md",
-             "docs/proved.md", "docs/roadmap.md"]
-# What others define: the toolchain, the language, tools of the system.
+DOCUMENTS = ["README.md", "CONTRIBUTING.md", "docs/DECISIONS.md", "docs/architecture.md",
+             "docs/limits.md", "docs/model.md", "docs/proved.md", "docs/roadmap.md"]
+# What others define: the toolchain, the languages, tools of the system.
 FOREIGN = {
     "rt", "rattle-kit-13f", "ensures", "requires", "unfolding", "search", "grind", "proves",
     "file:", "old:", "new:", "no", "TheVariants", "clap", "thiserror", "itoa", "assert",
     "assert_eq", "Option", "List", "Bool", "Type", "pos", "negsuc", "poll", "objdump", "cc",
+    "impl", "Clone", "AllocError", "BufWriter", "GLIBC_TUNABLES", "tolist",
 }
 # The names of OpenVX, and words that stand for any name or path.
-FREE = re.compile(r"vx[A-Z]|VX_|vx_\w+_[et]$|Rattle\.|[A-Z]+$|.*(^|/)[A-Z]+(/|$)|.*\*")
+FREE = re.compile(r"vx[A-Z]|VX_|vx_\w+_[et]$|Rattle\.|(.*/)?(NAME|PATH|CRATE|WORD)(/|$)|.*\*")
 
 
 def spans(text: str) -> Iterator[Tuple[int, str]]:
