@@ -3,7 +3,7 @@
 import unittest
 
 from program import HERE  # noqa: F401  (has the tools on the path)
-from checks.documents import names, prose, surface, tree
+from checks.documents import links, names, prose, surface, tree
 
 
 class TestNames(unittest.TestCase):
@@ -61,6 +61,19 @@ class TestSurface(unittest.TestCase):
 
     def test_a_private_call_does_not_count(self):
         self.assertEqual(self.found("graph_run: run_step\n", ""), [("graph_run", "run_step")])
+
+
+class TestLinks(unittest.TestCase):
+    def broken(self, text):
+        return [target for _, target in links.broken("docs/wire.md", text)]
+
+    def test_a_link_that_leads_nowhere_is_found(self):
+        self.assertEqual(self.broken("[a](gone.md), [b](wire.md#gone)\n\n[c]: ../gone\n"),
+                         ["gone.md", "wire.md#gone", "../gone"])
+
+    def test_a_link_that_leads_somewhere_is_not(self):
+        self.assertEqual(self.broken("[a](../README.md#read-on) [b](#here) [c](http://x.example)\n"
+                                     "\n## Here\n"), [])
 
 
 class TestProse(unittest.TestCase):

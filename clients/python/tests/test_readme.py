@@ -1,6 +1,7 @@
 """Each command in README.md works, pasted in the order of the page."""
 
 import os
+import re
 import subprocess
 import tempfile
 import unittest
@@ -13,11 +14,15 @@ from test_pictures import decoded
 NOT_PASTED = ["tools/test"]
 
 
+def text_of(*path):
+    with open(os.path.join(ROOT, *path), encoding="utf-8") as file:
+        return file.read()
+
+
 def commands():
     """The lines of README.md that are set off by four blanks and stand in no program, without their
     comments."""
-    with open(os.path.join(ROOT, "README.md"), encoding="utf-8") as file:
-        text = "".join(file.read().split("```")[::2])
+    text = "".join(text_of("README.md").split("```")[::2])
     return [line.partition(" #")[0].strip() for line in text.splitlines()
             if line.startswith("    ")]
 
@@ -25,6 +30,12 @@ def commands():
 class TestCommands(unittest.TestCase):
     def test_two_do_the_set_up(self):
         self.assertEqual(commands()[:2], ["examples/run", "tools/test"])
+
+    def test_the_toolchain_is_the_one_that_is_trusted(self):
+        names = [re.findall(r"rattle-kit-\S+ logic [0-9a-f]+", text_of(*path))
+                 for path in (("README.md",), ("docs", "proved.md"))]
+        self.assertEqual(names[0], names[1])
+        self.assertEqual(len(names[0]), 1)
 
     def test_what_is_not_pasted_is_there(self):
         for command in NOT_PASTED:

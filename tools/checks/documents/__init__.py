@@ -1,10 +1,13 @@
 """Checks of the documents: that what they name exists, and how they are written."""
 
-import glob
-import os
 from typing import Iterator
 
-from . import names, prose, surface, tree
+from . import links, names, prose, surface, tree
+
+
+def pages() -> Iterator[str]:
+    """Every document of the repository."""
+    return (path for path in sorted(tree.files()) if path.endswith(".md"))
 
 
 def found() -> Iterator[str]:
@@ -17,9 +20,9 @@ def found() -> Iterator[str]:
     for crate, name, wrong in surface.faults(tree.read(surface.LIST),
                                              tree.read(surface.DECISIONS)):
         yield f"{surface.DECISIONS}: `{name}` of {crate} {wrong}"
-    pages = sorted(glob.glob(f"{tree.ROOT}/docs/*.md"))
-    for path in ["README.md", "CONTRIBUTING.md", "CHANGELOG.md", "SECURITY.md",
-                 *(os.path.relpath(page, tree.ROOT) for page in pages)]:
+    for path in pages():
+        for line, target in links.broken(path, tree.read(path)):
+            yield f"{path}:{line}: the link to {target} leads nowhere"
         if path not in prose.NOT_YET:
             for line, wrong in prose.faults(tree.read(path)):
                 yield f"{path}:{line}: {wrong}"
@@ -33,5 +36,5 @@ def main() -> int:
     count = len(surface.expected(tree.read(surface.LIST)))
     if not faults:
         print(f"check_documents: every name is there, in {len(names.DOCUMENTS)} documents and of "
-              f"{count} crates, and no sentence is too long")
+              f"{count} crates; each link leads somewhere; no sentence is too long")
     return 1 if faults else 0
