@@ -51,6 +51,8 @@ class Loop:
         self.graph = context.graph()
         self.graph.not_(self.part, self.out)
         self.pictures = [bytes([shade]) * (width * height) for shade in (10, 20, 30)]
+        # NumPy is imported by now: an import may swallow an interruption.
+        self.one(self.pictures[0])
 
     def run(self):
         while True:
@@ -106,7 +108,9 @@ class TestAtRandom(unittest.TestCase):
                         after(chance.uniform(1e-6, LATEST))
                         while True:
                             context.image(vx.U8, 300, 300)
-                    context.image(vx.U8, 400, 400)
+                    # The reply to what was interrupted comes first.
+                    context.min_max()
+                    context.image(vx.U8, 600, 600)
 
     def test_a_stream_goes_on(self):
         chance = random.Random(3)
@@ -274,7 +278,7 @@ def by_hand(times):
             seed = random.randrange(2**32)
             interrupt_often(times // 2, width, height, in_pipeline, seed)
             print(f"{width}x{height}, {'a pipeline each' if in_pipeline else 'each call waits'}: "
-                  f"{times // 2} interruptions, and the context goes on (seed {seed})")
+                  f"{times // 2} interruptions, and the context goes on (seed {seed})", flush=True)
 
 
 if __name__ == "__main__":
