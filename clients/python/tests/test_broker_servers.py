@@ -22,7 +22,7 @@ from broker_tools import (
     CLIENT, HERE, LATE, PACKAGE, PLAIN, PROGRAM, Broker, BrokerTest, Gate, Program, all_of, plain,
     success)
 from feqyldan import wire
-from feqyldan.broker import machine
+from feqyldan.service import machine
 from feqyldan.broker.command_line import memory_each, parser, servers_unless_told
 from feqyldan.broker.loop import END_SECONDS
 from plain_server import EXIT, HOLD, MANY_BYTES, MISTAKE, REFUSE, WHO_ASKED
@@ -406,6 +406,7 @@ class Status(BrokerTest):
             ("turned_away_total", connections["turned_away"]),
             ("requests_total", state["requests"]), ("request_bytes_total", state["bytes_in"]),
             ("reply_bytes_total", state["bytes_out"]),
+            ("held_bytes", state["bytes_held"]),
             ("longest_request_seconds", state["longest_request_seconds"]),
             ("servers_ended_total", state["servers_ended"]))})
 
