@@ -6,6 +6,7 @@ import shutil
 import socket
 import struct
 import subprocess
+from functools import partial
 from typing import Any, Dict, List, NamedTuple, Optional, Tuple
 
 from .. import program
@@ -88,17 +89,20 @@ class Server:
         set_time(sock, socket.SO_SNDTIMEO, plan.patience)
         if plan.idle is not None:
             set_time(sock, socket.SO_RCVTIMEO, plan.idle)
-        user: Dict[str, Any] = user_of(sock) if plan.is_of_peer else {}
         # In a session of its own: what ends the door from a terminal doesn't reach it. What it says
         # is said of its status too.
-        process = subprocess.Popen(words, stdin=sock.fileno(), stdout=sock.fileno(),
-                                   stderr=subprocess.DEVNULL, start_new_session=True, **user)
+        started: Dict[str, Any] = {
+            "stdin": sock.fileno(), "stdout": sock.fileno(), "stderr": subprocess.DEVNULL,
+            "start_new_session": True}
+        if plan.is_of_peer:
+            # Another user's process isn't this one's to limit, once it runs.
+            started.update(user_of(sock), preexec_fn=partial(limit, 0, plan))
+        process = subprocess.Popen(words, **started)
         self.process = process.pid
         # The door waits for all of its children together.
         process.returncode = 0
-        limit_memory(self.process, plan.memory)
-        if plan.nice:
-            be_nice(self.process, plan.nice)
+        if not plan.is_of_peer:
+            limit(self.process, plan)
 
     def __str__(self) -> str:
         return f"the server of process {self.process} for {self.owner}"
@@ -126,12 +130,15 @@ def user_of(sock: socket.socket) -> Dict[str, Any]:
     return {"user": user, "group": group, "extra_groups": ()}
 
 
-def be_nice(process: int, nice: int) -> None:
-    """Its session may be a group of its own to the scheduler, which is as nice by itself."""
-    with contextlib.suppress(OSError):
-        os.setpriority(os.PRIO_PROCESS, process, nice)
-        with open(f"/proc/{process}/autogroup", "w") as file:
-            file.write(str(nice))
+def limit(process: int, plan: Plan) -> None:
+    """Limits a process, or this one where the number is 0."""
+    limit_memory(process, plan.memory)
+    if plan.nice:
+        with contextlib.suppress(OSError):
+            os.setpriority(os.PRIO_PROCESS, process, plan.nice)
+            # Its session may be a group of its own to the scheduler, which is as nice by itself.
+            with open(f"/proc/{process or 'self'}/autogroup", "w") as file:
+                file.write(str(plan.nice))
 
 
 def processor_seconds_of(process: int) -> float:
