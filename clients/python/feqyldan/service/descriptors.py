@@ -12,7 +12,7 @@ import contextlib
 import os
 import signal
 import socket
-from typing import List, Optional, Tuple
+from typing import Iterator, List, Optional, Tuple
 
 SO_PASSRIGHTS = 83
 # A message has at most so many descriptors.
@@ -53,24 +53,37 @@ class Descriptors:
         for level, kind, data in sent:
             if (level, kind) == (socket.SOL_SOCKET, socket.SCM_RIGHTS):
                 descriptors = array.array("i", data)
-                self.hand_over(list(descriptors))
-                for descriptor in descriptors:
-                    os.close(descriptor)
+                with self.held_elsewhere(list(descriptors)):
+                    for descriptor in descriptors:
+                        os.close(descriptor)
 
     def close(self, sock: socket.socket) -> None:
         """Closes a connection, in which descriptors may wait that nobody has read."""
-        if not self.are_refused and sock.fileno() >= 0:
-            self.hand_over([sock.fileno()])
-        sock.close()
+        if self.are_refused or sock.fileno() < 0:
+            sock.close()
+        else:
+            # The other end sees it now, whenever the last copy is closed.
+            with contextlib.suppress(OSError):
+                sock.shutdown(socket.SHUT_RDWR)
+            with self.held_elsewhere([sock.fileno()]):
+                sock.close()
 
-    def hand_over(self, descriptors: List[int]) -> None:
-        """Sees to it that the last copy of each is closed elsewhere."""
-        for _ in range(2):
-            self.closer = self.closer or Closer()
-            if self.closer.take(descriptors):
-                return
-            # It hangs.
+    @contextlib.contextmanager
+    def held_elsewhere(self, descriptors: List[int]) -> Iterator[None]:
+        """Descriptors that are closed within it are closed once more after it, by another process,
+        which has the last copy of each."""
+        if not self.hand_over(descriptors):
+            # It hangs, or has ended.
             self.end()
+            self.hand_over(descriptors)
+        yield
+        if self.closer is not None and not self.closer.take([]):
+            self.end()
+
+    def hand_over(self, descriptors: List[int]) -> bool:
+        with contextlib.suppress(OSError):
+            self.closer = self.closer or Closer()
+        return self.closer is not None and self.closer.take(descriptors)
 
     def end(self) -> None:
         if self.closer is not None:
@@ -79,7 +92,7 @@ class Descriptors:
 
 
 class Closer:
-    """A process that closes what it is sent."""
+    """A process that closes what it is sent, once it is sent a message without descriptors."""
 
     def __init__(self) -> None:
         self.sock, theirs = socket.socketpair(socket.AF_UNIX, socket.SOCK_SEQPACKET)
@@ -111,12 +124,13 @@ def close_all_sent(source: socket.socket) -> None:
     signal.set_wakeup_fd(-1)
     for which in (signal.SIGTERM, signal.SIGINT, signal.SIGHUP):
         signal.signal(which, signal.SIG_IGN)
-    kept = os.dup2(source.fileno(), 3)
+    commands = socket.socket(fileno=os.dup2(source.fileno(), 3))
     os.closerange(4, os.sysconf("SC_OPEN_MAX"))
-    commands = socket.socket(fileno=kept)
+    held: List[int] = []
     while True:
         data, descriptors, _, _ = socket.recv_fds(commands, 1, MOST_SENT)
         if not data:
             return
-        for descriptor in descriptors:
-            os.close(descriptor)
+        held += descriptors
+        while held and not descriptors:
+            os.close(held.pop())
