@@ -196,6 +196,12 @@ class Broker:
         self.process = subprocess.Popen([*words, *(command or PLAIN)], stderr=stderr or self.log,
                                         env=environment, start_new_session=True)
 
+    def __enter__(self) -> "Broker":
+        return self
+
+    def __exit__(self, *_: object) -> None:
+        self.close()
+
     def words(self) -> str:
         """What it has written to standard error so far."""
         with open(self.log.name) as log:
