@@ -73,9 +73,12 @@ class TestPipelines(ProgramTest):
                 image.write([[1, 2]])
                 image.write([[1, 2, 3]])
                 result, pgm = ahead.read(image), ahead.read_pgm(short)
-        self.assertEqual([type(refused) for refused in ahead.refusals],
-                         [vx.InvalidFormat, vx.InvalidDimension, vx.InvalidFormat])
-        self.assertEqual(result.value().tolist(), [[1, 2, 3]])
+        kinds = vx.InvalidFormat, vx.InvalidDimension, vx.InvalidFormat
+        self.assertEqual(len(ahead.refusals), len(kinds))
+        for refused, kind in zip(ahead.refusals, kinds):
+            self.assertIsInstance(refused, kind)
+        self.assertRaisesRegex(vx.InvalidFormat, r"not_\(image 1 .*call 1 of", result.value)
+        self.assertEqual(result.raw().tolist(), [[1, 2, 3]])
         self.assertRaisesRegex(vx.InvalidFormat, "read a PGM text of image 2", pgm.value)
         line = self.test_refusals.__code__.co_firstlineno
         self.assertEqual([refused.place for refused in ahead.refusals],
