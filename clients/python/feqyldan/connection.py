@@ -16,6 +16,7 @@ from __future__ import annotations
 import os
 import select
 import struct
+import sys
 import threading
 import time
 from collections import deque
@@ -32,6 +33,8 @@ SMALL = 1 << 15
 # How many parts one system call is given at most (Linux takes 1,024), and how many unsent requests
 # are looked through for them.
 PARTS, REQUESTS = 64, 16
+# How many buffers for long replies are kept.
+KEPT = 4
 # So many bytes are read at once.
 CHUNK = 1 << 16
 # A reply has so many bytes before its body: its length, its client, its op and its code.
@@ -44,6 +47,9 @@ LEAD = 3
 GREATEST_REPLY = 9 + 4 * GREATEST_SIDE**2
 # No request is longer, told likewise: the server ends where it reads a greater length.
 GREATEST_REQUEST = GREATEST_LENGTH
+
+# Stands for a success that was taken.
+TAKEN = memoryview(bytes(8))
 
 Part = Union[bytes, memoryview]
 # What of a request's objects is at fault, in words, for the code that the server refused it with;
@@ -136,6 +142,14 @@ class Request:
             self.on_refusal(self)
         self.answer = reply, end
 
+    def take_reply(self) -> memoryview:
+        """Returns the reply, which is there and a success, once: the request lets go of it, so that
+        its memory is free when the caller does too."""
+        assert self.answer is not None
+        reply, end = self.answer
+        self.answer = TAKEN, end
+        return reply
+
     def own(self) -> None:
         """Copies its frame, which isn't sent to the end: the caller may change the samples."""
         if not all(isinstance(part, bytes) for part in self.parts):
@@ -153,6 +167,38 @@ def moved(counts: List[int], call: Callable[[int, Any], int], descriptor: int,
     counts.extend(map(call, (descriptor,), (buffers,)))
 
 
+def references(buffers: Sequence[bytearray]) -> List[int]:
+    """How many references there are to each of these, where Python counts them."""
+    return [sys.getrefcount(buffer) for buffer in buffers]
+
+
+# How many references there are to a buffer that only a list has; None where nobody can tell.
+ALONE = (references([bytearray()])[0]
+         if sys.implementation.name == "cpython" and getattr(sys, "_is_gil_enabled", lambda: True)()
+         else None)
+
+
+class Buffers:
+    """
+    Memory for long replies. A buffer whose picture nobody has any more is used again: new memory
+    costs as much time as what is read into it.
+    """
+
+    def __init__(self) -> None:
+        self._kept: List[bytearray] = []
+
+    def take(self, size: int) -> bytearray:
+        """Returns so many bytes, which may be of an older reply."""
+        if size < CHUNK or ALONE is None:
+            return bytearray(size)
+        for at, count in enumerate(references(self._kept)):
+            if count == ALONE and len(self._kept[at]) == size:
+                return self._kept[at]
+        buffer = bytearray(size)
+        self._kept = [*self._kept[1 - KEPT :], buffer]
+        return buffer
+
+
 class Replies:
     """
     Splits what a file descriptor gives into reply frames, each in a buffer of its own.
@@ -163,6 +209,7 @@ class Replies:
 
     def __init__(self, descriptor: int) -> None:
         self._descriptor = descriptor
+        self._buffers = Buffers()
         self._counts = [0]
         self._chunk = memoryview(bytearray(CHUNK))
         # The buffer that is read into, its base, and whether it is that of a frame.
@@ -206,7 +253,7 @@ class Replies:
             raise UnexpectedReply("there is a reply without a request")
         # No memory is taken for what is no reply.
         request.look_at(chunk)
-        frame = memoryview(bytearray(LEAD + length))[LEAD:]
+        frame = memoryview(self._buffers.take(LEAD + length))[LEAD:]
         if len(frame) <= there:
             frame[:] = chunk[: len(frame)]
             return frame

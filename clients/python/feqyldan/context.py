@@ -335,13 +335,15 @@ class Context(Uncopied):
     def create(self, words: str, make: Callable[..., bytes], *arguments: Any, size: int = 0) -> int:
         """Sends a request that makes an object, waits, and gives its name. The size is how many
         bytes of the quota it takes. Where that is interrupted the object is released."""
-        request = self.send(words, make, *arguments, explain=self._limit_for(size))
+        made: List[memoryview] = []
+        request = self.send(words, make, *arguments, explain=self._limit_for(size),
+                            on_answer=made.append)
         try:
             name = int(wire.name_of(self._reply_to(request)))
         except BaseException:
             request.on_answer = self._forget_what_was_made
-            if request.reply is not None:
-                self._forget_what_was_made(request.reply)
+            if made:
+                self._forget_what_was_made(made[0])
             raise
         self._used.add(name, size)
         return name
@@ -405,11 +407,10 @@ class Context(Uncopied):
         # It is raised here, so a pipeline that is open needn't keep it.
         request.on_refusal = None
         self._connection.wait(request)
-        error, reply = request.error, request.reply
+        error = request.error
         if error is not None:
             raise error
-        assert reply is not None
-        return reply
+        return request.take_reply()
 
     def _release_forgotten(self) -> None:
         while self._forgotten:

@@ -104,11 +104,12 @@ class Result(Uncopied, Generic[Value]):
         then it may be of an older picture. Raises the request's own refusal."""
         if not self._decoded:
             self._await(None)
-            error, reply = self._request.error, self._request.reply
+            error = self._request.error
             if error is not None:
                 raise error
-            assert reply is not None
-            self._decoded.append(self._decode(reply))
+            assert self._request.answer is not None
+            self._decoded.append(self._decode(self._request.answer[0]))
+            self._request.take_reply()
         return self._decoded[0]
 
     def _await(self, timeout: Optional[float]) -> None:

@@ -222,7 +222,7 @@ class Threaded(Source):
 
     @property
     def has_frame(self) -> bool:
-        return bool(self._ready)
+        return bool(self._ready) and not self._is_closed
 
     @property
     def has_ended(self) -> bool:

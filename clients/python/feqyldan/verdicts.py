@@ -52,8 +52,8 @@ OPENED = {
 def formats_in_words(function: str) -> str:
     """Which formats a function takes together."""
     outputs = sorted({formats[2] for formats in TAKEN[function]}, key=lambda fmt: fmt or 0)
-    words = " or ".join(f"{_inputs_in_words(function, output)}{f' to {output}' if output else ''}"
-                        for output in outputs)
+    words = "; ".join(f"{_inputs_in_words(function, output)}{f' to {output}' if output else ''}"
+                      for output in outputs)
     if function in _PARAMETERS:
         words += f", and {_PARAMETERS[function]} of the input's format"
     return words
@@ -63,6 +63,8 @@ def _inputs_in_words(function: str, output: Optional[Format]) -> str:
     """Which formats of inputs go with a format of the output."""
     pairs = sorted((one or 0, 0 if other is None or function in _PARAMETERS else other)
                    for one, other, out in TAKEN[function] if out == output)
+    if len(pairs) == 4:
+        return "each U8 or S16,"
     return " or ".join(" and ".join(str(Format(fmt)) for fmt in pair if fmt) for pair in pairs)
 
 

@@ -6,6 +6,7 @@ are skipped.
 """
 
 import contextlib
+import itertools
 import json
 import multiprocessing
 import os
@@ -18,7 +19,7 @@ import threading
 import time
 import traceback
 import unittest
-from typing import Any, Callable, Dict, List, Set, Tuple
+from typing import Any, Callable, Dict, Iterable, Iterator, List, Set, Tuple
 from unittest import mock
 
 from broker_tools import CLIENT, LATE, PROGRAM, BrokerTest, Broker, Program
@@ -295,8 +296,23 @@ class ThePackage(BrokerTest):
         self.assertEqual(again.stop(), 0)
 
     def test_a_context_that_is_built_again(self) -> None:
-        """By the program in docs/deploying.md: each picture is answered once and in order, also
-        where its server, or the broker, ends in between."""
+        """By the programs in docs/deploying.md and docs/python.md: each picture is answered once
+        and in order, also where its server, or the broker, ends in between. The second ends with
+        its pictures."""
+        program: Dict[str, Any] = {"vx": vx, "Callable": Callable, "Iterable": Iterable,
+                                   "Iterator": Iterator}
+        exec(programs_in("docs", "deploying.md")["When a server ends"][0], program)
+        exec(programs_in("docs", "python.md")["A robot that survives the end of a server"][0],
+             program)
+
+        def station(path: str, build: Any, pictures: Any) -> Iterator[Any]:
+            program["build"] = build
+            return itertools.islice(program["station"](path, pictures), 8)
+
+        for run in (station, program["robot"]):
+            self.run_through_ends(run)
+
+    def run_through_ends(self, run: Callable[..., Iterator[Any]]) -> None:
         broker = self.begin(command=[str(PROGRAM), "serve"], tells_state=True)
         built: List[vx.Context] = []
 
@@ -307,21 +323,18 @@ class ThePackage(BrokerTest):
             built.append(context)
             return graph, camera, out
 
-        program: Dict[str, Any] = {"vx": vx, "build": build}
-        exec(programs_in("docs", "deploying.md")["When a server ends"][0], program)
         pictures = [bytes([k] * 4) for k in range(8)]
         outputs = []
-        for output in program["station"](broker.path, iter(pictures)):
+        for output in run(broker.path, build, iter(pictures)):
             outputs.append(bytes(output))
             if len(outputs) == 2:
                 self.kill_server(broker)
             if len(outputs) == 4:
                 self.assertEqual(broker.stop(), 0)
                 broker = self.begin(command=[str(PROGRAM), "serve"], path=broker.path)
-            if len(outputs) == len(pictures):
-                break
         self.assertEqual(outputs, [bytes([255 - k] * 4) for k in range(8)])
         self.assertEqual(len(built), 3)
+        self.assertEqual(broker.stop(), 0)
 
     def kill_server(self, broker: Broker) -> None:
         with socket.socket(socket.AF_UNIX, socket.SOCK_STREAM) as sock:
@@ -341,9 +354,31 @@ class ThePackage(BrokerTest):
         broker = self.begin("--connections", "1", command=[str(PROGRAM), "serve"])
         with vx.connect(broker.path) as server, server.context() as context:
             context.image(vx.U8, 1, 1)
-            with self.assertRaises(vx.NoResources) as caught:
+            with self.assertRaises(vx.BrokerFull) as caught:
                 server.context()
+            self.assertIsInstance(caught.exception, vx.NoResources)
             self.assertIn("--connections", str(caught.exception))
+
+    def test_who_waits_gets_the_next_connection(self) -> None:
+        broker = self.begin("--connections", "1", command=[str(PROGRAM), "serve"], tells_state=True)
+        with vx.connect(broker.path, retry=LATE) as server:
+            context = server.context()
+            self.assertEqual(vx.status(broker.status_path)["connections"]["open"], 1)
+            has_tried, pause = threading.Event(), time.sleep
+
+            def noted_pause(seconds: float) -> None:
+                has_tried.set()
+                pause(seconds)
+
+            found: List[vx.Context] = []
+            waiting = threading.Thread(target=lambda: found.append(server.context()))
+            with mock.patch("time.sleep", noted_pause):
+                waiting.start()
+                self.assertTrue(has_tried.wait(LATE))
+                self.assertEqual(found, [])
+                context.close()
+                waiting.join(LATE)
+            self.assertEqual(found[0].image(vx.U8, 2, 1).read_bytes(), bytes(2))
 
     def test_contexts_of_one_program_and_the_server_s_end(self) -> None:
         broker = self.begin(command=[str(PROGRAM), "serve"])

@@ -105,13 +105,12 @@ class TestPictures(ProgramTest):
 class TestCalls(ProgramTest):
     def test_formats_of_each_function(self):
         self.assertEqual(set(verdicts.TAKEN), set(FUNCTIONS))
-        for function, words in (("max", "U8 and U8 to U8 or S16 and S16 to S16"),
+        for function, words in (("max", "U8 and U8 to U8; S16 and S16 to S16"),
                                 ("not_", "U8 to U8"), ("histogram", "U8"),
-                                ("convolve", "U8 to U8 or U8 to S16"),
+                                ("convolve", "U8 to U8; U8 to S16"),
                                 ("threshold", "U8 or S16 to U8, and a threshold of the input's "
                                               "format"),
-                                ("add", "U8 and U8 to U8 or U8 and U8 or U8 and S16 or S16 and U8 "
-                                        "or S16 and S16 to S16")):
+                                ("add", "U8 and U8 to U8; each U8 or S16, to S16")):
             self.assertEqual(verdicts.formats_in_words(function), words)
 
     def test_immediate_mode_says_what_it_takes(self):
@@ -128,7 +127,7 @@ class TestCalls(ProgramTest):
         graph.not_(most, out)
         with self.assertRaisesRegex(
                 vx.InvalidFormat,
-                r"Node 2, max\(.*\): max takes U8 and U8 to U8 or S16 and S16 to S16. Virtual "
+                r"Node 2, max\(.*\): max takes U8 and U8 to U8; S16 and S16 to S16. Virtual "
                 r'image 4 "difference" \(open\) is S16, 4 by 3, because node 1, subtract, writes '
                 r"it and its format is open; graph.virtual_image\(vx.U8\) has one. "):
             graph.verify()

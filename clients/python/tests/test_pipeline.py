@@ -1,9 +1,9 @@
 """Requests that are sent ahead: much of them both ways, refusals, threads, and interruptions."""
 
 import signal
+import struct
 import threading
 import time
-import struct
 import unittest
 
 from program import INTERRUPT, ProgramTest, answering, vx
