@@ -53,6 +53,10 @@ def release_of(number: int) -> Frames:
                   [number << 8 | wire.RELEASE_CONTEXT], 1)
 
 
+class TotalReached(MemoryError):
+    """All connections together hold as much as they may. Nothing was read or changed."""
+
+
 class Total:
     """The bytes of long frames and of replies that wait, of all connections together."""
 
@@ -60,9 +64,8 @@ class Total:
         self.most, self.bytes = most, 0
 
     def take(self, count: int) -> None:
-        """Raises MemoryError where there would be more than may be."""
         if self.bytes + count > self.most:
-            raise MemoryError
+            raise TotalReached
         self.bytes += count
 
     def give(self, count: int) -> None:

@@ -18,7 +18,7 @@ from ..service.signals import Signals
 from ..service.visitors import StatusSocket
 from .connection import Connection, Limits
 from .counts import Counts, as_metrics
-from .incoming import Total
+from .incoming import Total, TotalReached
 from .server import Piece, Server, ServerFault, Turn
 
 # A server that ends within so many seconds and has answered nothing has failed. So many such ends
@@ -182,16 +182,19 @@ class Broker:
             connection.reads = False
             self.end(connection, connection.fault())
             return
-        except MemoryError:
+        except TotalReached:
             self.end_greatest()
+        except MemoryError:
+            # What was read may be lost.
+            self.end(connection, "the broker has no memory for its frame (--own-memory)")
         if connection.is_open:
             self.settle(connection)
 
     def end_greatest(self) -> None:
-        """Ends the connection that has most of what the broker holds, for want of memory."""
+        """Ends the connection that has most of what the broker holds."""
         greatest = max(self.open, key=lambda connection: connection.bytes_held)
-        self.end(greatest, f"the broker has no memory for more, and {greatest.bytes_held} bytes of "
-                           "its frames or replies wait (--total-held)")
+        self.end(greatest, f"{greatest.bytes_held} bytes of its frames or replies wait, the most of "
+                           f"{self.total.bytes} in all (--total-held)")
 
     def receive(self, connection: Connection) -> None:
         if connection.incoming.receive(connection.sock):
