@@ -193,8 +193,8 @@ class Broker:
     def end_greatest(self) -> None:
         """Ends the connection that has most of what the broker holds."""
         greatest = max(self.open, key=lambda connection: connection.bytes_held)
-        self.end(greatest, f"{greatest.bytes_held} bytes of its frames or replies wait, the most of "
-                           f"{self.total.bytes} in all (--total-held)")
+        self.end(greatest, f"{greatest.bytes_held} bytes of its frames or replies wait, the most "
+                           f"of {self.total.bytes} in all (--total-held)")
 
     def receive(self, connection: Connection) -> None:
         if connection.incoming.receive(connection.sock):
