@@ -25,18 +25,18 @@ class Counts(Accepted):
             self.longest_lately = seconds
             self.longest = max(self.longest, seconds)
 
-    def told(self) -> Tuple[int, ...]:
+    def told(self) -> Tuple[float, ...]:
         return (self.accepted, self.turned_away, self.servers_ended, self.requests,
                 sum(self.refusals), self.bytes_in,
                 self.bytes_out)
 
-    def as_words(self, before: Tuple[int, ...]) -> str:
-        """What has happened since it was told before."""
+    def as_words(self, before: Tuple[float, ...]) -> str:
         accepted, away, ended, requests, refusals, bytes_in, bytes_out = (
             now - then for now, then in zip(self.told(), before))
         words = (f"{accepted} accepted, {away} turned away, {requests} requests, {refusals} "
                  f"refused, {bytes_in} bytes in, {bytes_out} bytes out, the longest request "
                  f"{self.longest_lately:.3f} s")
+        self.longest_lately = 0.0
         return f"{words}, {ended} servers ended" if ended else words
 
     def refusals_by_name(self) -> Dict[str, int]:

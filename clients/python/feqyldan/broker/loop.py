@@ -7,15 +7,12 @@ from collections import deque
 from functools import partial
 from typing import Any, Deque, Dict, List, NamedTuple, Optional, Set
 
-from ..service.admission import ACCEPT_PAUSE, ACCEPTED_AT_ONCE, Admission, Owner
-from ..service.descriptors import Descriptors
-from ..service.events import READ, WRITE, Events
-from ..service.lines import Lines
+from ..service.admission import ACCEPT_PAUSE, Owner
+from ..service.events import READ, WRITE
+from ..service.front import Front
 from ..service.listener import Listener
-from ..service.manager import Manager
 from ..service.metrics import memory_of
 from ..service.signals import Signals
-from ..service.visitors import StatusSocket
 from .connection import Connection, Limits
 from .counts import Counts, as_metrics
 from .incoming import Total, TotalReached
@@ -38,34 +35,26 @@ class Plan(NamedTuple):
     memory: Optional[int]
 
 
-class Broker:
+class Broker(Front):
     """The connections and the servers, and who waits for what."""
 
     def __init__(self, listener: Listener, status: Optional[Listener], plan: Plan,
                  limits: Limits) -> None:
-        self.listener, self.plan, self.limits = listener, plan, limits
-        self.lines, self.counts, self.events = Lines("broker"), Counts(), Events()
-        self.manager, self.total = Manager(), Total(limits.total_held)
-        self.descriptors = Descriptors(listener.refuses_descriptors)
-        # The connections that each process and each user has, those among them whose context is
-        # being released.
-        self.admission = Admission(limits.per_process, limits.per_user, self.counts, self.lines,
-                                   self.events, self.descriptors)
+        self.plan, self.limits, self.counts = plan, limits, Counts()
+        # Of each process and each user those connections count too whose context is being released.
+        super().__init__("broker", listener, status, self.counts, limits, as_metrics)
+        self.total = Total(limits.total_held)
         self.numbers: Deque[int] = deque(range(limits.connections))
         self.open: Set[Connection] = set()
         # Those that have asked while there was no server.
         self.homeless: Set[Connection] = set()
         self.look_seconds = min(1.0, limits.patience / 4, limits.report)
-        self.now = self.began_at = time.monotonic()
-        self.looked_at = self.reported_at = self.accepts_from = self.now
-        self.reported = self.counts.told()
-        self.status = (StatusSocket(status, self.events, self.descriptors, self.state, as_metrics)
-                       if status else None)
+        self.looked_at = self.now
         # All whose processes aren't gone. How often in a row one has failed; when the next may be
         # started; what went wrong.
         self.servers: List[Server] = []
         self.failures, self.starts_from, self.failure = 0, self.now, 0
-        self.is_listening = self.is_over = False
+        self.is_over = False
         # When the last replies and the servers are waited for no longer, once the broker is to end.
         self.stops_at: Optional[float] = None
         self.was_told = self.was_told_twice = False
@@ -103,8 +92,7 @@ class Broker:
         has_nobody = not (self.open or self.status
                           or self.admission.turned_away.present) and self.is_listening
         has_all = self.has_servers() and len(self.servers) == self.plan.servers
-        has_told = self.reported == self.counts.told()
-        may_sleep = has_nobody and has_all and has_told and self.manager.pause is None
+        may_sleep = has_nobody and has_all and not self.has_news() and self.manager.pause is None
         return None if may_sleep else self.look_seconds
 
     def has_servers(self) -> bool:
@@ -112,34 +100,12 @@ class Broker:
 
     # ---- new connections
 
-    def listen_or_not(self) -> None:
+    def may_listen(self) -> bool:
         """Newcomers wait while a number is about to be free, and while there is no server; where
         all connections are there they are turned away."""
         has_answer = bool(self.numbers) or len(self.open) >= self.limits.connections
         can_serve = any(server.takes_connections for server in self.servers)
-        is_time = self.now >= self.accepts_from and self.stops_at is None
-        wanted = has_answer and can_serve and is_time
-        if wanted != self.is_listening:
-            self.is_listening = wanted
-            self.events.watch(self.listener.sock.fileno(), READ if wanted else 0, self.accept)
-
-    def accept(self, _mask: int) -> None:
-        for _ in range(ACCEPTED_AT_ONCE if self.is_listening else 0):
-            if not self.numbers and len(self.open) < self.limits.connections:
-                return
-            try:
-                newcomer = self.admission.accept(self.listener)
-            except OSError as error:
-                self.lines.say(f"no connection is accepted for {ACCEPT_PAUSE:g} s: {error}")
-                self.accepts_from = self.now + ACCEPT_PAUSE
-                return
-            if newcomer is None:
-                return
-            reason = self.reason_against(newcomer[1])
-            if reason is None:
-                self.begin(*newcomer)
-            else:
-                self.admission.turn_away(*newcomer, reason)
+        return has_answer and can_serve and self.stops_at is None
 
     def begin(self, sock: socket.socket, owner: Owner) -> None:
         sock.setblocking(False)
@@ -150,7 +116,6 @@ class Broker:
         self.settle(connection)
 
     def reason_against(self, owner: Owner) -> Optional[str]:
-        """Why a process gets no connection, in words."""
         if not self.numbers:
             return f"{len(self.open)} connections are there (--connections)"
         return self.admission.reason_against(owner)
@@ -460,14 +425,12 @@ class Broker:
         self.manager.is_alive()
         self.end_hung()
         self.bury()
-        self.admission.turned_away.end_late(self.now)
-        if self.status:
-            self.status.look_at_clock(self.now)
+        self.end_late_visitors()
         for connection in [*self.open]:
             words = connection.stall(self.now)
             if words:
                 self.end(connection, words)
-        self.report()
+        self.report(len(self.open))
 
     def end_hung(self) -> None:
         """Ends the servers that have been at one request for longer than a request may take."""
@@ -480,20 +443,7 @@ class Broker:
                                "(--longest)")
                 server.process.kill()
 
-    def report(self) -> None:
-        """Says what has happened since it was said last, once a minute unless told otherwise."""
-        if self.now - self.reported_at < self.limits.report:
-            return
-        if self.counts.told() != self.reported:
-            self.lines.say(f"{len(self.open)} connections are open; in "
-                           f"{self.now - self.reported_at:.0f} s "
-                           f"{self.counts.as_words(self.reported)}")
-        self.reported_at, self.reported = self.now, self.counts.told()
-        self.counts.longest_lately = 0.0
-        self.admission.told.clear()
-
     def state(self) -> Dict[str, Any]:
-        """What the status socket tells."""
         counts = self.counts
         return {
             "uptime_seconds": round(self.now - self.began_at, 3),
@@ -536,9 +486,7 @@ class Broker:
         if self.stops_at is not None:
             return
         self.stops_at = self.now + self.limits.grace
-        self.listen_or_not()
-        self.listener.close()
-        self.admission.turned_away.end_all()
+        self.stop_listening()
         for server in self.servers:
             server.line.clear()
         for connection in [*self.open]:
@@ -566,9 +514,5 @@ class Broker:
             server.process.kill()
             server.close(self.now)
             server.process.wait()
-        self.listener.close()
-        if self.status:
-            self.status.close()
-        self.descriptors.end()
-        self.events.close()
+        self.close()
         return 0 if self.was_told else self.failure

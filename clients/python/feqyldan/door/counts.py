@@ -26,7 +26,6 @@ class Counts(Accepted):
         return self.accepted, self.turned_away, self.ended, self.failed, self.processor_seconds
 
     def as_words(self, before: Tuple[float, ...]) -> str:
-        """What has happened since it was told before."""
         accepted, away, ended, failed, seconds = (
             now - then for now, then in zip(self.told(), before))
         return (f"{accepted:.0f} accepted, {away:.0f} turned away, {ended:.0f} servers ended, "

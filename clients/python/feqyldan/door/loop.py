@@ -8,14 +8,11 @@ import time
 from functools import partial
 from typing import Any, Dict, NamedTuple, Optional
 
-from ..service.admission import ACCEPT_PAUSE, ACCEPTED_AT_ONCE, Admission, Owner
-from ..service.descriptors import Descriptors
-from ..service.events import READ, Events
-from ..service.lines import Lines, Unusable
+from ..service.admission import Owner
+from ..service.front import Front
+from ..service.lines import Unusable
 from ..service.listener import Listener
-from ..service.manager import Manager
 from ..service.signals import Signals
-from ..service.visitors import StatusSocket
 from .counts import USUAL, Counts, as_metrics, meaning_of
 from .server import Plan, Server, chosen
 
@@ -41,26 +38,17 @@ def has_ended(sock: socket.socket) -> bool:
     return bool(poll.poll(0))
 
 
-class Door:
+class Door(Front):
     """The listening socket, and the servers that have a connection each."""
 
     def __init__(self, listener: Listener, status: Optional[Listener], plan: Plan,
                  limits: Limits) -> None:
-        self.listener, self.plan, self.limits = listener, plan, limits
-        self.lines, self.counts, self.events = Lines("door"), Counts(), Events()
-        self.manager = Manager()
-        self.descriptors = Descriptors(listener.refuses_descriptors)
-        self.admission = Admission(limits.per_process, limits.per_user, self.counts, self.lines,
-                                   self.events, self.descriptors)
+        self.plan, self.limits, self.counts = plan, limits, Counts()
         self.words = plan.command
         # By their process numbers.
         self.servers: Dict[int, Server] = {}
-        self.now = self.began_at = time.monotonic()
-        self.looked_at = self.reported_at = self.accepts_from = self.now
-        self.reported = self.counts.told()
-        self.status = (StatusSocket(status, self.events, self.descriptors, self.state, as_metrics)
-                       if status else None)
-        self.is_listening = False
+        super().__init__("door", listener, status, self.counts, limits, as_metrics)
+        self.looked_at = self.now
         # When servers are waited for no longer, once the door is to end.
         self.stops_at: Optional[float] = None
         self.was_told_twice = False
@@ -87,7 +75,7 @@ class Door:
                     self.look_at_clock()
                 self.kill_all()
         finally:
-            self.finish()
+            self.close()
         return 0
 
     def timeout(self) -> Optional[float]:
@@ -96,35 +84,15 @@ class Door:
             return max(0.0, min(LOOK_SECONDS, self.stops_at - self.now))
         is_quiet = not (self.status or self.admission.turned_away.present
                         or any(server.left_at is not None for server in self.servers.values()))
-        has_told = self.reported == self.counts.told() and self.manager.pause is None
-        return None if is_quiet and has_told and self.is_listening else LOOK_SECONDS
+        may_sleep = is_quiet and self.is_listening and not self.has_news()
+        return None if may_sleep and self.manager.pause is None else LOOK_SECONDS
 
     # ---- connections
 
-    def listen_or_not(self) -> None:
-        wanted = self.stops_at is None and self.now >= self.accepts_from
-        if wanted != self.is_listening:
-            self.is_listening = wanted
-            self.events.watch(self.listener.sock.fileno(), READ if wanted else 0, self.accept)
-
-    def accept(self, _mask: int) -> None:
-        for _ in range(ACCEPTED_AT_ONCE if self.is_listening else 0):
-            try:
-                newcomer = self.admission.accept(self.listener)
-            except OSError as error:
-                self.lines.say(f"no connection is accepted for {ACCEPT_PAUSE:g} s: {error}")
-                self.accepts_from = self.now + ACCEPT_PAUSE
-                return
-            if newcomer is None:
-                return
-            reason = self.reason_against(newcomer[1])
-            if reason is None:
-                self.begin(*newcomer)
-            else:
-                self.admission.turn_away(*newcomer, reason)
+    def may_listen(self) -> bool:
+        return self.stops_at is None
 
     def reason_against(self, owner: Owner) -> Optional[str]:
-        """Why a process gets no connection, in words."""
         count, memory, total = len(self.servers), self.plan.memory, self.plan.total
         if count >= self.limits.connections:
             return f"{count} connections are there (--connections)"
@@ -201,24 +169,10 @@ class Door:
         self.manager.is_alive()
         self.bury()
         self.end_left()
-        self.admission.turned_away.end_late(self.now)
-        if self.status:
-            self.status.look_at_clock(self.now)
-        self.report()
-
-    def report(self) -> None:
-        """Says what has happened since it was said last, once a minute unless told otherwise."""
-        if self.now - self.reported_at < self.limits.report:
-            return
-        if self.counts.told() != self.reported:
-            self.lines.say(f"{len(self.servers)} connections are open; in "
-                           f"{self.now - self.reported_at:.0f} s "
-                           f"{self.counts.as_words(self.reported)}")
-        self.reported_at, self.reported = self.now, self.counts.told()
-        self.admission.told.clear()
+        self.end_late_visitors()
+        self.report(len(self.servers))
 
     def state(self) -> Dict[str, Any]:
-        """What the status socket tells."""
         counts = self.counts
         return {
             "uptime_seconds": round(self.now - self.began_at, 3), "program": self.words[0],
@@ -253,9 +207,7 @@ class Door:
     def stop(self) -> None:
         """Accepts nothing more, and ends the servers' inputs."""
         self.stops_at = self.now + self.limits.grace
-        self.listen_or_not()
-        self.listener.close()
-        self.admission.turned_away.end_all()
+        self.stop_listening()
         for server in self.servers.values():
             server.end_input()
 
@@ -266,11 +218,3 @@ class Door:
             self.kill(server, why)
         for process in self.servers:
             os.waitpid(process, 0)
-
-    def finish(self) -> None:
-        """Closes what is open."""
-        self.listener.close()
-        if self.status:
-            self.status.close()
-        self.descriptors.end()
-        self.events.close()

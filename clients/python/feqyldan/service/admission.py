@@ -34,10 +34,18 @@ def owner_of(sock: socket.socket) -> Owner:
 
 
 class Accepted:
-    """How many connections were accepted and turned away so far."""
+    """How many connections were accepted and turned away so far; and what else is counted."""
 
     def __init__(self) -> None:
         self.accepted = self.turned_away = 0
+
+    def told(self) -> Tuple[float, ...]:
+        """All counts."""
+        raise NotImplementedError
+
+    def as_words(self, before: Tuple[float, ...]) -> str:
+        """What has happened since the counts were these."""
+        raise NotImplementedError
 
 
 class Admission:
