@@ -21,7 +21,7 @@ from broker_tools import (
     plain, success)
 from feqyldan import wire
 from feqyldan.broker.incoming import SHARED_TURN_BYTES
-from feqyldan.service.descriptors import refuse
+from feqyldan.service import descriptors
 from feqyldan.service.lines import Unusable
 from feqyldan.service.listener import listen_at
 from plain_server import HOLD, MANY_BYTES, WAIT
@@ -35,7 +35,7 @@ SHORT = wire.QUERY_IMAGE
 def refusing() -> bool:
     """Whether this Linux can have a socket refuse descriptors."""
     with socket.socket(socket.AF_UNIX) as sock:
-        return refuse(sock)
+        return descriptors.refuse(sock)
 
 
 class Lingering:
@@ -126,6 +126,22 @@ class Descriptors(BrokerTest):
             first.sock.close()
             self.assertTrue(broker.wait_for(lambda: files_of(broker.process.pid) < files))
             self.assertEqual(broker.stop(), 0)
+
+    def test_they_wait_in_a_connection_that_was_never_accepted(self) -> None:
+        """The end of a broker or a door isn't held up by them."""
+        for self.kind in (Broker, Door):
+            broker = self.begin(tells_state=True, refuses_descriptors=False)
+            broker.process.send_signal(signal.SIGSTOP)
+            with socket.socket(socket.AF_UNIX) as sock:
+                sock.connect(broker.path)
+                lingering = Lingering(3)
+                self.addCleanup(lingering.close)
+                lingering.send(sock, plain(1))
+                broker.process.terminate()
+                start = time.monotonic()
+                broker.process.send_signal(signal.SIGCONT)
+                self.assertEqual(broker.status(), 0)
+                self.assertLess(time.monotonic() - start, SOON)
 
     def is_answered(self, broker: Broker, honest: Program) -> None:
         start = time.monotonic()
@@ -335,7 +351,7 @@ def listen_together(path: str, barrier: Any, heard: Any, is_over: Any) -> None:
     else:
         heard.put("listens")
         is_over.wait()
-        listener.close()
+        listener.close(descriptors.Descriptors(listener.refuses_descriptors))
 
 
 class Beginning(BrokerTest):

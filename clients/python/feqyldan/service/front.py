@@ -81,12 +81,12 @@ class Front:
 
     def stop_listening(self) -> None:
         self.listen_or_not()
-        self.listener.close()
+        self.listener.close(self.descriptors)
         self.admission.turned_away.end_all()
 
     def close(self) -> None:
         """Closes what is open of it."""
-        self.listener.close()
+        self.listener.close(self.descriptors)
         if self.status:
             self.status.close()
         self.descriptors.end()

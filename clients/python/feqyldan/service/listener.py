@@ -9,7 +9,7 @@ import stat
 import time
 from typing import Iterator, List, Optional, Tuple
 
-from .descriptors import refuse
+from .descriptors import Descriptors, refuse
 from .lines import Unusable
 
 # The first descriptor that a service manager hands over (sd_listen_fds(3)).
@@ -27,8 +27,12 @@ class Listener:
         self.sock.setblocking(False)
         self.refuses_descriptors = refuse(sock)
 
-    def close(self) -> None:
-        self.sock.close()
+    def close(self, descriptors: Descriptors) -> None:
+        if self.file is None:
+            # Who handed it over still has it.
+            self.sock.close()
+        else:
+            descriptors.close(self.sock)
         with contextlib.suppress(OSError):
             # Another program may have put its own file there.
             if self.file is not None and file_of(self.path) == self.file:

@@ -4,6 +4,7 @@ import argparse
 from functools import partial
 from typing import Optional, Tuple
 
+from .descriptors import Descriptors
 from .lines import Unusable
 from .listener import Listener, handed_over, listen_at
 from .machine import memory_bytes
@@ -91,5 +92,5 @@ def listeners(told: argparse.Namespace) -> Tuple[Listener, Optional[Listener]]:
     try:
         return listener, listen_at(told.status, told.mode) if told.status is not None else None
     except Unusable:
-        listener.close()
+        listener.close(Descriptors(listener.refuses_descriptors))
         raise

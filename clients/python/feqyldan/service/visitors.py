@@ -98,6 +98,7 @@ class StatusSocket:
                  state: Callable[[], Dict[str, Any]],
                  metrics: Callable[[Dict[str, Any]], str]) -> None:
         self.listener, self.events, self.state, self.metrics = listener, events, state, metrics
+        self.descriptors = descriptors
         self.visitors = Visitors(events, descriptors, LINE_BYTES, self.answer)
         # When it accepts again, where there was no room for one more.
         self.accepts_from: Optional[float] = None
@@ -142,4 +143,4 @@ class StatusSocket:
     def close(self) -> None:
         self.events.forget(self.listener.sock.fileno())
         self.visitors.end_all()
-        self.listener.close()
+        self.listener.close(self.descriptors)
