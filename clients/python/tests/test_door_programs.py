@@ -9,11 +9,12 @@ import contextlib
 import os
 import random
 import signal
+import time
 import unittest
 from typing import Any, List, Set
 
 from broker_tools import (
-    CLIENT, PROGRAM, Broker, Door, Program, children_of, files_of, peak_bytes, runs)
+    CLIENT, LATE, PROGRAM, Broker, Door, Program, children_of, files_of, peak_bytes, runs)
 from test_broker_programs import PATIENCE, Crowd
 from feqyldan import wire
 import feqyldan as vx
@@ -123,7 +124,10 @@ class ManyPrograms(Crowd):
         ask_all(50, 150)
         for program in programs:
             program.sock.close()
-        self.assertTrue(door.wait_for(lambda: not any(map(runs, servers))))
+        end = time.monotonic() + LATE
+        while any(map(runs, servers)) and time.monotonic() < end:
+            time.sleep(0.01)
+        self.assertFalse(any(map(runs, servers)))
 
 
 @unittest.skipUnless(PROGRAM, "FEQYLDAN_PROGRAM doesn't name the server's program")
