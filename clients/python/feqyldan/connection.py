@@ -25,7 +25,7 @@ from typing import (
     Any, Callable, Deque, List, NamedTuple, Optional, Sequence, Tuple, Union)
 
 from .errors import Closed, FeqyldanError, Refused, ServerEnded, TimedOut, UnexpectedReply, refusal
-from .wire import CODES, GREATEST_LENGTH, GREATEST_SIDE
+from .wire import BODY_BYTES, CODES, GREATEST_LENGTH, GREATEST_SIDE
 
 # A part of a frame of at most this many bytes may wait to be sent with what follows; a longer one
 # has been sent when send() returns.
@@ -37,6 +37,8 @@ PARTS, REQUESTS = 64, 16
 KEPT = 4
 # So many bytes are read at once.
 CHUNK = 1 << 16
+# A reply has so many bytes before its body: its length, its client, its op and its code.
+HEAD = struct.Struct(">IHBB")
 # A reply stands in its buffer from here on: so its samples, 13 bytes after its start, begin at a
 # multiple of 16.
 LEAD = 3
@@ -67,17 +69,27 @@ class Place(NamedTuple):
         return f"{self.words}, {os.path.basename(self.file)}:{self.line}"
 
 
+class Body(NamedTuple):
+    """What the body of a success has: so many bytes, and these as the first of them."""
+
+    size: int
+    begin: bytes = b""
+
+
 class Request:
     """
     A request that was sent or is about to be: itself in words, its place in its pipeline, and its
     answer as soon as that is there: the reply's whole frame, and where it ends among all replies.
+    `body` is what a success has after its head.
     """
 
     __slots__ = ("words", "client", "op", "answer", "on_refusal", "on_answer", "explain", "place",
-                 "parts", "start", "end", "_error")
+                 "parts", "start", "end", "body", "_error")
 
-    def __init__(self, words: str, client: int, op: int, explain: Optional[Explain] = None) -> None:
+    def __init__(self, words: str, client: int, op: int, explain: Optional[Explain] = None,
+                 body: Optional[Body] = None) -> None:
         self.words, self.client, self.op, self.explain = words, client, op, explain
+        self.body = body or Body(BODY_BYTES.get(op, 0))
         self.place: Optional[Place] = None
         self.answer: Optional[Tuple[memoryview, int]] = None
         # Called with this request, whose reply is there by then: when that is a refusal, and in
@@ -107,13 +119,23 @@ class Request:
             self._error = refusal(code, self.words, self.op, place, fault)
         return self._error.with_traceback(None)
 
-    def arrive(self, reply: memoryview, end: int) -> None:
-        """Takes its reply, which ends there among all replies."""
-        client, op, code = struct.unpack_from(">HBB", reply, 4)
+    def look_at(self, head: memoryview) -> None:
+        """Raises UnexpectedReply where a reply that begins so isn't one to this request."""
+        length, client, op, code = HEAD.unpack_from(head)
         if (client, op) != (self.client, self.op):
             raise UnexpectedReply(f"{self.words}: the reply is to op {op} of client {client}")
         if code >= len(CODES):
             raise UnexpectedReply(f"{self.words}: the reply has the unknown code {code}")
+        size, wanted = length - 4, 0 if code else self.body.size
+        if size != wanted:
+            raise UnexpectedReply(f"{self.words}: the reply with code {CODES[code]} has a body of "
+                                  f"{size} bytes, and not of {wanted}")
+
+    def arrive(self, reply: memoryview, end: int) -> None:
+        """Takes its reply, which ends there among all replies."""
+        code, begin = reply[7], self.body.begin
+        if code == 0 and reply[HEAD.size : HEAD.size + len(begin)] != begin:
+            raise UnexpectedReply(f"{self.words}: the reply is of another object")
         if self.on_answer is not None:
             self.on_answer(reply)
         if self.on_refusal is not None and code != 0:
@@ -210,23 +232,30 @@ class Replies:
             self._counts = [sum(self._counts)]
         return self._counts[0]
 
-    def frame_at(self, at: int) -> Optional[memoryview]:
+    def frame_at(self, at: int, request: Optional[Request]) -> Optional[memoryview]:
         """Returns the whole frame that begins there, where the last one ended and something was
-        read; None while it isn't whole, and then there is room to read on."""
+        read, and that answers the request; None while it isn't whole, and then there is room to
+        read on."""
         buffer, base, is_frame = self._into
         received = self.received
         if not is_frame:
-            return self._split(buffer, base, at, received)
+            return self._split(buffer, base, at, received, request)
         return buffer if received - base == len(buffer) else None
 
-    def _split(self, buffer: memoryview, base: int, at: int, received: int) -> Optional[memoryview]:
+    def _split(self, buffer: memoryview, base: int, at: int, received: int,
+               request: Optional[Request]) -> Optional[memoryview]:
         there = received - at
         chunk = buffer[at - base : received - base]
-        if there < 4:
+        length = length_of(chunk) if there >= 4 else 0
+        if there < HEAD.size:
             if at > base:
                 self._make_room(chunk, at)
             return None
-        frame = memoryview(self._buffers.take(LEAD + length_of(chunk)))[LEAD:]
+        if request is None:
+            raise UnexpectedReply("there is a reply without a request")
+        # No memory is taken for what is no reply.
+        request.look_at(chunk)
+        frame = memoryview(self._buffers.take(LEAD + length))[LEAD:]
         if len(frame) <= there:
             frame[:] = chunk[: len(frame)]
             return frame
@@ -235,7 +264,7 @@ class Replies:
         return None
 
     def _make_room(self, rest: memoryview, at: int) -> None:
-        """Has a new chunk begin with the rest, at most three bytes of a frame whose length isn't
+        """Has a new chunk begin with the rest, at most seven bytes of a frame whose head isn't
         known yet."""
         chunk = memoryview(bytearray(CHUNK))
         chunk[: len(rest)] = rest
@@ -502,13 +531,12 @@ class Connection:
         try:
             at = self._answered
             while at < self._replies.received:
-                frame = self._replies.frame_at(at)
+                line = self._line
+                frame = self._replies.frame_at(at, line[1] if len(line) > 1 else None)
                 if frame is None:
                     break
-                if len(self._line) == 1:
-                    raise UnexpectedReply("there is a reply without a request")
                 self._waited = 0.0
-                self._line[1].arrive(frame, at + len(frame))
+                line[1].arrive(frame, at + len(frame))
                 at = self._answered
         except UnexpectedReply as fault:
             self._fault = fault

@@ -12,7 +12,7 @@ from typing import (
     TYPE_CHECKING, Any, Callable, Deque, Dict, List, Optional, Sequence, Set, Tuple, Type, TypeVar)
 
 from . import wire
-from .connection import GREATEST_REQUEST, Connection, Explain, Part, Request
+from .connection import GREATEST_REQUEST, Body, Connection, Explain, Part, Request
 from .errors import Closed, FeqyldanError, InvalidScope
 from .files import load
 from .functions import Call, Functions
@@ -315,18 +315,20 @@ class Context(Uncopied):
 
     def send(self, words: str, make: Callable[..., bytes], *arguments: Any,
              content: Optional[Part] = None, explain: Optional[Explain] = None,
-             on_answer: Optional[Callable[[memoryview], None]] = None) -> Request:
+             on_answer: Optional[Callable[[memoryview], None]] = None,
+             body: Optional[Body] = None) -> Request:
         """
         Sends a request: what `make` gives of the client's number and these arguments, and the
         content after it. In a pipeline its refusal is kept for the end. `explain` says what is at
-        fault where it is refused.
+        fault where it is refused. `body` is what a success gives, where the op alone doesn't
+        say that.
         """
         why_closed = self._why_closed
         if why_closed is not None:
             raise Closed(f"{words}: {why_closed}")
         frame = self._frame(words, make, arguments, 0 if content is None else len(content))
         self._release_forgotten()
-        request = Request(words, self._number, frame[6], explain)
+        request = Request(words, self._number, frame[6], explain, body)
         request.on_answer = on_answer
         pipeline = self._open_pipeline()
         if pipeline is not None:
@@ -344,10 +346,10 @@ class Context(Uncopied):
             self._reply_to(request)
 
     def ask(self, words: str, make: Callable[..., bytes], decode: Callable[[memoryview], Value],
-            *arguments: Any) -> Value:
+            body: Optional[Body] = None) -> Value:
         """Sends a request, waits, and gives what its reply has. In a pipeline that may be of an
         older picture, after a request that was refused: then that refusal is raised."""
-        request = self.send(words, make, *arguments)
+        request = self.send(words, make, body=body)
         value = decode(self._reply_to(request))
         pipeline = self._open_pipeline()
         if pipeline is not None:

@@ -76,8 +76,8 @@ class VirtualImage(Named, Readable):
 
     def querying(self) -> Asked[Description]:
         """What query() asks, for a pipeline that asks it ahead."""
-        return f"query {self}", lambda client: wire.query_image(client,
-                                                                self.reference), description_of
+        return (f"query {self}", lambda client: wire.query_image(client, self.reference),
+                description_of, None)
 
 
 class Node(Uncopied):

@@ -2,9 +2,11 @@
 
 from __future__ import annotations
 
+import struct
 from typing import TYPE_CHECKING, Any, Iterator, Optional, Tuple
 
 from . import wire
+from .connection import Body
 from .errors import FeqyldanError
 from .files import save
 from .objects import (
@@ -104,7 +106,9 @@ class AnyImage(Readable):
 
     def reading(self) -> Asked[Picture]:
         """What read() asks, for a pipeline that asks it ahead."""
-        return f"read {self}", lambda client: wire.read_image(client, self.reference), picture_of
+        described = struct.pack(">BHH", self.fmt, self.width, self.height)
+        return (f"read {self}", lambda client: wire.read_image(client, self.reference), picture_of,
+                Body(len(described) + self.size * self.fmt.sample_bytes, described))
 
     def copy(self) -> Image:
         """A new image with these samples and this valid rectangle."""
@@ -160,9 +164,10 @@ class AnyImage(Readable):
 
     def reading_pgm(self) -> Asked[bytes]:
         """What read_pgm() asks, for a pipeline that asks it ahead."""
+        head = f"P5\n{self.width} {self.height}\n255\n".encode()
         return ("read a PGM text of "
                 f"{self}", lambda client: wire.read_image_pgm(client, self.reference),
-                lambda reply: bytes(wire.text_of(reply)))
+                lambda reply: bytes(wire.text_of(reply)), Body(len(head) + self.size, head))
 
     def query(self) -> Description:
         """The format, the sides and the valid rectangle, as the server has them."""
@@ -170,8 +175,8 @@ class AnyImage(Readable):
 
     def querying(self) -> Asked[Description]:
         """What query() asks, for a pipeline that asks it ahead."""
-        return f"query {self}", lambda client: wire.query_image(client,
-                                                                self.reference), description_of
+        return (f"query {self}", lambda client: wire.query_image(client, self.reference),
+                description_of, None)
 
     @property
     def valid(self) -> Rectangle:

@@ -2,11 +2,13 @@
 
 from __future__ import annotations
 
+import struct
 from types import TracebackType
 from typing import (
     TYPE_CHECKING, Any, Callable, NamedTuple, Optional, Tuple, Type, TypeVar)
 
 from . import wire
+from .connection import Body
 from .samples import Format, numbers_of
 from .uncopied import Uncopied
 from .whole import UNSIGNED, within
@@ -18,7 +20,7 @@ Own = TypeVar("Own", bound="Named")
 Value = TypeVar("Value")
 # What is asked of the server: the request in words, what gives its frame of the client's number,
 # and the decoder.
-Asked = Tuple[str, Callable[[int], bytes], Callable[[memoryview], Value]]
+Asked = Tuple[str, Callable[[int], bytes], Callable[[memoryview], Value], Optional[Body]]
 
 
 class Rectangle(NamedTuple):
@@ -247,8 +249,8 @@ class Distribution(Named):
 
     def reading(self) -> Asked[Tuple[int, ...]]:
         """What read() asks, for a pipeline that asks it ahead."""
-        return f"read {self}", lambda client: wire.read_distribution(client,
-                                                                     self.name), wire.counts_of
+        return (f"read {self}", lambda client: wire.read_distribution(client, self.name),
+                wire.counts_of, Body(2 + 4 * self.bins, struct.pack(">H", self.bins)))
 
 
 class MinMax(Named):
@@ -267,7 +269,8 @@ class MinMax(Named):
 
     def reading(self) -> Asked[Extremes]:
         """What read() asks, for a pipeline that asks it ahead."""
-        return f"read {self}", lambda client: wire.read_min_max(client, self.name), wire.extremes_of
+        return (f"read {self}", lambda client: wire.read_min_max(client, self.name),
+                wire.extremes_of, None)
 
 
 def sides_of_frame(width: Any, height: Any) -> Tuple[int, int]:

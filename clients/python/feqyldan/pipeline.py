@@ -7,7 +7,7 @@ from types import FrameType, TracebackType
 from typing import (
     TYPE_CHECKING, Any, Callable, Generic, List, Optional, Tuple, Type, TypeVar, Union, overload)
 
-from .connection import Connection, Place, Request
+from .connection import Body, Connection, Place, Request
 from .errors import FeqyldanError, NotYet, Refused
 from .images import AnyImage
 from .objects import Description, Distribution, Extremes, MinMax
@@ -216,8 +216,9 @@ class Pipeline(Uncopied):
                 self._stretch.raise_first()
 
     def _ask(self, words: str, make: Callable[[int], bytes],
-             decode: Callable[[memoryview], Value]) -> Result[Value]:
-        request = self._context.send(words, make)
+             decode: Callable[[memoryview], Value],
+             body: Optional[Body] = None) -> Result[Value]:
+        request = self._context.send(words, make, body=body)
         return Result(self._context.connection, request, decode, self._stretch)
 
 

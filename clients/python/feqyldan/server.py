@@ -2,8 +2,10 @@
 
 from __future__ import annotations
 
+import errno
 import json
 import os
+import pwd
 import socket
 import struct
 import subprocess
@@ -215,10 +217,12 @@ class SocketServer(Server):
     opened later.
     """
 
-    __slots__ = ("_path", "_timeout", "_retry", "_streams", "_sockets", "_next")
+    __slots__ = ("_path", "_timeout", "_retry", "_owner", "_streams", "_sockets", "_next")
 
-    def __init__(self, path: Path, *, timeout: Optional[float] = None, retry: float = 0.0) -> None:
+    def __init__(self, path: Path, *, timeout: Optional[float] = None, retry: float = 0.0,
+                 owner: Union[int, str, None] = None) -> None:
         self._path, self._timeout, self._retry = os.fspath(path), seconds_of(timeout), retry
+        self._owner = None if owner is None else user_number(owner)
         self._lock = threading.Lock()
         self._ended_by: Optional[str] = None
         self._quota = None
@@ -319,6 +323,7 @@ class SocketServer(Server):
                 limit = struct.pack("@ll", int(whole), int(part * 1e6))
                 stream.setsockopt(socket.SOL_SOCKET, socket.SO_SNDTIMEO, limit)
             stream.connect(self._path)
+            self._look_who_listens(stream)
         except BaseException as error:
             self._drop(stream)
             if isinstance(error, BlockingIOError):
@@ -329,18 +334,36 @@ class SocketServer(Server):
             raise
         return stream
 
+    def _look_who_listens(self, stream: socket.socket) -> None:
+        """Raises PermissionError where that is another user than the owner that was given."""
+        if self._owner is None:
+            return
+        credentials = stream.getsockopt(socket.SOL_SOCKET, socket.SO_PEERCRED, 12)
+        _process, user, _group = struct.unpack("iII", credentials)
+        if user != self._owner:
+            raise PermissionError(errno.EPERM, f"user {user} listens there, and not user "
+                                               f"{self._owner}, who is to be its owner")
+
     def _drop(self, stream: socket.socket) -> None:
         self._streams.discard(stream)
         stream.close()
 
 
-def connect(path: Path, *, timeout: Optional[float] = None, retry: float = 0.0) -> SocketServer:
+def connect(path: Path, *, timeout: Optional[float] = None, retry: float = 0.0,
+            owner: Union[int, str, None] = None) -> SocketServer:
     """
     The server that listens at a Unix socket. Where nobody does, as while it starts, or where a
     broker is full, waits up to `retry` seconds. A request that isn't answered within the timeout,
-    in seconds, raises TimedOut and closes the connection of its context.
+    in seconds, raises TimedOut and closes the connection of its context. Where an owner is given, a
+    user's number or name, and another user listens, raises PermissionError before anything is sent;
+    for a socket that systemd holds, the owner is root.
     """
-    return SocketServer(path, timeout=timeout, retry=retry)
+    return SocketServer(path, timeout=timeout, retry=retry, owner=owner)
+
+
+def user_number(user: Union[int, str]) -> int:
+    """A user's number, who may be given by name. Raises KeyError where there is no such user."""
+    return user if isinstance(user, int) else pwd.getpwnam(user).pw_uid
 
 
 def status(path: Path, *, timeout: float = 10.0) -> Dict[str, Any]:

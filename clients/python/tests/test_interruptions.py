@@ -18,7 +18,7 @@ import unittest
 
 from program import PROGRAM, ProgramTest, answering, needs_program, vx
 from feqyldan import wire
-from feqyldan.connection import Connection, Request
+from feqyldan.connection import Body, Connection, Request
 from feqyldan.pipes import enlarge
 from test_processes import ProcessTest
 
@@ -151,7 +151,8 @@ class TestEachLine(unittest.TestCase):
         (theirs, writer), (reader, ours) = os.pipe(), os.pipe()
         enlarge(writer)
         connection = Connection(writer, reader, lambda _: vx.ServerEnded("ended"), lambda: None)
-        requests = [Request(f"request {number}", 7, number) for number in range(1, 5)]
+        requests = [Request(f"request {number}", 7, number, body=Body(70_000 * (number % 2)))
+                    for number in range(1, 5)]
         frames = [wire.frame(7, number, bytes([number]) * (9 if number % 2 else 40_000))
                   for number in range(1, 5)]
         replies = b"".join(wire.reply_frame(7, number, 0, bytes([number]) * (70_000 * (number % 2)))

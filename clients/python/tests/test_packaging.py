@@ -55,8 +55,9 @@ class TestPackage(unittest.TestCase):
         self.assertEqual(files_of(PYTHON), before)
         where = self.run_there(python, "-c", "import feqyldan; print(feqyldan.__file__)").strip()
         self.assertTrue(where.startswith(os.path.join(self.folder, "venv")), where)
-        said = self.run_there(os.path.join(os.path.dirname(python), "feqyldan-broker"), "--help")
-        self.assertIn("--socket", said)
+        for name in ("feqyldan-door", "feqyldan-broker"):
+            said = self.run_there(os.path.join(os.path.dirname(python), name), "--help")
+            self.assertIn("--socket", said)
         if PROGRAM:
             self.environment["FEQYLDAN_PROGRAM"] = os.path.realpath(PROGRAM)
             self.assertEqual(self.run_there(python, "-c",
@@ -78,7 +79,8 @@ class TestPackage(unittest.TestCase):
         for line in ("License: Apache-2.0", "Project-URL: OpenVX, https://",
                      "Requires-Python: >=3.9"):
             self.assertIn(line, about["METADATA"])
-        self.assertIn("feqyldan-broker = feqyldan.broker:main", about["entry_points.txt"])
+        for name in ("door", "broker"):
+            self.assertIn(f"feqyldan-{name} = feqyldan.{name}:main", about["entry_points.txt"])
         sources = {os.path.relpath(path, PYTHON)
                    for path in files_of(os.path.join(PYTHON, "feqyldan"))
                    if path.endswith(".py")}
