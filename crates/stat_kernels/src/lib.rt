@@ -10,14 +10,10 @@
 
 mod counts;
 pub mod examples;
-mod extent;
 mod extremes;
 pub mod laws;
 mod located;
-mod occurrences;
 mod part;
-mod running;
-mod short;
 mod sums;
 
 pub use counts::{add_histogram, histogram};
