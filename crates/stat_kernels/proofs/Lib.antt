@@ -6,4 +6,5 @@ pub mod BandLaws
 pub mod LocatedLaws
 mod SumLaws
 pub mod NextRowLaws
+pub mod AlikeLaws
 mod ExtremeLaws

@@ -10,17 +10,17 @@ use Rattle.stat_kernels.proofs.SumLaws.{row_of_parts, sum_at, sums_next}
 
 -- ---- places of a rectangle in a row
 
-record IsInside (r : Rectangle) (x y : ℕ) : Type 0 where
-  left : r.x0 ≤ x
-  right : x < r.x1
-  top : r.y0 ≤ y
-  bottom : y < r.y1
+pub record IsInside (r : Rectangle) (x y : ℕ) : Type 0 where
+  pub left : r.x0 ≤ x
+  pub right : x < r.x1
+  pub top : r.y0 ≤ y
+  pub bottom : y < r.y1
 
-inside_parts : (r : Rectangle) (x y : ℕ) → inside r x y ≡ true → IsInside r x y
+pub inside_parts : (r : Rectangle) (x y : ℕ) → inside r x y ≡ true → IsInside r x y
 inside_parts r x y is =
     record { left = grind (arith, nat_tests, is); right = grind (arith, nat_tests, is); top = grind (arith, nat_tests, is); bottom = grind (arith, nat_tests, is) }
 
-inside_from : (r : Rectangle) (x y : ℕ) → r.x0 ≤ x → x < r.x1 → r.y0 ≤ y → y < r.y1 → inside r x y ≡ true
+pub inside_from : (r : Rectangle) (x y : ℕ) → r.x0 ≤ x → x < r.x1 → r.y0 ≤ y → y < r.y1 → inside r x y ≡ true
 inside_from r x y a b c d = grind (arith, nat_tests, a, b, c, d)
 
 -- where a row has valid places, another with the same ones has the same columns
