@@ -1,5 +1,5 @@
 -- Rows of an image that stand for rows of another, so many further down.
-use Rattle.std.proofs.Common.{◌≡◌, ◌∙◌, ℕ, ℤ, ◌+◌, ◌-◌, ◌<◌, ◌≤◌, Bool, true, false, ◌&&◌, nat_le, nat_lt, List, [], if◌then◌else◌, inl, inr, ap, sym, subst, refl, arith}
+use Rattle.std.proofs.Common.{◌≡◌, ◌∙◌, ℕ, ℤ, ◌+◌, ◌-◌, ◌<◌, ◌≤◌, true, false, ◌&&◌, nat_le, nat_lt, [], if◌then◌else◌, inl, inr, ap, sym, subst, arith}
 use Rattle.stat_kernels.proofs.Common.{cases_Bool, nat_tests, ImageValue, Rectangle, at, extremes, places, row_places, Band, band_of, valid_in}
 use Rattle.vx_base.specs.Rectangle.{inside}
 use Rattle.stat_kernels.specs.Located.{added_extremes}
