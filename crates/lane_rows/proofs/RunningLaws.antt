@@ -1,4 +1,4 @@
--- Running sums in lanes, sixteen at a time, and one by one.
+-- Running sums in lanes, sixteen at a time.
 use Rattle.std.proofs.Common.{◌≡◌, ℕ, ◌+◌, ◌-◌, ◌%◌, ◌<◌, ◌≤◌, List, [], ◌∷◌, ◌++◌, zero, suc, length, map, take, drop, get_or, set, replicate, refl, ap, ◌∙◌, sym, subst, w8, Fits, arith, take-take, take_all, drop-drop, drop-set-lt, get_or-drop}
 use Rattle.lane_rows.proofs.Names.{sum, range_with_len, take-add, map-append, sum_by-append, sum_by_more, length-chunk, range-append, sum_below}
 use Rattle.std.specs.Simd.Lanes.{zip2, Each1, pick_l, chunk, put_chunk}
@@ -152,17 +152,6 @@ pub place_written : (g : ℕ → ℕ) (out : List ℕ) (k v : ℕ) → k < lengt
 place_written g out k v room before is =
     let next : 0 + k ≡ k = omega arith in
     cc (take_more_set out k v room, before, is, map-range_with_len_more g 0 k k next)
-
--- a place that is read where nothing is written yet
-pub unwritten_place : (out before : List ℕ) (k : ℕ) → drop k out ≡ drop k before → get_or out k 0 ≡ get_or before k 0
-unwritten_place out before k others =
-    let e : k + 0 ≡ k = omega arith in
-    ap (λ n. get_or out n 0) (sym e) ∙ sym (get_or-drop k out 0 0) ∙ ap (λ l. get_or l 0 0) others ∙ get_or-drop k before 0 0 ∙ ap (λ n. get_or before n 0) e
-
--- what stands past the place
-pub place_past : (out before : List ℕ) (k v : ℕ) → drop k out ≡ drop k before → drop (k + 1) (set out k v) ≡ drop (k + 1) before
-place_past out before k v others =
-    drop-set-lt (k + 1) out k v (omega arith) ∙ sym (drop-drop 1 k out) ∙ ap (drop 1) others ∙ drop-drop 1 k before
 
 -- all places are written
 pub all_written : (g : ℕ → ℕ) (out : List ℕ) (n k : ℕ) → length out ≤ n → n ≡ k → take k out ≡ map g (range_with_len 0 k) → out ≡ map g (range_with_len 0 n)

@@ -54,7 +54,7 @@ pub use item::{Item, Short};
 pub use occurrences::{count_of, first_of};
 pub use products::{mul_s16, mul_u8};
 pub use rows::{OfItem, OfPair, map_row, update_row, zip_rows};
-pub use running::{add_running_sums, running_sums};
+pub use running::running_sums;
 pub use sums::{add_s16, add_u8, sub_s16, sub_u8};
 pub use tallies::tally_row;
 pub use thresholds::{threshold_s16, threshold_u8};

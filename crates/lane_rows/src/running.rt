@@ -64,16 +64,3 @@ pub fn running_sums(row: &[u8], above: &[u32], out: &mut [u32])
         out[k] = above[k].wrapping_add(total);
     }
 }
-
-/// Adds to each of a row's sums those of the row's items up to its place. It is for the few rows
-/// whose sums stand in their place already, and has no lanes.
-pub fn add_running_sums(row: &[u8], sums: &mut [u32])
-    requires { length sums.old ≡ length row.now }
-    ensures { sums.new ≡ sums_below sums.old row.now }
-{
-    let mut total = 0u32;
-    for k in 0..row.len() {
-        total = total.wrapping_add(u32::from(row[k]));
-        sums[k] = sums[k].wrapping_add(total);
-    }
-}

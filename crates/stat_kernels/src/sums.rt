@@ -2,6 +2,7 @@
 ghost use Rattle.std.specs.Prelude.{◌≡◌, ◌⊎◌, ◌+◌, ◌*◌, ◌<◌, ◌≤◌, ℕ, pos, map, take, drop};
 ghost use Rattle.std.specs.Prelude.{length, replicate, unwrap_or, IfSome};
 ghost use Rattle.std.specs.Option.{option_copied, option_map};
+ghost use Rattle.vx_base.specs.declared.desc.TheConstants.{GREATEST_SIDE};
 ghost use Rattle.vx_base.specs.declared.format.Format.TheVariants.{U8, U32};
 ghost use Rattle.vx_base.specs.Image.{ImageValue, IsImage, band, within};
 ghost use Rattle.vx_base.specs.Statistics.{sum_to, integral};
@@ -15,8 +16,13 @@ ghost use Rattle.stat_kernels.specs.Sums.{last_row, sums_row};
 
 use crate::part::Part;
 use image_core::{Band, Image, ImageMut, Whole};
-use lane_rows::{add_running_sums, running_sums};
-use vx_base::Rect;
+use lane_rows::running_sums;
+use vx_base::{GREATEST_SIDE, Rect};
+
+const LONGEST_ROW: usize = GREATEST_SIDE as usize;
+
+/// What stands above the first row.
+static ZEROS: [u32; LONGEST_ROW] = [0; LONGEST_ROW];
 
 /// Makes the sums above the first valid row those above row y.
 fn add_lines(image: &Image<'_>, part: Part, y: u16, sums: &mut [u32])
@@ -27,8 +33,13 @@ fn add_lines(image: &Image<'_>, part: Part, y: u16, sums: &mut [u32])
     requires sums { AreSums image.now part.top sums.old }
     ensures { AreSums image.now y sums.new }
 {
+    let _limits = image.desc().width();
+    let mut room = [0; LONGEST_ROW];
+    let above = &mut room[..part.count];
     for line in part.top..y {
-        add_running_sums(image.part_of_row::<u8>(part.x, line, part.count), sums);
+        above.copy_from_slice(sums);
+        let row = image.part_of_row::<u8>(part.x, line, part.count);
+        running_sums(row, above, sums);
     }
 }
 
@@ -53,16 +64,14 @@ fn write_from_top(image: &Image<'_>, y: u16, out: &mut [u32])
 fn write_part(row: &[u8], above: Option<&[u32]>, x: usize, out: &mut [u32])
     requires above_len { IfSome above (λ sums. x + length row.now ≤ length sums.now) }
     requires out_len { length out.old ≡ length row.now }
+    requires room { length row.now ≤ GREATEST_SIDE }
     ensures { out.new ≡ sums_below
         (unwrap_or (option_map (λ sums. take (length row.now) (drop x sums))
         (option_copied above.entry)) (replicate (length row.now) 0)) row.now }
 {
     match above {
         Some(above) => running_sums(row, &above[x..x + row.len()], out),
-        None => {
-            out.fill(0);
-            add_running_sums(row, out);
-        }
+        None => running_sums(row, &ZEROS[..row.len()], out),
     }
 }
 
@@ -77,6 +86,7 @@ fn write_across(image: &Image<'_>, part: Part, y: u16, above: Option<&[u32]>, ou
     ensures { (whole : ImageValue) (line : ℕ) → IsImage whole → IsRowOf image.now y whole line →
         IsRowAbove whole line (option_copied above.entry) → map pos out.new ≡ sums_row whole line }
 {
+    let _limits = image.desc().width();
     let x = usize::from(part.x);
     let (left, others) = out.split_at_mut(x);
     let (middle, right) = others.split_at_mut(part.count);
