@@ -9,3 +9,7 @@ mod QuarterLaws
 mod ShortLaws
 mod NarrowLaws
 mod StoreLaws
+mod Names
+pub mod CountLaws
+mod RunningLaws
+mod TallyLaws

@@ -1,1 +1,3 @@
 pub mod Quarters
+pub mod Running
+pub mod Tallies

@@ -14,33 +14,47 @@
 //! - `arithmetic`: kernels of two U8 or S16 items, at the formats that they may have
 //! - `bits`, `sums`, `products`, `distances`, `extremes`, `thresholds`, `depths`, `accumulation`:
 //!   the kernels
+//! - `compared`, `extent`, `occurrences`: the extremes of a row, how often an item stands in it, and
+//!   where first
+//! - `tallies`: how often each byte stands in a row
+//! - `running`: running sums of a row, beside those above it
 #![tactic(auto)]
 
 mod accumulation;
 mod arithmetic;
 mod bits;
 mod bytes;
+mod compared;
 mod depths;
 mod distances;
+mod extent;
 mod extremes;
 mod item;
 mod lanes;
+mod occurrences;
 mod overflow;
 mod products;
 mod rows;
+mod running;
 mod shorts;
 mod sums;
+mod tallies;
 mod thresholds;
 mod vectors;
 
 pub use accumulation::{accumulate, accumulate_square};
 pub use bits::{and_u8, not_u8, or_u8, xor_u8};
 pub use bytes::map_bytes;
+pub use compared::Compared;
 pub use depths::{narrow, shift_up, widen};
 pub use distances::{absdiff_s16, absdiff_u8};
+pub use extent::{RowExtremes, extremes_s16, extremes_u8, greatest_of, least_of};
 pub use extremes::{max_s16, max_u8, min_s16, min_u8};
 pub use item::{Item, Short};
+pub use occurrences::{count_of, first_of};
 pub use products::{mul_s16, mul_u8};
 pub use rows::{OfItem, OfPair, map_row, update_row, zip_rows};
+pub use running::running_sums;
 pub use sums::{add_s16, add_u8, sub_s16, sub_u8};
+pub use tallies::tally_row;
 pub use thresholds::{threshold_s16, threshold_u8};
