@@ -9,3 +9,7 @@ mod QuarterLaws
 mod ShortLaws
 mod NarrowLaws
 mod StoreLaws
+mod RunLaws
+mod MedianLaws
+mod NineLaws
+mod GradientLaws

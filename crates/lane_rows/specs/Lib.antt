@@ -1,1 +1,4 @@
 pub mod Quarters
+pub mod Windows
+pub mod Ranks
+pub mod RankLaws
