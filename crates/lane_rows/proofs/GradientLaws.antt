@@ -1,5 +1,5 @@
 -- Gradients in lanes.
-use Rattle.std.proofs.Common.{◌≡◌, ℕ, ℤ, pos, ◌+◌, ◌-◌, ◌*◌, ◌%◌, ◌<◌, ◌≤◌, ◌+ℤ◌, ◌-ℤ◌, ◌*ℤ◌, List, [], ◌∷◌, length, map, refl, ap, ◌∙◌, sym, arith, w8, w16, to_z, Fits}
+use Rattle.std.proofs.Common.{◌≡◌, ℕ, ℤ, pos, ◌+◌, ◌-◌, ◌*◌, ◌%◌, ◌<◌, ◌≤◌, ◌+ℤ◌, ◌-ℤ◌, ◌*ℤ◌, List, [], ◌∷◌, length, map, refl, ap, ◌∙◌, sym, arith, w8, w16, to_z, Fits, subst}
 use Rattle.lane_rows.proofs.Common.{range_with_len, zip2, ints, length-map, put_chunk_whole, Each1}
 use Rattle.std.specs.Simd.Lanes.{put_chunk}
 use Rattle.vx_base.specs.Image.{run}
@@ -52,7 +52,7 @@ module _ (a b c d e f : ℕ → ℕ) where
   changes_stored place out p q r s t u room fp fq fr fs ft fu pp qq rr ss tt1 uu =
       let is : lanes p q r s t u ≡ run place 32 at =
       rw (pp, qq, rr, ss, tt1, uu)
-      (by_lanes (range_with_len place 32) (rw pp at fp in fp) (rw qq at fq in fq) (rw rr at fr in fr) (rw ss at fs in fs) (rw tt1 at ft in ft) (rw uu at fu in fu)) in
+      (by_lanes (range_with_len place 32) (subst (Each1 (Fits w8)) pp fp) (subst (Each1 (Fits w8)) qq fq) (subst (Each1 (Fits w8)) rr fr) (subst (Each1 (Fits w8)) ss fs) (subst (Each1 (Fits w8)) tt1 ft) (subst (Each1 (Fits w8)) uu fu)) in
       put_chunk_whole out (lanes p q r s t u) (room ∙ sym (ap length is ∙ length-run at place 32)) ∙ is
 
 pub x_is_x : (above here below : ℕ × ℕ × ℕ) → change (above.0, here.0, below.0) (above.2, here.2, below.2) ≡ gradient_x (nine_of above here below)

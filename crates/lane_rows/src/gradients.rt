@@ -1,37 +1,41 @@
 //! How the nine samples of windows change along a row and from row to row.
-ghost use Rattle.std.specs.Prelude.{◌≡◌, ◌+ℤ◌, ◌-ℤ◌, ◌*ℤ◌, ◌+◌, ◌≤◌, ℕ, ℤ, pos, map, length};
-ghost use Rattle.std.specs.Prelude.{List, slice_index};
+ghost use Rattle.std.specs.Prelude.{◌≡◌, ◌+◌, ◌*◌, ◌≤◌, ℕ, map, length};
 ghost use Rattle.std.specs.List.{range_with_len};
 ghost use Rattle.vx_base.specs.Image.{run};
 ghost use Rattle.vx_base.specs.Window.{gradient_x, gradient_y};
 ghost use Rattle.lane_rows.specs.Windows.{nine_at, places, change};
 
 use crate::nine::{OfNine, ThreeItems, write_nine};
-use crate::nine_rows::{Nine, ThreeLanes, three_lanes};
+use crate::nine_rows::{Nine, three_lanes};
 use std::simd::prelude::*;
+
+/// The sum of three samples, the middle one counted twice.
+fn weighted_sum(items: ThreeItems) -> u16
+    ensures value { result ≡ items.0 + 2 * items.1 + items.2 }
+    ensures limit { result ≤ 1020 }
+{
+    u16::from(items.0) + 2 * u16::from(items.1) + u16::from(items.2)
+}
 
 /// How much greater three samples are than three others, the middle one counted twice.
 fn change(from: ThreeItems, to: ThreeItems) -> i16
     ensures { result ≡ change from to }
 {
-    let first = i16::from(to.0) - i16::from(from.0);
-    let second = i16::from(to.1) - i16::from(from.1);
-    let third = i16::from(to.2) - i16::from(from.2);
-    first + (second + second) + third
+    weighted_sum(to) as i16 - weighted_sum(from) as i16
 }
 
-/// Writes how much greater at 32 places.
-fn write_changes(from: ThreeLanes, to: ThreeLanes, out: &mut [i16])
+/// Writes how much greater the samples d, e and f are than a, b and c, at each of 32 places.
+fn write_changes(a: u8x32, b: u8x32, c: u8x32, d: u8x32, e: u8x32, f: u8x32, out: &mut [i16])
     requires out_len { length out.old ≡ 32 }
-    ensures { (a b c d e f : ℕ → ℕ) (place : ℕ) →
-        from.0 ≡ map a (range_with_len place 32) → from.1 ≡ map b (range_with_len place 32) →
-        from.2 ≡ map c (range_with_len place 32) → to.0 ≡ map d (range_with_len place 32) →
-        to.1 ≡ map e (range_with_len place 32) → to.2 ≡ map f (range_with_len place 32) →
-        out.new ≡ run place 32 (λ i. change (a i, b i, c i) (d i, e i, f i)) }
+    ensures { (g h i j k l : ℕ → ℕ) (place : ℕ) →
+        a ≡ map g (range_with_len place 32) → b ≡ map h (range_with_len place 32) →
+        c ≡ map i (range_with_len place 32) → d ≡ map j (range_with_len place 32) →
+        e ≡ map k (range_with_len place 32) → f ≡ map l (range_with_len place 32) →
+        out.new ≡ run place 32 (λ n. change (g n, h n, i n) (j n, k n, l n)) }
 {
-    let first = to.0.cast::<i16>() - from.0.cast::<i16>();
-    let second = to.1.cast::<i16>() - from.1.cast::<i16>();
-    let third = to.2.cast::<i16>() - from.2.cast::<i16>();
+    let first = d.cast::<i16>() - a.cast::<i16>();
+    let second = e.cast::<i16>() - b.cast::<i16>();
+    let third = f.cast::<i16>() - c.cast::<i16>();
     (first + (second + second) + third).copy_to_slice(out);
 }
 
@@ -49,7 +53,9 @@ impl OfNine<i16> for GradientX {
         let above = three_lanes(&nine.above, place);
         let here = three_lanes(&nine.here, place);
         let below = three_lanes(&nine.below, place);
-        write_changes((above.0, here.0, below.0), (above.2, here.2, below.2), out);
+        write_changes(
+            above.0, here.0, below.0, above.2, here.2, below.2, out,
+        );
     }
 }
 
@@ -65,7 +71,9 @@ impl OfNine<i16> for GradientY {
 
     fn lanes(&self, nine: &Nine<'_>, place: usize, out: &mut [i16]) {
         let (above, below) = (three_lanes(&nine.above, place), three_lanes(&nine.below, place));
-        write_changes(above, below, out);
+        write_changes(
+            above.0, above.1, above.2, below.0, below.1, below.2, out,
+        );
     }
 }
 
