@@ -12,5 +12,5 @@ mod seen;
 mod valid;
 
 pub use row_window::RowWindow;
-pub use seen::{Loaded, load_row, row_in_place, value_beside};
+pub use seen::{Loaded, load_row, row_in_place, seen_around, value_beside};
 pub use valid::window_valid;
