@@ -13,3 +13,4 @@ mod RunLaws
 mod MedianLaws
 mod NineLaws
 mod GradientLaws
+mod ThreeLaws

@@ -2,3 +2,4 @@ pub mod Quarters
 pub mod Windows
 pub mod Ranks
 pub mod RankLaws
+pub mod Threes

@@ -34,6 +34,7 @@ mod ranks;
 mod rows;
 mod shorts;
 mod sums;
+mod threes;
 mod thresholds;
 mod vectors;
 
@@ -51,4 +52,5 @@ pub use products::{mul_s16, mul_u8};
 pub use ranks::{Greatest, Least, Median, max9, median9, min9};
 pub use rows::{OfItem, OfPair, map_row, update_row, zip_rows};
 pub use sums::{add_s16, add_u8, sub_s16, sub_u8};
+pub use threes::{Addend, ninths, sixteenths, sum3, weighted3};
 pub use thresholds::{threshold_s16, threshold_u8};

@@ -11,3 +11,4 @@ mod RowLaws
 mod MedianLaws
 mod LaneLaws
 mod GradientLaws
+mod WindowLaws

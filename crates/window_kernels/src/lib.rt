@@ -15,20 +15,17 @@
 mod columns;
 mod convolution;
 pub mod examples;
-mod extremes;
-mod gradient_lanes;
 mod gradients;
 pub mod laws;
 mod means;
-mod median;
-mod median_lanes;
 mod nine;
 mod pieces;
 mod products;
+mod ranks;
 mod sums;
+mod windows;
 
 pub use convolution::convolve;
-pub use extremes::{dilate3, erode3};
 pub use gradients::{sobel_x3, sobel_y3, sobel3};
 pub use means::{box3, gaussian3};
-pub use median::median3;
+pub use ranks::{dilate3, erode3, median3};
