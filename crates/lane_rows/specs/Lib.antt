@@ -3,3 +3,4 @@ pub mod Windows
 pub mod Ranks
 pub mod RankLaws
 pub mod Threes
+pub mod Limits

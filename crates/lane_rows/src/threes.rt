@@ -6,68 +6,98 @@ ghost use Rattle.std.specs.List.{range_with_len};
 ghost use Rattle.std.specs.Simd.Lanes.{Each1};
 ghost use Rattle.vx_base.specs.Image.{run};
 ghost use Rattle.lane_rows.specs.Threes.{IsUpTo, AreUpTo, number_at, zip3};
+ghost use Rattle.lane_rows.specs.Limits.{greatest_addend, greatest_sum, greatest_weighted_sum};
 
 use crate::item::Item;
 use std::simd::prelude::*;
 
 /// Numbers that are added up: `u8` and `i16`.
 pub trait Addend: Item {
-    fn number(self) -> i16
-        ensures { result ≡ Self.value self };
+    fn number(self) -> u16
+        requires { IsUpTo 8191 (Self.value self) }
+        ensures { pos result ≡ Self.value self };
 
     /// The numbers at 32 places of a row.
-    fn numbers(row: &[Self], place: usize) -> i16x32
+    fn numbers(row: &[Self], place: usize) -> u16x32
         requires room { place + 32 ≤ length row.now }
         requires limit { AreUpTo 8191 (map Self.value row.now) }
-        ensures { result ≡ map (number_at (map Self.value row.now)) (range_with_len place 32) };
+        ensures { map pos result
+            ≡ map (number_at (map Self.value row.now)) (range_with_len place 32) };
 }
 
 impl Addend for u8 {
-    fn number(self) -> i16 {
-        i16::from(self)
+    fn number(self) -> u16 {
+        u16::from(self)
     }
 
-    fn numbers(row: &[u8], place: usize) -> i16x32 {
-        u8x32::from_slice(&row[place..place + 32]).cast::<i16>()
+    fn numbers(row: &[u8], place: usize) -> u16x32 {
+        u8x32::from_slice(&row[place..place + 32]).cast::<u16>()
     }
 }
 
 impl Addend for i16 {
-    fn number(self) -> i16 {
-        self
+    fn number(self) -> u16 {
+        self as u16
     }
 
-    fn numbers(row: &[i16], place: usize) -> i16x32 {
-        i16x32::from_slice(&row[place..place + 32])
+    fn numbers(row: &[i16], place: usize) -> u16x32 {
+        i16x32::from_slice(&row[place..place + 32]).cast::<u16>()
+    }
+}
+
+/// Numbers that sums and means are stored as: `u8` and `i16`.
+pub trait Stored: Item {
+    /// The greatest that can be stored.
+    ghost most: { ℕ };
+
+    /// Writes 32 numbers.
+    fn store(numbers: u16x32, out: &mut [Self])
+        requires len { length numbers ≡ 32 }
+        requires limit { Each1 (λ n. n ≤ most) numbers }
+        requires out_len { length out.old ≡ 32 }
+        ensures { map Self.value out.new ≡ map pos numbers };
+}
+
+impl Stored for u8 {
+    ghost most = { 255 };
+
+    fn store(numbers: u16x32, out: &mut [u8]) {
+        numbers.cast::<u8>().copy_to_slice(out);
+    }
+}
+
+impl Stored for i16 {
+    ghost most = { 32767 };
+
+    fn store(numbers: u16x32, out: &mut [i16]) {
+        numbers.cast::<i16>().copy_to_slice(out);
     }
 }
 
 /// A kernel of three numbers.
-trait OfThree<T: Item> {
+trait OfThree<T: Stored> {
     /// The greatest of the numbers that it can be given; they are from 0 on.
     ghost limit: { ℕ };
 
     ghost formula: { ℤ → ℤ → ℤ → ℤ };
 
-    fn item(a: i16, b: i16, c: i16) -> T
-        requires a { IsUpTo limit a }
-        requires b { IsUpTo limit b }
-        requires c { IsUpTo limit c }
-        ensures { T.value result ≡ formula a b c };
+    fn item(a: u16, b: u16, c: u16) -> T
+        requires limit { (a ≤ limit) × (b ≤ limit) × (c ≤ limit) }
+        ensures { T.value result ≡ formula (pos a) (pos b) (pos c) };
 
-    /// Writes what it gives of three numbers at each of 32 places.
-    fn lanes(a: i16x32, b: i16x32, c: i16x32, out: &mut [T])
-        requires a { (length a ≡ 32) × Each1 (IsUpTo limit) a }
-        requires b { (length b ≡ 32) × Each1 (IsUpTo limit) b }
-        requires c { (length c ≡ 32) × Each1 (IsUpTo limit) c }
-        requires out_len { length out.old ≡ 32 }
-        ensures { map T.value out.new ≡ zip3 formula a b c };
+    /// What it gives of three numbers in each of 32 lanes.
+    fn lanes(a: u16x32, b: u16x32, c: u16x32) -> u16x32
+        requires len { (length a ≡ 32) × (length b ≡ 32) × (length c ≡ 32) }
+        requires limit { Each1 (λ n. n ≤ limit) a × Each1 (λ n. n ≤ limit) b
+            × Each1 (λ n. n ≤ limit) c }
+        ensures value { map pos result ≡ zip3 formula (map pos a) (map pos b) (map pos c) }
+        ensures most { Each1 (λ n. n ≤ T.most) result };
 
     ghost small: { limit ≤ 8191 };
 }
 
 /// Writes what the kernel gives at so many times 32 places.
-fn write_blocks<A: Addend, T: Item, K: OfThree<T>>(
+fn write_blocks<A: Addend, T: Stored, K: OfThree<T>>(
     first: &[A],
     second: &[A],
     third: &[A],
@@ -87,17 +117,17 @@ fn write_blocks<A: Addend, T: Item, K: OfThree<T>>(
 {
     for k in 0..blocks {
         let start = 32 * k;
-        K::lanes(
+        let numbers = K::lanes(
             A::numbers(first, start),
             A::numbers(second, start),
             A::numbers(third, start),
-            &mut out[start..start + 32],
         );
+        T::store(numbers, &mut out[start..start + 32]);
     }
 }
 
 /// Writes what the kernel gives at each place of three rows.
-fn write_three<A: Addend, T: Item, K: OfThree<T>>(
+fn write_three<A: Addend, T: Stored, K: OfThree<T>>(
     first: &[A],
     second: &[A],
     third: &[A],
@@ -128,15 +158,15 @@ impl OfThree<i16> for Sum {
 
     ghost formula = { λ a b c. a +ℤ b +ℤ c };
 
-    fn item(a: i16, b: i16, c: i16) -> i16 {
+    fn item(a: u16, b: u16, c: u16) -> i16 {
+        (a + b + c) as i16
+    }
+
+    fn lanes(a: u16x32, b: u16x32, c: u16x32) -> u16x32 {
         a + b + c
     }
 
-    fn lanes(a: i16x32, b: i16x32, c: i16x32, out: &mut [i16]) {
-        (a + b + c).copy_to_slice(out);
-    }
-
-    ghost small = { Prim.omega arith };
+    ghost small = { greatest_addend };
 }
 
 /// The sum of three numbers, the middle one counted twice.
@@ -147,15 +177,15 @@ impl OfThree<i16> for WeightedSum {
 
     ghost formula = { λ a b c. a +ℤ pos 2 *ℤ b +ℤ c };
 
-    fn item(a: i16, b: i16, c: i16) -> i16 {
-        a + 2 * b + c
+    fn item(a: u16, b: u16, c: u16) -> i16 {
+        (a + 2 * b + c) as i16
     }
 
-    fn lanes(a: i16x32, b: i16x32, c: i16x32, out: &mut [i16]) {
-        (a + (b + b) + c).copy_to_slice(out);
+    fn lanes(a: u16x32, b: u16x32, c: u16x32) -> u16x32 {
+        a + (b + b) + c
     }
 
-    ghost small = { Prim.omega arith };
+    ghost small = { greatest_addend };
 }
 
 /// The sum of three numbers over 9, rounded down.
@@ -166,16 +196,15 @@ impl OfThree<u8> for Ninth {
 
     ghost formula = { λ a b c. int_div_euclid (a +ℤ b +ℤ c) (pos 9) };
 
-    fn item(a: i16, b: i16, c: i16) -> u8 {
-        ((a + b + c) as u16 / 9) as u8
+    fn item(a: u16, b: u16, c: u16) -> u8 {
+        ((a + b + c) / 9) as u8
     }
 
-    fn lanes(a: i16x32, b: i16x32, c: i16x32, out: &mut [u8]) {
-        let sums = a.cast::<u16>() + b.cast::<u16>() + c.cast::<u16>();
-        (sums / u16x32::splat(9)).cast::<u8>().copy_to_slice(out);
+    fn lanes(a: u16x32, b: u16x32, c: u16x32) -> u16x32 {
+        (a + b + c) / u16x32::splat(9)
     }
 
-    ghost small = { Prim.omega arith };
+    ghost small = { greatest_sum };
 }
 
 /// The sum of three numbers, the middle one counted twice, over 16, rounded down.
@@ -186,16 +215,15 @@ impl OfThree<u8> for Sixteenth {
 
     ghost formula = { λ a b c. int_div_euclid (a +ℤ pos 2 *ℤ b +ℤ c) (pos 16) };
 
-    fn item(a: i16, b: i16, c: i16) -> u8 {
-        ((a + 2 * b + c) as u16 / 16) as u8
+    fn item(a: u16, b: u16, c: u16) -> u8 {
+        ((a + 2 * b + c) / 16) as u8
     }
 
-    fn lanes(a: i16x32, b: i16x32, c: i16x32, out: &mut [u8]) {
-        let (second, ends) = (b.cast::<u16>(), a.cast::<u16>() + c.cast::<u16>());
-        ((ends + (second + second)) >> 4).cast::<u8>().copy_to_slice(out);
+    fn lanes(a: u16x32, b: u16x32, c: u16x32) -> u16x32 {
+        (a + (b + b) + c) >> 4
     }
 
-    ghost small = { Prim.omega arith };
+    ghost small = { greatest_weighted_sum };
 }
 
 /// Writes the sums of three numbers from 0 to 8,191.

@@ -12,17 +12,14 @@
 //! `examples` works the definitions out in numbers, and `laws` states what the median means.
 #![tactic(auto)]
 
-mod columns;
 mod convolution;
 pub mod examples;
 mod gradients;
 pub mod laws;
 mod means;
-mod nine;
 mod pieces;
 mod products;
 mod ranks;
-mod sums;
 mod windows;
 
 pub use convolution::convolve;
