@@ -53,9 +53,7 @@ impl OfNine<i16> for GradientX {
         let above = three_lanes(&nine.above, place);
         let here = three_lanes(&nine.here, place);
         let below = three_lanes(&nine.below, place);
-        write_changes(
-            above.0, here.0, below.0, above.2, here.2, below.2, out,
-        );
+        write_changes(above.0, here.0, below.0, above.2, here.2, below.2, out);
     }
 }
 
@@ -70,10 +68,11 @@ impl OfNine<i16> for GradientY {
     }
 
     fn lanes(&self, nine: &Nine<'_>, place: usize, out: &mut [i16]) {
-        let (above, below) = (three_lanes(&nine.above, place), three_lanes(&nine.below, place));
-        write_changes(
-            above.0, above.1, above.2, below.0, below.1, below.2, out,
+        let (above, below) = (
+            three_lanes(&nine.above, place),
+            three_lanes(&nine.below, place),
         );
+        write_changes(above.0, above.1, above.2, below.0, below.1, below.2, out);
     }
 }
 

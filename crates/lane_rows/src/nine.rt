@@ -91,10 +91,6 @@ pub fn write_nine<T: Item, K: OfNine<T>>(kernel: &K, nine: &Nine<'_>, out: &mut 
     let blocks = out.len() / 32;
     write_blocks(kernel, nine, blocks, out);
     for i in 32 * blocks..out.len() {
-        out[i] = kernel.item(
-            nine.above.items(i),
-            nine.here.items(i),
-            nine.below.items(i),
-        );
+        out[i] = kernel.item(nine.above.items(i), nine.here.items(i), nine.below.items(i));
     }
 }

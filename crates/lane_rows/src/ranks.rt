@@ -123,18 +123,19 @@ impl OfNine<u8> for Median {
         let left = (above.0, here.0, below.0);
         let centre = (above.1, here.1, below.1);
         let right = (above.2, here.2, below.2);
-        let low = (chosen::<Least>(left), chosen::<Least>(centre), chosen::<Least>(right));
+        let low = (
+            chosen::<Least>(left),
+            chosen::<Least>(centre),
+            chosen::<Least>(right),
+        );
         let between = (middle(left), middle(centre), middle(right));
         let high = (
             chosen::<Greatest>(left),
             chosen::<Greatest>(centre),
             chosen::<Greatest>(right),
         );
-        middle((
-            chosen::<Greatest>(low),
-            chosen::<Least>(high),
-            middle(between),
-        ))
+        let (lowest, highest) = (chosen::<Greatest>(low), chosen::<Least>(high));
+        middle((lowest, highest, middle(between)))
     }
 
     fn lanes(&self, nine: &Nine<'_>, place: usize, out: &mut [u8]) {
@@ -150,25 +151,26 @@ fn medians(above: ThreeLanes, here: ThreeLanes, below: ThreeLanes) -> u8x32
     ensures { result ≡ middle_of_nine (zip2 min) (zip2 max) above.0 above.1 above.2 here.0 here.1
         here.2 below.0 below.1 below.2 }
 {
-    let left = (above.0, here.0, below.0);
-    let centre = (above.1, here.1, below.1);
-    let right = (above.2, here.2, below.2);
+    let first = (above.0, here.0, below.0);
+    let second = (above.1, here.1, below.1);
+    let third = (above.2, here.2, below.2);
     let low = (
-        chosen_lanes::<Least>(left),
-        chosen_lanes::<Least>(centre),
-        chosen_lanes::<Least>(right),
+        chosen_lanes::<Least>(first),
+        chosen_lanes::<Least>(second),
+        chosen_lanes::<Least>(third),
     );
-    let between = (middle_lanes(left), middle_lanes(centre), middle_lanes(right));
+    let between = (
+        middle_lanes(first),
+        middle_lanes(second),
+        middle_lanes(third),
+    );
     let high = (
-        chosen_lanes::<Greatest>(left),
-        chosen_lanes::<Greatest>(centre),
-        chosen_lanes::<Greatest>(right),
+        chosen_lanes::<Greatest>(first),
+        chosen_lanes::<Greatest>(second),
+        chosen_lanes::<Greatest>(third),
     );
-    middle_lanes((
-        chosen_lanes::<Greatest>(low),
-        chosen_lanes::<Least>(high),
-        middle_lanes(between),
-    ))
+    let (lowest, highest) = (chosen_lanes::<Greatest>(low), chosen_lanes::<Least>(high));
+    middle_lanes((lowest, highest, middle_lanes(between)))
 }
 
 /// Writes the least of nine samples at each place.

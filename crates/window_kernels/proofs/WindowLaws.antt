@@ -32,12 +32,11 @@ nines_inside of_nine f x m n y over on under above here below a b d is_over is_o
     run_shifted (λ i. of_nine (nine_from above here below i)) (λ k. of_nine (nine_around f (pos k) y)) 0 (x + 1) n place
   where
     same : (i : ℕ) (u : ℤ) → i < m → pos (x + i) ≡ u → (pos (get_or above i 0) ≡ f u (y -ℤ pos 1)) × (pos (get_or here i 0) ≡ f u y) × (pos (get_or below i 0) ≡ f u (y +ℤ pos 1))
-    same i u inside at =
-        (
-          item_at f x m i over (y -ℤ pos 1) above a inside is_over ∙ ap (λ v. f v (y -ℤ pos 1)) at,
-          item_at f x m i on y here b inside is_on ∙ ap (λ v. f v y) at,
-          item_at f x m i under (y +ℤ pos 1) below d inside is_under ∙ ap (λ v. f v (y +ℤ pos 1)) at,
-        )
+    same i u inside at = (
+      item_at f x m i over (y -ℤ pos 1) above a inside is_over ∙ ap (λ v. f v (y -ℤ pos 1)) at,
+      item_at f x m i on y here b inside is_on ∙ ap (λ v. f v y) at,
+      item_at f x m i under (y +ℤ pos 1) below d inside is_under ∙ ap (λ v. f v (y +ℤ pos 1)) at,
+    )
 
     place : (k : ℕ) → k < n → of_nine (nine_from above here below (0 + k)) ≡ of_nine (nine_around f (pos (x + 1 + k)) y)
     place k h =
@@ -82,7 +81,7 @@ part_at f m a n p i xs is same below inside =
     get_or-chunk a p xs i (pos 0) (omega arith) ∙ ap (λ l. number_at l (a + i)) is ∙ get_or-run f 0 m (a + i) (pos 0) inside ∙ ap f (zero-add (a + i))
 
 module _ (down across : ℤ → ℤ → ℤ → ℤ) (of_nine : List ℤ → ℤ)
-  (law : (a b c d e f g h i : ℤ) → across (down a d g) (down b e h) (down c f i) ≡ of_nine (a ∷ b ∷ c ∷ d ∷ e ∷ f ∷ g ∷ h ∷ i ∷ [])) where
+    (law : (a b c d e f g h i : ℤ) → across (down a d g) (down b e h) (down c f i) ≡ of_nine (a ∷ b ∷ c ∷ d ∷ e ∷ f ∷ g ∷ h ∷ i ∷ [])) where
   -- what three columns of three rows give
   pub by_columns : (above here below : List ℕ) (m n p q r : ℕ) (sums : List ℤ)
       → sums ≡ run 0 m (λ i. down (number_at (map pos above) i) (number_at (map pos here) i) (number_at (map pos below) i)) → m ≡ n + 2 → p ≡ n → q ≡ n → r ≡ n

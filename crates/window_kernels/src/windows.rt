@@ -26,14 +26,7 @@ pub trait OfWindow<T: Sample> {
         ensures { T.value result ≡ formula self.now (nine_of above here below) };
 
     /// Writes what it gives in the middle of each three columns of three rows.
-    fn write_row(
-        &self,
-        above: &[u8],
-        here: &[u8],
-        below: &[u8],
-        scratch: &mut [i16],
-        out: &mut [T],
-    )
+    fn write_row(&self, above: &[u8], here: &[u8], below: &[u8], scratch: &mut [i16], out: &mut [T])
         requires above { length above.now ≡ length out.old + 2 }
         requires here { length here.now ≡ length out.old + 2 }
         requires below { length below.now ≡ length out.old + 2 }
@@ -109,7 +102,8 @@ struct FromNine<'a, 'b, K> {
 impl<K> FromNine<'_, '_, K> {
     /// Writes the sample at one place.
     fn write_place<T: Sample>(&self, x: u16, y: u16, out: &mut [T])
-        where K: OfWindow<T>
+    where
+        K: OfWindow<T>,
         requires rows { self.now.window.now.image.now.valid.y0
             < self.now.window.now.image.now.valid.y1 }
         requires column { (self.now.window.now.image.now.valid.x0 ≤ x) ×
@@ -128,7 +122,8 @@ impl<K> FromNine<'_, '_, K> {
     /// Writes the samples of row y to the right of column x, where only valid columns are seen:
     /// from the rows where they stand.
     fn write_inside<T: Sample>(&self, x: u16, y: u16, scratch: &mut [i16], out: &mut [T])
-        where K: OfWindow<T>
+    where
+        K: OfWindow<T>,
         requires rows { self.now.window.now.image.now.valid.y0
             < self.now.window.now.image.now.valid.y1 }
         requires columns { (self.now.window.now.image.now.valid.x0 ≤ x) ×
@@ -138,8 +133,11 @@ impl<K> FromNine<'_, '_, K> {
             (λ k. K.formula self.now.kernel.now (nine_around
             (look self.now.window.now.image.now self.now.window.now.border) (pos k) (pos y))) }
     {
-        let (image, border, off_rows) =
-            (self.window.image, self.window.border, self.window.off_rows);
+        let (image, border, off_rows) = (
+            self.window.image,
+            self.window.border,
+            self.window.off_rows,
+        );
         let (_valid, line) = (image.valid(), i32::from(y));
         let count = out.len() + 2;
         let above = row_in_place(image, x, line - 1, count, border, off_rows);

@@ -13,8 +13,7 @@ numbers-requires-in-loop-k-2-clause-limit g c = up_to_more g.K.OfThree.limit 819
 
 pub lanes-numbers-requires-clause-limit : goal.lanes-numbers-requires-clause-limit
 lanes-numbers-requires-clause-limit g c =
-    let m = g.K.OfThree.limit in
-    (
+    let m = g.K.OfThree.limit in (
       limited_numbers m (map g.A.Item.value c.args.first.now) (range_with_len (32 * c.loop-k.k) 32) c.numbers.result c.requires.first c.numbers.ensures,
       limited_numbers m (map g.A.Item.value c.args.second.now) (range_with_len (32 * c.loop-k.k) 32) c.numbers-in-loop-k.result c.requires.second c.numbers-in-loop-k.ensures,
       limited_numbers m (map g.A.Item.value c.args.third.now) (range_with_len (32 * c.loop-k.k) 32) c.numbers-in-loop-k-2.result c.requires.third c.numbers-in-loop-k-2.ensures,
