@@ -10,7 +10,7 @@ mod ShortLaws
 mod NarrowLaws
 mod StoreLaws
 mod RunLaws
-mod MedianLaws
+pub mod MedianLaws
 mod NineLaws
 mod GradientLaws
 mod ThreeLaws
