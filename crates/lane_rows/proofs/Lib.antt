@@ -13,4 +13,5 @@ mod RunLaws
 pub mod MedianLaws
 mod NineLaws
 mod GradientLaws
+mod AxpyLaws
 mod ThreeLaws

@@ -4,3 +4,4 @@ pub mod Ranks
 pub mod RankLaws
 pub mod Threes
 pub mod Limits
+pub mod Axpy

@@ -18,6 +18,7 @@
 
 mod accumulation;
 mod arithmetic;
+mod axpy;
 mod bits;
 mod bytes;
 mod depths;
@@ -39,6 +40,7 @@ mod thresholds;
 mod vectors;
 
 pub use accumulation::{accumulate, accumulate_square};
+pub use axpy::axpy_i32;
 pub use bits::{and_u8, not_u8, or_u8, xor_u8};
 pub use bytes::map_bytes;
 pub use depths::{narrow, shift_up, widen};
