@@ -14,6 +14,11 @@
 //! - `arithmetic`: kernels of two U8 or S16 items, at the formats that they may have
 //! - `bits`, `sums`, `products`, `distances`, `extremes`, `thresholds`, `depths`, `accumulation`:
 //!   the kernels
+//! - `nine_rows`, `nine`: the nine samples of windows as nine rows, and rows of what a kernel gives
+//!   of them, written 32 places at a time
+//! - `ranks`, `gradients`: the kernels of nine samples
+//! - `threes`: sums and means of three rows of numbers that aren't negative
+//! - `axpy`: a coefficient times a row of bytes, added to sums
 #![tactic(auto)]
 
 mod accumulation;
