@@ -13,3 +13,9 @@ mod Names
 pub mod CountLaws
 mod RunningLaws
 mod TallyLaws
+mod RunLaws
+pub mod MedianLaws
+mod NineLaws
+mod GradientLaws
+mod AxpyLaws
+mod ThreeLaws
