@@ -1,5 +1,5 @@
 -- Rows that are written block by block: n items from place i on.
-use Rattle.std.proofs.Common.{◌≡◌, ℕ, ℤ, ◌+◌, ◌-◌, ◌*◌, ◌≤◌, List, [], ◌∷◌, ◌++◌, length, map, take, drop, ap, ◌∙◌, sym, refl, arith, length-take-le, take-append-drop, drop-drop}
+use Rattle.std.proofs.Common.{◌≡◌, ℕ, ℤ, ◌+◌, ◌-◌, ◌≤◌, List, [], ◌∷◌, ◌++◌, length, map, take, drop, ap, ◌∙◌, sym, refl, arith, length-take-le, take-append-drop, drop-drop}
 use Rattle.lane_rows.proofs.Common.{take-add, map-append, length-map, length-chunk, length-zip2, take-put_mid, zip2, put_mid}
 use Rattle.std.proofs.lemmas.Slice.{drop-put_mid}
 

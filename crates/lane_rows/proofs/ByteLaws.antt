@@ -1,11 +1,11 @@
 -- What is computed of bytes in lanes.
-use Rattle.std.proofs.Common.{◌≡◌, inl, inr, ℕ, ℤ, pos, negsuc, suc, ◌+◌, ◌-◌, ◌%◌, ◌<◌, ◌≤◌, ◌-ℤ◌, ◌+ℤ◌, unsigned_abs, List, length, map, Bool, true, false, cond, min, max, ltb, w8, Fits, refl, ap, ◌∙◌, sym, arith, int_le, ◌&&◌, if◌then◌else◌}
+use Rattle.std.proofs.Common.{◌≡◌, inl, inr, ℕ, ℤ, pos, negsuc, suc, ◌+◌, ◌-◌, ◌%◌, ◌<◌, ◌≤◌, ◌-ℤ◌, unsigned_abs, List, length, map, Bool, true, false, cond, min, max, ltb, w8, Fits, refl, ap, ◌∙◌, arith, int_le, ◌&&◌, if◌then◌else◌}
 use Rattle.lane_rows.proofs.Common.{zip2, Each1, ints, clamps, cases_lt, nat_tests, U8, Wrap, Saturate, narrow, top}
 use Rattle.vx_base.specs.Pixelwise.{sum, difference, absolute_difference, smaller, greater, not_bits}
 use Rattle.vx_base.specs.declared.threshold.ThresholdKind.TheVariants.{Binary, Range}
 use Rattle.lane_rows.specs.Chosen as spec
 use Rattle.lane_rows.proofs.LaneLaws.{clamp_pos, smaller_lane}
-use Rattle.lane_rows.proofs.Lanewise.{Lanewise, one, other, constant, each, both, chosen, pairs_are, items_are}
+use Rattle.lane_rows.proofs.Lanewise.{Lanewise, both, chosen, pairs_are, items_are}
 
 abbrev less : ℕ → ℕ → ℕ
 less x y = cond (ltb x y) 255 0

@@ -1,7 +1,6 @@
 -- What is computed in lanes, lane by lane.
-use Rattle.std.proofs.Common.{◌≡◌, ℕ, ℤ, pos, zero, suc, ◌*◌, ◌/◌, ◌%◌, ◌^◌, ◌<◌, List, [], ◌∷◌, length, map, Bool, true, false, cond, min, ltb, w8, Fits, replicate, refl, ap, ◌∙◌, sym, subst, arith, bit_and, take_all}
-use Rattle.lane_rows.proofs.Common.{zip2, Each1, sel_l, chunk, ints, clamps, length-map, length-zip2, put_chunk_whole, U8, Wrap, Saturate, narrow, top}
-use Rattle.std.specs.Simd.Lanes.{put_chunk}
+use Rattle.std.proofs.Common.{◌≡◌, ℕ, ℤ, pos, zero, suc, ◌*◌, ◌/◌, ◌%◌, ◌^◌, ◌<◌, List, [], ◌∷◌, length, map, Bool, true, false, cond, min, ltb, w8, Fits, replicate, refl, ap, ◌∙◌, sym, subst, arith, bit_and}
+use Rattle.lane_rows.proofs.Common.{zip2, Each1, sel_l, ints, clamps, U8, Wrap, Saturate, narrow, top}
 use Rattle.std.proofs.lemmas.Nat.{and_mask}
 
 -- ---- one operation after another

@@ -1,5 +1,5 @@
 -- S16 samples as numbers of 16 bits.
-use Rattle.std.proofs.Common.{rules, ◌≡◌, ℕ, ℤ, pos, ◌<◌, List, length, get_or, All, w16, FitsSigned, arith}
+use Rattle.std.proofs.Common.{rules, ℤ, pos, List, get_or, All, w16, FitsSigned, arith}
 use Rattle.lane_rows.proofs.Common.{Each1, S16, ints}
 use Rattle.std.proofs.lemmas.Simd.{Each1-from_get_or}
 use Rattle.std.proofs.lemmas.List.Elements.{All-get_or}

@@ -1,11 +1,11 @@
 -- What is computed of numbers of 16 bits in lanes.
-use Rattle.std.proofs.Common.{rules, ◌≡◌, ℕ, ℤ, pos, zero, suc, ◌+◌, ◌-◌, ◌%◌, ◌<◌, ◌≤◌, ◌-ℤ◌, ◌+ℤ◌, int_lt, unsigned_abs, List, length, map, Bool, true, false, cond, w16, w32, FitsSigned, to_z, of_z, refl, ap, ◌∙◌, sym, subst, arith, map-id}
+use Rattle.std.proofs.Common.{rules, ◌≡◌, ℕ, ℤ, pos, ◌+◌, ◌-◌, ◌%◌, ◌-ℤ◌, ◌+ℤ◌, int_lt, unsigned_abs, List, length, map, Bool, true, false, cond, w16, w32, FitsSigned, to_z, of_z, refl, ap, ◌∙◌, sym, subst, arith, map-id}
 use Rattle.std.specs.Int.{int_min, int_max}
-use Rattle.lane_rows.proofs.Common.{zip2, Each1, ints, clamps, nat_tests, to_z-of_z, int_wrap_fits, fits_signed_from_abs, S16, Policy, narrow, top, Width}
+use Rattle.lane_rows.proofs.Common.{zip2, Each1, ints, clamps, to_z-of_z, int_wrap_fits, S16, Policy, narrow, top, Width}
 use Rattle.std.proofs.lemmas.Int.{wrapping_add_is, wrapping_sub_is}
 use Rattle.vx_base.specs.Sample.{distance}
 use Rattle.lane_rows.proofs.LaneLaws.{chosen_w16}
-use Rattle.lane_rows.proofs.ShortLaws.{of_bits, fit_as_bits, wider, widened, abs_16}
+use Rattle.lane_rows.proofs.ShortLaws.{of_bits, fit_as_bits, wider, widened}
 use Rattle.lane_rows.proofs.Lanewise.{Lanewise, one, other, each, both, chosen, pairs_are, map-zip2, each_of}
 
 -- the bits of the lanes of the one vector and of the other

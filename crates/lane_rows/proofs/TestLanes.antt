@@ -1,9 +1,9 @@
 -- Numbers of 16 bits that are tested in lanes, and bytes chosen by that.
-use Rattle.std.proofs.Common.{◌≡◌, ℕ, ℤ, pos, suc, ◌+◌, ◌<◌, int_lt, int_le, ◌&&◌, if◌then◌else◌, List, length, map, Bool, true, false, cond, w8, w16, FitsSigned, to_z, of_z, refl, ap, ◌∙◌, arith, map-id}
+use Rattle.std.proofs.Common.{◌≡◌, ℕ, ℤ, pos, int_lt, int_le, ◌&&◌, if◌then◌else◌, List, length, map, Bool, true, false, cond, w8, w16, FitsSigned, to_z, of_z, refl, ap, ◌∙◌, arith, map-id}
 use Rattle.lane_rows.proofs.Common.{Each1, ints, nat_tests, to_z-of_z, top}
 use Rattle.vx_base.specs.declared.threshold.ThresholdKind.TheVariants.{Binary, Range}
 use Rattle.lane_rows.specs.Chosen as spec
-use Rattle.lane_rows.proofs.Lanewise.{Lanewise, one, constant, each, both, chosen, items_are, each_is}
+use Rattle.lane_rows.proofs.Lanewise.{Lanewise, one, constant, each, both, chosen, items_are}
 
 abbrev pub less : ℕ → ℕ → ℕ
 less a b = cond (int_lt (to_z w16 a) (to_z w16 b)) 65535 0

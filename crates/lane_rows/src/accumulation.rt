@@ -7,9 +7,8 @@ ghost use Rattle.vx_base.specs.Pixelwise.{accumulated, accumulated_square};
 use crate::item::Short;
 use crate::kernel::OfSum;
 use crate::rows::update_row;
-use crate::shorts::{narrowed, short_sums, sums_with_squares};
+use crate::shorts::{accumulated_shorts, scaled_squares};
 use std::simd::prelude::*;
-use vx_base::Policy;
 
 /// The sum and the byte, at most 32,767.
 pub struct Accumulated;
@@ -22,7 +21,8 @@ impl OfSum<u8, i16> for Accumulated {
     }
 
     fn lanes(&self, row: &[u8], sums: &mut [i16]) {
-        narrowed(short_sums(u8::shorts(row), i16::shorts(sums)), Policy::Saturate).copy_to_slice(sums);
+        let bytes = u8x16::from_slice(row).cast::<u16>();
+        accumulated_shorts(bytes, i16::shorts(sums)).copy_to_slice(sums);
     }
 }
 
@@ -49,8 +49,8 @@ impl OfSum<u8, i16> for Squared {
     }
 
     fn lanes(&self, row: &[u8], sums: &mut [i16]) {
-        let after = sums_with_squares(u8x16::from_slice(row), i16::shorts(sums), self.amount);
-        narrowed(after, Policy::Saturate).copy_to_slice(sums);
+        let squares = scaled_squares(u8x16::from_slice(row), self.amount);
+        accumulated_shorts(squares, i16::shorts(sums)).copy_to_slice(sums);
     }
 }
 

@@ -6,7 +6,7 @@ ghost use Rattle.std.specs.Simd.Lanes.{zip2, Each1};
 ghost use Rattle.vx_base.specs.declared.format.Format.TheVariants.{S16};
 ghost use Rattle.vx_base.specs.declared.policy.Policy.TheVariants.{Wrap, Saturate};
 ghost use Rattle.vx_base.specs.Sample.{narrow, distance};
-ghost use Rattle.vx_base.specs.Pixelwise.{product, smaller, greater};
+ghost use Rattle.vx_base.specs.Pixelwise.{product, smaller, greater, accumulated};
 ghost use Rattle.lane_rows.specs.Quarters.{exchanged};
 
 use std::simd::prelude::*;
@@ -162,14 +162,22 @@ pub fn multiplied(a: i16x16, b: i16x16, amount: u8, policy: Policy) -> i16x16
     quarters_exchanged(narrowed(scaled(products(a, b), amount), policy))
 }
 
-/// The sums with the squares of the bytes over 2^amount, rounded down, added.
-pub fn sums_with_squares(row: u8x16, sums: i16x16, amount: u8) -> i32x16
-    requires amount { amount ≤ 15 }
+/// The squares of bytes over 2^amount, rounded down.
+pub fn scaled_squares(row: u8x16, amount: u8) -> u16x16
+    requires { amount ≤ 15 }
+    ensures { map pos result ≡ map (λ a. int_div_euclid (a *ℤ a) (pos (2 ^ amount))) (map pos row) }
+{
+    (row.cast::<u16>() * row.cast::<u16>()) >> u16::from(amount)
+}
+
+/// The sums with the numbers added, at most 32,767: as much of a number is added as there is room
+/// for, which the 16 bits of a sum tell as a number without a sign.
+pub fn accumulated_shorts(numbers: u16x16, sums: i16x16) -> i16x16
     requires len { length sums ≡ 16 }
     requires fits { Each1 (FitsSigned w16) sums }
-    ensures { result ≡ zip2 (λ a c. c +ℤ int_div_euclid (a *ℤ a) (pos (2 ^ amount))) (map pos row)
-        sums }
+    ensures value { result ≡ zip2 (accumulated S16) (map pos numbers) sums }
+    ensures result_fits { Each1 (FitsSigned w16) result }
 {
-    let squares = (row.cast::<u16>() * row.cast::<u16>()) >> u16::from(amount);
-    squares.cast::<i32>() + sums.cast::<i32>()
+    let room = u16x16::from_le_bytes((i16x16::splat(32767) - sums).to_le_bytes());
+    sums + i16x16::from_le_bytes(numbers.simd_min(room).to_le_bytes())
 }

@@ -1,4 +1,4 @@
-use Rattle.std.proofs.Common.{◌∙◌, subst, sym, w16, FitsSigned, take, take_all, arith}
+use Rattle.std.proofs.Common.{subst, sym, w16, FitsSigned, take, take_all, arith}
 use Rattle.lane_rows.proofs.Common.{Each1}
 use Rattle.lane_rows.proofs.ShortLaws.{told}
 use Rattle.lane_rows.proofs.SampleLaws.{samples_fit}

@@ -1,6 +1,5 @@
 use Rattle.std.proofs.Common.{w16}
 use Rattle.vx_base.specs.Pixelwise.{greater}
-use Rattle.lane_rows.proofs.Lanewise.{each, both}
 use Rattle.lane_rows.proofs.ShortLanes.{shorts_are, one_short, other_short, largest, greater_is}
 use Rattle.lane_rows.proofs.shorts.greater_shorts.Goals as goal
 

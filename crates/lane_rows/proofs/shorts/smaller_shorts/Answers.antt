@@ -1,6 +1,5 @@
 use Rattle.std.proofs.Common.{w16}
 use Rattle.vx_base.specs.Pixelwise.{smaller}
-use Rattle.lane_rows.proofs.Lanewise.{each, both}
 use Rattle.lane_rows.proofs.ShortLanes.{shorts_are, one_short, other_short, smallest, smaller_is}
 use Rattle.lane_rows.proofs.shorts.smaller_shorts.Goals as goal
 

@@ -1,4 +1,4 @@
-use Rattle.std.proofs.Common.{pos, map, length, ap, ◌∙◌, sym, w16, map-id}
+use Rattle.std.proofs.Common.{pos, map, ap, ◌∙◌, sym, w16, map-id}
 use Rattle.lane_rows.proofs.Common.{U8, length-map}
 use Rattle.vx_base.specs.Pixelwise.{converted}
 use Rattle.lane_rows.proofs.ShortLaws.{of_bits, fit_as_bits}

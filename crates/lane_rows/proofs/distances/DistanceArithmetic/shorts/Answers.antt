@@ -1,4 +1,4 @@
-use Rattle.std.proofs.Common.{◌∙◌, ap, w16, w32, pos}
+use Rattle.std.proofs.Common.{◌∙◌, w16, w32, pos}
 use Rattle.lane_rows.proofs.Common.{Saturate}
 use Rattle.vx_base.specs.Sample.{distance}
 use Rattle.lane_rows.proofs.ShortLaws.{fit_as_bits}

@@ -1,4 +1,4 @@
-use Rattle.std.proofs.Common.{pos, map, length, ◌∙◌, sym}
+use Rattle.std.proofs.Common.{pos, map, ◌∙◌, sym}
 use Rattle.lane_rows.proofs.Common.{length-map}
 use Rattle.vx_base.specs.declared.threshold.ThresholdKind.TheVariants.{Binary}
 use Rattle.lane_rows.specs.Chosen.{chosen}
