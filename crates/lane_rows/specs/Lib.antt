@@ -7,3 +7,4 @@ pub mod RankLaws
 pub mod Threes
 pub mod Limits
 pub mod Axpy
+pub mod Chosen
