@@ -1,7 +1,7 @@
 use Rattle.std.proofs.Common.{ℕ, List, sym, subst}
 use Rattle.client_contexts.proofs.Common.{IsRuntime, Opened}
 use Rattle.client_contexts.proofs.RuntimeLemmas.{lends_to_client, changed_is}
-use Rattle.client_contexts.proofs.runtime.Runtime.apply.Goals as goal
+use Rattle.client_contexts.proofs.runtime.Runtime.answer.Goals as goal
 
 pub answer-requires-clause-owns : goal.answer-requires-clause-owns
 answer-requires-clause-owns c =
