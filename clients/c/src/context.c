@@ -140,6 +140,21 @@ static void make_base(vx_reference reference, vx_context context, vx_enum type, 
     register_reference(reference);
 }
 
+/* Reaches a server that opens a context; false with the reason where there is none. */
+static bool open_server(vx_context context, char *why, size_t room) {
+    if (!connection_open(&context->connection, why, room))
+        return false;
+    end_look(context);
+    vx_status status = ask(context, OPEN_CONTEXT, NULL, 0, NULL, 0);
+    let_look(context);
+    if (context->connection.has_ended)
+        connection_epitaph(&context->connection, why, room);
+    else
+        snprintf(why, room, "the server refused OpenContext: %s%s", name_of_status(status),
+                 status == VX_ERROR_NO_RESOURCES ? ": it has too many connections" : "");
+    return status == VX_SUCCESS;
+}
+
 PUBLIC vx_context VX_API_CALL vxCreateContext(void) {
     char why[VX_MAX_LOG_MESSAGE_LEN];
     vx_context context = calloc(1, sizeof *context);
@@ -151,25 +166,13 @@ PUBLIC vx_context VX_API_CALL vxCreateContext(void) {
         return NULL;
     }
     context->base.context = context;
-    bool is_open = connection_open(&context->connection, why, sizeof why);
-    if (is_open) {
-        end_look(context);
-        vx_status status = ask(context, OPEN_CONTEXT, NULL, 0, NULL, 0);
-        let_look(context);
-        is_open = status == VX_SUCCESS;
-        connection_epitaph(&context->connection, why, sizeof why);
-        if (!is_open && !context->connection.has_ended)
-            snprintf(why, sizeof why, "the server refused OpenContext: %s%s",
-                     name_of_status(status),
-                     status == VX_ERROR_NO_RESOURCES ? ": it has too many connections" : "");
-    }
-    if (!is_open) {
+    context->border.mode = VX_BORDER_UNDEFINED;
+    context->border_policy = VX_BORDER_POLICY_DEFAULT_TO_UNDEFINED;
+    if (!open_server(context, why, sizeof why)) {
         fprintf(stderr, "vxCreateContext: %s\n", why);
         free_context(context);
         return NULL;
     }
-    context->border.mode = VX_BORDER_UNDEFINED;
-    context->border_policy = VX_BORDER_POLICY_DEFAULT_TO_UNDEFINED;
     make_base(&context->base, context, VX_TYPE_CONTEXT, VX_SUCCESS);
     for (vx_status status = -1; status > VX_STATUS_MIN; status--)
         make_base(&context->errors[-status], context, VX_TYPE_ERROR, status);
