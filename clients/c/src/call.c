@@ -238,11 +238,21 @@ static vx_status amount_of(vx_reference about, const struct call *call, uint8_t 
     return VX_SUCCESS;
 }
 
+static vx_status send_limits(vx_reference about, const struct call *call) {
+    vx_threshold threshold = (vx_threshold)call->operands[IN2];
+    if (threshold->kind == VX_THRESHOLD_TYPE_RANGE && threshold->upper < threshold->lower)
+        return refuse(about, call, VX_ERROR_INVALID_VALUE,
+                      "thresh has an upper limit of %d, below its lower one of %d",
+                      threshold->upper, threshold->lower);
+    return send_threshold(threshold);
+}
+
 /* Has what the call uses made on the server. */
-static vx_status send_used(vx_context context, struct call *call) {
+static vx_status send_used(vx_reference about, struct call *call) {
+    vx_context context = about->context;
     switch (call->function) {
     case THRESHOLD:
-        return send_threshold((vx_threshold)call->operands[IN2]);
+        return send_limits(about, call);
     case TABLE_LOOKUP:
         return send_lut((vx_lut)call->operands[IN2]);
     case CONVOLVE:
@@ -268,7 +278,7 @@ vx_status encode_call(vx_reference about, struct call *call, uint8_t *bytes) {
     uint8_t amount, *at = bytes;
     vx_status status = amount_of(about, call, &amount);
     if (status == VX_SUCCESS)
-        status = send_used(about->context, call);
+        status = send_used(about, call);
     if (status != VX_SUCCESS)
         return status;
     bool is_constant = call->border.mode == VX_BORDER_CONSTANT;

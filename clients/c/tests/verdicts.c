@@ -80,6 +80,24 @@ static void tell_operands(void) {
     CHECK(vxMagnitudeNode(NULL, s16, s16, s16) == NULL);
 }
 
+static void tell_numbers(void) {
+    const vx_float32 third = 1.0f / 3;
+    vx_pixel_value_t lower = {.U8 = 9}, upper = {.U8 = 8};
+    vx_threshold range = vxCreateThresholdForImage(context, VX_THRESHOLD_TYPE_RANGE,
+                                                   VX_DF_IMAGE_U8, VX_DF_IMAGE_U8);
+    vx_scalar scale = vxCreateScalar(context, VX_TYPE_FLOAT32, &third);
+    vx_graph graph = vxCreateGraph(context);
+    EXPECT(VX_SUCCESS,
+           vxCopyThresholdRange(range, &lower, &upper, VX_WRITE_ONLY, VX_MEMORY_TYPE_HOST));
+    SAYS(VX_ERROR_INVALID_VALUE, vxuThreshold(context, u8, range, v8),
+         "vxuThreshold: thresh has an upper limit of 8, below its lower one of 9");
+    EXPECT(VX_SUCCESS, STATUS(vxMultiplyNode(graph, u8, u8, scale, VX_CONVERT_POLICY_WRAP,
+                                             VX_ROUND_POLICY_TO_ZERO, v8)));
+    SAYS(VX_ERROR_NOT_SUPPORTED, vxVerifyGraph(graph),
+         "node 0 (vxMultiplyNode): scale is 0.333333343, and has to be 1 / 2^n with n from 0 to 15");
+    EXPECT(VX_SUCCESS, vxReleaseGraph(&graph));
+}
+
 static vx_status status_of(vx_node node) {
     vx_status status;
     EXPECT(VX_SUCCESS, vxQueryNode(node, VX_NODE_STATUS, &status, sizeof status));
@@ -243,6 +261,7 @@ int main(void) {
     s16 = vxCreateImage(context, WIDTH, HEIGHT, VX_DF_IMAGE_S16);
     refuse_holes();
     tell_operands();
+    tell_numbers();
     tell_nodes();
     tell_links();
     refuse_two_writers();
