@@ -39,7 +39,7 @@ Format: https://www.debian.org/doc/packaging-manuals/copyright-format/1.0/
 Upstream-Name: Feqyldan
 
 Files: *
-Copyright: the authors of Feqyldan
+Copyright: 2026 the authors of Feqyldan
 License: Apache-2.0
  On Debian systems the whole text of the Apache License, version 2.0, is in
  /usr/share/common-licenses/Apache-2.0.
@@ -138,6 +138,12 @@ def put(stage: str, files: Mapping[str, Data], mode: int) -> None:
         os.chmod(path, mode)
 
 
+def strip_programs(stage: str, names: Iterable[str]) -> None:
+    """Takes out of the programs what is for debuggers alone."""
+    paths = [os.path.join(stage, "usr", "lib", NAME, name) for name in names]
+    subprocess.run(["strip", "--strip-unneeded", *paths], check=True)
+
+
 def put_control(stage: str, c_library: Tuple[int, int]) -> None:
     installed = [path for path in glob.glob(f"{stage}/usr/**", recursive=True)
                  if os.path.isfile(path) and not os.path.islink(path)]
@@ -167,6 +173,7 @@ def build(wheel: str, programs: Dict[str, bytes], c_library: Tuple[int, int], fo
         os.chmod(stage, 0o755)
         put(stage, plain_files(wheel), 0o644)
         put(stage, {f"usr/lib/{NAME}/{name}": data for name, data in programs.items()}, 0o755)
+        strip_programs(stage, programs)
         put(stage, {"usr/bin/feqyldan": text_of("deploy", "starter"),
                     "usr/bin/feqyldan-broker": BROKER}, 0o755)
         put_control(stage, c_library)
