@@ -2,6 +2,7 @@
 #define _GNU_SOURCE
 #include "internal.h"
 
+#include <dirent.h>
 #include <errno.h>
 #include <fcntl.h>
 #include <poll.h>
@@ -84,15 +85,31 @@ struct ends {
     int input, output, said;
 };
 
+/* Has all other descriptors closed: else what the program has open would stay open until the server
+   ends. */
+static int plan_closing(posix_spawn_file_actions_t *actions) {
+#if defined(__GLIBC__) && (__GLIBC__ > 2 || __GLIBC_MINOR__ >= 34)
+    return posix_spawn_file_actions_addclosefrom_np(actions, 3);
+#else
+    /* Those that are open now, where there is no better way. */
+    int error = 0;
+    DIR *open = opendir("/proc/self/fd");
+    for (struct dirent *entry; open != NULL && (entry = readdir(open)) != NULL;) {
+        int end = atoi(entry->d_name);
+        if (end > 2 && error == 0)
+            error = posix_spawn_file_actions_addclose(actions, end);
+    }
+    if (open != NULL)
+        closedir(open);
+    return error;
+#endif
+}
+
 static int plan_descriptors(posix_spawn_file_actions_t *actions, struct ends theirs) {
     int error = posix_spawn_file_actions_adddup2(actions, theirs.input, 0);
     error = error ? error : posix_spawn_file_actions_adddup2(actions, theirs.output, 1);
     error = error ? error : posix_spawn_file_actions_adddup2(actions, theirs.said, 2);
-#if defined(__GLIBC__) && (__GLIBC__ > 2 || __GLIBC_MINOR__ >= 34)
-    /* Else what the program has open would stay open until the server ends. */
-    error = error ? error : posix_spawn_file_actions_addclosefrom_np(actions, 3);
-#endif
-    return error;
+    return error ? error : plan_closing(actions);
 }
 
 /* In a session of its own, so that Ctrl-C doesn't end it, and with signals as by default. */
