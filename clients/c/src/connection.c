@@ -201,6 +201,9 @@ static bool send_parts(struct connection *connection, struct iovec *parts, int c
         if (pushed < 0 && (errno == EAGAIN || errno == EWOULDBLOCK)) {
             if (!await_room(connection))
                 return false;
+        } else if (pushed < 0 && errno == EFAULT) {
+            /* What the program gives isn't memory: the rest of the frame never comes. */
+            return end(connection);
         } else if (pushed < 0 && errno != EINTR) {
             return hear_out(connection);
         }

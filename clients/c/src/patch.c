@@ -16,7 +16,8 @@ static vx_size samples_of(const struct _vx_image *image) {
 
 /* ---- Buffers ---- */
 
-/* A buffer of at least so many bytes, whatever they are; NULL where there is no memory. */
+/* A buffer of at least so many bytes, which are 0 or what a picture had; NULL where there is no
+   memory. So nothing else of the program's memory goes out where a map isn't wholly written. */
 static struct buffer take_buffer(vx_context context, size_t length) {
     struct buffer *best = NULL;
     for (int i = 0; i < SPARES; i++) {
@@ -27,7 +28,7 @@ static struct buffer take_buffer(vx_context context, size_t length) {
     }
     struct buffer taken = {NULL, length};
     if (best == NULL) {
-        taken.bytes = malloc(length);
+        taken.bytes = calloc(1, length);
         return taken;
     }
     taken = *best;

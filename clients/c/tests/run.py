@@ -419,6 +419,15 @@ class Library(unittest.TestCase):
                                 "-I" + os.path.join(HOME, "include"), "-"],
                                input=text, text=True, check=True)
 
+    def test_a_program_of_each_standard_compiles_without_a_warning_and_runs(self):
+        library, program = os.path.join(installed(), "lib"), os.path.join(folder, "sample")
+        for compiler, standard in STANDARDS:
+            subprocess.run([compiler, "-std=" + standard, *ALL_WARNINGS, "-x",
+                            "c" if compiler == "cc" else "c++", os.path.join(HERE, "sample.c"),
+                            "-x", "none", "-I" + os.path.join(installed(), "include"),
+                            os.path.join(library, "libfeqyldan.a"), "-o", program], check=True)
+            subprocess.run([program], check=True)
+
     def test_the_document_lists_the_names(self):
         said = subprocess.run([os.path.join(HOME, "names")], stdout=subprocess.PIPE, text=True,
                               check=True).stdout
