@@ -40,13 +40,7 @@ pub fn shorts_above(row: i16x32, limit: i16, true_value: u8, false_value: u8) ->
 }
 
 /// One value where a number is from the lower to the upper limit, another elsewhere.
-pub fn shorts_between(
-    row: i16x32,
-    lower: i16,
-    upper: i16,
-    true_value: u8,
-    false_value: u8,
-) -> u8x32
+pub fn shorts_between(row: i16x32, lower: i16, upper: i16, true_value: u8, false_value: u8) -> u8x32
     requires len { length row ≡ 32 }
     requires fits { Each1 (FitsSigned w16) row }
     ensures { map pos result ≡ map (chosen (Range lower upper) true_value false_value) row }

@@ -24,6 +24,33 @@
 //! - `threes`: sums and means of three rows of numbers that aren't negative
 //! - `axpy`: a coefficient times a row of bytes, added to sums
 //! - `bytes`, `shorts`, `choices`, `depth_lanes`: their arithmetic in lanes
+//!
+//! The kernels and their formulas: a and b are the items, c is what stood in the output, and p
+//! narrows to the output's format by the policy. Times are those of an item of rows of 1920 in the
+//! cache, in thousandths of a nanosecond, on x86-64-v2, whose registers have 16 bytes, and on
+//! x86-64-v3, with 32. A block of 32 items is two registers of bytes or four of S16 on v2, half as
+//! many on v3; where a row is updated, a block has 16 items.
+//!
+//! | Kernel | Formula | Conditions | v2 | v3 |
+//! |---|---|---|---|---|
+//! | `and_u8`, `or_u8`, `xor_u8` | a and b, a or b, a xor b | | 31 | 18 |
+//! | `not_u8` | 255 - a | | 25 | 13 |
+//! | `add_u8`, `sub_u8` | p(a + b), p(a - b) | | 31 | 18 |
+//! | `add_s16`, `sub_s16` | p(a + b), p(a - b) | U8 or S16 rows | 61 | 39 |
+//! | `mul_u8` | p(a * b / 2^n), rounded to zero | n up to 15 | 108 | 66 |
+//! | `mul_s16` | p(a * b / 2^n), rounded to zero | U8 or S16 rows, n up to 15 | 191 | 98 |
+//! | `absdiff_u8` | how far apart | | 40 | 21 |
+//! | `absdiff_s16` | how far apart, up to 32,767 | U8 or S16 rows | 82 | 40 |
+//! | `min_u8`, `max_u8` | the smaller, the greater | | 31 | 16 |
+//! | `min_s16`, `max_s16` | the smaller, the greater | U8 or S16 rows | 61 | 38 |
+//! | `threshold_u8` | by a limit; by a range | a rule of U8 | 29; 51 | 19; 29 |
+//! | `threshold_s16` | by a limit; by a range | a rule of S16 | 50; 86 | 38; 56 |
+//! | `widen`, `shift_up` | a, a * 2^n | n up to 7 | 46 | 23 |
+//! | `narrow` | a / 2^n, rounded down, wraps; saturates | n up to 7 | 52; 39 | 29; 24 |
+//! | `accumulate` | c + a, up to 32,767 | updates S16 | 90 | 44 |
+//! | `accumulate_square` | c + a * a / 2^n, rounded down, up to 32,767 | n up to 15 | 122 | 62 |
+//!
+//! The rows of a call have one length, which may be any.
 #![tactic(auto)]
 
 mod accumulation;

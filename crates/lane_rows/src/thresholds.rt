@@ -7,10 +7,10 @@ ghost use Rattle.vx_base.specs.Threshold.{is_sample};
 ghost use Rattle.vx_base.specs.Pixelwise.{thresholded};
 ghost use Rattle.lane_rows.specs.Chosen.{chosen};
 
+use crate::choices::{bytes_above, bytes_between, shorts_above, shorts_between};
 use crate::item::{Item, shorts_of};
 use crate::kernel::{LanesOfItem, OfItem};
 use crate::rows::map_row;
-use crate::choices::{bytes_above, bytes_between, shorts_above, shorts_between};
 use std::simd::prelude::*;
 use vx_base::{ThresholdKind, ThresholdRule};
 
@@ -38,7 +38,7 @@ pub trait Tested: Item {
         ensures { map pos result ≡ map (chosen (Binary (Self.value limit)) true_value false_value)
             (map Self.value row.now) };
 
-    /// Returns one value where an item of 32 is from the lower to the upper limit, another elsewhere.
+    /// Returns one value where an item of 32 is from the lower to the upper limit, or another.
     fn between(row: &[Self], lower: Self, upper: Self, true_value: u8, false_value: u8) -> u8x32
         requires { length row.now ≡ 32 }
         ensures { map pos result ≡ map
@@ -66,7 +66,13 @@ impl Tested for u8 {
     }
 
     fn between(row: &[u8], lower: u8, upper: u8, true_value: u8, false_value: u8) -> u8x32 {
-        bytes_between(u8x32::from_slice(row), lower, upper, true_value, false_value)
+        bytes_between(
+            u8x32::from_slice(row),
+            lower,
+            upper,
+            true_value,
+            false_value,
+        )
     }
 }
 
@@ -155,8 +161,14 @@ impl<A: Tested> OfItem<A, u8> for Between<A> {
 
 impl<A: Tested> LanesOfItem<A, u8> for Between<A> {
     fn lanes(&self, row: &[A], out: &mut [u8]) {
-        A::between(row, self.lower, self.upper, self.true_value, self.false_value)
-            .copy_to_slice(out);
+        A::between(
+            row,
+            self.lower,
+            self.upper,
+            self.true_value,
+            self.false_value,
+        )
+        .copy_to_slice(out);
     }
 }
 

@@ -14,7 +14,11 @@ use lane_rows::{Above, Between, Tested};
 use vx_base::{Format, ThresholdKind, ThresholdRule};
 
 /// Writes the rule's values; it tests samples of this type.
-fn write_tested<A: Pixel + Tested>(image: &Image<'_>, output: &mut ImageMut<'_>, rule: ThresholdRule)
+fn write_tested<A: Pixel + Tested>(
+    image: &Image<'_>,
+    output: &mut ImageMut<'_>,
+    rule: ThresholdRule,
+)
     requires target { IsTarget output.old }
     requires size { HaveSameSize (written output.old) image.now }
     requires input_format { image.now.format ≡ A.Sample.format }

@@ -1,5 +1,4 @@
 use Rattle.std.proofs.Common.{◌-ℤ◌, w32}
-
 use Rattle.lane_rows.proofs.Lanewise.{each, both}
 use Rattle.lane_rows.proofs.ShortLanes.{shorts_are, one_short, other_short, minus, wide, difference_is}
 use Rattle.lane_rows.proofs.shorts.short_differences.Goals as goal
