@@ -129,7 +129,7 @@ struct _vx_reference {
    VX_TYPE_REFERENCE is any. */
 vx_context enter(const void *reference, vx_enum type);
 vx_status leave(vx_context context, vx_status status);
-/* The same for a call that changes nothing and asks the server nothing. */
+/* The same for a call that asks the server nothing, and changes nothing but a scalar's value. */
 vx_context look(const void *reference, vx_enum type);
 vx_status look_away(vx_context context, vx_status status);
 /* Whether an argument is a live reference of a type in a context: VX_SUCCESS, or why not. */
