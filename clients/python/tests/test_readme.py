@@ -1,0 +1,67 @@
+"""Each command in README.md works, pasted in the order of the page."""
+
+import os
+import re
+import subprocess
+import tempfile
+import unittest
+
+from documents import ROOT
+from program import PROGRAM, needs_program
+from test_pictures import decoded
+
+# What takes too long to be pasted here: the whole gate, of which this test is a part.
+NOT_PASTED = ["tools/test"]
+
+
+def text_of(*path):
+    with open(os.path.join(ROOT, *path), encoding="utf-8") as file:
+        return file.read()
+
+
+def commands():
+    """The lines of README.md that are set off by four blanks and stand in no program, without their
+    comments."""
+    text = "".join(text_of("README.md").split("```")[::2])
+    return [line.partition(" #")[0].strip() for line in text.splitlines()
+            if line.startswith("    ")]
+
+
+class TestCommands(unittest.TestCase):
+    def test_two_do_the_set_up(self):
+        self.assertEqual(commands()[:2], ["examples/run", "tools/test"])
+
+    def test_the_toolchain_is_the_one_that_is_trusted(self):
+        names = [re.findall(r"rattle-kit-\S+ logic [0-9a-f]+", text_of(*path))
+                 for path in (("README.md",), ("docs", "proved.md"))]
+        self.assertEqual(names[0], names[1])
+        self.assertEqual(len(names[0]), 1)
+
+    def test_what_is_not_pasted_is_there(self):
+        for command in NOT_PASTED:
+            self.assertIn(command, commands())
+            self.assertTrue(os.access(os.path.join(ROOT, command), os.X_OK), command)
+
+    @needs_program
+    def test_each_works_when_pasted(self):
+        with tempfile.TemporaryDirectory() as folder:
+            checkout, temporary = (os.path.join(folder, name) for name in ("checkout", "tmp"))
+            os.mkdir(checkout)
+            os.mkdir(temporary)
+            for name in ("clients", "crates", "examples", "tools"):
+                os.symlink(os.path.realpath(os.path.join(ROOT, name)),
+                           os.path.join(checkout, name))
+            for command in commands():
+                if command not in NOT_PASTED:
+                    run = subprocess.run(
+                        ["bash", "-c", command], cwd=checkout, timeout=300, check=False, text=True,
+                        stdin=subprocess.DEVNULL, stdout=subprocess.PIPE, stderr=subprocess.STDOUT,
+                        env={**os.environ, "FEQYLDAN_PROGRAM": PROGRAM, "TMPDIR": temporary,
+                             "PYTHONDONTWRITEBYTECODE": "1"})
+                    self.assertEqual(run.returncode, 0, f"{command}:\n{run.stdout}")
+            with open(os.path.join(checkout, "outlines.png"), "rb") as file:
+                self.assertEqual(decoded(file.read())[:2], (256, 256))
+
+
+if __name__ == "__main__":
+    unittest.main()

@@ -1,0 +1,40 @@
+"""Checks of the documents: that what they name exists, and how they are written."""
+
+from typing import Iterator
+
+from . import links, names, prose, surface, tree
+
+
+def pages() -> Iterator[str]:
+    """Every document of the repository."""
+    return (path for path in sorted(tree.files()) if path.endswith(".md"))
+
+
+def found() -> Iterator[str]:
+    """Each fault, as FILE:LINE and what is wrong."""
+    known = tree.names()
+    for path in names.DOCUMENTS:
+        text = tree.read(path).partition(f"\n## {surface.SECTION}\n")[0]
+        for line, name in names.stale(text, known):
+            yield f"{path}:{line}: `{name}` is defined nowhere: name what there is now"
+    for crate, name, wrong in surface.faults(tree.read(surface.LIST),
+                                             tree.read(surface.DECISIONS)):
+        yield f"{surface.DECISIONS}: `{name}` of {crate} {wrong}"
+    for path in pages():
+        for line, target in links.broken(path, tree.read(path)):
+            yield f"{path}:{line}: the link to {target} leads nowhere"
+        if path not in prose.NOT_YET:
+            for line, wrong in prose.faults(tree.read(path)):
+                yield f"{path}:{line}: {wrong}"
+
+
+def main() -> int:
+    """Prints the faults, and gives the status that the command ends with."""
+    faults = list(found())
+    for fault in faults:
+        print(fault)
+    count = len(surface.expected(tree.read(surface.LIST)))
+    if not faults:
+        print(f"check_documents: every name is there, in {len(names.DOCUMENTS)} documents and of "
+              f"{count} crates; each link leads somewhere; no sentence is too long")
+    return 1 if faults else 0
