@@ -110,10 +110,10 @@ class Watch:
         self._sums.fill(0)
 
     def look(self, frames: Camera) -> Iterator[Tuple[Picture, vx.Picture, int]]:
-        """Each frame with its marks, and how many samples are marked. One frame is sent ahead, and
-        may be in the sums before the background is renewed, or after."""
+        """Each frame with its marks, and how many samples are marked. No frame is sent ahead, so
+        each background has the frames that it should."""
         for number, (frame, (marks, counts)) in enumerate(
-                self.graph.stream(frames, self.camera, [self.marks, self.counts], ahead=1), 1):
+                self.graph.stream(frames, self.camera, [self.marks, self.counts], ahead=0), 1):
             if number % (1 << SHIFT) == 0:
                 self.renew()
             yield frame, marks, counts[1]

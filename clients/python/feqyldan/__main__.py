@@ -22,8 +22,8 @@ from .files import load
 from .graph_files import GraphFile, drawing_of_file, read_graph
 from .images import AnyImage
 from .objects import Distribution, MinMax
-from .pictures import write_png
-from .samples import needed_numpy, numpy_module
+from .pictures import write_npy, write_png
+from .samples import numpy_module
 from .server import Server, connect
 
 DESCRIPTION = "Runs a graph that Graph.save() wrote on pictures, or draws it."
@@ -158,7 +158,7 @@ def write(path: str, picture: Any) -> None:
     try:
         write_png(f"{path}.png", picture)
     except ValueError:
-        needed_numpy(f"{path}.npy").save(f"{path}.npy", picture)
+        write_npy(f"{path}.npy", picture)
 
 
 def columns_of(outputs: Dict[str, Any]) -> Iterator[str]:

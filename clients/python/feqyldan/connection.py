@@ -215,10 +215,14 @@ class Replies:
         # The buffer that is read into, its base, and whether it is that of a frame.
         self._into: Tuple[memoryview, int, bool] = self._chunk, 0, False
 
-    def read(self) -> bool:
-        """Reads once. Returns whether something came; it is False at the end of the replies."""
+    def read(self, at: int) -> bool:
+        """Reads once, where all replies up to there were taken. Returns whether something came; it
+        is False at the end of the replies."""
+        received = self.received
+        if received == at:
+            self._into = self._chunk, at, False
         buffer, base, _ = self._into
-        moved(self._counts, os.readv, self._descriptor, [buffer[self.received - base :]])
+        moved(self._counts, os.readv, self._descriptor, [buffer[received - base :]])
         return self._counts[-1] > 0
 
     @property
@@ -229,17 +233,14 @@ class Replies:
         return self._counts[0]
 
     def frame_at(self, at: int, request: Optional[Request]) -> Optional[memoryview]:
-        """Returns the whole frame that begins there, where the last one ended, and that answers the
-        request; None while it isn't whole, and then there is room to read on."""
+        """Returns the whole frame that begins there, where the last one ended and something was
+        read, and that answers the request; None while it isn't whole, and then there is room to
+        read on."""
         buffer, base, is_frame = self._into
         received = self.received
         if not is_frame:
             return self._split(buffer, base, at, received, request)
-        if at == base:
-            return buffer if received - base == len(buffer) else None
-        # It was taken, and nothing was read after it.
-        self._into = self._chunk, received, False
-        return None
+        return buffer if received - base == len(buffer) else None
 
     def _split(self, buffer: memoryview, base: int, at: int, received: int,
                request: Optional[Request]) -> Optional[memoryview]:
@@ -247,7 +248,8 @@ class Replies:
         chunk = buffer[at - base : received - base]
         length = length_of(chunk) if there >= 4 else 0
         if there < HEAD.size:
-            self._make_room(chunk, at, is_needed=at > base)
+            if at > base:
+                self._make_room(chunk, at)
             return None
         if request is None:
             raise UnexpectedReply("there is a reply without a request")
@@ -261,15 +263,12 @@ class Replies:
         self._into = frame, at, True
         return None
 
-    def _make_room(self, rest: memoryview, at: int, is_needed: bool) -> None:
-        """Has a chunk begin with the rest, at most seven bytes of a frame whose head isn't known
-        yet."""
-        if not rest:
-            self._into = self._chunk, at, False
-        elif is_needed:
-            chunk = memoryview(bytearray(CHUNK))
-            chunk[: len(rest)] = rest
-            self._into = chunk, at, False
+    def _make_room(self, rest: memoryview, at: int) -> None:
+        """Has a new chunk begin with the rest, at most seven bytes of a frame whose head isn't
+        known yet."""
+        chunk = memoryview(bytearray(CHUNK))
+        chunk[: len(rest)] = rest
+        self._into = chunk, at, False
 
 
 def length_of(chunk: memoryview) -> int:
@@ -336,7 +335,8 @@ class Connection:
                     self._flush()
                 else:
                     self._write()
-                    self.own_unsent()
+                    if self._unsent:
+                        self.own_unsent()
             except BaseException:
                 self.own_unsent()
                 raise
@@ -351,16 +351,15 @@ class Connection:
                 return True
             self._refuse_if_ended()
             self._mend()
-            self._deliver()
             while (request or self._line[-1]).answer is None:
+                if self._read() or self._unsent and self._write():
+                    continue
                 left = None if until is None else until - time.monotonic()
                 if left is not None and left <= 0:
                     return False
-                ready = self._receive(self._poll_with(wake), left)
-                if self._unsent:
-                    self._write()
+                ready = self._await(self._poll_with(wake), left)
                 if wake is not None and any(descriptor == wake for descriptor, _ in ready):
-                    return request is not None and request.answer is not None
+                    return False
         return True
 
     def own_unsent(self) -> None:
@@ -400,8 +399,9 @@ class Connection:
 
     def _take(self, request: Request, parts: List[Part]) -> None:
         """Puts a whole frame after what is to be sent."""
-        self._mend()
         last = self._line[-1]
+        if last.end > self._counts[0]:
+            self._mend()
         request.parts, request.start = parts, last.end
         request.end = last.end + sum(map(len, parts))
         self._line.append(request)
@@ -423,17 +423,20 @@ class Connection:
     def _flush(self) -> None:
         """Sends all that was taken."""
         while self._unsent:
-            if not self._write() and self._unsent:
-                self._receive(self._either)
+            if not self._write() and self._unsent and not self._read():
+                self._await(self._either, None)
 
     def _write(self) -> bool:
         """Sends as much as the server takes without waiting, so that it needn't wait either.
         Returns whether it took something."""
-        self._drop_sent()
+        sent = self._drop_sent()
         if not self._unsent:
             return False
+        first = self._unsent[0]
+        is_alone = len(self._unsent) == 1 and first.start == sent
         try:
-            moved(self._counts, os.writev, self._writer, self._next_parts())
+            moved(self._counts, os.writev, self._writer,
+                  first.parts if is_alone else self._next_parts(sent))
         except BlockingIOError:
             return False
         except (BrokenPipeError, ConnectionResetError):
@@ -441,14 +444,16 @@ class Connection:
         self._drop_sent()
         return True
 
-    def _drop_sent(self) -> None:
-        sent = self._sent
-        while self._unsent and self._unsent[0].end <= sent:
-            self._unsent.popleft().parts = ()
+    def _drop_sent(self) -> int:
+        """Forgets what was sent. Returns how many bytes were."""
+        sent, unsent = self._sent, self._unsent
+        while unsent and unsent[0].end <= sent:
+            unsent.popleft().parts = ()
+        return sent
 
-    def _next_parts(self) -> List[Part]:
+    def _next_parts(self, sent: int) -> List[Part]:
         """The bytes that come next, as far as one call takes them."""
-        skipped = self._sent - self._unsent[0].start
+        skipped = sent - self._unsent[0].start
         parts: List[Part] = []
         for request in islice(self._unsent, REQUESTS):
             parts += request.parts
@@ -471,13 +476,6 @@ class Connection:
         is_one = self._unsent and self._writer == self._reader
         poll.register(self._reader, select.POLLIN | (select.POLLOUT if is_one else 0))
         return poll
-
-    def _receive(self, poll: select.poll, limit: Optional[float] = None) -> List[Tuple[int, int]]:
-        """Waits until one of the things happens that `poll` has, at most so many seconds, and takes
-        in the replies that are there. Returns what has happened."""
-        ready = self._await(poll, limit)
-        self._read()
-        return ready
 
     def _await(self, poll: select.poll, limit: Optional[float]) -> List[Tuple[int, int]]:
         """
@@ -503,51 +501,55 @@ class Connection:
         raise self._fault
 
     def _read(self) -> bool:
-        """Returns whether something was read."""
-        self._deliver()
+        """Takes in replies that are there. Returns whether something was read."""
+        if not self._is_delivered:
+            self._deliver()
         self._is_delivered = False
         try:
-            if not self._replies.read():
+            if not self._replies.read(self._answered):
                 self._end()
         except BlockingIOError:
+            self._is_delivered = True
             return False
         except ConnectionResetError:
             self._end()
         self._deliver()
         return True
 
+    @property
+    def _answered(self) -> int:
+        """Where the replies end that are with their requests."""
+        line = self._line
+        while len(line) > 1 and line[1].answer is not None:
+            line.popleft()
+        answer = line[0].answer
+        assert answer is not None
+        return answer[1]
+
     def _deliver(self) -> None:
         """Gives each frame that was read to its request."""
-        if self._is_delivered:
-            return
         try:
-            while self._deliver_one():
+            at = self._answered
+            while at < self._replies.received:
+                line = self._line
+                frame = self._replies.frame_at(at, line[1] if len(line) > 1 else None)
+                if frame is None:
+                    break
                 self._waited = 0.0
+                self._line[1].arrive(frame, at + len(frame))
+                at = self._answered
         except UnexpectedReply as fault:
             self._fault = fault
             raise
         self._is_delivered = True
 
-    def _deliver_one(self) -> bool:
-        """Whether there was a whole frame."""
-        line = self._line
-        while len(line) > 1 and line[1].answer is not None:
-            line.popleft()
-        answered = line[0].answer
-        assert answered is not None
-        frame = self._replies.frame_at(answered[1], line[1] if len(line) > 1 else None)
-        if frame is None:
-            return False
-        line[1].arrive(frame, answered[1] + len(frame))
-        return True
-
     def _hear_out(self) -> None:
         """Nobody reads any more what is sent: what was answered before is still to be read, up to
         its end."""
         while True:
-            self._receive(self._readable)
+            if not self._read():
+                self._await(self._readable, None)
 
     def _end(self) -> None:
-        answered = self._line[0].answer
-        self._fault = self._ended(answered is not None and self._replies.received > answered[1])
+        self._fault = self._ended(self._replies.received > self._answered)
         raise self._fault

@@ -5,10 +5,11 @@ from __future__ import annotations
 
 import asyncio
 import struct
+import weakref
 from collections import deque
 from types import TracebackType
 from typing import (
-    TYPE_CHECKING, Any, Callable, Deque, List, Optional, Sequence, Tuple, Type, TypeVar)
+    TYPE_CHECKING, Any, Callable, Deque, Dict, List, Optional, Sequence, Set, Tuple, Type, TypeVar)
 
 from . import wire
 from .connection import GREATEST_REQUEST, Body, Connection, Explain, Part, Request
@@ -59,6 +60,18 @@ def fault_of(call: Call, code: int) -> str:
     return ""
 
 
+class Death(weakref.ref):  # type: ignore[type-arg]
+    """
+    Tells when Python forgets an object, whose name on the server it has.
+
+    Its callback is a function in C. Within one in Python an exception may come, as
+    KeyboardInterrupt does, and would be lost there.
+    """
+
+    __slots__ = ("name",)
+    name: int
+
+
 class Context(Uncopied):
     """
     A client's context, as Server.context() opens it. It ends with its `with`, by close(), or with
@@ -68,18 +81,25 @@ class Context(Uncopied):
     Each object may be given a name=, by which messages call it.
     """
 
-    __slots__ = ("_server", "_connection", "_number", "_vxu", "_pipeline", "_forgotten", "_used",
-                 "_is_closed", "__weakref__")
+    __slots__ = ("_server", "_connection", "_number", "_vxu", "_pipeline", "_alive", "_dead",
+                 "_unclaimed", "_used", "_is_closed", "__weakref__")
     _inner = frozenset((
-        "ask", "tell", "send", "create", "look_at", "forget", "release", "references_of",
+        "ask", "tell", "send", "create", "claim", "add_node", "look_at", "release", "references_of",
         "enter_pipeline", "leave_pipeline", "close_within", "connection"))
 
     def __init__(self, server: Server, connection: Connection, number: int) -> None:
         self._server, self._connection, self._number = server, connection, number
         self._vxu = Vxu(self)
-        self._pipeline: Optional[Pipeline] = None
-        # Names of objects that Python has forgotten, which are released before the next request.
-        self._forgotten: Deque[int] = deque()
+        # The pipeline that is open, as long as somebody has it: where an interruption came within
+        # its __enter__, nobody does.
+        self._pipeline: Optional[weakref.ref[Pipeline]] = None
+        # The objects that Python has, by their names; and those that it has forgotten, which are
+        # released before the next request.
+        self._alive: Dict[int, Death] = {}
+        self._dead: Deque[Death] = deque()
+        # Those that the server has made and no object in Python has: where that is so at the next
+        # request, an interruption came between.
+        self._unclaimed: Set[int] = set()
         self._used = Used()
         self._is_closed = False
         self.tell("open a context", wire.open_context)
@@ -280,11 +300,14 @@ class Context(Uncopied):
 
     def enter_pipeline(self, pipeline: Pipeline) -> None:
         """From here on calls that give nothing don't wait for their replies."""
-        if self._pipeline is not None:
+        if self._open_pipeline() is not None:
             raise ValueError("a pipeline of this context is open already")
-        if self.closed:
+        if self._why_closed is not None:
             raise Closed(f"open a pipeline: {self._why_closed}")
-        self._pipeline = pipeline
+        self._pipeline = weakref.ref(pipeline)
+
+    def _open_pipeline(self) -> Optional[Pipeline]:
+        return None if self._pipeline is None else self._pipeline()
 
     def leave_pipeline(self) -> None:
         """From here on each call waits for its reply."""
@@ -307,7 +330,7 @@ class Context(Uncopied):
         self._release_forgotten()
         request = Request(words, self._number, frame[6], explain, body)
         request.on_answer = on_answer
-        pipeline = self._pipeline
+        pipeline = self._open_pipeline()
         if pipeline is not None:
             pipeline.take(request)
         self._connection.send(request, [frame] if content is None else [frame, content],
@@ -319,7 +342,7 @@ class Context(Uncopied):
              explain: Optional[Explain] = None) -> None:
         """Sends a request that gives nothing; waits for its reply unless a pipeline is open."""
         request = self.send(words, make, *arguments, content=content, explain=explain)
-        if self._pipeline is None:
+        if self._open_pipeline() is None:
             self._reply_to(request)
 
     def ask(self, words: str, make: Callable[..., bytes], decode: Callable[[memoryview], Value],
@@ -328,25 +351,30 @@ class Context(Uncopied):
         older picture, after a request that was refused: then that refusal is raised."""
         request = self.send(words, make, body=body)
         value = decode(self._reply_to(request))
-        if self._pipeline is not None:
-            self._pipeline.raise_before(request)
+        pipeline = self._open_pipeline()
+        if pipeline is not None:
+            pipeline.raise_before(request)
         return value
 
     def create(self, words: str, make: Callable[..., bytes], *arguments: Any, size: int = 0) -> int:
         """Sends a request that makes an object, waits, and gives its name. The size is how many
-        bytes of the quota it takes. Where that is interrupted the object is released."""
-        made: List[memoryview] = []
+        bytes of the quota it takes."""
         request = self.send(words, make, *arguments, explain=self._limit_for(size),
-                            on_answer=made.append)
-        try:
-            name = int(wire.name_of(self._reply_to(request)))
-        except BaseException:
-            request.on_answer = self._forget_what_was_made
-            if made:
-                self._forget_what_was_made(made[0])
-            raise
-        self._used.add(name, size)
-        return name
+                            on_answer=lambda reply: self._note_made(reply, size))
+        return int(wire.name_of(self._reply_to(request)))
+
+    def _note_made(self, reply: memoryview, size: int) -> None:
+        if reply[7] == wire.SUCCESS:
+            name = wire.name_of(reply)
+            self._used.add(name, size)
+            self._unclaimed.add(name)
+
+    def claim(self, name: int, thing: Named) -> None:
+        """An object in Python has the name from here on. It is released when Python forgets it."""
+        death = Death(thing, self._dead.append)  # type: ignore[arg-type]
+        death.name = name
+        self._alive[name] = death
+        self._unclaimed.discard(name)
 
     def add_node(self, words: str, *arguments: Any, added: Callable[[int], None]) -> int:
         """Sends a request that adds a node to a graph, waits, and gives its number, with which
@@ -358,6 +386,7 @@ class Context(Uncopied):
     def release(self, name: int, words: str) -> None:
         """Releases an object, unless the program knows already that the server is gone."""
         self._used.release(name)
+        self._alive.pop(name, None)
         if self._connection.fault is None:
             self.tell(f"release {words}", wire.release, name)
 
@@ -378,14 +407,6 @@ class Context(Uncopied):
             # names.
             if operand is not None and operand.context is not self:
                 raise InvalidScope(str(words or what), None, f"{operand} is of another context.")
-
-    def forget(self, name: int) -> None:
-        """Has an object released before the next request."""
-        self._forgotten.append(name)
-
-    def _forget_what_was_made(self, reply: memoryview) -> None:
-        if reply[7] == wire.SUCCESS and wire.name_of(reply) not in self._forgotten:
-            self._forgotten.append(wire.name_of(reply))
 
     def _limit_for(self, size: int) -> Explain:
         """Which limit an object of so many bytes doesn't keep."""
@@ -413,14 +434,22 @@ class Context(Uncopied):
         return request.take_reply()
 
     def _release_forgotten(self) -> None:
-        while self._forgotten:
-            name = self._forgotten[0]
-            frame = wire.release(self._number, name)
-            self._used.release(name)
-            self._connection.send(Request("release what Python forgot", self._number, frame[6]),
-                                  [frame])
-            # An interruption before this has it released twice, and the second time is refused.
-            self._forgotten.popleft()
+        """An interruption in between has some released twice, and the second time is refused."""
+        while self._unclaimed:
+            name = next(iter(self._unclaimed))
+            self._release_unseen(name)
+            self._unclaimed.discard(name)
+        while self._dead:
+            name = self._dead[0].name
+            self._release_unseen(name)
+            self._alive.pop(name, None)
+            self._dead.popleft()
+
+    def _release_unseen(self, name: int) -> None:
+        frame = wire.release(self._number, name)
+        self._used.release(name)
+        self._connection.send(Request("release what Python forgot", self._number, frame[6]),
+                              [frame])
 
     # ---- its end
 

@@ -8,7 +8,7 @@ import os
 from typing import Any
 
 from .errors import NotAPicture, WrongPicture
-from .pictures import HEADER, Path, read_bytes, size_of_pgm, write_pgm, write_png
+from .pictures import HEADER, Path, read_bytes, size_of_pgm, write_npy, write_pgm, write_png
 from .samples import Format, Readable, needed_numpy, numpy_module
 
 
@@ -97,7 +97,7 @@ def save(path: Path, picture: Any) -> None:
     elif ending == ".png":
         write_png(path, pixels)
     elif ending == ".npy":
-        needed_numpy(f"{path}: writing .npy").save(path, pixels)
+        write_npy(path, pixels)
     else:
         _save_by_others(path, ending, pixels)
 

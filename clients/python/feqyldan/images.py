@@ -81,14 +81,14 @@ class AnyImage(Readable):
         image's format; or bytes or another buffer of as many samples by rows, in this machine's
         byte order; or rows of numbers. What is no such picture raises BadPicture.
         """
-        given = samples_of(samples, Size(self.fmt, self.width, self.height))
-        words = f"write {given.width} by {given.height} {given.fmt} samples to {self}"
-        sides_of_frame(given.width, given.height)
-        shape = given.height, given.width
-        self.context.tell(words, wire.write_image_head, self.reference, *given[:3],
-                          content=given.content,
+        fmt, width, height, content = samples_of(samples, Size(self.fmt, self.width, self.height))
+        words = f"write {width} by {height} {fmt} samples to {self}"
+        sides_of_frame(width, height)
+        self.context.tell(words, wire.write_image_head, self.reference, fmt, width, height,
+                          content=content,
                           explain=lambda code: "" if code != wire.INVALID_DIMENSION else (
-                              f"The samples have the shape {shape}, and the image {self.shape}."))
+                              f"The samples have the shape {(height, width)}, and the image "
+                              f"{self.shape}."))
 
     def fill(self, value: int) -> None:
         """Writes one value to all samples, after which the image is wholly valid."""
@@ -120,8 +120,8 @@ class AnyImage(Readable):
 
     def save(self, path: Path) -> None:
         """
-        Writes the picture to a file by the ending of its name: .pgm and .png by this package, .npy
-        by NumPy, any other by OpenCV or PIL, where one of them is installed.
+        Writes the picture to a file by the ending of its name: .pgm, .png and NumPy's .npy by this
+        package, any other by OpenCV or PIL, where one of them is installed.
         """
         save(path, self)
 

@@ -80,6 +80,7 @@ class Named(Uncopied):
         label = f' "{made.label}"' if made.label else ""
         self._words = f"{self.kind} {made.name}{label}{' ' if about else ''}{about}"
         self._reference: bytes = wire.reference(made.name)
+        context.claim(made.name, self)
 
     @property
     def context(self) -> Context:
@@ -110,12 +111,6 @@ class Named(Uncopied):
     def __exit__(self, kind: Optional[Type[BaseException]], error: Optional[BaseException],
                  trace: Optional[TracebackType]) -> None:
         self._context.close_within(self, error)
-
-    def __del__(self) -> None:
-        # Nothing may be sent from here, where another request may be half sent: the next one takes
-        # this with it.
-        if not getattr(self, "_is_closed", True):
-            self._context.forget(self._made.name)
 
     def __str__(self) -> str:
         return f"closed {self._words}" if self._is_closed else self._words

@@ -71,6 +71,19 @@ def write_pgm(path: Path, picture: Any) -> None:
         file.write(samples.content)
 
 
+def write_npy(path: Path, picture: Any) -> None:
+    """Writes a file of NumPy's of an image, an array of shape (height, width) or rows of numbers,
+    also where NumPy isn't installed."""
+    fmt, width, height, content = _samples(picture)
+    kind = {Format.U8: "|u1", Format.S16: ">i2", Format.U32: ">u4"}[fmt]
+    about = f"{{'descr': '{kind}', 'fortran_order': False, 'shape': ({height}, {width}), }}"
+    # What stands before the samples is a multiple of 64 bytes long.
+    about += " " * (-(11 + len(about)) % 64) + "\n"
+    with open(path, "wb") as file:
+        file.write(b"\x93NUMPY\1\0" + struct.pack("<H", len(about)) + about.encode())
+        file.write(content)
+
+
 def write_png(path: Path, picture: Any) -> None:
     """
     Writes a PNG file of an image, an array or rows: grey of shape (height, width), U8 or S16
@@ -145,7 +158,7 @@ def _chunk(kind: bytes, content: bytes) -> bytes:
 
 
 def _samples(picture: Any) -> Samples:
-    return samples_of(picture.read() if isinstance(picture, Readable) else picture)
+    return samples_of(picture)
 
 
 def _raster(picture: Any) -> Raster:

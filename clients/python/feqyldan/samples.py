@@ -47,10 +47,12 @@ class Format(IntEnum):
 
     @property
     def sample_bytes(self) -> int:
-        return wire.sample_bytes(self)
+        # 1, 2 and 4: asked for with each frame.
+        return 1 << self._value_ - 1
 
     def __str__(self) -> str:
-        return self.name
+        # `name` is worked out each time that it is asked for, and these words are for each frame.
+        return self._name_
 
 
 def format_of(value: Any) -> Format:
@@ -139,6 +141,8 @@ def samples_of(value: Any, size: Optional[Size] = None) -> Samples:
     have them, are of the size that is given, and stand in this machine's byte order; so are rows of
     numbers of its format, which is U8 where none is given.
     """
+    if isinstance(value, Readable):
+        value = value.read()
     if is_array(value):
         return _of_array(_unmasked(value), size)
     try:

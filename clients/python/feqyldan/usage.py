@@ -12,6 +12,7 @@ if TYPE_CHECKING:
 
 # The most objects that a context may have.
 MOST_OBJECTS = 1024
+SPARE = 64
 
 
 class Usage(NamedTuple):
@@ -31,10 +32,15 @@ class Used:
         self._sizes: Dict[int, int] = {}
         # Those among them that were released: they are there as long as a graph uses them.
         self._released: Set[int] = set()
+        # How many of these there may be before it is seen which are gone.
+        self._most_released = SPARE
         self.graphs: weakref.WeakSet[Graph] = weakref.WeakSet()
 
     def add(self, name: int, size: int) -> None:
         self._sizes[name] = size
+        if len(self._released) > self._most_released:
+            self._drop()
+            self._most_released = SPARE + 2 * len(self._released)
 
     def release(self, name: int) -> None:
         self._released.add(name)

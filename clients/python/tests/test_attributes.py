@@ -112,6 +112,12 @@ class TestUsage(ProgramTest):
         graph.close()
         self.assertEqual(self.context.usage(), (0, 1024, 0, 1000))
 
+    def test_what_is_gone_is_forgotten(self):
+        """However many objects come and go."""
+        for _ in range(3000):
+            self.context.min_max()
+        self.assertLess(len(self.context._used._sizes), 200)
+
     def test_it_is_the_servers_count(self):
         """What is left of the quota by this count has room, and a byte more has none."""
         source, kept = self.context.image(vx.U8, 10, 10), self.context.image(vx.U8, 10, 10)

@@ -215,9 +215,13 @@ class TestHelpers(FolderTest, ProgramTest):
             image.save(self.path("a" + kind))
             self.holds(self.context.load(self.path("a" + kind), name="b"), image.read().tolist())
         if numpy:
-            deep = self.context.image_from([[-1, 300]], vx.S16)
-            deep.save(self.path("deep.npy"))
-            self.assertEqual(self.context.load(self.path("deep.npy")).read().tolist(), [[-1, 300]])
+            for fmt, rows in ((vx.S16, [[-1, 300]]), (vx.U32, [[2**32 - 1] * 3] * 70)):
+                deep = self.context.image_from(rows, fmt)
+                deep.save(self.path("deep.npy"))
+                there = numpy.load(self.path("deep.npy"))
+                self.assertEqual((there.tolist(), there.dtype.itemsize), (rows, fmt.sample_bytes))
+            self.context.image_from([[-1, 300]], vx.S16).save(self.path("deep.npy"))
+            self.holds(self.context.load(self.path("deep.npy")), [[-1, 300]])
         self.assertRaisesRegex(FileNotFoundError, "none.png", self.context.load,
                                self.path("none.png"))
 
@@ -302,7 +306,7 @@ class TestCommandLine(FolderTest):
         left = os.listdir(self.path("marks"))
         self.assertIn("part2.marks.png", left)
         # PNG has no negative samples.
-        self.assertIn("part2.edges.npy" if numpy else "part2.product.png", left)
+        self.assertIn("part2.edges.npy", left)
 
     def test_without_a_folder_numbers_are_printed(self):
         said, _ = self.run_command("run", "station.json", "--in", "part1.pgm")

@@ -13,12 +13,14 @@ import os
 import random
 import signal
 import sys
+import time
 import unittest
 
 from program import PROGRAM, ProgramTest, answering, needs_program, vx
 from feqyldan import wire
 from feqyldan.connection import Body, Connection, Request
 from feqyldan.pipes import enlarge
+from test_processes import ProcessTest
 
 OPENED = wire.reply_frame(0, wire.OPEN_CONTEXT)
 SIZES = (16, 16), (640, 480), (1280, 720)
@@ -49,6 +51,8 @@ class Loop:
         self.graph = context.graph()
         self.graph.not_(self.part, self.out)
         self.pictures = [bytes([shade]) * (width * height) for shade in (10, 20, 30)]
+        # NumPy is imported by now: an import may swallow an interruption.
+        self.one(self.pictures[0])
 
     def run(self):
         while True:
@@ -104,7 +108,9 @@ class TestAtRandom(unittest.TestCase):
                         after(chance.uniform(1e-6, LATEST))
                         while True:
                             context.image(vx.U8, 300, 300)
-                    context.image(vx.U8, 400, 400)
+                    # The reply to what was interrupted comes first.
+                    context.min_max()
+                    context.image(vx.U8, 600, 600)
 
     def test_a_stream_goes_on(self):
         chance = random.Random(3)
@@ -211,6 +217,43 @@ class TestEachLine(unittest.TestCase):
         self.assertGreater(number, 100)
 
 
+LOOP = """
+import sys
+import feqyldan as vx
+
+with vx.Server(sys.argv[1]) as server, server.context() as context:
+    part, out = (context.image(vx.U8, 1280, 720) for _ in range(2))
+    graph = context.graph()
+    graph.not_(part, out)
+    picture = bytes(1280 * 720)
+    try:
+        print(server._process.pid, flush=True)
+        while True:
+            part.write(picture)
+            graph.process()
+            out.read()
+    except KeyboardInterrupt:
+        print("interrupted", flush=True)
+print("ended well", flush=True)
+"""
+
+
+@needs_program
+class TestPrograms(ProcessTest):
+    def test_ctrl_c_in_the_plainest_loop(self):
+        """It ends well, and no server is left."""
+        chance = random.Random(5)
+        for _ in range(5):
+            client = self.start(LOOP)
+            server = int(self.line_of(client)[0])
+            time.sleep(chance.uniform(0.01, 0.05))
+            os.killpg(client.pid, signal.SIGINT)
+            self.assertEqual(self.line_of(client), ["interrupted"])
+            self.assertEqual(self.line_of(client), ["ended", "well"])
+            self.assertEqual(client.wait(60), 0)
+            self.ends(server)
+
+
 class TestQuietEnds(ProgramTest):
     def test_a_server_that_is_gone(self):
         """Who was told that it ended isn't told again, and who wasn't is."""
@@ -236,7 +279,7 @@ def by_hand(times):
             seed = random.randrange(2**32)
             interrupt_often(times // 2, width, height, in_pipeline, seed)
             print(f"{width}x{height}, {'a pipeline each' if in_pipeline else 'each call waits'}: "
-                  f"{times // 2} interruptions, and the context goes on (seed {seed})")
+                  f"{times // 2} interruptions, and the context goes on (seed {seed})", flush=True)
 
 
 if __name__ == "__main__":

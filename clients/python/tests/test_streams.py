@@ -112,7 +112,7 @@ class TestPolling(StationTest):
             while not result.is_there and time.monotonic() < until:
                 time.sleep(0.001)
             self.assertTrue(result.is_there)
-            with mock.patch.object(self.context.connection, "_receive") as waits:
+            with mock.patch.object(self.context.connection, "_await") as waits:
                 self.assertEqual(result.value()[0, 0], 9)
             waits.assert_not_called()
 
