@@ -3,6 +3,7 @@ with a plain server (plain_server.py)."""
 
 import array
 import contextlib
+import fcntl
 import multiprocessing
 import os
 import select
@@ -15,15 +16,15 @@ import tempfile
 import time
 import unittest
 from typing import Any, List, Tuple
+from unittest import mock
 
 from broker_tools import (
     LATE, PACKAGE, PLAIN, Broker, BrokerTest, Door, Program, files_of, peak_bytes,
     plain, success)
 from feqyldan import wire
 from feqyldan.broker.incoming import SHARED_TURN_BYTES
-from feqyldan.service import descriptors
+from feqyldan.service import descriptors, listener
 from feqyldan.service.lines import Unusable
-from feqyldan.service.listener import listen_at
 from plain_server import HOLD, MANY_BYTES, WAIT
 
 # Seconds for which a descriptor keeps whoever closes it waiting, and within which others have their
@@ -46,11 +47,11 @@ class Lingering:
         self.senders, self.peers = [one for one, _ in pairs], [other for _, other in pairs]
 
     def pair(self) -> Tuple[socket.socket, socket.socket]:
-        with socket.socket() as listener:
-            listener.bind(("127.0.0.1", 0))
-            listener.listen(1)
-            sender = socket.create_connection(listener.getsockname())
-            peer, _ = listener.accept()
+        with socket.socket() as here:
+            here.bind(("127.0.0.1", 0))
+            here.listen(1)
+            sender = socket.create_connection(here.getsockname())
+            peer, _ = here.accept()
         peer.setsockopt(socket.SOL_SOCKET, socket.SO_RCVBUF, 4096)
         sender.setblocking(False)
         with contextlib.suppress(BlockingIOError):
@@ -345,13 +346,13 @@ class Hangs(BrokerTest):
 def listen_together(path: str, barrier: Any, heard: Any, is_over: Any) -> None:
     barrier.wait()
     try:
-        listener = listen_at(path, 0o600)
+        listening = listener.listen_at(path, 0o600)
     except Unusable as reason:
         heard.put(str(reason))
     else:
         heard.put("listens")
         is_over.wait()
-        listener.close(descriptors.Descriptors(listener.refuses_descriptors))
+        listening.close(descriptors.Descriptors(listening.refuses_descriptors))
 
 
 class Beginning(BrokerTest):
@@ -378,6 +379,15 @@ class Beginning(BrokerTest):
                     process.join()
                 self.assertEqual(said, [f"another program listens at {path}"] * 2 + ["listens"])
             self.assertEqual(os.listdir(folder), [])
+
+    def test_a_lock_that_is_held(self) -> None:
+        with tempfile.TemporaryDirectory() as folder:
+            path = os.path.join(folder, "socket")
+            with open(f"{path}.lock", "w") as file, mock.patch.object(listener, "LOCK_SECONDS",
+                                                                      0.1):
+                fcntl.flock(file, fcntl.LOCK_EX)
+                with self.assertRaisesRegex(Unusable, "another program begins at"):
+                    listener.listen_at(path, 0o600)
 
     def test_an_empty_path(self) -> None:
         for module in ("feqyldan.broker", "feqyldan.door"):

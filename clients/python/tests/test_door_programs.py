@@ -8,13 +8,16 @@ are skipped.
 import contextlib
 import os
 import random
+import shutil
 import signal
+import subprocess
+import tempfile
 import time
 import unittest
 from typing import Any, List, Set
 
 from broker_tools import (
-    CLIENT, LATE, PROGRAM, Broker, Door, Program, children_of, files_of, peak_bytes, runs)
+    CLIENT, HERE, LATE, PROGRAM, Broker, Door, Program, children_of, files_of, peak_bytes, runs)
 from test_broker_programs import PATIENCE, Crowd
 from feqyldan import wire
 import feqyldan as vx
@@ -155,6 +158,11 @@ class ThePackage(Crowd):
     def processes(self, door: Broker) -> List[int]:
         return [server["process"] for server in door.state()["servers"]]
 
+    def test_its_state_is_told_to_the_package(self) -> None:
+        door = self.begin(command=[str(PROGRAM), "serve"], tells_state=True)
+        with vx.connect(door.path) as server, server.context():
+            self.assertEqual(vx.status(door.status_path)["connections"]["open"], 1)
+
     def test_the_longest_write_and_the_longest_reply_pass(self) -> None:
         door = self.begin("--memory", "2000000000", command=[str(PROGRAM), "serve"])
         samples = bytes(range(256)) * (8192 * 8192 * 4 // 256)
@@ -170,6 +178,51 @@ class ThePackage(Crowd):
             with self.assertRaises(vx.NoResources) as caught:
                 server.context()
             self.assertIn("--connections", str(caught.exception))
+
+
+@unittest.skipUnless(PROGRAM, "FEQYLDAN_PROGRAM doesn't name the server's program")
+class EachWay(Crowd):
+    """Programs in Python and in C reach servers by systemd, by the door and by the broker alike."""
+
+    @classmethod
+    def setUpClass(cls) -> None:
+        folder = tempfile.TemporaryDirectory()
+        cls.addClassCleanup(folder.cleanup)
+        library = os.path.join(folder.name, "c")
+        cls.edges = os.path.join(library, "out", "edges")
+        if shutil.which("cc") and shutil.which("make"):
+            shutil.copytree(os.path.join(HERE, "..", "..", "c"), library,
+                            ignore=shutil.ignore_patterns("out"))
+            subprocess.run(["make", "-s", "-C", library, "VERSION=0", "out/edges"], check=True)
+
+    def try_all(self, path: str) -> None:
+        with vx.connect(path, retry=LATE) as server, server.context() as context:
+            image, out = context.image_from([[1, 2]]), context.image(vx.U8, 2, 1)
+            context.vxu.not_(image, out)
+            self.assertEqual(out.read_bytes(), bytes([254, 253]))
+        if os.path.exists(self.edges):
+            found = [subprocess.run([self.edges], env={**os.environ, "FEQYLDAN_SOCKET": socket},
+                                    stdout=subprocess.PIPE, timeout=LATE, check=True).stdout
+                     for socket in (path, "")]
+            self.assertEqual(found[0][:15], b"P5\n256 256\n255\n")
+            self.assertEqual(found[0], found[1])
+
+    def test_the_door_and_the_broker(self) -> None:
+        for self.kind in (Door, Broker):
+            self.try_all(self.begin(command=[str(PROGRAM), "serve"]).path)
+
+    @unittest.skipUnless(shutil.which("systemd-socket-activate"), "systemd isn't there")
+    def test_systemd(self) -> None:
+        """As feqyldan.socket has it start a server: Accept=yes, StandardInput=socket."""
+        with tempfile.TemporaryDirectory() as folder:
+            path = os.path.join(folder, "socket")
+            run = subprocess.Popen(["systemd-socket-activate", "--accept", "--inetd", "-l", path,
+                                    str(PROGRAM), "serve"], stderr=subprocess.DEVNULL)
+            try:
+                self.try_all(path)
+            finally:
+                run.terminate()
+                run.wait()
 
 
 if __name__ == "__main__":

@@ -1,5 +1,5 @@
 -- What is seen along rows.
-use Rattle.std.proofs.Common.{◌≡◌, ℕ, ℤ, pos, ◌+◌, ◌-◌, ◌<◌, ◌≤◌, ◌-ℤ◌, ◌<ℤ◌, ◌≤ℤ◌, ◌&&◌, Bool, true, false, cond, List, ◌++◌, length, map, replicate, min, max, take, get_or, refl, ap, ◌∙◌, sym, arith, zero-add, Option, Some, None, int_lt, int_le, unsigned_abs}
+use Rattle.std.proofs.Common.{◌≡◌, ℕ, ℤ, pos, ◌+◌, ◌-◌, ◌<◌, ◌≤◌, ◌+ℤ◌, ◌-ℤ◌, ◌<ℤ◌, ◌≤ℤ◌, ◌&&◌, Bool, true, false, cond, List, ◌++◌, length, map, replicate, min, max, take, get_or, refl, ap, ◌∙◌, sym, arith, zero-add, Option, Some, None, int_lt, int_le, unsigned_abs}
 use Rattle.std.proofs.lemmas.Int.{ints, by_lt_z}
 use Rattle.std.proofs.lemmas.List.{take-map, take-replicate}
 use Rattle.std.proofs.Math.ListN.{get_or-map}
@@ -53,13 +53,13 @@ run_in_three g start b m r left right middle before between after =
 
 -- ---- along a valid row
 
-seen_left : (image : ImageValue) (border : Border) (x : ℤ) (line : ℕ) → x <ℤ pos image.valid.x0 → seen_along image border line x ≡ value_beside border (at image image.valid.x0 line)
+pub seen_left : (image : ImageValue) (border : Border) (x : ℤ) (line : ℕ) → x <ℤ pos image.valid.x0 → seen_along image border line x ≡ value_beside border (at image image.valid.x0 line)
 seen_left image border x line h = rw (below x (pos image.valid.x0) h) refl
 
-seen_inside : (image : ImageValue) (border : Border) (x : ℤ) (line : ℕ) → pos image.valid.x0 ≤ℤ x → x <ℤ pos image.valid.x1 → seen_along image border line x ≡ at image (unsigned_abs x) line
+pub seen_inside : (image : ImageValue) (border : Border) (x : ℤ) (line : ℕ) → pos image.valid.x0 ≤ℤ x → x <ℤ pos image.valid.x1 → seen_along image border line x ≡ at image (unsigned_abs x) line
 seen_inside image border x line a b = rw (not_below x (pos image.valid.x0) a, below x (pos image.valid.x1) b) refl
 
-seen_right : (image : ImageValue) (border : Border) (x : ℤ) (line : ℕ) → pos image.valid.x0 ≤ℤ x → pos image.valid.x1 ≤ℤ x → seen_along image border line x ≡ value_beside border (at image (image.valid.x1 - 1) line)
+pub seen_right : (image : ImageValue) (border : Border) (x : ℤ) (line : ℕ) → pos image.valid.x0 ≤ℤ x → pos image.valid.x1 ≤ℤ x → seen_along image border line x ≡ value_beside border (at image (image.valid.x1 - 1) line)
 seen_right image border x line a b = rw (not_below x (pos image.valid.x0) a, not_below x (pos image.valid.x1) b) refl
 
 -- ---- rows
@@ -89,7 +89,7 @@ inner_row image Undefined x y line false e seen near = cc
 inner_row image (Constant value) x y line false e seen near = cc
 inner_row image Replicate x y line false e seen near = beside_line image Replicate x y line (unsigned_abs x) seen near
 
-look_inside : (image : ImageValue) (border : Border) (x y : ℤ) (line : ℕ) → row_seen image.valid border y ≡ Some line → pos image.valid.x0 ≤ℤ x → x <ℤ pos image.valid.x1 → look image border x y ≡ at image (unsigned_abs x) line
+pub look_inside : (image : ImageValue) (border : Border) (x y : ℤ) (line : ℕ) → row_seen image.valid border y ≡ Some line → pos image.valid.x0 ≤ℤ x → x <ℤ pos image.valid.x1 → look image border x y ≡ at image (unsigned_abs x) line
 look_inside image border x y line e a b =
     rw (at_most (pos image.valid.x0) x a, below x (pos image.valid.x1) b)
     (inner_row image border x y line (int_le (pos image.valid.y0) y && int_lt y (pos image.valid.y1)) e e (nearest_inside image.valid.x0 image.valid.x1 x a b))
@@ -197,3 +197,23 @@ look_left image border x y some h =
 pub look_right : (image : ImageValue) (border : Border) (x y : ℤ) → image.valid.x0 < image.valid.x1 → pos image.valid.x1 ≤ℤ x → look image border x y ≡ value_beside border (look image border (pos (image.valid.x1 - 1)) y)
 look_right image border x y some h =
     look_from_edge image border x y (image.valid.x1 - 1) (row_seen image.valid border y) refl some (λ line. seen_right image border x line (omega (arith, ints)) h) (omega arith) (omega arith)
+
+-- ---- beside one column
+
+-- what is seen to the left of the first valid column, and of another
+pub left_of_first : (image : ImageValue) (border : Border) (x line : ℕ) (v : ℕ) → x ≡ image.valid.x0 → pos v ≡ at image x line → value_beside border (pos v) ≡ seen_along image border line (pos x -ℤ pos 1)
+left_of_first image border x line v first is =
+    ap (value_beside border) (is ∙ ap (λ k. at image k line) first) ∙ sym (seen_left image border (pos x -ℤ pos 1) line (omega (arith, ints)))
+
+pub left_of_other : (image : ImageValue) (border : Border) (x line k v : ℕ) → image.valid.x0 < x → x < image.valid.x1 → k ≡ x - 1 → pos v ≡ at image k line → pos v ≡ seen_along image border line (pos x -ℤ pos 1)
+left_of_other image border x line k v after before here is =
+    is ∙ ap (λ j. at image j line) (let e : k ≡ unsigned_abs (pos x -ℤ pos 1) = omega (arith, ints) in e) ∙ sym (seen_inside image border (pos x -ℤ pos 1) line (omega (arith, ints)) (omega (arith, ints)))
+
+-- to the right of the last valid column, and of another
+pub right_of_last : (image : ImageValue) (border : Border) (x line : ℕ) (v : ℕ) → image.valid.x0 ≤ x → x + 1 ≡ image.valid.x1 → pos v ≡ at image x line → value_beside border (pos v) ≡ seen_along image border line (pos x +ℤ pos 1)
+right_of_last image border x line v inside last is =
+    ap (value_beside border) (is ∙ ap (λ k. at image k line) (let e : x ≡ image.valid.x1 - 1 = omega arith in e)) ∙ sym (seen_right image border (pos x +ℤ pos 1) line (omega (arith, ints)) (omega (arith, ints)))
+
+pub right_of_other : (image : ImageValue) (border : Border) (x line k v : ℕ) → image.valid.x0 ≤ x → x + 1 < image.valid.x1 → k ≡ x + 1 → pos v ≡ at image k line → pos v ≡ seen_along image border line (pos x +ℤ pos 1)
+right_of_other image border x line k v after before here is =
+    is ∙ ap (λ j. at image j line) (let e : k ≡ unsigned_abs (pos x +ℤ pos 1) = omega (arith, ints) in e) ∙ sym (seen_inside image border (pos x +ℤ pos 1) line (omega (arith, ints)) (omega (arith, ints)))

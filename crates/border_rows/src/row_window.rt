@@ -10,7 +10,9 @@ use std::alloc::{AllocError, Global};
 use std::marker::Model;
 use vx_base::Border;
 
-/// A row of a U8 image with so many samples to either side as a window of this radius sees.
+/// A row of a U8 image with so many samples to either side as a window of this radius sees. It is
+/// for kernels of other crates that want whole rows, border and all: those of window_kernels read
+/// rows where they stand, and convolution loads a piece of several rows at once, by `load_row`.
 #[derive(Drop)]
 pub struct RowWindow {
     width: u16,

@@ -1,6 +1,6 @@
 //! Rows with what counts beside them.
-ghost use Rattle.std.specs.Prelude.{◌≡◌, ◌+◌, ◌-◌, ◌<◌, ◌≤◌, ◌++◌, pos, ◌-ℤ◌, IfSome, length, map};
-ghost use Rattle.std.specs.Prelude.{replicate};
+ghost use Rattle.std.specs.Prelude.{◌≡◌, ◌+◌, ◌-◌, ◌<◌, ◌≤◌, ◌++◌, pos, ◌+ℤ◌, ◌-ℤ◌, IfSome, length};
+ghost use Rattle.std.specs.Prelude.{map, replicate};
 ghost use Rattle.vx_base.specs.declared.format.Format.TheVariants.{U8};
 ghost use Rattle.vx_base.specs.Image.{run, at};
 ghost use Rattle.vx_base.specs.Window.{look};
@@ -153,5 +153,56 @@ pub fn row_in_place<'a>(
     match row_seen(image.valid(), border, y) {
         Some(line) => image.part_of_row::<u8>(x, line, count),
         None => &off_rows[..count],
+    }
+}
+
+/// What is seen to the left of a valid column of a valid row.
+fn left_of(image: &Image<'_>, x: u16, line: u16, border: Border) -> u8
+    requires format { image.now.format ≡ U8 }
+    requires line { line < image.now.valid.y1 }
+    requires columns { (image.now.valid.x0 ≤ x) × (x < image.now.valid.x1) }
+    ensures { pos result ≡ seen_along image.now border line (pos x -ℤ pos 1) }
+{
+    let (valid, row) = (image.valid(), image.row::<u8>(line));
+    if x == valid.x0() {
+        return value_beside(border, row[usize::from(x)]);
+    }
+    row[usize::from(x) - 1]
+}
+
+/// What is seen to the right of a valid column of a valid row.
+fn right_of(image: &Image<'_>, x: u16, line: u16, border: Border) -> u8
+    requires format { image.now.format ≡ U8 }
+    requires line { line < image.now.valid.y1 }
+    requires columns { (image.now.valid.x0 ≤ x) × (x < image.now.valid.x1) }
+    ensures { pos result ≡ seen_along image.now border line (pos x +ℤ pos 1) }
+{
+    let (valid, row) = (image.valid(), image.row::<u8>(line));
+    if x + 1 == valid.x1() {
+        return value_beside(border, row[usize::from(x)]);
+    }
+    row[usize::from(x) + 1]
+}
+
+/// What a window sees at a valid column of row y of a U8 image, and to the left and the right of
+/// it, from left to right.
+pub fn seen_around(image: &Image<'_>, x: u16, y: i32, border: Border) -> (u8, u8, u8)
+    requires format { image.now.format ≡ U8 }
+    requires rows { image.now.valid.y0 < image.now.valid.y1 }
+    requires columns { (image.now.valid.x0 ≤ x) × (x < image.now.valid.x1) }
+    ensures left { pos result.0 ≡ look image.now border (pos x -ℤ pos 1) y }
+    ensures middle { pos result.1 ≡ look image.now border (pos x) y }
+    ensures right { pos result.2 ≡ look image.now border (pos x +ℤ pos 1) y }
+{
+    match row_seen(image.valid(), border, y) {
+        Some(line) => (
+            left_of(image, x, line, border),
+            image.row::<u8>(line)[usize::from(x)],
+            right_of(image, x, line, border),
+        ),
+        None => {
+            let off = value_beside(border, 0);
+            (off, off, off)
+        }
     }
 }

@@ -93,13 +93,23 @@ impl Runtime {
     /// Answers a request of a client; a reply that holds samples is made with the allocator.
     /// `NoMemory` is told only where memory was refused, and no state is changed then. Once a graph
     /// was verified or has run it is kept as verified, until its nodes change or it ends; so long
-    /// VerifyGraph of it takes no memory.
+    /// VerifyGraph of it takes no memory. Of the blocks that are free afterwards not too many stay.
     pub fn apply(
         &mut self,
         alloc: Global,
         client: u16,
         request: &Request,
     ) -> Result<Reply, NoMemory>
+        ensures applies { Applies client request.now self.old self.new result }
+        ensures kept { AppliesToKept client request.now self.old self.new result }
+    {
+        let result = self.answer(alloc, client, request);
+        self.pool.trim();
+        result
+    }
+
+    /// Answers a request of a client, as `apply` does.
+    fn answer(&mut self, alloc: Global, client: u16, request: &Request) -> Result<Reply, NoMemory>
         ensures applies { Applies client request.now self.old self.new result }
         ensures kept { AppliesToKept client request.now self.old self.new result }
     {

@@ -8,7 +8,8 @@ ghost use Rattle.vx_base.specs.declared.node.Node.{Node as NodeFields};
 ghost use Rattle.vx_base.specs.Cell.{Cell};
 ghost use Rattle.vx_base.specs.Object.{IsObject};
 ghost use Rattle.vx_base.specs.Sample.{same_format};
-ghost use Rattle.pixel_pool.specs.Pool.{KeepsLent, blocks_of, lent_of};
+ghost use Rattle.pixel_pool.specs.Free.{free_count};
+ghost use Rattle.pixel_pool.specs.Pool.{KeepsLent, KeepsBlockCounts, blocks_of, lent_of, free_of};
 ghost use Rattle.object_table.specs.Blocks.{LendsAtLeast, LendsMore, LendsLess};
 ghost use Rattle.object_table.specs.Context.{with_objects};
 ghost use Rattle.graph_verify.specs.declared.operand.Operand.{Operand};
@@ -64,6 +65,10 @@ pub fn run(
     ensures err { OnErr result (table.new ≡ table.old) }
     ensures adds { (format : SampleFormat) → blocks_of pool.new format
         ≤ blocks_of pool.old format + (told plan.now).slot_count format }
+
+    // Those that it has used are free for the next run.
+    ensures free { OnOk result ((format : SampleFormat) →
+        (told plan.now).slot_count format ≤ free_count (free_of pool.new format)) }
 {
     let bands = bands_of(alloc, table, verified)?;
     let slots = slots_for(alloc, pool, plan, &bands)?;
@@ -271,8 +276,7 @@ fn slot_room(plan: &Plan, bands: &Option<Bands>, format: Format, slot: usize) ->
 fn give_back(slots: Vec<Slot>, pool: &mut Pool)
     requires { LendsAtLeast pool.old (slot_blocks slots.items) }
     ensures lent { LendsLess pool.old pool.new (slot_blocks slots.items) }
-    ensures blocks { (format : SampleFormat) →
-        blocks_of pool.new format ≤ blocks_of pool.old format }
+    ensures blocks { KeepsBlockCounts pool.old pool.new }
 {
     for slot in slots {
         pool.give_back(slot.samples);

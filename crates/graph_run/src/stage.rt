@@ -1,13 +1,11 @@
 //! What the nodes of a graph run on: a client's table, and slots in which virtual images are images
 //! for a while.
 ghost use Rattle.std.specs.Prelude.{◌≡◌, ◌<◌, ◌==◌, if◌then◌else◌, length, slice_get, ℕ, IfSome};
-ghost use Rattle.std.specs.Prelude.{Some, All, map, pos, take, position, IsSome, []};
+ghost use Rattle.std.specs.Prelude.{Some, take, position, IsSome, []};
 ghost use Rattle.std.specs.Option.{option_map};
-ghost use Rattle.vx_base.specs.declared.format.Format.TheVariants.{U8, S16, U32};
 ghost use Rattle.vx_base.specs.Description.{sample_count};
 ghost use Rattle.vx_base.specs.Image.{IsImage, description_of};
 ghost use Rattle.vx_base.specs.Picture.{values, samples_format};
-ghost use Rattle.vx_base.specs.Sample.{IsSample};
 ghost use Rattle.object_table.specs.Context.{with_objects};
 ghost use Rattle.object_table.specs.Named.{with_object};
 ghost use Rattle.object_table.specs.Object.{with_samples};
@@ -20,13 +18,14 @@ ghost use Rattle.graph_run.specs.Stage.{HasCount, Resized};
 use graph_verify::VirtualOutput;
 use image_core::Image;
 use object_table::Table;
+use pixel_pool::Block;
 use vx_base::{Desc, ObjRef, Rect, Samples};
 
 /// A block of a pool in which virtual images stand while nodes run, one after another.
 #[derive(Drop)]
 pub struct Slot {
-    /// At least as many as any image has places that comes to stand here.
-    pub samples: Samples,
+    /// A block of at least as many samples as any image has places that comes to stand here.
+    pub samples: Block,
     /// The valid rectangle of the image that stands here.
     pub valid: Rect,
     /// The virtual image that stands here.
@@ -72,7 +71,7 @@ impl Slot {
     {
         let desc = self.desc();
         let count = desc.sample_count();
-        match &self.samples {
+        match self.samples.samples() {
             Samples::U8(samples) => Image::new(desc, self.valid, &samples[..count]),
             Samples::S16(samples) => Image::new(desc, self.valid, &samples[..count]),
             Samples::U32(samples) => Image::new(desc, self.valid, &samples[..count]),
@@ -100,7 +99,7 @@ impl Stage {
     {
         image.desc.has_sides();
         let slot = &mut self.slots[at];
-        are_samples(&slot.samples);
+        slot.samples.samples().are_samples();
         slot.valid = image.desc.whole();
         slot.holder = Some(image);
     }
@@ -147,7 +146,7 @@ impl Stage {
         match self.place_of(cell.name()) {
             Some(at) => {
                 let slot = &mut self.slots[at];
-                (slot.desc(), slot.samples.take())
+                (slot.desc(), slot.samples.lift())
             }
             None => self.table.take(cell),
         }
@@ -171,38 +170,10 @@ impl Stage {
         match self.place_of(cell.name()) {
             Some(at) => {
                 let slot = &mut self.slots[at];
-                slot.samples = samples;
+                slot.samples.put(samples);
                 slot.valid = valid;
             }
             None => self.table.put(cell, samples, valid),
         }
-    }
-}
-
-/// Each of them is a sample of their format. Only the prover learns something: it knows of a signed
-/// number that it has 16 bits once that is read. Nothing is done when this runs.
-fn are_samples(samples: &Samples)
-    ensures { All (IsSample (samples_format samples.now)) (values samples.now) }
-{
-    match samples {
-        Samples::U8(samples) => are_bytes(samples),
-        Samples::S16(samples) => are_shorts(samples),
-        Samples::U32(samples) => are_words(samples),
-    }
-}
-
-fn are_bytes(samples: &[u8])
-    ensures { All (IsSample U8) (map pos samples.now) }
-{}
-
-fn are_words(samples: &[u32])
-    ensures { All (IsSample U32) (map pos samples.now) }
-{}
-
-fn are_shorts(samples: &[i16])
-    ensures { All (IsSample S16) samples.now }
-{
-    for sample in samples {
-        let _number = *sample;
     }
 }

@@ -1,6 +1,6 @@
 //! Images that are written.
 ghost use Rattle.std.specs.Prelude.{◌≡◌, ◌*◌, ◌≤◌, pos, map, length};
-ghost use Rattle.vx_base.specs.declared.format.Format.TheVariants.{U8, S16, U32};
+ghost use Rattle.vx_base.specs.declared.format.Format.TheVariants.{U8, U32};
 ghost use Rattle.vx_base.specs.Rectangle.{empty, IsWithin};
 ghost use Rattle.vx_base.specs.Description.{sample_count};
 ghost use Rattle.vx_base.specs.Image.{made, image_over};
@@ -10,9 +10,9 @@ ghost use Rattle.image_core.specs.Rows.{sample_from};
 use crate::band::Band;
 use crate::formula::Formula;
 use crate::row_change::{Updated, Written};
-use crate::row_formula::{RowFormula, TwoRowFormulas, Unaided};
+use crate::row_formula::{RowFormula, Unaided};
 use crate::row_update::RowUpdate;
-use crate::rows::{clear_rows, write_rows_of_two};
+use crate::rows::clear_rows;
 use crate::sample::Sample;
 use crate::whole::Whole;
 use vx_base::{Desc, Format, Rect};
@@ -154,47 +154,6 @@ impl<'a> ImageMut<'a> {
     {
         self.valid = formula.area();
         T::change_samples(self, &Written { formula }, scratch);
-    }
-
-    /// Writes two whole S16 images, or the band's rows of them, a row of each in turn. The scratch
-    /// memory is the formulas'.
-    pub fn write_two_by_rows<S, R, F: TwoRowFormulas<i16, S, R>>(
-        &mut self,
-        other: &mut ImageMut<'_>,
-        formulas: &F,
-        scratch: &mut [S],
-        more: &mut [R],
-    )
-        requires target { IsTarget self.old }
-        requires other_target { IsTarget other.old }
-        requires format { (written self.old).format ≡ S16 }
-        requires other_format { (written other.old).format ≡ S16 }
-        requires width { (written other.old).width ≡ (written self.old).width }
-        requires rows { other.old.rows ≡ self.old.rows }
-        requires room { IsWithin (F.area formulas.now) (written self.old).width
-            (written self.old).height }
-        requires other_room { IsWithin (F.area formulas.now) (written other.old).width
-            (written other.old).height }
-        requires scratch { F.room formulas.now ≤ length scratch.old }
-        requires more { F.room formulas.now ≤ length more.old }
-        ensures first { Writes (made (written self.old).width (written self.old).height S16
-            (F.area formulas.now) (F.first formulas.now)) self.old self.new }
-        ensures second { Writes (made (written other.old).width (written other.old).height S16
-            (F.area formulas.now) (F.second formulas.now)) other.old other.new }
-    {
-        let _limits = self.desc.height();
-        let area = formulas.area();
-        self.valid = area;
-        other.valid = area;
-        write_rows_of_two(
-            formulas,
-            self.desc.width(),
-            self.rows,
-            scratch,
-            more,
-            self.shorts,
-            other.shorts,
-        );
     }
 
     /// Writes the samples of a U32 image by rows at once, and its rectangle.

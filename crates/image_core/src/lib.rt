@@ -9,9 +9,8 @@
 //! takes no more of a row than a piece at once, a `RowFormula`; `ImageMut::write` and
 //! `write_by_rows` write a whole image of one, or the band's rows of it: each sample, and 0 outside
 //! the rectangle. So whatever writes whole images by them writes any rows of them too.
-//! `TwoRowFormulas` are written to two images at once. A `RowUpdate` is what samples become from
-//! what they were, which `ImageMut::update` does in place. `Second` is what a kernel reads beside
-//! its first image.
+//! A `RowUpdate` is what samples become from what they were, which `ImageMut::update` does in place.
+//! `Second` is what a kernel reads beside its first image.
 #![tactic(auto)]
 
 mod band;
@@ -34,7 +33,7 @@ pub use formula::Formula;
 pub use image::Image;
 pub use image_mut::ImageMut;
 pub use number::Number;
-pub use row_formula::{RowFormula, TwoRowFormulas};
+pub use row_formula::RowFormula;
 pub use row_update::RowUpdate;
 pub use rows::{clear_rows, set_all};
 pub use sample::Sample;

@@ -3,7 +3,7 @@ ghost use Rattle.std.specs.Prelude.{◌≡◌, ◌+◌, ◌<◌, ◌≤◌, leng
 ghost use Rattle.vx_base.specs.Image.{run};
 
 use crate::number::Number;
-use crate::row_formula::{RowFormula, TwoRowFormulas};
+use crate::row_formula::RowFormula;
 
 /// Writes the formula's samples of row y from column x on.
 pub fn write_pieces<T: Number, S, F: RowFormula<T, S>>(
@@ -26,37 +26,5 @@ pub fn write_pieces<T: Number, S, F: RowFormula<T, S>>(
         let first = most * k;
         let end = (first + most).min(count);
         formula.fill(x + first as u16, y, scratch, &mut out[first..end]);
-    }
-}
-
-/// Writes both samples of the formulas of row y from column x on.
-pub fn write_both_pieces<T: Number, S, R, F: TwoRowFormulas<T, S, R>>(
-    formulas: &F,
-    x: u16,
-    y: u16,
-    scratch: &mut [S],
-    more: &mut [R],
-    out: &mut [T],
-    other: &mut [T],
-)
-    requires in_rows { ((F.area formulas.now).y0 ≤ y) × (y < (F.area formulas.now).y1) }
-    requires in_columns { ((F.area formulas.now).x0 ≤ x) ×
-        (x + length out.old ≤ (F.area formulas.now).x1) }
-    requires as_long { length other.old ≡ length out.old }
-    requires scratch { F.room formulas.now ≤ length scratch.old }
-    requires more { F.room formulas.now ≤ length more.old }
-    ensures first { map T.value out.new ≡ run x (length out.old)
-        (λ k. F.first formulas.now k y) }
-    ensures second { map T.value other.new ≡ run x (length other.old)
-        (λ k. F.second formulas.now k y) }
-{
-    formulas.area().is_rectangle();
-    let most = usize::from(formulas.most());
-    let count = out.len();
-    for k in 0..count.div_ceil(most) {
-        let first = most * k;
-        let end = (first + most).min(count);
-        let (piece, other_piece) = (&mut out[first..end], &mut other[first..end]);
-        formulas.fill(x + first as u16, y, scratch, more, piece, other_piece);
     }
 }

@@ -42,53 +42,6 @@ pub trait RowFormula<T: Number, S> {
         ensures { map T.value out.new ≡ run x (length out.old) (λ k. at self.now k y) };
 }
 
-/// What has two samples at each place of a rectangle, as a `RowFormula` has one. A piece of a row
-/// of both is computed at once, so what they are made of is read once.
-pub trait TwoRowFormulas<T: Number, S, R> {
-    /// The first sample in a column of a row.
-    ghost first: { Self → ℕ → ℕ → ℤ };
-
-    ghost second: { Self → ℕ → ℕ → ℤ };
-
-    /// The places that can be asked for.
-    ghost area: { Self → Rectangle };
-
-    /// How many columns of a row can be asked for at once.
-    ghost most: { Self → ℕ };
-
-    /// How many items of each scratch memory a piece needs.
-    ghost room: { Self → ℕ };
-
-    fn area(&self) -> Rect
-        ensures { result ≡ area self.now };
-
-    fn most(&self) -> u16
-        ensures value { result ≡ most self.now }
-        ensures some { 1 ≤ result };
-
-    /// Writes both samples of row y, at least one of each, from column x on.
-    fn fill(
-        &self,
-        x: u16,
-        y: u16,
-        scratch: &mut [S],
-        more: &mut [R],
-        out: &mut [T],
-        other: &mut [T],
-    )
-        requires in_rows { ((area self.now).y0 ≤ y) × (y < (area self.now).y1) }
-        requires in_columns { ((area self.now).x0 ≤ x) ×
-            (x + length out.old ≤ (area self.now).x1) }
-        requires some { 1 ≤ length out.old }
-        requires few { length out.old ≤ most self.now }
-        requires as_long { length other.old ≡ length out.old }
-        requires scratch { room self.now ≤ length scratch.old }
-        requires more { room self.now ≤ length more.old }
-        ensures first { map T.value out.new ≡ run x (length out.old) (λ k. first self.now k y) }
-        ensures second { map T.value other.new ≡ run x (length other.old)
-            (λ k. second self.now k y) };
-}
-
 /// A formula that needs no scratch memory: whole rows of it are computed at once.
 #[derive(Drop)]
 pub struct Unaided<'a, F> {

@@ -1,13 +1,11 @@
-//! Samples that are changed, cleared and, of two images at once, written row by row.
+//! Samples that are changed and cleared row by row.
 ghost use Rattle.std.specs.Prelude.{◌≡◌, ◌*◌, ◌+◌, ◌^◌, ◌<◌, ◌≤◌, ℕ, ℤ, length, map, replicate};
 ghost use Rattle.vx_base.specs.Image.{run, band, within};
 ghost use Rattle.image_core.specs.Rows.{sample_from};
 
 use crate::band::Band;
 use crate::number::Number;
-use crate::pieces::write_both_pieces;
 use crate::row_change::{RowChange, Updated};
-use crate::row_formula::TwoRowFormulas;
 use crate::row_update::Kept;
 use vx_base::Rect;
 
@@ -107,101 +105,4 @@ pub fn clear_rows<T: Number>(valid: Rect, width: u16, rows: Band, samples: &mut 
 {
     let kept = Kept { area: valid };
     change_rows(&Updated { update: &kept }, width, rows, &mut [], samples);
-}
-
-/// Writes a row of two images that goes through the formulas' area, which is in the columns from x0
-/// to x1 - 1.
-fn write_both_across<T: Number, S, R, F: TwoRowFormulas<T, S, R>>(
-    formulas: &F,
-    y: u16,
-    x0: u16,
-    x1: u16,
-    scratch: &mut [S],
-    more: &mut [R],
-    out: &mut [T],
-    other: &mut [T],
-)
-    requires in_rows { ((F.area formulas.now).y0 ≤ y) × (y < (F.area formulas.now).y1) }
-    requires columns { ((F.area formulas.now).x0 ≡ x0) × ((F.area formulas.now).x1 ≡ x1) }
-    requires ordered { x0 ≤ x1 }
-    requires scratch { F.room formulas.now ≤ length scratch.old }
-    requires more { F.room formulas.now ≤ length more.old }
-    requires room { x1 ≤ length out.old }
-    requires as_long { length other.old ≡ length out.old }
-    ensures first { map T.value out.new ≡ run 0 (length out.old)
-        (λ x. within (F.area formulas.now) (F.first formulas.now) x y) }
-    ensures second { map T.value other.new ≡ run 0 (length other.old)
-        (λ x. within (F.area formulas.now) (F.second formulas.now) x y) }
-{
-    let (front, others) = out.split_at_mut(usize::from(x0));
-    let (inside, back) = others.split_at_mut(usize::from(x1 - x0));
-    let (other_front, rest) = other.split_at_mut(usize::from(x0));
-    let (other_inside, other_back) = rest.split_at_mut(usize::from(x1 - x0));
-    set_all(front, T::zero());
-    set_all(other_front, T::zero());
-    write_both_pieces(formulas, x0, y, scratch, more, inside, other_inside);
-    set_all(back, T::zero());
-    set_all(other_back, T::zero());
-}
-
-fn write_both_rows<T: Number, S, R, F: TwoRowFormulas<T, S, R>>(
-    formulas: &F,
-    y: u16,
-    scratch: &mut [S],
-    more: &mut [R],
-    out: &mut [T],
-    other: &mut [T],
-)
-    requires scratch { F.room formulas.now ≤ length scratch.old }
-    requires more { F.room formulas.now ≤ length more.old }
-    requires room { (F.area formulas.now).x1 ≤ length out.old }
-    requires as_long { length other.old ≡ length out.old }
-    ensures first { map T.value out.new ≡ run 0 (length out.old)
-        (λ x. within (F.area formulas.now) (F.first formulas.now) x y) }
-    ensures second { map T.value other.new ≡ run 0 (length other.old)
-        (λ x. within (F.area formulas.now) (F.second formulas.now) x y) }
-{
-    let area = formulas.area();
-    if y < area.y0() || y >= area.y1() {
-        set_all(out, T::zero());
-        set_all(other, T::zero());
-    } else {
-        write_both_across(formulas, y, area.x0(), area.x1(), scratch, more, out, other);
-    }
-}
-
-/// Writes the samples of a band of rows of two images, a row of each in turn.
-pub fn write_rows_of_two<T: Number, S, R, F: TwoRowFormulas<T, S, R>>(
-    formulas: &F,
-    width: u16,
-    rows: Band,
-    scratch: &mut [S],
-    more: &mut [R],
-    out: &mut [T],
-    other: &mut [T],
-)
-    requires scratch { F.room formulas.now ≤ length scratch.old }
-    requires more { F.room formulas.now ≤ length more.old }
-    requires rows { rows.start + rows.count < 2 ^ 16 }
-    requires size { length out.old ≡ rows.count * width }
-    requires other_size { length other.old ≡ rows.count * width }
-    requires room { (F.area formulas.now).x1 ≤ width }
-    ensures first { map T.value out.new ≡ band width rows.start rows.count
-        (within (F.area formulas.now) (F.first formulas.now)) }
-    ensures second { map T.value other.new ≡ band width rows.start rows.count
-        (within (F.area formulas.now) (F.second formulas.now)) }
-{
-    let step = usize::from(width);
-    for line in 0..rows.count {
-        let start = usize::from(line) * step;
-        let y = rows.start + line;
-        write_both_rows(
-            formulas,
-            y,
-            scratch,
-            more,
-            &mut out[start..start + step],
-            &mut other[start..start + step],
-        );
-    }
 }

@@ -8,6 +8,7 @@
 //! - `bands`: a few rows of an image alone
 //! - `rows`: the kernels of lane_rows, at lengths around that of a block
 //! - `kernels`, `texts`: windows, statistics and PGM texts, by the calls of their crates
+//! - `statistics`: extremes, counts and running sums of rows, at such lengths
 //! - `wide`: windows where two pieces of a row meet
 #![tactic(auto)]
 
@@ -21,6 +22,8 @@ mod images;
 mod kernels;
 #[cfg(test)]
 mod rows;
+#[cfg(test)]
+mod statistics;
 #[cfg(test)]
 mod texts;
 #[cfg(test)]

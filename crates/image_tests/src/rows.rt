@@ -3,9 +3,9 @@
 ghost use Rattle.vx_base.specs.Pixelwise.{not_bits};
 
 use lane_rows::{
-    OfItem, absdiff_s16, absdiff_u8, accumulate, accumulate_square, add_s16, add_u8, and_u8,
-    map_bytes, max_s16, max_u8, min_s16, min_u8, mul_s16, mul_u8, narrow, not_u8, or_u8, shift_up,
-    sub_s16, sub_u8, threshold_s16, threshold_u8, widen, xor_u8,
+    LanesOfItem, OfItem, absdiff_s16, absdiff_u8, accumulate, accumulate_square, add_s16, add_u8,
+    and_u8, map_row, max_s16, max_u8, min_s16, min_u8, mul_s16, mul_u8, narrow, not_u8, or_u8,
+    shift_up, store_bytes, sub_s16, sub_u8, threshold_s16, threshold_u8, widen, xor_u8,
 };
 use std::test::Fail;
 use vx_base::{Format, Policy, ThresholdKind, ThresholdRule};
@@ -173,10 +173,16 @@ impl OfItem<u8, u8> for Inverted {
     }
 }
 
+impl LanesOfItem<u8, u8> for Inverted {
+    fn lanes(&self, row: &[u8], out: &mut [u8]) {
+        store_bytes(self, row, out);
+    }
+}
+
 #[test]
 fn bytes_of_a_kernel(rt: HostRuntime) {
     assert_items!(rt, in_turn(&BYTES), 77u8;
-        |row, out| map_bytes(&Inverted, row, out);
+        |row, out| map_row(&Inverted, row, out);
         |x| 255 - x);
 }
 
@@ -198,6 +204,26 @@ fn sums_of_bytes(rt: HostRuntime) {
 fn sums_of_shorts(rt: HostRuntime) {
     assert_shorts!(rt; |a, b, policy, out| add_s16(a, b, policy, out); |x, y| x + y);
     assert_shorts!(rt; |a, b, policy, out| sub_s16(a, b, policy, out); |x, y| x - y);
+}
+
+/// U8 and S16 items in one call, each with each: of the first format, of the second, and of both.
+#[test]
+fn mixed_formats(rt: HostRuntime) {
+    for length in LENGTHS {
+        let count = length.min(65);
+        let (bytes, shorts) = (in_turn(&BYTES), in_runs(&SHORTS));
+        let (mut sums, mut differences, mut products) = ([77i16; 65], [77i16; 65], [77i16; 65]);
+        let (a, b) = (&bytes[..count], &shorts[..count]);
+        add_s16(a, b, Policy::Saturate, &mut sums[..count]);
+        sub_s16(b, a, Policy::Wrap, &mut differences[..count]);
+        mul_s16(a, b, 1, Policy::Saturate, &mut products[..count]);
+        for i in 0..count {
+            let (x, y) = (i32::from(bytes[i]), i32::from(shorts[i]));
+            assert!(rt; sums[i] == nearest(x + y));
+            assert!(rt; differences[i] == wrapped(y - x));
+            assert!(rt; products[i] == nearest(x * y / 2));
+        }
+    }
 }
 
 #[test]

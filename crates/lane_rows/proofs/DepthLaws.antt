@@ -1,6 +1,12 @@
--- Samples times a power of two.
-use Rattle.std.proofs.Common.{◌≡◌, ℕ, pos, ◌*◌, ◌%◌, ◌^◌, ◌<◌, ◌≤◌, w16, to_z, arith}
-use Rattle.lane_rows.proofs.Common.{pow-le-pow_right, mod-eq_of_lt, to_z_pos}
+-- Bit depths: samples times a power of two, and over one.
+use Rattle.std.proofs.Common.{◌≡◌, ℕ, ℤ, pos, negsuc, suc, ◌-◌, ◌*◌, ◌%◌, ◌^◌, ◌<◌, ◌≤◌, ◌*ℤ◌, int_lt, unsigned_abs, List, [], ◌∷◌, length, map, Bool, true, false, cond, w8, w16, Fits, FitsSigned, to_z, of_z, bit_and, refl, ap, ◌∙◌, sym, subst, arith, map-id}
+use Rattle.std.specs.Int.{int_div_euclid}
+use Rattle.lane_rows.proofs.Common.{shr_z, Each1, ints, clamps, nat_tests, pow-le-pow_right, mod-eq_of_lt, to_z_pos, to_z-of_z, U8, Wrap, Saturate, narrow, top}
+use Rattle.std.proofs.lemmas.Nat.{and_mask}
+use Rattle.std.specs.Int.Signed.{mag_shr}
+use Rattle.lane_rows.proofs.Lanewise.{Lanewise, one, constant, each, both, chosen, items_are, each_is}
+use lib.Dec.{T}
+use lib.Signed.{non_neg}
 
 product_below : (p a : ℕ) → p ≤ 128 → a < 256 → a * p < 32768
 product_below p a small byte = grind arith
@@ -11,3 +17,151 @@ shifted a r k same byte small =
     let power : 2 ^ k ≤ 128 = pow-le-pow_right (omega arith) small in
     let fits : a * 2 ^ k < 32768 = product_below (2 ^ k) a power byte in
     rw (same, mod-eq_of_lt (let e : a * 2 ^ k < 65536 = omega arith in e)) (to_z_pos w16 (a * 2 ^ k) fits)
+
+-- ---- up, in lanes
+
+abbrev up : ℕ → ℕ → ℕ
+up x s = x * 2 ^ s % 65536
+
+abbrev pub ups : ℕ → Lanewise ℕ ℕ ℕ
+ups s = both up (each (λ x. x) one) (constant s)
+
+pub up_is : (s k : ℕ) (xs : List ℕ) → s ≡ k → k ≤ 7 → (length xs ≡ 32) × Each1 (Fits w8) xs → map (to_z w16) ((ups s).all 32 xs xs) ≡ map (λ a. a *ℤ pos (2 ^ k)) (map pos xs)
+up_is s k xs is small p =
+    items_are (ups s) (Fits w8) (to_z w16) pos (λ a. a *ℤ pos (2 ^ k)) 32 xs p.0 p.1
+    (λ x q. ap (λ e. to_z w16 (up x e)) is ∙ shifted x x k refl q.fits small)
+
+pub up_fits : (k : ℕ) (xs : List ℕ) → k ≤ 7 → Each1 (Fits w8) xs → Each1 (FitsSigned w16) (map (λ a. a *ℤ pos (2 ^ k)) (map pos xs))
+up_fits k [] small ps = tt
+up_fits k (x ∷ xs) small ps =
+    let power : 2 ^ k ≤ 128 = pow-le-pow_right (omega arith) small in
+    (record { sfits = product_below (2 ^ k) x power ps.0.fits }, up_fits k xs small ps.1)
+
+-- by no bit
+pub up_by_none : (xs : List ℕ) → map (λ a. a *ℤ pos (2 ^ 0)) (map pos xs) ≡ map pos xs
+up_by_none [] = refl
+up_by_none (x ∷ xs) = let e : x * 1 ≡ x = omega arith in ap (λ n. pos n ∷ map (λ a. a *ℤ pos (2 ^ 0)) (map pos xs)) e ∙ ap (λ l. pos x ∷ l) (up_by_none xs)
+
+-- ---- down
+
+abbrev down : ℕ → ℕ → ℕ
+down x s = of_z w16 (shr_z (to_z w16 x) (2 ^ s))
+
+abbrev pub downs : ℕ → Lanewise ℤ ℤ ℕ
+downs s = both down (each (of_z w16) one) (constant s)
+
+-- what is left in eight bits
+abbrev pub lefts : ℕ → Lanewise ℤ ℤ ℕ
+lefts s = both bit_and (downs s) (constant 255)
+
+abbrev less : ℕ → ℕ → ℕ
+less a b = cond (int_lt (to_z w16 a) (to_z w16 b)) 65535 0
+
+abbrev raised_ones : ℕ → Lanewise ℤ ℤ ℕ
+raised_ones s = chosen (top 15) (both less (downs s) (constant 0)) (constant 0) (downs s)
+
+-- the nearest number of eight bits
+abbrev pub nearest_ones : ℕ → Lanewise ℤ ℤ ℕ
+nearest_ones s = chosen (top 15) (both less (raised_ones s) (constant 255)) (raised_ones s) (constant 255)
+
+-- a number as one without a sign, and that it is one of eight bits
+abbrev pub natural : ℕ → ℕ
+natural x = unsigned_abs (to_z w16 x)
+
+abbrev pub IsByte : ℕ → Type 0
+IsByte x = T (non_neg (to_z w16 x)) × Fits w8 (unsigned_abs (to_z w16 x))
+
+bytes : (m : ℕ) → m < 256 → to_z w16 m ≡ pos m
+bytes m small = to_z_pos w16 m (omega (arith, small))
+
+is_byte : (m : ℕ) → m < 256 → IsByte m
+is_byte m small = rw (bytes m small) (tt, record { fits = small })
+
+natural_is : (m : ℕ) → m < 256 → natural m ≡ m
+natural_is m small = ap unsigned_abs (bytes m small)
+
+-- ---- at one lane
+
+abbrev over : ℕ → ℤ → ℤ
+over k z = int_div_euclid z (pos (2 ^ k))
+
+shift_is : (z : ℤ) (m : ℕ) → shr_z z m ≡ int_div_euclid z (pos m)
+shift_is (pos a) m = refl
+shift_is (negsuc a) m = refl
+
+over_fits : (k : ℕ) (z : ℤ) → FitsSigned w16 z → FitsSigned w16 (over k z)
+over_fits k z f = subst (FitsSigned w16) (shift_is z (2 ^ k)) (let e = mag_shr z (2 ^ k) in record { sfits = omega (arith, e, f.sfits) })
+
+down_is : (z : ℤ) (s k : ℕ) → s ≡ k → FitsSigned w16 z → down (of_z w16 z) s ≡ of_z w16 (over k z)
+down_is z s k is f = ap (λ e. down (of_z w16 z) e) is ∙ ap (λ y. of_z w16 (shr_z y (2 ^ k))) (to_z-of_z w16 z f) ∙ ap (of_z w16) (shift_is z (2 ^ k))
+
+rest_of : (y : ℤ) → FitsSigned w16 y → pos (of_z w16 y % 256) ≡ narrow U8 Wrap y
+rest_of (pos n) f = refl
+rest_of (negsuc n) f = let e = f.sfits in let g : (65536 - suc n) % 256 ≡ 255 - n % 256 = omega (arith, e) in ap pos g
+
+masked_below : (n : ℕ) → bit_and n 255 < 256
+masked_below n = let e : n % 256 < 256 = omega arith in subst (λ m. m < 256) (sym (and_mask n 8)) e
+
+left_is : (y : ℤ) → FitsSigned w16 y → pos (natural (bit_and (of_z w16 y) 255)) ≡ narrow U8 Wrap y
+left_is y f = ap pos (natural_is (bit_and (of_z w16 y) 255) (masked_below (of_z w16 y)) ∙ and_mask (of_z w16 y) 8) ∙ rest_of y f
+
+abbrev picked : Bool → ℕ → ℕ → ℕ
+picked t x y = cond (top 15 (cond t 65535 0)) x y
+
+abbrev raised : ℕ → ℕ
+raised x = picked (int_lt (to_z w16 x) (pos 0)) 0 x
+
+abbrev lowered : ℕ → ℕ
+lowered x = picked (int_lt (to_z w16 x) (pos 255)) x 255
+
+below_least : (y : ℤ) → int_lt y (pos 0) ≡ true → pos 0 ≡ narrow U8 Saturate y
+below_least y low = grind (arith, ints, clamps, low)
+
+within : (y : ℤ) → int_lt y (pos 0) ≡ false → int_lt y (pos 255) ≡ true → pos (unsigned_abs y) ≡ narrow U8 Saturate y
+within y low high = grind (arith, ints, clamps, low, high)
+
+from_greatest : (y : ℤ) → int_lt y (pos 0) ≡ false → int_lt y (pos 255) ≡ false → pos 255 ≡ narrow U8 Saturate y
+from_greatest y low high = grind (arith, ints, clamps, low, high)
+
+nearest_by : (a b : Bool) (y : ℤ) → int_lt y (pos 0) ≡ a → int_lt y (pos 255) ≡ b → FitsSigned w16 y → pos (natural (lowered (picked a 0 (of_z w16 y)))) ≡ narrow U8 Saturate y
+nearest_by true b y low high f = below_least y low
+nearest_by false true y low high f = rw (to_z-of_z w16 y f, high, to_z-of_z w16 y f) (within y low high)
+nearest_by false false y low high f = rw (to_z-of_z w16 y f, high) (from_greatest y low high)
+
+nearest_is : (y : ℤ) → FitsSigned w16 y → pos (natural (lowered (raised (of_z w16 y)))) ≡ narrow U8 Saturate y
+nearest_is y f = rw (to_z-of_z w16 y f) (nearest_by (int_lt y (pos 0)) (int_lt y (pos 255)) y refl refl f)
+
+small_bits : (y : ℤ) → int_lt y (pos 0) ≡ false → int_lt y (pos 255) ≡ true → of_z w16 y < 256
+small_bits (pos n) low high = grind (arith, nat_tests, ints, high)
+small_bits (negsuc n) low high = absurd (cc low)
+
+below_by : (a b : Bool) (y : ℤ) → int_lt y (pos 0) ≡ a → int_lt y (pos 255) ≡ b → FitsSigned w16 y → lowered (picked a 0 (of_z w16 y)) < 256
+below_by true b y low high f = let e : 0 < 256 = omega arith in e
+below_by false true y low high f = rw (to_z-of_z w16 y f, high) (small_bits y low high)
+below_by false false y low high f = rw (to_z-of_z w16 y f, high) (omega arith)
+
+nearest_below : (y : ℤ) → FitsSigned w16 y → lowered (raised (of_z w16 y)) < 256
+nearest_below y f = rw (to_z-of_z w16 y f) (below_by (int_lt y (pos 0)) (int_lt y (pos 255)) y refl refl f)
+
+-- ---- in lanes
+
+module _ (s k : ℕ) (zs : List ℤ) (is : s ≡ k) (long : length zs ≡ 32) (ps : Each1 (FitsSigned w16) zs) where
+  pub lefts_fit : Each1 IsByte ((lefts s).all 32 zs zs)
+  lefts_fit = each_is (lefts s) (FitsSigned w16) (FitsSigned w16) IsByte 32 zs zs long long ps ps (λ x y p q. is_byte (bit_and (down (of_z w16 x) s) 255) (masked_below (down (of_z w16 x) s)))
+
+  pub nearest_fit : Each1 IsByte ((nearest_ones s).all 32 zs zs)
+  nearest_fit =
+      each_is (nearest_ones s) (FitsSigned w16) (FitsSigned w16) IsByte 32 zs zs long long ps ps
+      (λ x y p q. is_byte (lowered (raised (down (of_z w16 x) s))) (subst (λ n. lowered (raised n) < 256) (sym (down_is x s k is p)) (nearest_below (over k x) (over_fits k x p))))
+
+  pub lefts_are : map pos ((each natural (lefts s)).all 32 zs zs) ≡ map (λ z. narrow U8 Wrap (over k z)) zs
+  lefts_are =
+      items_are (each natural (lefts s)) (FitsSigned w16) pos (λ z. z) (λ z. narrow U8 Wrap (over k z)) 32 zs long ps
+      (λ z p. ap (λ n. pos (natural (bit_and n 255))) (down_is z s k is p) ∙ left_is (over k z) (over_fits k z p))
+      ∙ ap (map (λ z. narrow U8 Wrap (over k z))) (map-id zs)
+
+  pub nearest_are : map pos ((each natural (nearest_ones s)).all 32 zs zs) ≡ map (λ z. narrow U8 Saturate (over k z)) zs
+  nearest_are =
+      items_are (each natural (nearest_ones s)) (FitsSigned w16) pos (λ z. z) (λ z. narrow U8 Saturate (over k z)) 32 zs long ps
+      (λ z p. ap (λ n. pos (natural (lowered (raised n)))) (down_is z s k is p) ∙ nearest_is (over k z) (over_fits k z p))
+      ∙ ap (map (λ z. narrow U8 Saturate (over k z))) (map-id zs)

@@ -1,7 +1,6 @@
 -- What is computed in lanes, lane by lane.
-use Rattle.std.proofs.Common.{◌≡◌, ℕ, ℤ, pos, zero, suc, ◌*◌, ◌/◌, ◌%◌, ◌^◌, ◌<◌, List, [], ◌∷◌, length, map, Bool, true, false, cond, min, ltb, w8, Fits, replicate, refl, ap, ◌∙◌, sym, subst, arith, bit_and, take_all}
-use Rattle.lane_rows.proofs.Common.{zip2, Each1, sel_l, chunk, ints, clamps, length-map, length-zip2, put_chunk_whole, U8, Wrap, Saturate, narrow, top}
-use Rattle.std.specs.Simd.Lanes.{put_chunk}
+use Rattle.std.proofs.Common.{◌≡◌, ℕ, ℤ, pos, zero, suc, ◌*◌, ◌/◌, ◌%◌, ◌^◌, ◌<◌, List, [], ◌∷◌, length, map, Bool, true, false, cond, min, ltb, w8, Fits, replicate, refl, ap, ◌∙◌, sym, subst, arith, bit_and}
+use Rattle.lane_rows.proofs.Common.{zip2, Each1, sel_l, ints, clamps, U8, Wrap, Saturate, narrow, top}
 use Rattle.std.proofs.lemmas.Nat.{and_mask}
 
 -- ---- one operation after another
@@ -47,10 +46,10 @@ product_lane x y k n same p q =
     let whole : x * y % 65536 ≡ x * y = omega (arith, small) in
     rw (whole, same) refl
 
-chosen_w16 : (t : Bool) (a b : ℕ) → cond (top 15 (cond t 65535 0)) a b ≡ cond t a b
+pub chosen_w16 : (t : Bool) (a b : ℕ) → cond (top 15 (cond t 65535 0)) a b ≡ cond t a b
 chosen_w16 t a b = elim t as (λ v. cond (top 15 (cond v 65535 0)) a b ≡ cond v a b) [ true ↦ refl | false ↦ refl ]
 
-smaller_lane : (x y : ℕ) → cond (ltb x y) x y ≡ min x y
+pub smaller_lane : (x y : ℕ) → cond (ltb x y) x y ≡ min x y
 smaller_lane x y = grind arith
 
 -- the smaller of a number and 255
@@ -67,25 +66,16 @@ wrapped_lane x = and_mask x 8
 pub wrapped_fits : (x : ℕ) → Fits w8 (bit_and x 255)
 wrapped_fits x = let e : x % 256 < 256 = omega arith in subst (Fits w8) (sym (wrapped_lane x)) (record { fits = e })
 
--- ---- blocks that are stored
+-- ---- pairs
 
-numbers : (g : ℤ → ℤ) (h : ℕ → ℕ → ℕ) (f : ℤ → ℤ → ℤ) → ((x y : ℕ) → g (pos (h x y)) ≡ f (pos x) (pos y)) → (xs ys : List ℕ) → map g (map pos (zip2 h xs ys)) ≡ zip2 f (map pos xs) (map pos ys)
+pub numbers : (g : ℤ → ℤ) (h : ℕ → ℕ → ℕ) (f : ℤ → ℤ → ℤ) → ((x y : ℕ) → g (pos (h x y)) ≡ f (pos x) (pos y)) → (xs ys : List ℕ) → map g (map pos (zip2 h xs ys)) ≡ zip2 f (map pos xs) (map pos ys)
 numbers g h f same [] ys = refl
 numbers g h f same (x ∷ xs) [] = refl
 numbers g h f same (x ∷ xs) (y ∷ ys) = cc (same x y, numbers g h f same xs ys)
 
-pub pair_stored : (g : ℤ → ℤ) (h : ℕ → ℕ → ℕ) (f : ℤ → ℤ → ℤ) → ((x y : ℕ) → g (pos (h x y)) ≡ f (pos x) (pos y)) → (xs ys ps ws out : List ℕ)
-    → length xs ≡ 32 → length ys ≡ 32 → length out ≡ 32 → ps ≡ zip2 h (chunk 0 32 xs) (chunk 0 32 ys) → map pos ws ≡ map g (map pos ps) → map pos (put_chunk 0 out ws) ≡ zip2 f (map pos xs) (map pos ys)
-pair_stored g h f same xs ys ps ws out first second room pairs is =
-    let whole : ps ≡ zip2 h xs ys =
-    pairs ∙ ap (λ l. zip2 h l (chunk 0 32 ys)) (take_all 32 xs (omega (arith, first))) ∙ ap (zip2 h xs) (take_all 32 ys (omega (arith, second))) in
-    let pairs_long : length ps ≡ 32 = ap length whole ∙ length-zip2 h xs ys (first ∙ sym second) ∙ first in
-    let long : length ws ≡ 32 = sym (length-map ws pos) ∙ ap length is ∙ length-map (map pos ps) g ∙ length-map ps pos ∙ pairs_long in
-    ap (map pos) (put_chunk_whole out ws (room ∙ sym long)) ∙ is ∙ ap (λ l. map g (map pos l)) whole ∙ numbers g h f same xs ys
-
 -- ---- numbers that become bytes
 
-clamp_pos : (n : ℕ) → pos (min n 255) ≡ narrow U8 Saturate (pos n)
+pub clamp_pos : (n : ℕ) → pos (min n 255) ≡ narrow U8 Saturate (pos n)
 clamp_pos n = grind (arith, ints, clamps)
 
 pub clamped_bytes : (ns : List ℕ) → map pos (map (λ n. min n 255) ns) ≡ map (narrow U8 Saturate) (map pos ns)

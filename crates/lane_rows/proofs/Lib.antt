@@ -1,11 +1,27 @@
 mod Common
 mod RowLaws
-mod DepthLaws
 mod BlockLaws
 mod LaneLaws
 mod ScaleLaws
+mod Lanewise
+mod ByteLaws
 mod DigitLaws
 mod QuarterLaws
 mod ShortLaws
 mod NarrowLaws
+mod ShortLanes
+mod TestLanes
 mod StoreLaws
+mod Names
+pub mod CountLaws
+mod RunningLaws
+mod TallyLaws
+mod RunLaws
+pub mod MedianLaws
+mod NineLaws
+mod GradientLaws
+mod AxpyLaws
+mod ThreeLaws
+mod SampleLaws
+mod DepthLaws
+mod SumLaws

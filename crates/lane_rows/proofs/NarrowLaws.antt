@@ -74,7 +74,7 @@ nearest_by false false z low high fits = rw (to_z-of_z w32 z fits, high) (from_g
 nearest_lane : (z : ℤ) → FitsSigned w32 z → to_z w32 (lowered (raised (of_z w32 z))) ≡ narrow S16 Saturate z
 nearest_lane z fits = rw (to_z-of_z w32 z fits) (nearest_by (int_lt z (negsuc 32767)) (int_lt z (pos 32767)) z refl refl fits)
 
-nearest_fits : (z : ℤ) → FitsSigned w16 (narrow S16 Saturate z)
+pub nearest_fits : (z : ℤ) → FitsSigned w16 (narrow S16 Saturate z)
 nearest_fits z = record { sfits = first_of (omega (arith, ints, clamps), grind (arith, ints, clamps)) }
 
 abbrev all_raised : ℕ → List ℕ → List ℕ

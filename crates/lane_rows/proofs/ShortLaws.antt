@@ -47,10 +47,10 @@ joined (x ∷ xs) (y ∷ ys) = let e = joined xs ys in omega (arith, e)
 
 -- ---- one product
 
-wider : (x : ℤ) → FitsSigned w16 x → FitsSigned w32 x
+pub wider : (x : ℤ) → FitsSigned w16 x → FitsSigned w32 x
 wider x p = search (rules, ints)
 
-abs_16 : (x : ℤ) → FitsSigned w16 x → unsigned_abs x ≤ 32768
+pub abs_16 : (x : ℤ) → FitsSigned w16 x → unsigned_abs x ≤ 32768
 abs_16 x p = first_of (omega (arith, ints), search (rules, ints), grind (arith, ints))
 
 pub product_size : (a b : ℤ) → FitsSigned w16 a → FitsSigned w16 b → unsigned_abs (a *ℤ b) ≤ 1073741824
@@ -84,7 +84,7 @@ high_bits : (z : ℤ) → FitsSigned w32 z → of_z w16 (to_z w32 (of_z w32 (shr
 high_bits z p = rw (to_z-of_z w32 z p, to_z-of_z w32 (shr_z z 65536) (shift_fits z 65536 p)) (high_of z p)
 
 -- the bits of a number of 16 bits in 32
-widened : (a : ℤ) → FitsSigned w16 a → of_z w32 (to_z w16 (of_z w16 a)) ≡ of_z w32 a
+pub widened : (a : ℤ) → FitsSigned w16 a → of_z w32 (to_z w16 (of_z w16 a)) ≡ of_z w32 a
 widened a p = ap (of_z w32) (to_z-of_z w16 a p)
 
 product_bits : (a b : ℤ) → FitsSigned w16 a → FitsSigned w16 b → (of_z w32 (to_z w16 (of_z w16 a)) * of_z w32 (to_z w16 (of_z w16 b))) % 4294967296 ≡ of_z w32 (a *ℤ b)

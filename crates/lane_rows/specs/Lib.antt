@@ -1,1 +1,10 @@
 pub mod Quarters
+pub mod Running
+pub mod Tallies
+pub mod Windows
+pub mod Ranks
+pub mod RankLaws
+pub mod Threes
+pub mod Limits
+pub mod Axpy
+pub mod Chosen

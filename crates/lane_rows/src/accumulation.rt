@@ -4,16 +4,25 @@ ghost use Rattle.std.specs.Simd.Lanes.{zip2};
 ghost use Rattle.vx_base.specs.declared.format.Format.TheVariants.{S16};
 ghost use Rattle.vx_base.specs.Pixelwise.{accumulated, accumulated_square};
 
-use crate::rows::{OfPair, update_row};
+use crate::item::Short;
+use crate::kernel::OfSum;
+use crate::rows::update_row;
+use crate::shorts::{accumulated_shorts, scaled_squares};
+use std::simd::prelude::*;
 
 /// The sum and the byte, at most 32,767.
-struct Accumulated;
+pub struct Accumulated;
 
-impl OfPair<u8, i16, i16> for Accumulated {
+impl OfSum<u8, i16> for Accumulated {
     ghost formula = { λ _. accumulated S16 };
 
     fn item(&self, a: u8, sum: i16) -> i16 {
         sum.saturating_add(i16::from(a))
+    }
+
+    fn lanes(&self, row: &[u8], sums: &mut [i16]) {
+        let bytes = u8x16::from_slice(row).cast::<u16>();
+        accumulated_shorts(bytes, i16::shorts(sums)).copy_to_slice(sums);
     }
 }
 
@@ -27,16 +36,21 @@ fn scaled_square(a: u8, amount: u8) -> u16
 
 /// The sum and the byte's square over 2^amount, rounded down; at most 32,767.
 #[derive(Drop)]
-struct Squared {
-    amount: u8,
+pub struct Squared {
+    pub amount: u8,
     ghost small: { amount ≤ 15 },
 }
 
-impl OfPair<u8, i16, i16> for Squared {
+impl OfSum<u8, i16> for Squared {
     ghost formula = { λ s. accumulated_square S16 s.amount };
 
     fn item(&self, a: u8, sum: i16) -> i16 {
         sum.saturating_add_unsigned(scaled_square(a, self.amount))
+    }
+
+    fn lanes(&self, row: &[u8], sums: &mut [i16]) {
+        let squares = scaled_squares(u8x16::from_slice(row), self.amount);
+        accumulated_shorts(squares, i16::shorts(sums)).copy_to_slice(sums);
     }
 }
 

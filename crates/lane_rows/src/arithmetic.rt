@@ -1,41 +1,89 @@
 //! Kernels of two U8 or S16 items, at the formats that they may have.
-ghost use Rattle.std.specs.Prelude.{◌≡◌, ℤ, pos};
+ghost use Rattle.std.specs.Prelude.{◌≡◌, ℤ, pos, map, length, FitsSigned};
+ghost use Rattle.std.specs.Int.{w16};
+ghost use Rattle.std.specs.Simd.Lanes.{zip2, Each1};
 ghost use Rattle.vx_base.specs.declared.format.Format.{Format};
 ghost use Rattle.vx_base.specs.declared.format.Format.TheVariants.{U8, S16};
 
 use crate::item::Short;
-use crate::rows::OfPair;
+use crate::kernel::OfPair;
+use std::simd::prelude::*;
 
 /// What a kernel gives of two U8 or S16 items.
 pub trait Arithmetic {
     /// The sample of a format, from those of the two items.
     ghost formula: { Self → Format → ℤ → ℤ → ℤ };
 
-    /// The U8 sample, from two of U8.
+    /// Returns the U8 sample, from two of U8.
     fn of_bytes(&self, a: u8, b: u8) -> u8
         ensures { pos result ≡ formula self.now U8 (pos a) (pos b) };
 
-    /// The S16 sample, from two that are S16 or have become it.
+    /// Returns the S16 sample, from two that are S16 or have become it.
     fn of_shorts(&self, a: i16, b: i16) -> i16
         ensures { result ≡ formula self.now S16 a b };
+
+    /// Returns 32 U8 samples.
+    fn bytes(&self, a: u8x32, b: u8x32) -> u8x32
+        ensures { map pos result ≡ zip2 (formula self.now U8) (map pos a) (map pos b) };
+
+    /// Returns 16 S16 samples.
+    fn shorts(&self, a: i16x16, b: i16x16) -> i16x16
+        requires a_len { length a ≡ 16 }
+        requires b_len { length b ≡ 16 }
+        requires a_fits { Each1 (FitsSigned w16) a }
+        requires b_fits { Each1 (FitsSigned w16) b }
+        ensures value { result ≡ zip2 (formula self.now S16) a b }
+        ensures fits { Each1 (FitsSigned w16) result };
 }
 
 /// A kernel at rows of U8 to U8, and at rows that are each U8 or S16 to S16.
 #[derive(Drop)]
-pub struct OfSamples<K>(pub K);
+pub struct OfSamples<'a, K>(pub &'a K);
 
-impl<K: Arithmetic> OfPair<u8, u8, u8> for OfSamples<K> {
-    ghost formula = { λ s. K.formula s.0 U8 };
+impl<K: Arithmetic> OfPair<u8, u8, u8> for OfSamples<'_, K> {
+    ghost formula = { λ s. K.formula s.0.now U8 };
 
     fn item(&self, a: u8, b: u8) -> u8 {
         self.0.of_bytes(a, b)
     }
+
+    fn lanes(&self, first: &[u8], second: &[u8], out: &mut [u8]) {
+        self.0
+            .bytes(u8x32::from_slice(first), u8x32::from_slice(second))
+            .copy_to_slice(out);
+    }
 }
 
-impl<A: Short, B: Short, K: Arithmetic> OfPair<A, B, i16> for OfSamples<K> {
-    ghost formula = { λ s. K.formula s.0 S16 };
+/// Writes what the kernel gives of sixteen items of each row.
+fn write_sixteen<A: Short, B: Short, K: Arithmetic>(
+    kernel: &K,
+    first: &[A],
+    second: &[B],
+    out: &mut [i16],
+)
+    requires first_len { length first.now ≡ 16 }
+    requires second_len { length second.now ≡ 16 }
+    requires out_len { length out.old ≡ 16 }
+    ensures { out.new ≡ zip2 (K.formula kernel.now S16) (map A.value first.now)
+        (map B.value second.now) }
+{
+    let (a, b) = (A::shorts(first), B::shorts(second));
+    let samples = kernel.shorts(a, b);
+    samples.copy_to_slice(out);
+}
+
+impl<A: Short, B: Short, K: Arithmetic> OfPair<A, B, i16> for OfSamples<'_, K> {
+    ghost formula = { λ s. K.formula s.0.now S16 };
 
     fn item(&self, a: A, b: B) -> i16 {
         self.0.of_shorts(a.short(), b.short())
+    }
+
+    fn lanes(&self, first: &[A], second: &[B], out: &mut [i16]) {
+        let (first, first_rest) = first.split_at(16);
+        let (second, second_rest) = second.split_at(16);
+        let (out, out_rest) = out.split_at_mut(16);
+        write_sixteen(self.0, first, second, out);
+        write_sixteen(self.0, first_rest, second_rest, out_rest);
     }
 }

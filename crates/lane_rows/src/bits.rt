@@ -3,9 +3,13 @@ ghost use Rattle.std.specs.Prelude.{◌≡◌, pos, map, length};
 ghost use Rattle.std.specs.Simd.Lanes.{zip2};
 ghost use Rattle.vx_base.specs.Pixelwise.{and_bits, or_bits, xor_bits, not_bits};
 
-use crate::rows::{OfItem, OfPair, map_row, zip_rows};
+use crate::bytes::inverted_bytes;
+use crate::kernel::{LanesOfItem, OfItem, OfPair};
+use crate::rows::{map_row, zip_rows};
+use std::simd::prelude::*;
 
-struct And;
+/// The bits that both items have.
+pub struct And;
 
 impl OfPair<u8, u8, u8> for And {
     ghost formula = { λ _. and_bits };
@@ -13,9 +17,14 @@ impl OfPair<u8, u8, u8> for And {
     fn item(&self, a: u8, b: u8) -> u8 {
         a & b
     }
+
+    fn lanes(&self, first: &[u8], second: &[u8], out: &mut [u8]) {
+        (u8x32::from_slice(first) & u8x32::from_slice(second)).copy_to_slice(out);
+    }
 }
 
-struct Or;
+/// The bits that one item has or both have.
+pub struct Or;
 
 impl OfPair<u8, u8, u8> for Or {
     ghost formula = { λ _. or_bits };
@@ -23,9 +32,14 @@ impl OfPair<u8, u8, u8> for Or {
     fn item(&self, a: u8, b: u8) -> u8 {
         a | b
     }
+
+    fn lanes(&self, first: &[u8], second: &[u8], out: &mut [u8]) {
+        (u8x32::from_slice(first) | u8x32::from_slice(second)).copy_to_slice(out);
+    }
 }
 
-struct Xor;
+/// The bits that one item has and the other has not.
+pub struct Xor;
 
 impl OfPair<u8, u8, u8> for Xor {
     ghost formula = { λ _. xor_bits };
@@ -33,15 +47,26 @@ impl OfPair<u8, u8, u8> for Xor {
     fn item(&self, a: u8, b: u8) -> u8 {
         a ^ b
     }
+
+    fn lanes(&self, first: &[u8], second: &[u8], out: &mut [u8]) {
+        (u8x32::from_slice(first) ^ u8x32::from_slice(second)).copy_to_slice(out);
+    }
 }
 
-struct Not;
+/// Each of the eight bits turned over.
+pub struct Not;
 
 impl OfItem<u8, u8> for Not {
     ghost formula = { λ _. not_bits };
 
     fn item(&self, a: u8) -> u8 {
         !a
+    }
+}
+
+impl LanesOfItem<u8, u8> for Not {
+    fn lanes(&self, row: &[u8], out: &mut [u8]) {
+        inverted_bytes(u8x32::from_slice(row)).copy_to_slice(out);
     }
 }
 

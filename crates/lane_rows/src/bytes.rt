@@ -1,41 +1,90 @@
-//! Rows of bytes that are computed one by one and stored sixteen at a time.
-ghost use Rattle.std.specs.Prelude.{◌≡◌, ◌*◌, pos, map, length};
+//! Bytes in 32 lanes.
+ghost use Rattle.std.specs.Prelude.{◌≡◌, ◌≤◌, ◌*◌, ◌/◌, ◌%◌, ◌^◌, min, pos, map};
+ghost use Rattle.std.specs.Simd.Lanes.{zip2};
+ghost use Rattle.vx_base.specs.declared.format.Format.TheVariants.{U8};
+ghost use Rattle.vx_base.specs.Sample.{narrow};
+ghost use Rattle.vx_base.specs.Pixelwise.{sum, difference, absolute_difference};
+ghost use Rattle.vx_base.specs.Pixelwise.{smaller, greater, not_bits};
 
-use crate::rows::{OfItem, map_row};
 use std::simd::prelude::*;
+use vx_base::Policy;
 
-/// Writes what the kernel gives of sixteen bytes.
-fn map_sixteen<K: OfItem<u8, u8>>(kernel: &K, row: &[u8], out: &mut [u8])
-    requires row_len { length row.now ≡ 16 }
-    requires out_len { length out.old ≡ 16 }
-    ensures { map pos out.new ≡ map (K.formula kernel.now) (map pos row.now) }
+/// The products of bytes over 2^amount, rounded down.
+pub fn byte_products(a: u8x32, b: u8x32, amount: u8) -> u16x32
+    requires { amount ≤ 15 }
+    ensures { result ≡ zip2 (λ x y. x * y / 2 ^ amount) a b }
 {
-    let mut items = [0; 16];
-    map_row(kernel, row, &mut items);
-    u8x16::from_array(items).copy_to_slice(out);
+    (a.cast::<u16>() * b.cast::<u16>()) >> u16::from(amount)
 }
 
-/// Writes what the kernel gives at each place of a row of so many blocks.
-fn map_blocks<K: OfItem<u8, u8>>(kernel: &K, row: &[u8], blocks: usize, out: &mut [u8])
-    requires row_len { length row.now ≡ 16 * blocks }
-    requires out_len { length out.old ≡ 16 * blocks }
-    ensures { map pos out.new ≡ map (K.formula kernel.now) (map pos row.now) }
+/// The nearest bytes.
+fn clamped(numbers: u16x32) -> u8x32
+    ensures { result ≡ map (λ n. min n 255) numbers }
 {
-    for k in 0..blocks {
-        let start = 16 * k;
-        map_sixteen(kernel, &row[start..start + 16], &mut out[start..start + 16]);
+    numbers.simd_min(u16x32::splat(255)).cast::<u8>()
+}
+
+/// What is left in 8 bits.
+fn wrapped(numbers: u16x32) -> u8x32
+    ensures { result ≡ map (λ n. n % 256) numbers }
+{
+    (numbers & u16x32::splat(255)).cast::<u8>()
+}
+
+/// The U8 samples that they become.
+pub fn narrowed_bytes(numbers: u16x32, policy: Policy) -> u8x32
+    ensures { map pos result ≡ map (narrow U8 policy) (map pos numbers) }
+{
+    match policy {
+        Policy::Wrap => wrapped(numbers),
+        Policy::Saturate => clamped(numbers),
     }
 }
 
-/// Writes what the kernel gives at each place of a row: as `map_row` does, and faster where the
-/// compiler finds no lanes for the kernel, as it can store one item at a time only.
-pub fn map_bytes<K: OfItem<u8, u8>>(kernel: &K, row: &[u8], out: &mut [u8])
-    requires { length row.now ≡ length out.old }
-    ensures { map pos out.new ≡ map (K.formula kernel.now) (map pos row.now) }
+/// Each of the eight bits turned over.
+pub fn inverted_bytes(a: u8x32) -> u8x32
+    ensures { map pos result ≡ map not_bits (map pos a) }
 {
-    let blocks = out.len() / 16;
-    let (row, row_rest) = row.split_at(16 * blocks);
-    let (out, out_rest) = out.split_at_mut(16 * blocks);
-    map_blocks(kernel, row, blocks, out);
-    map_row(kernel, row_rest, out_rest);
+    !a
+}
+
+/// The sums, narrowed by the policy.
+pub fn byte_sums(a: u8x32, b: u8x32, policy: Policy) -> u8x32
+    ensures { map pos result ≡ zip2 (sum U8 policy) (map pos a) (map pos b) }
+{
+    match policy {
+        Policy::Wrap => a + b,
+        Policy::Saturate => a.saturating_add(b),
+    }
+}
+
+/// The first less the second, narrowed by the policy.
+pub fn byte_differences(a: u8x32, b: u8x32, policy: Policy) -> u8x32
+    ensures { map pos result ≡ zip2 (difference U8 policy) (map pos a) (map pos b) }
+{
+    match policy {
+        Policy::Wrap => a - b,
+        Policy::Saturate => a.simd_max(b) - b,
+    }
+}
+
+/// How far the bytes are apart.
+pub fn byte_distances(a: u8x32, b: u8x32) -> u8x32
+    ensures { map pos result ≡ zip2 (absolute_difference U8) (map pos a) (map pos b) }
+{
+    a.simd_max(b) - a.simd_min(b)
+}
+
+/// The smaller of the bytes.
+pub fn smaller_bytes(a: u8x32, b: u8x32) -> u8x32
+    ensures { map pos result ≡ zip2 smaller (map pos a) (map pos b) }
+{
+    a.simd_min(b)
+}
+
+/// The greater of the bytes.
+pub fn greater_bytes(a: u8x32, b: u8x32) -> u8x32
+    ensures { map pos result ≡ zip2 greater (map pos a) (map pos b) }
+{
+    a.simd_max(b)
 }

@@ -1,26 +1,20 @@
 //! Items of one format from those of another.
 ghost use Rattle.std.specs.Prelude.{◌≡◌, ◌≤◌, ◌^◌, ◌*ℤ◌, pos, map, length};
 ghost use Rattle.vx_base.specs.declared.format.Format.TheVariants.{U8};
-ghost use Rattle.vx_base.specs.declared.policy.Policy.TheVariants.{Wrap, Saturate};
 ghost use Rattle.vx_base.specs.Pixelwise.{converted};
 
-use crate::rows::{OfItem, map_row};
-use vx_base::{Policy, narrow_u8};
-
-struct Widened;
-
-impl OfItem<u8, i16> for Widened {
-    ghost formula = { λ _ a. a };
-
-    fn item(&self, a: u8) -> i16 {
-        i16::from(a)
-    }
-}
+use crate::depth_lanes::{shifted_down, shifted_up};
+use crate::item::shorts_of;
+use crate::kernel::{LanesOfItem, OfItem};
+use crate::overflow::{Overflow, Saturated, Wrapped, with_overflow};
+use crate::rows::map_row;
+use std::simd::prelude::*;
+use vx_base::Policy;
 
 /// Times 2^amount.
 #[derive(Drop)]
-struct ShiftedUp {
-    amount: u8,
+pub struct ShiftedUp {
+    pub amount: u8,
     ghost small: { amount ≤ 7 },
 }
 
@@ -32,33 +26,34 @@ impl OfItem<u8, i16> for ShiftedUp {
     }
 }
 
-/// Over 2^amount, rounded down; then what is left in 8 bits.
-#[derive(Drop)]
-struct WrappedNarrow {
-    amount: u8,
-    ghost small: { amount ≤ 7 },
-}
-
-impl OfItem<i16, u8> for WrappedNarrow {
-    ghost formula = { λ s. converted U8 Wrap s.amount };
-
-    fn item(&self, a: i16) -> u8 {
-        (a >> self.amount).rem_euclid(256) as u8
+impl LanesOfItem<u8, i16> for ShiftedUp {
+    fn lanes(&self, row: &[u8], out: &mut [i16]) {
+        shifted_up(u8x32::from_slice(row), self.amount).copy_to_slice(out);
     }
 }
 
-/// Over 2^amount, rounded down; then the nearest U8 sample.
+/// Over 2^amount, rounded down and narrowed by the policy.
 #[derive(Drop)]
-struct ClampedNarrow {
-    amount: u8,
+pub struct Narrowed<P> {
+    pub overflow: P,
+    pub amount: u8,
     ghost small: { amount ≤ 7 },
 }
 
-impl OfItem<i16, u8> for ClampedNarrow {
-    ghost formula = { λ s. converted U8 Saturate s.amount };
+impl<P: Overflow> OfItem<i16, u8> for Narrowed<P> {
+    ghost formula = { λ s. converted U8 (P.policy s.overflow) s.amount };
 
     fn item(&self, a: i16) -> u8 {
-        (a >> self.amount).clamp(0, 255) as u8
+        match self.overflow.policy() {
+            Policy::Wrap => (a >> self.amount).rem_euclid(256) as u8,
+            Policy::Saturate => (a >> self.amount).clamp(0, 255) as u8,
+        }
+    }
+}
+
+impl<P: Overflow> LanesOfItem<i16, u8> for Narrowed<P> {
+    fn lanes(&self, row: &[i16], out: &mut [u8]) {
+        shifted_down(shorts_of(row), self.amount, self.overflow.policy()).copy_to_slice(out);
     }
 }
 
@@ -67,7 +62,7 @@ pub fn widen(row: &[u8], out: &mut [i16])
     requires { length row.now ≡ length out.old }
     ensures { out.new ≡ map pos row.now }
 {
-    map_row(&Widened, row, out);
+    map_row(&ShiftedUp { amount: 0 }, row, out);
 }
 
 /// Writes the items times 2^amount.
@@ -85,8 +80,7 @@ pub fn narrow(row: &[i16], amount: u8, policy: Policy, out: &mut [u8])
     requires amount { amount ≤ 7 }
     ensures { map pos out.new ≡ map (converted U8 policy amount) row.now }
 {
-    match policy {
-        Policy::Wrap => map_row(&WrappedNarrow { amount }, row, out),
-        Policy::Saturate => map_row(&ClampedNarrow { amount }, row, out),
-    }
+    with_overflow!(policy, overflow => {
+        map_row(&Narrowed { overflow, amount }, row, out)
+    })
 }

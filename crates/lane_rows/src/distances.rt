@@ -5,11 +5,16 @@ ghost use Rattle.vx_base.specs.declared.format.Format.TheVariants.{U8, S16};
 ghost use Rattle.vx_base.specs.Pixelwise.{absolute_difference};
 
 use crate::arithmetic::{Arithmetic, OfSamples};
+use crate::bytes::byte_distances;
 use crate::item::Short;
 use crate::rows::zip_rows;
+use crate::shorts::{narrowed, short_distances};
+use std::simd::prelude::*;
+use vx_base::Policy;
 
+/// How far the items are apart, at most the format's greatest sample.
 #[derive(Drop)]
-struct Distance;
+pub struct Distance;
 
 impl Arithmetic for Distance {
     ghost formula = { λ _. absolute_difference };
@@ -21,6 +26,14 @@ impl Arithmetic for Distance {
     fn of_shorts(&self, a: i16, b: i16) -> i16 {
         a.abs_diff(b).min(32_767) as i16
     }
+
+    fn bytes(&self, a: u8x32, b: u8x32) -> u8x32 {
+        byte_distances(a, b)
+    }
+
+    fn shorts(&self, a: i16x16, b: i16x16) -> i16x16 {
+        narrowed(short_distances(a, b), Policy::Saturate)
+    }
 }
 
 /// Writes how far the items are apart.
@@ -30,7 +43,7 @@ pub fn absdiff_u8(first: &[u8], second: &[u8], out: &mut [u8])
     ensures { map pos out.new ≡ zip2 (absolute_difference U8) (map pos first.now)
         (map pos second.now) }
 {
-    zip_rows(&OfSamples(Distance), first, second, out);
+    zip_rows(&OfSamples(&Distance), first, second, out);
 }
 
 /// Writes how far the items, each U8 or S16, are apart, at most 32,767.
@@ -40,5 +53,5 @@ pub fn absdiff_s16<A: Short, B: Short>(first: &[A], second: &[B], out: &mut [i16
     ensures { out.new ≡ zip2 (absolute_difference S16) (map A.value first.now)
         (map B.value second.now) }
 {
-    zip_rows(&OfSamples(Distance), first, second, out);
+    zip_rows(&OfSamples(&Distance), first, second, out);
 }

@@ -4,11 +4,15 @@ ghost use Rattle.std.specs.Simd.Lanes.{zip2};
 ghost use Rattle.vx_base.specs.Pixelwise.{smaller, greater};
 
 use crate::arithmetic::{Arithmetic, OfSamples};
+use crate::bytes::{greater_bytes, smaller_bytes};
 use crate::item::Short;
 use crate::rows::zip_rows;
+use crate::shorts::{greater_shorts, smaller_shorts};
+use std::simd::prelude::*;
 
+/// The smaller of the items.
 #[derive(Drop)]
-struct Smaller;
+pub struct Smaller;
 
 impl Arithmetic for Smaller {
     ghost formula = { λ _ _. smaller };
@@ -20,10 +24,19 @@ impl Arithmetic for Smaller {
     fn of_shorts(&self, a: i16, b: i16) -> i16 {
         a.min(b)
     }
+
+    fn bytes(&self, a: u8x32, b: u8x32) -> u8x32 {
+        smaller_bytes(a, b)
+    }
+
+    fn shorts(&self, a: i16x16, b: i16x16) -> i16x16 {
+        smaller_shorts(a, b)
+    }
 }
 
+/// The greater of the items.
 #[derive(Drop)]
-struct Greater;
+pub struct Greater;
 
 impl Arithmetic for Greater {
     ghost formula = { λ _ _. greater };
@@ -35,6 +48,14 @@ impl Arithmetic for Greater {
     fn of_shorts(&self, a: i16, b: i16) -> i16 {
         a.max(b)
     }
+
+    fn bytes(&self, a: u8x32, b: u8x32) -> u8x32 {
+        greater_bytes(a, b)
+    }
+
+    fn shorts(&self, a: i16x16, b: i16x16) -> i16x16 {
+        greater_shorts(a, b)
+    }
 }
 
 /// Writes the smaller of the items.
@@ -43,7 +64,7 @@ pub fn min_u8(first: &[u8], second: &[u8], out: &mut [u8])
     requires second_len { length second.now ≡ length out.old }
     ensures { map pos out.new ≡ zip2 smaller (map pos first.now) (map pos second.now) }
 {
-    zip_rows(&OfSamples(Smaller), first, second, out);
+    zip_rows(&OfSamples(&Smaller), first, second, out);
 }
 
 /// Writes the greater of the items.
@@ -52,7 +73,7 @@ pub fn max_u8(first: &[u8], second: &[u8], out: &mut [u8])
     requires second_len { length second.now ≡ length out.old }
     ensures { map pos out.new ≡ zip2 greater (map pos first.now) (map pos second.now) }
 {
-    zip_rows(&OfSamples(Greater), first, second, out);
+    zip_rows(&OfSamples(&Greater), first, second, out);
 }
 
 /// Writes the smaller of the items, each U8 or S16.
@@ -61,7 +82,7 @@ pub fn min_s16<A: Short, B: Short>(first: &[A], second: &[B], out: &mut [i16])
     requires second_len { length second.now ≡ length out.old }
     ensures { out.new ≡ zip2 smaller (map A.value first.now) (map B.value second.now) }
 {
-    zip_rows(&OfSamples(Smaller), first, second, out);
+    zip_rows(&OfSamples(&Smaller), first, second, out);
 }
 
 /// Writes the greater of the items, each U8 or S16.
@@ -70,5 +91,5 @@ pub fn max_s16<A: Short, B: Short>(first: &[A], second: &[B], out: &mut [i16])
     requires second_len { length second.now ≡ length out.old }
     ensures { out.new ≡ zip2 greater (map A.value first.now) (map B.value second.now) }
 {
-    zip_rows(&OfSamples(Greater), first, second, out);
+    zip_rows(&OfSamples(&Greater), first, second, out);
 }

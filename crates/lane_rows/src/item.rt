@@ -4,6 +4,7 @@ ghost use Rattle.std.specs.Int.{w16};
 ghost use Rattle.std.specs.Simd.Lanes.{Each1};
 
 use std::simd::prelude::*;
+use vx_base::are_shorts;
 
 /// A number type of a row's items.
 pub trait Item: Copy {
@@ -48,10 +49,17 @@ impl Short for i16 {
     }
 
     fn shorts(block: &[i16]) -> i16x16 {
-        // What is read fits its type; the compiler leaves the loop out.
-        for sample in block {
-            let _item = *sample;
-        }
+        are_shorts(block);
         i16x16::from_slice(block)
     }
+}
+
+/// Returns 32 S16 samples.
+pub fn shorts_of(block: &[i16]) -> i16x32
+    requires { length block.now ≡ 32 }
+    ensures value { result ≡ block.now }
+    ensures fits { Each1 (FitsSigned w16) result }
+{
+    are_shorts(block);
+    i16x32::from_slice(block)
 }

@@ -5,12 +5,12 @@ ghost use Rattle.vx_base.specs.declared.format.Format.TheVariants.{U8, S16};
 ghost use Rattle.vx_base.specs.Sample.{IsSample};
 ghost use Rattle.vx_base.specs.Pixelwise.{product};
 
+use crate::arithmetic::{Arithmetic, OfSamples};
+use crate::bytes::{byte_products, narrowed_bytes};
 use crate::item::Short;
-use crate::lanes::{LanesOfPair, zip_lanes};
 use crate::overflow::{Overflow, Saturated, Wrapped, with_overflow};
-use crate::rows::OfPair;
+use crate::rows::zip_rows;
 use crate::shorts::multiplied;
-use crate::vectors::{narrowed, scaled_products};
 use std::simd::prelude::*;
 use vx_base::{Policy, narrow_s16, narrow_u8};
 
@@ -33,64 +33,32 @@ fn scaled_product(a: i16, b: i16, amount: u8) -> i32
     scaled(i32::from(a) * i32::from(b), amount)
 }
 
-/// The product over 2^amount, rounded to zero and narrowed.
+/// The product over 2^amount, rounded to zero and narrowed by the policy.
 #[derive(Drop)]
-struct Product<P> {
-    overflow: P,
-    amount: u8,
+pub struct Product<P> {
+    pub overflow: P,
+    pub amount: u8,
     ghost small: { amount ≤ 15 },
 }
 
-impl<P: Overflow> OfPair<u8, u8, u8> for Product<P> {
-    ghost formula = { λ s. product U8 (P.policy s.overflow) s.amount };
+impl<P: Overflow> Arithmetic for Product<P> {
+    ghost formula = { λ s format. product format (P.policy s.overflow) s.amount };
 
-    fn item(&self, a: u8, b: u8) -> u8 {
+    fn of_bytes(&self, a: u8, b: u8) -> u8 {
         let product = scaled_product(i16::from(a), i16::from(b), self.amount);
         narrow_u8(product, self.overflow.policy())
     }
-}
 
-impl<P: Overflow> LanesOfPair<u8, u8, u8> for Product<P> {
-    fn lanes(&self, first: &[u8], second: &[u8], out: &mut [u8]) {
-        let (a, b) = (u8x32::from_slice(first), u8x32::from_slice(second));
-        let products = scaled_products(a, b, self.amount);
-        narrowed(products, self.overflow.policy()).copy_to_slice(out);
+    fn of_shorts(&self, a: i16, b: i16) -> i16 {
+        narrow_s16(scaled_product(a, b, self.amount), self.overflow.policy())
     }
-}
 
-impl<A: Short, B: Short, P: Overflow> OfPair<A, B, i16> for Product<P> {
-    ghost formula = { λ s. product S16 (P.policy s.overflow) s.amount };
-
-    fn item(&self, a: A, b: B) -> i16 {
-        let product = scaled_product(a.short(), b.short(), self.amount);
-        narrow_s16(product, self.overflow.policy())
+    fn bytes(&self, a: u8x32, b: u8x32) -> u8x32 {
+        narrowed_bytes(byte_products(a, b, self.amount), self.overflow.policy())
     }
-}
 
-/// Writes sixteen products.
-fn write_sixteen<A: Short, B: Short, P: Overflow>(
-    kernel: &Product<P>,
-    first: &[A],
-    second: &[B],
-    out: &mut [i16],
-)
-    requires first_len { length first.now ≡ 16 }
-    requires second_len { length second.now ≡ 16 }
-    requires out_len { length out.old ≡ 16 }
-    ensures { out.new ≡ zip2 (product S16 (P.policy kernel.now.overflow) kernel.now.amount)
-        (map A.value first.now) (map B.value second.now) }
-{
-    let (a, b) = (A::shorts(first), B::shorts(second));
-    multiplied(a, b, kernel.amount, kernel.overflow.policy()).copy_to_slice(out);
-}
-
-impl<A: Short, B: Short, P: Overflow> LanesOfPair<A, B, i16> for Product<P> {
-    fn lanes(&self, first: &[A], second: &[B], out: &mut [i16]) {
-        let (first, first_rest) = first.split_at(16);
-        let (second, second_rest) = second.split_at(16);
-        let (out, out_rest) = out.split_at_mut(16);
-        write_sixteen(self, first, second, out);
-        write_sixteen(self, first_rest, second_rest, out_rest);
+    fn shorts(&self, a: i16x16, b: i16x16) -> i16x16 {
+        multiplied(a, b, self.amount, self.overflow.policy())
     }
 }
 
@@ -103,7 +71,7 @@ pub fn mul_u8(first: &[u8], second: &[u8], amount: u8, policy: Policy, out: &mut
         (map pos second.now) }
 {
     with_overflow!(policy, overflow => {
-        zip_lanes(&Product { overflow, amount }, first, second, out)
+        zip_rows(&OfSamples(&Product { overflow, amount }), first, second, out)
     })
 }
 
@@ -123,6 +91,6 @@ pub fn mul_s16<A: Short, B: Short>(
         (map B.value second.now) }
 {
     with_overflow!(policy, overflow => {
-        zip_lanes(&Product { overflow, amount }, first, second, out)
+        zip_rows(&OfSamples(&Product { overflow, amount }), first, second, out)
     })
 }

@@ -1,36 +1,23 @@
-//! Rows that are written item by item, or updated in place. The compiler finds lanes for such a
-//! loop where it can.
-ghost use Rattle.std.specs.Prelude.{◌≡◌, ℤ, map, length};
+//! Rows that are written from one row or from two, or updated in place: whole blocks in lanes, and
+//! the rest item by item.
+ghost use Rattle.std.specs.Prelude.{◌≡◌, map, length};
 ghost use Rattle.std.specs.Simd.Lanes.{zip2};
 
+use crate::blocks::{map_blocks, update_blocks, zip_blocks};
 use crate::item::Item;
-
-/// What a kernel gives of one item.
-pub trait OfItem<A: Item, T: Item> {
-    /// The number, from that of the item.
-    ghost formula: { Self → ℤ → ℤ };
-
-    fn item(&self, a: A) -> T
-        ensures { T.value result ≡ formula self.now (A.value a) };
-}
-
-/// What a kernel gives of two items at one place.
-pub trait OfPair<A: Item, B: Item, T: Item> {
-    /// The number, from those of the two items.
-    ghost formula: { Self → ℤ → ℤ → ℤ };
-
-    fn item(&self, a: A, b: B) -> T
-        ensures { T.value result ≡ formula self.now (A.value a) (B.value b) };
-}
+use crate::items::{map_items, update_items, zip_items};
+use crate::kernel::{LanesOfItem, OfPair, OfSum};
 
 /// Writes what the kernel gives at each place of a row.
-pub fn map_row<A: Item, T: Item, K: OfItem<A, T>>(kernel: &K, row: &[A], out: &mut [T])
+pub fn map_row<A: Item, T: Item, K: LanesOfItem<A, T>>(kernel: &K, row: &[A], out: &mut [T])
     requires { length row.now ≡ length out.old }
     ensures { map T.value out.new ≡ map (K.formula kernel.now) (map A.value row.now) }
 {
-    for (i, item) in out.iter_mut().enumerate() {
-        *item = kernel.item(row[i]);
-    }
+    let blocks = out.len() / 32;
+    let (row, row_rest) = row.split_at(32 * blocks);
+    let (out, out_rest) = out.split_at_mut(32 * blocks);
+    map_blocks(kernel, row, blocks, out);
+    map_items(kernel, row_rest, out_rest);
 }
 
 /// Writes what the kernel gives at each place of two rows.
@@ -45,18 +32,23 @@ pub fn zip_rows<A: Item, B: Item, T: Item, K: OfPair<A, B, T>>(
     ensures { map T.value out.new ≡ zip2 (K.formula kernel.now) (map A.value first.now)
         (map B.value second.now) }
 {
-    for (i, item) in out.iter_mut().enumerate() {
-        *item = kernel.item(first[i], second[i]);
-    }
+    let blocks = out.len() / 32;
+    let (first, first_rest) = first.split_at(32 * blocks);
+    let (second, second_rest) = second.split_at(32 * blocks);
+    let (out, out_rest) = out.split_at_mut(32 * blocks);
+    zip_blocks(kernel, first, second, blocks, out);
+    zip_items(kernel, first_rest, second_rest, out_rest);
 }
 
-/// Makes each item of `sums` what the kernel gives of the row's item at its place and of it.
-pub fn update_row<A: Item, T: Item, K: OfPair<A, T, T>>(kernel: &K, row: &[A], sums: &mut [T])
+/// Makes each sum what the kernel gives of the row's item at its place and of it.
+pub fn update_row<A: Item, T: Item, K: OfSum<A, T>>(kernel: &K, row: &[A], sums: &mut [T])
     requires { length row.now ≡ length sums.old }
     ensures { map T.value sums.new ≡ zip2 (K.formula kernel.now) (map A.value row.now)
         (map T.value sums.old) }
 {
-    for (i, sum) in sums.iter_mut().enumerate() {
-        *sum = kernel.item(row[i], *sum);
-    }
+    let blocks = sums.len() / 16;
+    let (row, row_rest) = row.split_at(16 * blocks);
+    let (sums, sums_rest) = sums.split_at_mut(16 * blocks);
+    update_blocks(kernel, row, blocks, sums);
+    update_items(kernel, row_rest, sums_rest);
 }

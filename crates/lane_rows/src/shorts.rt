@@ -1,16 +1,71 @@
 //! S16 numbers in 16 lanes.
-ghost use Rattle.std.specs.Prelude.{◌≡◌, ◌≤◌, ◌*ℤ◌, ◌^◌, pos, map, length};
+ghost use Rattle.std.specs.Prelude.{◌≡◌, ◌≤◌, ◌+ℤ◌, ◌-ℤ◌, ◌*ℤ◌, ◌^◌, pos, map, length};
 ghost use Rattle.std.specs.Prelude.{int_div, unsigned_abs, FitsSigned};
-ghost use Rattle.std.specs.Int.{w16, w32};
+ghost use Rattle.std.specs.Int.{w16, w32, int_div_euclid};
 ghost use Rattle.std.specs.Simd.Lanes.{zip2, Each1};
 ghost use Rattle.vx_base.specs.declared.format.Format.TheVariants.{S16};
 ghost use Rattle.vx_base.specs.declared.policy.Policy.TheVariants.{Wrap, Saturate};
-ghost use Rattle.vx_base.specs.Sample.{narrow};
-ghost use Rattle.vx_base.specs.Pixelwise.{product};
+ghost use Rattle.vx_base.specs.Sample.{narrow, distance};
+ghost use Rattle.vx_base.specs.Pixelwise.{product, smaller, greater, accumulated};
 ghost use Rattle.lane_rows.specs.Quarters.{exchanged};
 
 use std::simd::prelude::*;
 use vx_base::Policy;
+
+/// The sums.
+pub fn short_sums(a: i16x16, b: i16x16) -> i32x16
+    requires a_len { length a ≡ 16 }
+    requires b_len { length b ≡ 16 }
+    requires a_fits { Each1 (FitsSigned w16) a }
+    requires b_fits { Each1 (FitsSigned w16) b }
+    ensures { result ≡ zip2 ◌+ℤ◌ a b }
+{
+    a.cast::<i32>() + b.cast::<i32>()
+}
+
+/// The first less the second.
+pub fn short_differences(a: i16x16, b: i16x16) -> i32x16
+    requires a_len { length a ≡ 16 }
+    requires b_len { length b ≡ 16 }
+    requires a_fits { Each1 (FitsSigned w16) a }
+    requires b_fits { Each1 (FitsSigned w16) b }
+    ensures { result ≡ zip2 ◌-ℤ◌ a b }
+{
+    a.cast::<i32>() - b.cast::<i32>()
+}
+
+/// How far the numbers are apart.
+pub fn short_distances(a: i16x16, b: i16x16) -> i32x16
+    requires a_len { length a ≡ 16 }
+    requires b_len { length b ≡ 16 }
+    requires a_fits { Each1 (FitsSigned w16) a }
+    requires b_fits { Each1 (FitsSigned w16) b }
+    ensures { result ≡ zip2 (λ x y. pos (distance x y)) a b }
+{
+    a.simd_max(b).cast::<i32>() - a.simd_min(b).cast::<i32>()
+}
+
+/// The smaller of the numbers.
+pub fn smaller_shorts(a: i16x16, b: i16x16) -> i16x16
+    requires a_len { length a ≡ 16 }
+    requires b_len { length b ≡ 16 }
+    requires a_fits { Each1 (FitsSigned w16) a }
+    requires b_fits { Each1 (FitsSigned w16) b }
+    ensures { result ≡ zip2 smaller a b }
+{
+    a.simd_min(b)
+}
+
+/// The greater of the numbers.
+pub fn greater_shorts(a: i16x16, b: i16x16) -> i16x16
+    requires a_len { length a ≡ 16 }
+    requires b_len { length b ≡ 16 }
+    requires a_fits { Each1 (FitsSigned w16) a }
+    requires b_fits { Each1 (FitsSigned w16) b }
+    ensures { result ≡ zip2 greater a b }
+{
+    a.simd_max(b)
+}
 
 /// The products, the second and the third quarter of them exchanged. The two halves of each are
 /// computed by themselves: in lanes of 16 bytes a processor multiplies numbers of 16 bits, and
@@ -71,10 +126,11 @@ fn wrapped(numbers: i32x16) -> i16x16
 }
 
 /// The S16 samples that they become.
-fn narrowed(numbers: i32x16, policy: Policy) -> i16x16
+pub fn narrowed(numbers: i32x16, policy: Policy) -> i16x16
     requires len { length numbers ≡ 16 }
     requires fits { Each1 (FitsSigned w32) numbers }
-    ensures { result ≡ map (narrow S16 policy) numbers }
+    ensures value { result ≡ map (narrow S16 policy) numbers }
+    ensures result_fits { Each1 (FitsSigned w16) result }
 {
     match policy {
         Policy::Wrap => wrapped(numbers),
@@ -104,4 +160,24 @@ pub fn multiplied(a: i16x16, b: i16x16, amount: u8, policy: Policy) -> i16x16
     ensures { result ≡ zip2 (product S16 policy amount) a b }
 {
     quarters_exchanged(narrowed(scaled(products(a, b), amount), policy))
+}
+
+/// The squares of bytes over 2^amount, rounded down.
+pub fn scaled_squares(row: u8x16, amount: u8) -> u16x16
+    requires { amount ≤ 15 }
+    ensures { map pos result ≡ map (λ a. int_div_euclid (a *ℤ a) (pos (2 ^ amount))) (map pos row) }
+{
+    (row.cast::<u16>() * row.cast::<u16>()) >> u16::from(amount)
+}
+
+/// The sums with the numbers added, at most 32,767: as much of a number is added as there is room
+/// for, which the 16 bits of a sum tell as a number without a sign.
+pub fn accumulated_shorts(numbers: u16x16, sums: i16x16) -> i16x16
+    requires len { length sums ≡ 16 }
+    requires fits { Each1 (FitsSigned w16) sums }
+    ensures value { result ≡ zip2 (accumulated S16) (map pos numbers) sums }
+    ensures result_fits { Each1 (FitsSigned w16) result }
+{
+    let room = u16x16::from_le_bytes((i16x16::splat(32767) - sums).to_le_bytes());
+    sums + i16x16::from_le_bytes(numbers.simd_min(room).to_le_bytes())
 }

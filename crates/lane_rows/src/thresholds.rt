@@ -5,26 +5,45 @@ ghost use Rattle.vx_base.specs.declared.format.Format.TheVariants.{U8, S16};
 ghost use Rattle.vx_base.specs.declared.threshold.ThresholdKind.TheVariants.{Binary, Range};
 ghost use Rattle.vx_base.specs.Threshold.{is_sample};
 ghost use Rattle.vx_base.specs.Pixelwise.{thresholded};
+ghost use Rattle.lane_rows.specs.Chosen.{chosen};
 
-use crate::item::Item;
-use crate::rows::{OfItem, map_row};
+use crate::choices::{bytes_above, bytes_between, shorts_above, shorts_between};
+use crate::item::{Item, shorts_of};
+use crate::kernel::{LanesOfItem, OfItem};
+use crate::rows::map_row;
+use std::simd::prelude::*;
 use vx_base::{ThresholdKind, ThresholdRule};
 
 /// Items that a threshold tests.
-trait Tested: Item {
+pub trait Tested: Item {
     /// The format of which they are samples.
     ghost format: { Format };
 
-    /// A number that is a sample of the format.
+    /// Returns a number that is a sample of the format.
     fn from_short(number: i16) -> Self
         requires { IsTrue (is_sample format number) }
         ensures { Self.value result ≡ number };
 
+    /// Returns whether it is less.
     fn is_below(self, other: Self) -> bool
         ensures { result ≡ int_lt (Self.value self) (Self.value other) };
 
+    /// Returns whether it is less or the same.
     fn is_at_most(self, other: Self) -> bool
         ensures { result ≡ int_le (Self.value self) (Self.value other) };
+
+    /// Returns one value where an item of 32 is above the limit, another elsewhere.
+    fn above(row: &[Self], limit: Self, true_value: u8, false_value: u8) -> u8x32
+        requires { length row.now ≡ 32 }
+        ensures { map pos result ≡ map (chosen (Binary (Self.value limit)) true_value false_value)
+            (map Self.value row.now) };
+
+    /// Returns one value where an item of 32 is from the lower to the upper limit, or another.
+    fn between(row: &[Self], lower: Self, upper: Self, true_value: u8, false_value: u8) -> u8x32
+        requires { length row.now ≡ 32 }
+        ensures { map pos result ≡ map
+            (chosen (Range (Self.value lower) (Self.value upper)) true_value false_value)
+            (map Self.value row.now) };
 }
 
 impl Tested for u8 {
@@ -40,6 +59,20 @@ impl Tested for u8 {
 
     fn is_at_most(self, other: u8) -> bool {
         self <= other
+    }
+
+    fn above(row: &[u8], limit: u8, true_value: u8, false_value: u8) -> u8x32 {
+        bytes_above(u8x32::from_slice(row), limit, true_value, false_value)
+    }
+
+    fn between(row: &[u8], lower: u8, upper: u8, true_value: u8, false_value: u8) -> u8x32 {
+        bytes_between(
+            u8x32::from_slice(row),
+            lower,
+            upper,
+            true_value,
+            false_value,
+        )
     }
 }
 
@@ -57,14 +90,22 @@ impl Tested for i16 {
     fn is_at_most(self, other: i16) -> bool {
         self <= other
     }
+
+    fn above(row: &[i16], limit: i16, true_value: u8, false_value: u8) -> u8x32 {
+        shorts_above(shorts_of(row), limit, true_value, false_value)
+    }
+
+    fn between(row: &[i16], lower: i16, upper: i16, true_value: u8, false_value: u8) -> u8x32 {
+        shorts_between(shorts_of(row), lower, upper, true_value, false_value)
+    }
 }
 
 /// The true value where an item is above the limit, else the false value.
 #[derive(Drop)]
-struct Above<A> {
-    limit: A,
-    true_value: u8,
-    false_value: u8,
+pub struct Above<A> {
+    pub limit: A,
+    pub true_value: u8,
+    pub false_value: u8,
 }
 
 impl<A: Tested> OfItem<A, u8> for Above<A> {
@@ -85,13 +126,19 @@ impl<A: Tested> OfItem<A, u8> for Above<A> {
     }
 }
 
+impl<A: Tested> LanesOfItem<A, u8> for Above<A> {
+    fn lanes(&self, row: &[A], out: &mut [u8]) {
+        A::above(row, self.limit, self.true_value, self.false_value).copy_to_slice(out);
+    }
+}
+
 /// The true value where an item is from the lower to the upper limit, else the false value.
 #[derive(Drop)]
-struct Between<A> {
-    lower: A,
-    upper: A,
-    true_value: u8,
-    false_value: u8,
+pub struct Between<A> {
+    pub lower: A,
+    pub upper: A,
+    pub true_value: u8,
+    pub false_value: u8,
 }
 
 impl<A: Tested> OfItem<A, u8> for Between<A> {
@@ -109,6 +156,19 @@ impl<A: Tested> OfItem<A, u8> for Between<A> {
         } else {
             self.false_value
         }
+    }
+}
+
+impl<A: Tested> LanesOfItem<A, u8> for Between<A> {
+    fn lanes(&self, row: &[A], out: &mut [u8]) {
+        A::between(
+            row,
+            self.lower,
+            self.upper,
+            self.true_value,
+            self.false_value,
+        )
+        .copy_to_slice(out);
     }
 }
 

@@ -1,23 +1,25 @@
 //! Images that a context holds.
-ghost use Rattle.std.specs.Prelude.{◌≡◌, [], IfOk, OnErr};
+ghost use Rattle.std.specs.Prelude.{◌≡◌, ◌+◌, ◌*◌, ◌<◌, ◌≤◌, ◌^◌, [], length, IfOk, OnErr};
 ghost use Rattle.vx_base.specs.Rectangle.{IsWithin, whole};
 ghost use Rattle.vx_base.specs.Image.{IsImage, new_image, image_over, description_of, with_valid};
+ghost use Rattle.vx_base.specs.Image.{band, within};
+ghost use Rattle.image_core.specs.Rows.{sample_from};
 ghost use Rattle.vx_base.specs.Picture.{values, samples_format, picture_of, pictured};
 ghost use Rattle.object_table.specs.Blocks.{image_blocks, LendsAtLeast, LendsMore, LendsLess};
 
 use image_core::{Band, Image, clear_rows};
-use pixel_pool::Pool;
+use pixel_pool::{Block, Pool};
 use std::alloc::{AllocError, Global};
 use std::marker::Model;
 use vx_base::{Desc, Picture, Rect, Samples};
 
-/// An image with samples of its own, which are a block of a pool. While it is written they stand
+/// An image with a block of a pool, in which it has its samples. While it is written they stand
 /// elsewhere, and it has none.
 #[derive(Drop)]
 pub struct Stored {
     desc: Desc,
     valid: Rect,
-    samples: Samples,
+    block: Block,
 }
 
 impl Model for Stored {
@@ -27,9 +29,9 @@ impl Model for Stored {
 
     ghost Value = { ImageValue };
 
-    ghost view = { λ i. image_over i.desc i.valid (values i.samples) };
+    ghost view = { λ i. image_over i.desc i.valid (values i.block) };
 
-    ghost invariant = { λ i. samples_format i.samples ≡ i.desc.format };
+    ghost invariant = { λ i. samples_format i.block ≡ i.desc.format };
 }
 
 impl Stored {
@@ -42,11 +44,11 @@ impl Stored {
         ensures err { OnErr result (pool.new ≡ pool.old) }
     {
         desc.has_sides();
-        let samples = pool.take_zeros(desc.format(), desc.sample_count())?;
+        let block = pool.take_zeros(desc.format(), desc.sample_count())?;
         Ok(Stored {
             desc,
             valid: desc.whole(),
-            samples,
+            block,
         })
     }
 
@@ -55,7 +57,7 @@ impl Stored {
         requires { LendsAtLeast pool.old (image_blocks self) }
         ensures { LendsLess pool.old pool.new (image_blocks self) }
     {
-        pool.give_back(self.samples);
+        pool.give_back(self.block);
     }
 
     /// The size and format of the image, which never change.
@@ -77,7 +79,7 @@ impl Stored {
         ensures value { values result.now ≡ self.now.samples }
         ensures format { samples_format result.now ≡ self.now.format }
     {
-        &self.samples
+        self.block.samples()
     }
 
     /// A copy of the samples of all places.
@@ -85,7 +87,7 @@ impl Stored {
         requires { IsImage self.now }
         ensures { IfOk result (λ picture. picture ≡ picture_of self.now) }
     {
-        Ok(Picture::new(self.desc, self.samples.copy(alloc)?))
+        Ok(Picture::new(self.desc, self.block.samples().copy(alloc)?))
     }
 
     /// The image, lent to who reads it.
@@ -93,7 +95,7 @@ impl Stored {
         requires { IsImage self.now }
         ensures { result ≡ self.now }
     {
-        match &self.samples {
+        match self.block.samples() {
             Samples::U8(samples) => Image::new(self.desc, self.valid, samples),
             Samples::S16(samples) => Image::new(self.desc, self.valid, samples),
             Samples::U32(samples) => Image::new(self.desc, self.valid, samples),
@@ -108,7 +110,9 @@ impl Stored {
         ensures image { IsImage self.new }
     {
         self.valid = self.desc.whole();
-        self.samples.copy_from(picture.samples());
+        let mut samples = self.block.lift();
+        samples.copy_from(picture.samples());
+        self.block.put(samples);
     }
 
     /// Makes these places the valid ones, and each sample outside them 0.
@@ -119,11 +123,9 @@ impl Stored {
     {
         let _limits = self.desc.height();
         let (width, rows) = (self.desc.width(), Band::whole(self.desc));
-        match &mut self.samples {
-            Samples::U8(samples) => clear_rows(valid, width, rows, samples),
-            Samples::S16(samples) => clear_rows(valid, width, rows, samples),
-            Samples::U32(samples) => clear_rows(valid, width, rows, samples),
-        }
+        let mut samples = self.block.lift();
+        clear_outside(&mut samples, valid, width, rows);
+        self.block.put(samples);
         self.valid = valid;
     }
 
@@ -135,7 +137,7 @@ impl Stored {
         ensures format { samples_format result.1 ≡ self.old.format }
         ensures left { self.new ≡ image_over (description_of self.old) self.old.valid [] }
     {
-        (self.desc, self.samples.take())
+        (self.desc, self.block.lift())
     }
 
     /// Has these samples from now on, and this valid rectangle.
@@ -143,7 +145,23 @@ impl Stored {
         requires { samples_format samples ≡ self.old.format }
         ensures { self.new ≡ image_over (description_of self.old) valid (values samples) }
     {
-        self.samples = samples;
+        self.block.put(samples);
         self.valid = valid;
+    }
+}
+
+/// Makes each sample of some rows 0 that is outside a rectangle.
+fn clear_outside(samples: &mut Samples, valid: Rect, width: u16, rows: Band)
+    requires rows { rows.start + rows.count < 2 ^ 16 }
+    requires size { length (values samples.old) ≡ rows.count * width }
+    requires room { valid.x1 ≤ width }
+    ensures format { samples_format samples.new ≡ samples_format samples.old }
+    ensures value { values samples.new ≡ band width rows.start rows.count
+        (within valid (sample_from width rows.start (values samples.old))) }
+{
+    match samples {
+        Samples::U8(samples) => clear_rows(valid, width, rows, samples),
+        Samples::S16(samples) => clear_rows(valid, width, rows, samples),
+        Samples::U32(samples) => clear_rows(valid, width, rows, samples),
     }
 }

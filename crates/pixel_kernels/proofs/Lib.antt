@@ -1,1 +1,2 @@
 mod FormatLaws
+mod PixelLaws

@@ -1,6 +1,5 @@
 //! Samples that are added to those of the output.
-ghost use Rattle.std.specs.Prelude.{◌≡◌, ◌≤◌, ℤ, pos, None, map, length};
-ghost use Rattle.std.specs.Simd.Lanes.{zip2};
+ghost use Rattle.std.specs.Prelude.{◌≡◌, ◌≤◌, None};
 ghost use Rattle.vx_base.specs.declared.format.Format.TheVariants.{U8, S16};
 ghost use Rattle.vx_base.specs.declared.function.Function.TheVariants.{Accumulate};
 ghost use Rattle.vx_base.specs.declared.function.Function.TheVariants.{AccumulateSquare};
@@ -12,42 +11,8 @@ ghost use Rattle.image_core.specs.Fits.{Fits, HaveSameSize};
 ghost use Rattle.image_core.specs.Target.{written, IsTarget, Writes};
 
 use image_core::{Image, ImageMut, RowUpdate};
+use lane_rows::{Accumulated, OfSum, Squared, update_row};
 use vx_base::Rect;
-
-/// What a function makes of an S16 sum, of the U8 sample at its place.
-trait Adding {
-    /// The new sum, from the sample and the sum that stood there.
-    ghost formula: { Self → ℤ → ℤ → ℤ };
-
-    /// Adds what the kernel gives of each sample of a row to the sum at its place.
-    fn row(&self, row: &[u8], sums: &mut [i16])
-        requires { length row.now ≡ length sums.old }
-        ensures { sums.new ≡ zip2 (formula self.now) (map pos row.now) sums.old };
-}
-
-struct AddSample;
-
-impl Adding for AddSample {
-    ghost formula = { λ _. accumulated S16 };
-
-    fn row(&self, row: &[u8], sums: &mut [i16]) {
-        lane_rows::accumulate(row, sums);
-    }
-}
-
-#[derive(Drop)]
-struct AddSquare {
-    amount: u8,
-    ghost small: { amount ≤ 15 },
-}
-
-impl Adding for AddSquare {
-    ghost formula = { λ s. accumulated_square S16 s.amount };
-
-    fn row(&self, row: &[u8], sums: &mut [i16]) {
-        lane_rows::accumulate_square(row, self.amount, sums);
-    }
-}
 
 /// What a kernel makes of sums, of an image of their size, in an area where that is valid.
 #[derive(Drop)]
@@ -59,7 +24,7 @@ struct Added<'a, 'b, K> {
     ghost room: { IsWithin area image.now.width image.now.height },
 }
 
-impl<K: Adding> RowUpdate<i16> for Added<'_, '_, K> {
+impl<K: OfSum<u8, i16>> RowUpdate<i16> for Added<'_, '_, K> {
     ghost next = { λ s x y sum. K.formula s.kernel.now (at s.image.now x y) sum };
 
     ghost area = { λ s. s.area };
@@ -70,13 +35,13 @@ impl<K: Adding> RowUpdate<i16> for Added<'_, '_, K> {
 
     fn update(&self, x: u16, y: u16, row: &mut [i16]) {
         let samples = self.image.part_of_row::<u8>(x, y, row.len());
-        self.kernel.row(samples, row);
+        update_row(self.kernel, samples, row);
     }
 }
 
 /// Adds what the kernel gives of an image to sums of its size, where both are valid; the other sums
 /// become 0.
-fn add_to_sums<K: Adding>(kernel: &K, image: &Image<'_>, sums: &mut ImageMut<'_>)
+fn add_to_sums<K: OfSum<u8, i16>>(kernel: &K, image: &Image<'_>, sums: &mut ImageMut<'_>)
     requires target { IsTarget sums.old }
     requires size { HaveSameSize (written sums.old) image.now }
     requires image_format { image.now.format ≡ U8 }
@@ -104,7 +69,7 @@ pub fn accumulate(image: &Image<'_>, sums: &mut ImageMut<'_>)
     ensures { (old : ImageValue) → rows_in sums.old.rows old ≡ written sums.old →
         Writes (from_two S16 (accumulated S16) image.now old) sums.old sums.new }
 {
-    add_to_sums(&AddSample, image, sums);
+    add_to_sums(&Accumulated, image, sums);
 }
 
 /// Adds the squares of a U8 image's samples over 2^amount, rounded down, to the samples of an S16
@@ -118,5 +83,5 @@ pub fn accumulate_square(image: &Image<'_>, sums: &mut ImageMut<'_>, amount: u8)
     ensures { (old : ImageValue) → rows_in sums.old.rows old ≡ written sums.old →
         Writes (from_two S16 (accumulated_square S16 amount) image.now old) sums.old sums.new }
 {
-    add_to_sums(&AddSquare { amount }, image, sums);
+    add_to_sums(&Squared { amount }, image, sums);
 }

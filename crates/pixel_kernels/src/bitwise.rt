@@ -9,50 +9,10 @@ ghost use Rattle.vx_base.specs.Pixelwise.{from_two};
 ghost use Rattle.image_core.specs.Fits.{Fits};
 ghost use Rattle.image_core.specs.Target.{Writes};
 
-use crate::one::{OfOne, write_one};
-use crate::two::{OfTwo, write_two};
+use crate::one::write_one;
+use crate::two::write_two;
 use image_core::{Image, ImageMut};
-use lane_rows::{and_u8, not_u8, or_u8, xor_u8};
-
-struct And;
-
-impl OfTwo<u8, u8, u8> for And {
-    ghost formula = { λ s. and_bits };
-
-    fn row(&self, first: &[u8], second: &[u8], out: &mut [u8]) {
-        and_u8(first, second, out);
-    }
-}
-
-struct Or;
-
-impl OfTwo<u8, u8, u8> for Or {
-    ghost formula = { λ s. or_bits };
-
-    fn row(&self, first: &[u8], second: &[u8], out: &mut [u8]) {
-        or_u8(first, second, out);
-    }
-}
-
-struct Xor;
-
-impl OfTwo<u8, u8, u8> for Xor {
-    ghost formula = { λ s. xor_bits };
-
-    fn row(&self, first: &[u8], second: &[u8], out: &mut [u8]) {
-        xor_u8(first, second, out);
-    }
-}
-
-struct Not;
-
-impl OfOne<u8, u8> for Not {
-    ghost formula = { λ s. not_bits };
-
-    fn row(&self, row: &[u8], out: &mut [u8]) {
-        not_u8(row, out);
-    }
-}
+use lane_rows::{And, Not, Or, Xor};
 
 /// Writes the bits that both samples have (OpenVX 1.3, "Bitwise AND"); all images are U8.
 pub fn bit_and(first: &Image<'_>, second: &Image<'_>, output: &mut ImageMut<'_>)

@@ -1,44 +1,34 @@
 //! Bit depths.
-ghost use Rattle.std.specs.Prelude.{◌≡◌, ◌≤◌, ◌^◌, ◌*ℤ◌, pos, None};
+ghost use Rattle.std.specs.Prelude.{◌≡◌, ◌≤◌, None};
 ghost use Rattle.vx_base.specs.declared.format.Format.TheVariants.{U8, S16};
 ghost use Rattle.vx_base.specs.declared.function.Function.TheVariants.{ConvertDepth};
 ghost use Rattle.vx_base.specs.Pixelwise.{converted, from_one};
-ghost use Rattle.image_core.specs.Fits.{Fits};
-ghost use Rattle.image_core.specs.Target.{written, Writes};
+ghost use Rattle.image_core.specs.Fits.{Fits, HaveSameSize};
+ghost use Rattle.image_core.specs.Target.{written, IsTarget, Writes};
 
-use crate::one::{OfOne, write_one};
+use crate::one::write_one;
 use image_core::{Image, ImageMut};
-use lane_rows::{narrow, shift_up};
+use lane_rows::{Narrowed, Saturated, ShiftedUp, Wrapped};
 use vx_base::{Format, Policy};
 
-/// To S16: times 2^amount.
-#[derive(Drop)]
-struct Deepened {
-    amount: u8,
-    ghost small: { amount ≤ 7 },
-}
-
-impl OfOne<u8, i16> for Deepened {
-    ghost formula = { λ s a. a *ℤ pos (2 ^ s.amount) };
-
-    fn row(&self, row: &[u8], out: &mut [i16]) {
-        shift_up(row, self.amount, out);
-    }
-}
-
-/// To U8: over 2^amount, rounded down and narrowed.
-#[derive(Drop)]
-struct Narrowed {
-    amount: u8,
-    policy: Policy,
-    ghost small: { amount ≤ 7 },
-}
-
-impl OfOne<i16, u8> for Narrowed {
-    ghost formula = { λ s. converted U8 s.policy s.amount };
-
-    fn row(&self, row: &[i16], out: &mut [u8]) {
-        narrow(row, self.amount, self.policy, out);
+/// Writes the samples of an S16 image over 2^amount, rounded down and narrowed to U8 by the policy.
+fn narrow_depth(image: &Image<'_>, output: &mut ImageMut<'_>, policy: Policy, amount: u8)
+    requires target { IsTarget output.old }
+    requires size { HaveSameSize (written output.old) image.now }
+    requires input_format { image.now.format ≡ S16 }
+    requires format { (written output.old).format ≡ U8 }
+    requires amount { amount ≤ 7 }
+    ensures { Writes (from_one U8 (converted U8 policy amount) image.now) output.old output.new }
+{
+    match policy {
+        Policy::Wrap => {
+            let overflow = Wrapped;
+            write_one::<i16, u8, _>(&Narrowed { overflow, amount }, image, output);
+        }
+        Policy::Saturate => {
+            let overflow = Saturated;
+            write_one::<i16, u8, _>(&Narrowed { overflow, amount }, image, output);
+        }
     }
 }
 
@@ -51,7 +41,7 @@ pub fn convert_depth(image: &Image<'_>, output: &mut ImageMut<'_>, policy: Polic
         (converted (written output.old).format policy amount) image.now) output.old output.new }
 {
     match image.desc().format() {
-        Format::U8 => write_one::<u8, i16, _>(&Deepened { amount }, image, output),
-        _ => write_one::<i16, u8, _>(&Narrowed { amount, policy }, image, output),
+        Format::U8 => write_one::<u8, i16, _>(&ShiftedUp { amount }, image, output),
+        _ => narrow_depth(image, output, policy, amount),
     }
 }

@@ -6,23 +6,9 @@ ghost use Rattle.vx_base.specs.Pixelwise.{absolute_difference, from_two};
 ghost use Rattle.image_core.specs.Fits.{Fits};
 ghost use Rattle.image_core.specs.Target.{written, Writes};
 
-use crate::arithmetic::{Arithmetic, write_arithmetic};
+use crate::arithmetic::write_arithmetic;
 use image_core::{Image, ImageMut};
-use lane_rows::{Short, absdiff_s16, absdiff_u8};
-
-struct Distance;
-
-impl Arithmetic for Distance {
-    ghost formula = { λ _ format. absolute_difference format };
-
-    fn bytes(&self, first: &[u8], second: &[u8], out: &mut [u8]) {
-        absdiff_u8(first, second, out);
-    }
-
-    fn shorts<A: Short, B: Short>(&self, first: &[A], second: &[B], out: &mut [i16]) {
-        absdiff_s16(first, second, out);
-    }
-}
+use lane_rows::Distance;
 
 /// Writes how far the samples are apart, at most the format's greatest sample (OpenVX 1.3,
 /// "Absolute Difference"); all images are U8, or all S16.

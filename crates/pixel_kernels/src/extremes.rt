@@ -6,37 +6,9 @@ ghost use Rattle.vx_base.specs.Pixelwise.{smaller, greater, from_two};
 ghost use Rattle.image_core.specs.Fits.{Fits};
 ghost use Rattle.image_core.specs.Target.{written, Writes};
 
-use crate::arithmetic::{Arithmetic, write_arithmetic};
+use crate::arithmetic::write_arithmetic;
 use image_core::{Image, ImageMut};
-use lane_rows::{Short, max_s16, max_u8, min_s16, min_u8};
-
-struct Smaller;
-
-impl Arithmetic for Smaller {
-    ghost formula = { λ _ _. smaller };
-
-    fn bytes(&self, first: &[u8], second: &[u8], out: &mut [u8]) {
-        min_u8(first, second, out);
-    }
-
-    fn shorts<A: Short, B: Short>(&self, first: &[A], second: &[B], out: &mut [i16]) {
-        min_s16(first, second, out);
-    }
-}
-
-struct Greater;
-
-impl Arithmetic for Greater {
-    ghost formula = { λ _ _. greater };
-
-    fn bytes(&self, first: &[u8], second: &[u8], out: &mut [u8]) {
-        max_u8(first, second, out);
-    }
-
-    fn shorts<A: Short, B: Short>(&self, first: &[A], second: &[B], out: &mut [i16]) {
-        max_s16(first, second, out);
-    }
-}
+use lane_rows::{Greater, Smaller};
 
 /// Writes the smaller of the samples (OpenVX 1.3, "Min"); all images are U8, or all S16.
 pub fn minimum(first: &Image<'_>, second: &Image<'_>, output: &mut ImageMut<'_>)

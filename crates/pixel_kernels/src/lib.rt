@@ -1,11 +1,11 @@
 //! Functions that give each sample of an image from the samples at the same place.
 //!
 //! Each writes a whole output: the formula of OpenVX 1.3 where the inputs are valid, 0 elsewhere,
-//! and their rectangle, or that in which two meet. A kernel is a type that writes a row, `OfOne` or
-//! `OfTwo`, by the kernels of lane_rows; that it gives a whole image is proved once for all, in
-//! `write_one` and `write_two`. Formats are type parameters, so that the loop over a row asks for
-//! none. The functions that accumulate also read their output, and update it in place: by their
-//! formula where the input and the output as it was are valid, and to 0 elsewhere.
+//! and their rectangle, or that in which two meet. A function chooses a kernel of lane_rows by
+//! formats and policy, so that the loop over a row asks for neither; that a kernel gives a whole
+//! image is proved once for all, in `write_one` and `write_two`. The functions that accumulate also
+//! read their output, and update it in place: by their formula where the input and the output as it
+//! was are valid, and to 0 elsewhere.
 #![tactic(auto)]
 
 mod accumulation;
@@ -15,6 +15,7 @@ mod depth;
 mod distance;
 mod extremes;
 mod one;
+mod pixel;
 mod product;
 mod sum;
 mod tables;

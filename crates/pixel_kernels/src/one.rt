@@ -1,29 +1,20 @@
 //! Images from one image.
-ghost use Rattle.std.specs.Prelude.{◌≡◌, ℤ, map, length};
+ghost use Rattle.std.specs.Prelude.{◌≡◌};
 ghost use Rattle.vx_base.specs.Rectangle.{IsWithin};
 ghost use Rattle.vx_base.specs.Image.{at};
 ghost use Rattle.vx_base.specs.Pixelwise.{from_one};
 ghost use Rattle.image_core.specs.Fits.{HaveSameSize};
 ghost use Rattle.image_core.specs.Target.{written, IsTarget, Writes};
 
-use image_core::{Formula, Image, ImageMut, Sample};
+use crate::pixel::Pixel;
+use image_core::{Formula, Image, ImageMut};
+use lane_rows::{LanesOfItem, map_row};
 use std::marker::PhantomData;
 use vx_base::Rect;
 
-/// What a function of one image gives at a place.
-pub trait OfOne<A: Sample, T: Sample> {
-    /// The sample, from that of the image.
-    ghost formula: { Self → ℤ → ℤ };
-
-    /// Writes what the kernel gives at each place of a row.
-    fn row(&self, row: &[A], out: &mut [T])
-        requires { length row.now ≡ length out.old }
-        ensures { map T.value out.new ≡ map (formula self.now) (map A.value row.now) };
-}
-
 /// What a kernel gives of an image, where it is valid.
 #[derive(Drop)]
-struct FromOne<'a, 'b, A: Sample, K> {
+struct FromOne<'a, 'b, A: Pixel, K> {
     kernel: &'a K,
     image: &'a Image<'b>,
     area: Rect,
@@ -32,7 +23,7 @@ struct FromOne<'a, 'b, A: Sample, K> {
     ghost room: { IsWithin area image.now.width image.now.height },
 }
 
-impl<A: Sample, T: Sample, K: OfOne<A, T>> Formula<T> for FromOne<'_, '_, A, K> {
+impl<A: Pixel, T: Pixel, K: LanesOfItem<A, T>> Formula<T> for FromOne<'_, '_, A, K> {
     ghost at = { λ s x y. K.formula s.kernel.now (at s.image.now x y) };
 
     ghost area = { λ s. s.area };
@@ -43,12 +34,12 @@ impl<A: Sample, T: Sample, K: OfOne<A, T>> Formula<T> for FromOne<'_, '_, A, K> 
 
     fn fill(&self, x: u16, y: u16, out: &mut [T]) {
         let row = self.image.part_of_row::<A>(x, y, out.len());
-        self.kernel.row(row, out);
+        map_row(self.kernel, row, out);
     }
 }
 
 /// Writes what the kernel gives of an image to another of its size.
-pub fn write_one<A: Sample, T: Sample, K: OfOne<A, T>>(
+pub fn write_one<A: Pixel, T: Pixel, K: LanesOfItem<A, T>>(
     kernel: &K,
     image: &Image<'_>,
     output: &mut ImageMut<'_>,

@@ -7,9 +7,9 @@ ghost use Rattle.vx_base.specs.Pixelwise.{looked_up, from_one};
 ghost use Rattle.image_core.specs.Fits.{Fits};
 ghost use Rattle.image_core.specs.Target.{written, Writes};
 
-use crate::one::{OfOne, write_one};
+use crate::one::write_one;
 use image_core::{Image, ImageMut};
-use lane_rows::{OfItem, map_bytes, map_row};
+use lane_rows::{LanesOfItem, OfItem, map_items, store_bytes};
 use vx_base::{Lut, Samples};
 
 /// The entry of a U8 sample.
@@ -27,11 +27,9 @@ impl OfItem<u8, u8> for ByteTable<'_> {
     }
 }
 
-impl OfOne<u8, u8> for ByteTable<'_> {
-    ghost formula = { λ s. looked_up (record { format = U8; entries = map pos s.entries.now }) };
-
-    fn row(&self, row: &[u8], out: &mut [u8]) {
-        map_bytes(self, row, out);
+impl LanesOfItem<u8, u8> for ByteTable<'_> {
+    fn lanes(&self, row: &[u8], out: &mut [u8]) {
+        store_bytes(self, row, out);
     }
 }
 
@@ -50,11 +48,9 @@ impl OfItem<i16, i16> for ShortTable<'_> {
     }
 }
 
-impl OfOne<i16, i16> for ShortTable<'_> {
-    ghost formula = { λ s. looked_up (record { format = S16; entries = s.entries.now }) };
-
-    fn row(&self, row: &[i16], out: &mut [i16]) {
-        map_row(self, row, out);
+impl LanesOfItem<i16, i16> for ShortTable<'_> {
+    fn lanes(&self, row: &[i16], out: &mut [i16]) {
+        map_items(self, row, out);
     }
 }
 

@@ -1,44 +1,50 @@
 //! Thresholds.
 ghost use Rattle.std.specs.Prelude.{◌≡◌, Some};
-ghost use Rattle.vx_base.specs.declared.format.Format.TheVariants.{U8, S16};
+ghost use Rattle.vx_base.specs.declared.format.Format.TheVariants.{U8};
 ghost use Rattle.vx_base.specs.declared.function.Function.TheVariants.{Threshold};
 ghost use Rattle.vx_base.specs.Object.{ThresholdObject};
 ghost use Rattle.vx_base.specs.Pixelwise.{thresholded, from_one};
-ghost use Rattle.image_core.specs.Fits.{Fits};
-ghost use Rattle.image_core.specs.Target.{Writes};
+ghost use Rattle.image_core.specs.Fits.{Fits, HaveSameSize};
+ghost use Rattle.image_core.specs.Target.{written, IsTarget, Writes};
 
-use crate::one::{OfOne, write_one};
+use crate::one::write_one;
+use crate::pixel::Pixel;
 use image_core::{Image, ImageMut};
-use lane_rows::{threshold_s16, threshold_u8};
-use vx_base::{Format, ThresholdRule};
+use lane_rows::{Above, Between, Tested};
+use vx_base::{Format, ThresholdKind, ThresholdRule};
 
-/// A rule that tests U8 samples.
-#[derive(Drop)]
-struct ByteRule {
+/// Writes the rule's values; it tests samples of this type.
+fn write_tested<A: Pixel + Tested>(
+    image: &Image<'_>,
+    output: &mut ImageMut<'_>,
     rule: ThresholdRule,
-    ghost format: { rule.format ≡ U8 },
-}
-
-impl OfOne<u8, u8> for ByteRule {
-    ghost formula = { λ s. thresholded s.rule };
-
-    fn row(&self, row: &[u8], out: &mut [u8]) {
-        threshold_u8(row, self.rule, out);
-    }
-}
-
-/// A rule that tests S16 samples.
-#[derive(Drop)]
-struct ShortRule {
-    rule: ThresholdRule,
-    ghost format: { rule.format ≡ S16 },
-}
-
-impl OfOne<i16, u8> for ShortRule {
-    ghost formula = { λ s. thresholded s.rule };
-
-    fn row(&self, row: &[i16], out: &mut [u8]) {
-        threshold_s16(row, self.rule, out);
+)
+    requires target { IsTarget output.old }
+    requires size { HaveSameSize (written output.old) image.now }
+    requires input_format { image.now.format ≡ A.Sample.format }
+    requires format { (written output.old).format ≡ U8 }
+    requires tested { rule.format ≡ A.Tested.format }
+    ensures { Writes (from_one U8 (thresholded rule) image.now) output.old output.new }
+{
+    let (true_value, false_value) = (rule.true_value(), rule.false_value());
+    match rule.kind() {
+        ThresholdKind::Binary(limit) => {
+            let kernel = Above {
+                limit: A::from_short(limit),
+                true_value,
+                false_value,
+            };
+            write_one::<A, u8, _>(&kernel, image, output);
+        }
+        ThresholdKind::Range(lower, upper) => {
+            let kernel = Between {
+                lower: A::from_short(lower),
+                upper: A::from_short(upper),
+                true_value,
+                false_value,
+            };
+            write_one::<A, u8, _>(&kernel, image, output);
+        }
     }
 }
 
@@ -49,7 +55,7 @@ pub fn threshold(image: &Image<'_>, output: &mut ImageMut<'_>, rule: ThresholdRu
     ensures { Writes (from_one U8 (thresholded rule) image.now) output.old output.new }
 {
     match image.desc().format() {
-        Format::U8 => write_one::<u8, u8, _>(&ByteRule { rule }, image, output),
-        _ => write_one::<i16, u8, _>(&ShortRule { rule }, image, output),
+        Format::U8 => write_tested::<u8>(image, output, rule),
+        _ => write_tested::<i16>(image, output, rule),
     }
 }

@@ -1,32 +1,20 @@
 //! Images from two images.
-ghost use Rattle.std.specs.Prelude.{◌≡◌, ℤ, map, length};
-ghost use Rattle.std.specs.Simd.Lanes.{zip2};
+ghost use Rattle.std.specs.Prelude.{◌≡◌};
 ghost use Rattle.vx_base.specs.Rectangle.{IsWithin, meet_of};
 ghost use Rattle.vx_base.specs.Image.{at};
 ghost use Rattle.vx_base.specs.Pixelwise.{from_two};
 ghost use Rattle.image_core.specs.Fits.{HaveSameSize};
 ghost use Rattle.image_core.specs.Target.{written, IsTarget, Writes};
 
-use image_core::{Formula, Image, ImageMut, Sample};
+use crate::pixel::Pixel;
+use image_core::{Formula, Image, ImageMut};
+use lane_rows::{OfPair, zip_rows};
 use std::marker::PhantomData;
 use vx_base::Rect;
 
-/// What a function of two images gives at a place.
-pub trait OfTwo<A: Sample, B: Sample, T: Sample> {
-    /// The sample, from those of the two images.
-    ghost formula: { Self → ℤ → ℤ → ℤ };
-
-    /// Writes what the kernel gives at each place of two rows.
-    fn row(&self, first: &[A], second: &[B], out: &mut [T])
-        requires first_len { length first.now ≡ length out.old }
-        requires second_len { length second.now ≡ length out.old }
-        ensures { map T.value out.new ≡ zip2 (formula self.now) (map A.value first.now)
-            (map B.value second.now) };
-}
-
 /// What a kernel gives of two images of one size, where both are valid.
 #[derive(Drop)]
-struct FromTwo<'a, 'b, A: Sample, B: Sample, K> {
+struct FromTwo<'a, 'b, A: Pixel, B: Pixel, K> {
     kernel: &'a K,
     first: &'a Image<'b>,
     second: &'a Image<'b>,
@@ -38,7 +26,7 @@ struct FromTwo<'a, 'b, A: Sample, B: Sample, K> {
     ghost second_room: { IsWithin area second.now.width second.now.height },
 }
 
-impl<A: Sample, B: Sample, T: Sample, K: OfTwo<A, B, T>> Formula<T> for FromTwo<'_, '_, A, B, K> {
+impl<A: Pixel, B: Pixel, T: Pixel, K: OfPair<A, B, T>> Formula<T> for FromTwo<'_, '_, A, B, K> {
     ghost at = { λ s x y. K.formula s.kernel.now (at s.first.now x y) (at s.second.now x y) };
 
     ghost area = { λ s. s.area };
@@ -50,12 +38,12 @@ impl<A: Sample, B: Sample, T: Sample, K: OfTwo<A, B, T>> Formula<T> for FromTwo<
     fn fill(&self, x: u16, y: u16, out: &mut [T]) {
         let first = self.first.part_of_row::<A>(x, y, out.len());
         let second = self.second.part_of_row::<B>(x, y, out.len());
-        self.kernel.row(first, second, out);
+        zip_rows(self.kernel, first, second, out);
     }
 }
 
 /// Writes what the kernel gives of two images to a third of their size.
-pub fn write_two<A: Sample, B: Sample, T: Sample, K: OfTwo<A, B, T>>(
+pub fn write_two<A: Pixel, B: Pixel, T: Pixel, K: OfPair<A, B, T>>(
     kernel: &K,
     first: &Image<'_>,
     second: &Image<'_>,

@@ -1,31 +1,140 @@
--- Lemmas on rooms, and on which of them suits best.
-use Rattle.std.proofs.Common.{◌≡◌, ℕ, ◌-◌, ◌<◌, ◌∷◌, true, false, List, length, get_or, sym, ap, ◌∙◌, Vec, vec_capacity, arith, swap_remove}
-use Rattle.std.specs.List.Sorted.{IsPermutation}
+-- Lemmas on how many blocks of each class are free.
+use Rattle.std.proofs.Common.{◌≡◌, ◌≢◌, ℕ, zero, suc, ◌+◌, ◌-◌, ◌*◌, ◌^◌, ◌<◌, ◌≤◌, ◌⊎◌, false, List, [], ◌∷◌, length, map, Option, Some, None, IfNone, get_or, set, refl, ap, ◌∙◌, add-zero, add-one, add-suc, inl, inr, arith}
+use Rattle.std.proofs.lemmas.List.{length-map, map-set, get_or_past}
 use Rattle.std.proofs.lemmas.Bool.Decides.{nat_tests}
-use Rattle.std.proofs.lemmas.List.{get_or-map}
-use Rattle.std.proofs.lemmas.List.Sorted.{IsPermutation-map, IsPermutation-swap_remove, sum_by_popped}
-use Rattle.pixel_pool.specs.Free.{rooms, room_in, suits_better}
+use Rattle.std.proofs.Math.Nat.{mul-le-mul}
+use Rattle.std.proofs.Math.ListN.{get_or-map}
+use Rattle.std.proofs.lemmas.List.Sums.{sum_by-cons, get_or-le-sum_by}
+use Rattle.pixel_pool.specs.Classes.{class_room, class_count, IsClassOf, FitsIn}
+use Rattle.pixel_pool.specs.Free.{free_count, HasFree, HasRoom, UsesBest, UsesLargest, GetsFree, IsTrim, suits_better, without_one, room_below}
+use Rattle.pixel_pool.proofs.ClassLemmas.{room_mono, room_small}
+use Rattle.pixel_pool.specs.Shelf.{lengths, no_stack, stack_at}
+use Rattle.pixel_pool.specs.declared.stacks.Stack.{Stack}
 
--- no room suits better than itself
-pub not_better_than_itself : (count room : ℕ) → suits_better count room room ≡ false
-not_better_than_itself count room = grind (arith, nat_tests)
+-- two keys or classes are one, or not
+pub same_or_not : (a b : ℕ) → (a ≡ b) ⊎ (a ≢ b)
+same_or_not zero zero = inl refl
+same_or_not zero (suc b) = inr (λ e. absurd (omega arith))
+same_or_not (suc a) zero = inr (λ e. absurd (omega arith))
+same_or_not (suc a) (suc b) = elim (same_or_not a b) [ inl e ↦ inl (ap (λ n. suc n) e) | inr d ↦ inr (λ e. d (omega arith)) ]
 
--- what doesn't suit better than one room doesn't suit better than a better one
-pub not_better_still : (count room best other : ℕ) → suits_better count room best ≡ true → suits_better count other best ≡ false → suits_better count other room ≡ false
-not_better_still count room best other better worse = grind (arith, nat_tests)
+-- the length of the stack of a class
+pub length_at : (stacks : List Stack) (class : ℕ) → get_or (lengths stacks) class 0 ≡ (stack_at stacks class).len
+length_at stacks class = get_or-map (λ (s : Stack). s.len) stacks class no_stack
 
--- the room of all free blocks is less by that of the one which is taken
-pub room_taken : (old new : List ℕ) (at room all : ℕ) → all ≡ room_in old → room ≡ get_or old at 0 → IsPermutation old (get_or old at 0 ∷ new) → all - room ≡ room_in new
-room_taken old new at room all sum is taken = omega (arith, sum, is, sum_by_popped (λ n. n) (get_or old at 0) old new taken)
+-- the lengths after a stack is changed
+pub lengths_set : (stacks : List Stack) (class : ℕ) (stack : Stack) → lengths (set stacks class stack) ≡ set (lengths stacks) class stack.len
+lengths_set stacks class stack = map-set (λ (s : Stack). s.len) stacks class stack
 
-module _ {T A : Type 0} where
-  -- the room of the vector at a place
-  pub get_or-rooms : (free : List (Vec T A)) (at : ℕ) (v : Vec T A) → at < length free → v ≡ get_or free at v → vec_capacity v ≡ get_or (rooms free) at 0
-  get_or-rooms free at v inside is =
-      ap (λ w. vec_capacity w) is ∙ sym (get_or-map (λ w. vec_capacity w) free at v 0 inside)
+-- a class of which a block is free is one
+pub free_within : (free : List ℕ) (class : ℕ) → 0 < get_or free class 0 → class < length free
+free_within [] class some = absurd (omega arith)
+free_within (n ∷ free) zero some = omega arith
+free_within (n ∷ free) (suc class) some = omega (arith, free_within free class some)
 
-  -- the rooms that are left where a vector goes
-  pub rooms-swap_remove : (free : List (Vec T A)) (at : ℕ) (v : Vec T A) → at < length free → v ≡ get_or free at v → IsPermutation (rooms free) (get_or (rooms free) at 0 ∷ rooms (swap_remove free at v))
-  rooms-swap_remove free at v inside is =
-      let moved = IsPermutation-map (λ w. vec_capacity w) free (v ∷ swap_remove free at v) (IsPermutation-swap_remove free at v inside is) in
-      rw (← get_or-rooms free at v inside is) moved
+-- no block is free if none of any class is
+pub none_free : (free : List ℕ) → ((class : ℕ) → class < length free → get_or free class 0 ≡ 0) → free_count free ≡ 0
+none_free [] none = refl
+none_free (n ∷ free) none = omega (arith, sum_by-cons (λ m. m) n free, none 0 (omega arith), none_free free (λ class inside. none (suc class) (omega arith)))
+
+pub below_zero : (free : List ℕ) → room_below free 0 ≡ 0
+unfolding room_below
+below_zero free = refl
+
+pub below_more : (free : List ℕ) (class : ℕ) → room_below free (class + 1) ≡ room_below free class + get_or free class 0 * class_room class
+unfolding room_below
+below_more free class = rw add-one refl
+
+-- the room of the classes below a greater one is no less
+pub below_rises : (free : List ℕ) (class above : ℕ) → room_below free class ≤ room_below free (class + above)
+below_rises free class zero = rw add-zero (omega arith)
+below_rises free class (suc above) = rw (add-suc, ← add-one) (omega (arith, below_rises free class above, below_more free (class + above)))
+
+below_or : (free : List ℕ) (class : ℕ) → (class < length free) ⊎ (length free ≤ class)
+below_or [] class = inr (omega arith)
+below_or (n ∷ free) zero = inl (omega arith)
+below_or (n ∷ free) (suc class) = elim (below_or free class) [ inl p ↦ inl (omega arith) | inr p ↦ inr (omega arith) ]
+
+no_better : (count room than : ℕ) → count ≤ than → (count ≤ room → than ≤ room) → suits_better count room than ≡ false
+no_better count room than fits rises = grind (arith, nat_tests)
+
+none_larger : (count room than : ℕ) → (count ≤ than → ⊥) → room ≤ than → suits_better count room than ≡ false
+none_larger count room than small below = grind (arith, nat_tests)
+
+-- of a class no more blocks are free than of all
+pub class_within : (free : List ℕ) (class : ℕ) → get_or free class 0 ≤ free_count free
+class_within free class =
+    elim (below_or free class) [
+      | inl inside ↦ get_or-le-sum_by (λ n. n) free class 0 inside
+      | inr past ↦ omega (arith, get_or_past free class 0 past)
+    ]
+
+no_len : (free : List ℕ) → free_count free ≡ 0 → (class : ℕ) → get_or free class 0 ≡ 0
+no_len free none class =
+    omega (arith, class_within free class, none)
+
+no_room : (free : List ℕ) → free_count free ≡ 0 → (class : ℕ) → room_below free class ≡ 0
+no_room free none zero = below_zero free
+no_room free none (suc class) =
+    rw (← add-one) (below_more free class ∙ rw (no_room free none class, no_len free none class) (omega arith))
+
+-- no free blocks are not too many
+pub none_is_trim : (free : List ℕ) → free_count free ≡ 0 → IsTrim free
+none_is_trim free none = record { blocks = omega (arith, none); room = omega (arith, no_room free none class_count) }
+
+-- the room of the free blocks of a class is far from the end of the numbers
+pub few_times : (stacks : List Stack) (class room : ℕ) → free_count (lengths stacks) ≤ 16384 → class < 193
+    → room ≡ class_room class → (stack_at stacks class).len * room < 2 ^ 64
+few_times stacks class room few known is =
+    let a : (stack_at stacks class).len ≤ 16384 = omega (arith, class_within (lengths stacks) class, length_at stacks class) in
+    let b : room ≤ 193 * 2 ^ 23 = omega (arith, room_small class (omega arith)) in
+    let c : (stack_at stacks class).len * room ≤ 16384 * (193 * 2 ^ 23) = mul-le-mul a b in
+    omega (arith, c)
+
+-- more room than is allowed is too much
+pub too_much : (stacks : List Stack) (class left room : ℕ) → class < 193 → left + room_below (lengths stacks) class ≡ 67108864
+    → room ≡ class_room class → left < (stack_at stacks class).len * room → IsTrim (lengths stacks) → ⊥
+too_much stacks class left room known sum is over trim =
+    let free = lengths stacks in
+    let e : class + 1 + (192 - class) ≡ 193 = omega arith in
+    let rises : room_below free (class + 1) ≤ room_below free 193 = rw e at (below_rises free (class + 1) (192 - class)) in
+    let here : (stack_at stacks class).len * room ≡ get_or free class 0 * class_room class = rw (is, length_at) refl in
+    absurd (omega (arith, rises, here, below_more free class, trim.room))
+
+-- the smallest of the rooms in which so many samples fit suits them best
+pub fit_is_best : (count : ℕ) (free : List ℕ) (class : ℕ) → HasFree free class → count ≤ class_room class
+    → ((other : ℕ) → HasFree free other → count ≤ class_room other → class ≤ other) → UsesBest count free (without_one free class)
+fit_is_best count free class some fits least =
+    record {
+      class = class;
+      free = some;
+      used = refl;
+      best = λ other has. no_better count (class_room other) (class_room class) fits (λ enough. room_mono class other (least other has enough));
+    }
+
+-- where they fit in none, the largest does
+pub largest_is_best : (count : ℕ) (free : List ℕ) (class : ℕ) → HasFree free class → (count ≤ class_room class → ⊥)
+    → ((other : ℕ) → HasFree free other → other ≤ class) → UsesBest count free (without_one free class)
+largest_is_best count free class some too_small greatest =
+    record {
+      class = class;
+      free = some;
+      used = refl;
+      best = λ other has. none_larger count (class_room other) (class_room class) too_small (room_mono other class (greatest other has));
+    }
+
+pub lent_is_best : (count : ℕ) (old new : List ℕ) → ((class : ℕ) → HasFree old class → count ≤ class_room class → ⊥) → UsesLargest old new → UsesBest count old new
+lent_is_best count old new none used =
+    rw used.used (largest_is_best count old used.class used.free (none used.class used.free) used.greatest)
+
+-- where no class has a free block, none is free
+pub none_left : (found : Option ℕ) (stacks : List Stack) (class : ℕ) → 193 ≤ class → length stacks ≡ 193
+    → IfNone found ((other : ℕ) → other < class → get_or (lengths stacks) other 0 ≡ 0) → IfNone found (free_count (lengths stacks) ≡ 0)
+none_left None stacks class all long none = none_free (lengths stacks) (λ k inside. none k (omega (arith, length-map stacks (λ (s : Stack). s.len), inside)))
+none_left (Some k) stacks class all long none = tt
+
+-- what was given back has room again for as many samples
+pub room_again : (count room : ℕ) (old new : List ℕ) → count ≤ class_room 192 → FitsIn count room → GetsFree room old new → HasRoom new count
+room_again count room old new small fits gets =
+    let x = fits small in
+    (gets.class, gets.free, omega (arith, x.2, room_mono x.0 gets.class (gets.is_class.greatest x.0 x.1 x.3)))

@@ -1,1 +1,3 @@
+mod ClassLemmas
 mod FreeLemmas
+mod StackLemmas

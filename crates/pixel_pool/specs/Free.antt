@@ -1,18 +1,26 @@
--- Free blocks, by their rooms: how many samples each has room for.
-use Rattle.std.specs.Prelude.{◌≡◌, ◌≤◌, ℕ, Bool, false, ◌&&◌, nat_le, nat_lt, if◌then◌else◌, List, [], ◌∷◌, ◌++◌, map, Vec, vec_capacity, sum_by, All, Any, ◌⊎◌}
-use Rattle.std.specs.List.Sorted.{IsPermutation}
+-- Free blocks: how many there are of each class.
+use Rattle.std.specs.Prelude.{◌≡◌, ◌≤◌, ◌<◌, ◌+◌, ◌-◌, ◌*◌, ℕ, zero, suc, Bool, false, ◌&&◌, nat_le, nat_lt, if◌then◌else◌, List, slice_index, slice_set, sum_by}
+use Rattle.pixel_pool.specs.Classes.{class_room, class_count, IsClassOf}
 
--- the rooms of these vectors
-abbrev pub rooms : {T A : Type 0} → List (Vec T A) → List ℕ
-rooms free = map (λ v. vec_capacity v) free
+-- how many blocks are free
+abbrev pub free_count : List ℕ → ℕ
+free_count free = sum_by (λ n. n) free
 
--- no more blocks of a format are free at once
-abbrev pub most_free : ℕ
-most_free = 16384
+-- a block of the class is free
+abbrev pub HasFree : List ℕ → ℕ → Type 0
+HasFree free class = 0 < slice_index free class
 
--- so many samples fit in one of the rooms
+-- a free block has room for so many samples
 abbrev pub HasRoom : List ℕ → ℕ → Type 0
-HasRoom free count = Any (λ room. count ≤ room) free
+HasRoom free count = (class : ℕ) × HasFree free class × (count ≤ class_room class)
+
+-- one block less of a class is free
+abbrev pub without_one : List ℕ → ℕ → List ℕ
+without_one free class = slice_set free class (slice_index free class - 1)
+
+-- one block more of a class is free
+abbrev pub with_one : List ℕ → ℕ → List ℕ
+with_one free class = slice_set free class (slice_index free class + 1)
 
 -- whether a room suits so many samples better than another: they fit in it alone, or it is the
 -- smaller of two in which they fit, or the larger of two in which they don't
@@ -20,20 +28,37 @@ abbrev pub suits_better : ℕ → ℕ → ℕ → Bool
 suits_better count room than =
     if nat_le count than then (nat_le count room && nat_lt room than) else nat_lt than room
 
--- one of the free rooms was used, and none of them suits so many samples better
+-- a free block of one class was used, and none of another class suits so many samples better
 pub record UsesBest (count : ℕ) (old new : List ℕ) : Type 0 where
-  pub room : ℕ
-  pub used : IsPermutation old (room ∷ new)
-  pub best : All (λ other. suits_better count other room ≡ false) old
+  pub class : ℕ
+  pub free : HasFree old class
+  pub used : new ≡ without_one old class
+  pub best : (other : ℕ) → HasFree old other → suits_better count (class_room other) (class_room class) ≡ false
 
--- the sum of rooms
-abbrev pub room_in : List ℕ → ℕ
-room_in free = sum_by (λ room. room) free
+-- a free block of the greatest class was used
+pub record UsesLargest (old new : List ℕ) : Type 0 where
+  pub class : ℕ
+  pub free : HasFree old class
+  pub used : new ≡ without_one old class
+  pub greatest : (other : ℕ) → HasFree old other → other ≤ class
 
--- a room for so many samples or more came to the free ones, of which the others are all kept, or none
-pub record GetsRoom (old new : List ℕ) (count : ℕ) : Type 0 where
-  pub room : ℕ
-  pub before : List ℕ
-  pub enough : count ≤ room
-  pub kept : (before ≡ old) ⊎ (before ≡ [])
-  pub added : new ≡ before ++ room ∷ []
+-- a block that has room for so many samples came to the free ones
+pub record GetsFree (room : ℕ) (old new : List ℕ) : Type 0 where
+  pub class : ℕ
+  pub is_class : IsClassOf room class
+  pub added : new ≡ with_one old class
+  pub free : HasFree new class
+
+-- for how many samples the free blocks of the classes below one have room together
+unfoldable pub room_below : List ℕ → ℕ → ℕ
+room_below free zero = 0
+room_below free (suc class) = room_below free class + slice_index free class * class_room class
+
+-- not too many blocks are free, and they haven't too much room
+pub record IsTrim (free : List ℕ) : Type 0 where
+  pub blocks : free_count free ≤ 16384
+  pub room : room_below free class_count ≤ 67108864
+
+-- of no class more blocks are free than before
+abbrev pub IsFewer : List ℕ → List ℕ → Type 0
+IsFewer new old = (class : ℕ) → slice_index new class ≤ slice_index old class

@@ -1,11 +1,13 @@
 //! The blocks of all formats.
-ghost use Rattle.std.specs.Prelude.{◌≡◌, ◌≢◌, ◌≤◌, [], length, max, pos, replicate};
+ghost use Rattle.std.specs.Prelude.{◌≡◌, ◌≢◌, length, max, pos, replicate};
 ghost use Rattle.std.specs.Prelude.{IfOk, IsOk, OnErr, OnOk};
 ghost use Rattle.vx_base.specs.Picture.{values, samples_format};
-ghost use Rattle.pixel_pool.specs.Free.{HasRoom, UsesBest, GetsRoom, most_free};
-ghost use Rattle.pixel_pool.specs.Pool.{lent_of, rooms_of, blocks_of, HasLent, Lends, GetsBack};
-ghost use Rattle.pixel_pool.specs.Pool.{KeepsLent, KeepsOtherRooms};
+ghost use Rattle.pixel_pool.specs.Classes.{class_count, FitsIn};
+ghost use Rattle.pixel_pool.specs.Free.{HasRoom, UsesBest, IsTrim, IsFewer, GetsFree, free_count};
+ghost use Rattle.pixel_pool.specs.Pool.{lent_of, free_of, blocks_of, room_of, HasLent, Lends};
+ghost use Rattle.pixel_pool.specs.Pool.{GetsBack, KeepsLent, KeepsBlockCounts, KeepsOtherFree};
 
+use crate::block::Block;
 use crate::shelf::Shelf;
 use std::alloc::{AllocError, Global};
 use vx_base::{Format, Samples};
@@ -24,7 +26,7 @@ impl Pool {
     /// A pool without blocks. It takes no memory.
     pub fn new(alloc: Global) -> Pool
         ensures lent { (format : Format) → lent_of result format ≡ 0 }
-        ensures rooms { (format : Format) → rooms_of result format ≡ [] }
+        ensures free { (format : Format) → free_of result format ≡ replicate class_count 0 }
     {
         Pool {
             u8s: Shelf::new(alloc),
@@ -38,69 +40,86 @@ impl Pool {
     /// Of the free blocks one is used that none suits better: the smallest that has room for the
     /// samples, else the largest, which gets new memory. Where none is free a block is added; so
     /// there are never more than were lent at once. What has room for more than 1,024 samples
-    /// and for more than twice those asked for is made smaller. Each free block of the format is
-    /// looked at.
-    pub fn take(&mut self, format: Format, count: usize) -> Result<Samples, AllocError>
+    /// and for more than twice those asked for is made smaller. A new block has room for at most an
+    /// eighth more samples than are asked for.
+    pub fn take(&mut self, format: Format, count: usize) -> Result<Block, AllocError>
         ensures format { IfOk result (λ taken. samples_format taken ≡ format) }
         ensures count { IfOk result (λ taken. length (values taken) ≡ count) }
+        ensures room { IfOk result (λ taken. FitsIn count (room_of taken)) }
         ensures lends { OnOk result (Lends self.old self.new format) }
         ensures blocks { OnOk result (blocks_of self.new format ≡
             max (blocks_of self.old format) (lent_of self.new format)) }
-        ensures best { OnOk result (rooms_of self.old format ≢ [] →
-            UsesBest count (rooms_of self.old format) (rooms_of self.new format)) }
-        ensures other_rooms { KeepsOtherRooms self.old self.new format }
+        ensures best { OnOk result (free_count (free_of self.old format) ≢ 0 →
+            UsesBest count (free_of self.old format) (free_of self.new format)) }
+        ensures other_free { KeepsOtherFree self.old self.new format }
         ensures err { OnErr result (self.new ≡ self.old) }
 
         // No memory is taken where a free block has room.
-        ensures fits { HasRoom (rooms_of self.old format) count → IsOk result }
+        ensures fits { HasRoom (free_of self.old format) count → IsOk result }
     {
         match format {
-            Format::U8 => Ok(Samples::U8(self.u8s.take(0, count)?)),
-            Format::S16 => Ok(Samples::S16(self.s16s.take(0, count)?)),
-            Format::U32 => Ok(Samples::U32(self.u32s.take(0, count)?)),
+            Format::U8 => Ok(Block::new(Samples::U8(self.u8s.take(0, count)?))),
+            Format::S16 => Ok(Block::new(Samples::S16(self.s16s.take(0, count)?))),
+            Format::U32 => Ok(Block::new(Samples::U32(self.u32s.take(0, count)?))),
         }
     }
 
     /// Lends a block as `take` does, each sample of which is 0.
-    pub fn take_zeros(&mut self, format: Format, count: usize) -> Result<Samples, AllocError>
+    pub fn take_zeros(&mut self, format: Format, count: usize) -> Result<Block, AllocError>
         ensures format { IfOk result (λ taken. samples_format taken ≡ format) }
         ensures zero { IfOk result (λ taken. values taken ≡ replicate count (pos 0)) }
         ensures lends { OnOk result (Lends self.old self.new format) }
         ensures blocks { OnOk result (blocks_of self.new format ≡
             max (blocks_of self.old format) (lent_of self.new format)) }
-        ensures best { OnOk result (rooms_of self.old format ≢ [] →
-            UsesBest count (rooms_of self.old format) (rooms_of self.new format)) }
-        ensures other_rooms { KeepsOtherRooms self.old self.new format }
+        ensures best { OnOk result (free_count (free_of self.old format) ≢ 0 →
+            UsesBest count (free_of self.old format) (free_of self.new format)) }
+        ensures other_free { KeepsOtherFree self.old self.new format }
         ensures err { OnErr result (self.new ≡ self.old) }
-        ensures fits { HasRoom (rooms_of self.old format) count → IsOk result }
+        ensures fits { HasRoom (free_of self.old format) count → IsOk result }
     {
-        let mut samples = self.take(format, count)?;
+        let mut block = self.take(format, count)?;
+        let mut samples = block.lift();
         clear(&mut samples);
-        Ok(samples)
+        block.put(samples);
+        Ok(block)
     }
 
-    /// Makes a block that was lent free. Its samples stay as they are. It takes no memory. At most
-    /// 16,384 blocks of a format are free, and they have room for at most 67,108,864 samples
-    /// together, unless it is one block: where this one would come beside too many, those before
-    /// are dropped.
-    pub fn give_back(&mut self, samples: Samples)
-        requires { HasLent self.old (samples_format samples) }
-        ensures gets_back { GetsBack self.old self.new (samples_format samples) }
-        ensures room { GetsRoom (rooms_of self.old (samples_format samples))
-            (rooms_of self.new (samples_format samples)) (length (values samples)) }
-        ensures other_rooms { KeepsOtherRooms self.old self.new (samples_format samples) }
+    /// Makes a block that was lent free. Its samples stay as they are. It takes no memory, and drops
+    /// none.
+    pub fn give_back(&mut self, block: Block)
+        requires { HasLent self.old (samples_format block) }
+        ensures gets_back { GetsBack self.old self.new (samples_format block) }
+        ensures blocks { KeepsBlockCounts self.old self.new }
+        ensures free { GetsFree (room_of block) (free_of self.old (samples_format block))
+            (free_of self.new (samples_format block)) }
+        ensures other_free { KeepsOtherFree self.old self.new (samples_format block) }
     {
-        match samples {
+        match block.into_samples() {
             Samples::U8(samples) => self.u8s.give_back(samples),
             Samples::S16(samples) => self.s16s.give_back(samples),
             Samples::U32(samples) => self.u32s.give_back(samples),
         }
     }
 
+    /// Drops free blocks of each format, the largest first, until at most 16,384 are free, which
+    /// have room for at most 67,108,864 samples together.
+    pub fn trim(&mut self)
+        ensures lent { KeepsLent self.old self.new }
+        ensures trim { (format : Format) → IsTrim (free_of self.new format) }
+        ensures fewer { (format : Format) →
+            IsFewer (free_of self.new format) (free_of self.old format) }
+        ensures kept { (format : Format) → IsTrim (free_of self.old format) →
+            free_of self.new format ≡ free_of self.old format }
+    {
+        self.u8s.trim();
+        self.s16s.trim();
+        self.u32s.trim();
+    }
+
     /// Drops all free blocks: their memory goes back to the system, for who finds none otherwise.
     pub fn drop_free(&mut self)
         ensures lent { KeepsLent self.old self.new }
-        ensures rooms { (format : Format) → rooms_of self.new format ≡ [] }
+        ensures free { (format : Format) → free_of self.new format ≡ replicate class_count 0 }
     {
         self.u8s.drop_free();
         self.s16s.drop_free();
@@ -131,8 +150,7 @@ impl Pool {
 
     /// How many blocks of a format are free.
     pub fn free(&self, format: Format) -> usize
-        ensures count { result ≡ length (rooms_of self.now format) }
-        ensures most { result ≤ most_free }
+        ensures { result ≡ free_count (free_of self.now format) }
     {
         match format {
             Format::U8 => self.u8s.free(),

@@ -1,52 +1,62 @@
 //! The blocks of one format.
-ghost use Rattle.std.specs.Prelude.{◌≡◌, ◌≢◌, ◌+◌, ◌≤◌, [], length, max, IfOk, OnErr, OnOk, IsOk};
-ghost use Rattle.pixel_pool.specs.Free.{HasRoom, UsesBest, GetsRoom, most_free};
+ghost use Rattle.std.specs.Prelude.{◌≡◌, ◌≢◌, ℕ, ◌+◌, ◌≤◌, ◌<◌, [], length, max, replicate, IfOk, OnErr, OnOk};
+ghost use Rattle.std.specs.Prelude.{IsOk, IsTrue, ◌↔◌, IfSome, IfNone, vec_capacity, slice_index};
+ghost use Rattle.pixel_pool.specs.Classes.{class_count, class_room, FitsIn};
+ghost use Rattle.pixel_pool.specs.Free.{HasFree, HasRoom, UsesBest, UsesLargest, IsTrim, IsFewer, free_count};
+ghost use Rattle.pixel_pool.specs.Free.{without_one, GetsFree};
 ghost use Rattle.pixel_pool.specs.Shelf.{block_count};
 
-use crate::free::{best_fit, room_at, take_at};
+use crate::classes::{CLASSES, class_of, room_for};
+use crate::stacks::{EMPTY, Stack, are_trim, largest, smallest};
+use slab::Slab;
 use std::alloc::{AllocError, Global};
 use std::marker::Model;
 
-/// For how many samples the free blocks have room together, unless it is one block.
-const KEPT_ROOM: usize = 67_108_864;
+/// A room may be larger than what is asked for, however few samples that is: 4,096 bytes in the
+/// widest format.
+const SMALL_ROOM: usize = 1024;
 
-/// How many blocks may be free: as many as one client can leave. Each `take` looks at all of them.
-const KEPT_BLOCKS: usize = 16_384;
+/// A free block, with the stack of its class as it was before the block came.
+#[derive(Drop)]
+struct Free<T> {
+    samples: Vec<T>,
+    class: usize,
+    under: Stack,
+}
 
-/// How many blocks are lent, and the free ones, with the sum of their rooms.
+/// How many blocks are lent, and the free ones under their keys, stacked by their classes.
 #[derive(Drop)]
 pub struct Shelf<T> {
     alloc: Global,
     lent: usize,
-    free: Vec<Vec<T>>,
-    room: usize,
+    free: Slab<Free<T>>,
+    stacks: [Stack; CLASSES],
 }
 
 impl<T> Model for Shelf<T> {
-    ghost use Rattle.std.specs.Prelude.{vec_len, vec_capacity, ◌+◌, ◌≤◌};
-    ghost use Rattle.std.specs.Prelude.{◌≡◌};
-    ghost use Rattle.pixel_pool.specs.Free.{rooms, room_in, most_free};
-    ghost use Rattle.pixel_pool.specs.Shelf.{ShelfValue};
+    ghost use Rattle.std.specs.Prelude.{◌+◌, ◌≤◌};
+    ghost use Rattle.slab.specs.Slab.{slab_len};
+    ghost use Rattle.pixel_pool.specs.Shelf.{ShelfValue, lengths, AreStacks};
 
     ghost Value = { ShelfValue };
 
-    ghost view = { λ s. record { lent = s.lent; rooms = rooms s.free.items } };
+    ghost view = { λ s. record { lent = s.lent; free = lengths s.stacks } };
 
     // Each block that is lent has a place among the free ones.
-    ghost invariant = { λ s. (s.lent + vec_len s.free ≤ vec_capacity s.free)
-        × (s.room ≡ room_in (rooms s.free.items)) × (vec_len s.free ≤ most_free) };
+    ghost invariant = { λ s. (s.lent + slab_len s.free ≤ s.free.capacity)
+        × AreStacks s.stacks s.free };
 }
 
 impl<T: Copy + Drop> Shelf<T> {
     /// A shelf without blocks. It takes no memory.
     pub fn new(alloc: Global) -> Shelf<T>
-        ensures { result ≡ record { lent = 0; rooms = [] } }
+        ensures { result ≡ record { lent = 0; free = replicate class_count 0 } }
     {
         Shelf {
             alloc,
             lent: 0,
-            free: Vec::new(alloc),
-            room: 0,
+            free: Slab::new(alloc),
+            stacks: [EMPTY; CLASSES],
         }
     }
 
@@ -61,75 +71,189 @@ impl<T: Copy + Drop> Shelf<T> {
     pub fn blocks(&self) -> usize
         ensures { result ≡ block_count self.now }
     {
+        let _fit = self.free.capacity();
         self.lent + self.free.len()
     }
 
     /// How many blocks are free.
     pub fn free(&self) -> usize
-        ensures count { result ≡ length self.now.rooms }
-        ensures most { result ≤ most_free }
+        ensures { result ≡ free_count self.now.free }
     {
         self.free.len()
     }
 
-    /// Lends a block of so many samples, which may hold anything.
+    /// Lends a block of so many samples, which may hold anything. No more than one block of each
+    /// class is looked at.
     pub fn take(&mut self, zero: T, count: usize) -> Result<Vec<T>, AllocError>
         ensures count { IfOk result (λ samples. length samples.items ≡ count) }
+        ensures room { IfOk result (λ samples. FitsIn count (vec_capacity samples)) }
         ensures lent { OnOk result (self.new.lent ≡ self.old.lent + 1) }
         ensures blocks { OnOk result (block_count self.new ≡
             max (block_count self.old) self.new.lent) }
-        ensures best { OnOk result (self.old.rooms ≢ [] →
-            UsesBest count self.old.rooms self.new.rooms) }
-        ensures fits { HasRoom self.old.rooms count → IsOk result }
+        ensures best { OnOk result (free_count self.old.free ≢ 0 →
+            UsesBest count self.old.free self.new.free) }
+        ensures fits { HasRoom self.old.free count → IsOk result }
         ensures err { OnErr result (self.new ≡ self.old) }
     {
-        if self.free.is_empty() {
-            return self.add(zero, count);
+        match smallest(&self.stacks, count) {
+            Some(class) => Ok(resized(self.lend(class), zero, count)),
+            None => self.take_new(zero, count),
         }
-        let at = best_fit(self.free.as_slice(), count);
-        let room = room_at(self.free.as_slice(), at);
-        let samples = take_at(&mut self.free, at, zero, count)?;
-        self.lent += 1;
-        self.room -= room;
+    }
+
+    /// Lends a block of so many samples, for which no free block has room, in new memory.
+    fn take_new(&mut self, zero: T, count: usize) -> Result<Vec<T>, AllocError>
+        requires { (class : ℕ) → HasFree self.old.free class → count ≤ class_room class → ⊥ }
+        ensures count { IfOk result (λ samples. length samples.items ≡ count) }
+        ensures room { IfOk result (λ samples. FitsIn count (vec_capacity samples)) }
+        ensures lent { OnOk result (self.new.lent ≡ self.old.lent + 1) }
+        ensures blocks { OnOk result (block_count self.new ≡
+            max (block_count self.old) self.new.lent) }
+        ensures best { OnOk result (free_count self.old.free ≢ 0 →
+            UsesBest count self.old.free self.new.free) }
+        ensures err { OnErr result (self.new ≡ self.old) }
+    {
+        let samples = new_samples(self.alloc, zero, count)?;
+        self.lend_for_new()?;
         Ok(samples)
     }
 
-    /// Lends a new block, where none is free. There is a place for it among the free ones too, so
-    /// that it can be given back without memory.
-    fn add(&mut self, zero: T, count: usize) -> Result<Vec<T>, AllocError>
-        requires { self.old.rooms ≡ [] }
-        ensures count { IfOk result (λ samples. length samples.items ≡ count) }
+    /// Counts one more block as lent: a free one of the greatest class, whose memory is given up, or
+    /// where none is free a new one.
+    fn lend_for_new(&mut self) -> Result<(), AllocError>
         ensures lent { OnOk result (self.new.lent ≡ self.old.lent + 1) }
-        ensures rooms { self.new.rooms ≡ [] }
+        ensures blocks { OnOk result (block_count self.new ≡
+            max (block_count self.old) self.new.lent) }
+        ensures largest { OnOk result (free_count self.old.free ≢ 0 →
+            UsesLargest self.old.free self.new.free) }
         ensures err { OnErr result (self.new ≡ self.old) }
     {
-        let samples = vec![in self.alloc; zero; count]?;
-        self.free.reserve(self.lent + 1)?;
+        match largest(&self.stacks) {
+            Some(class) => {
+                drop(self.lend(class));
+                Ok(())
+            }
+            None => self.add(),
+        }
+    }
+
+    /// Counts one more block as lent, where none is free. There is a place for it among the free
+    /// ones too, so that it can be given back without memory.
+    fn add(&mut self) -> Result<(), AllocError>
+        requires { free_count self.old.free ≡ 0 }
+        ensures ok { OnOk result
+            (self.new ≡ record { lent = self.old.lent + 1; free = self.old.free }) }
+        ensures err { OnErr result (self.new ≡ self.old) }
+    {
+        let lent = self.lent.checked_add(1).ok_or(AllocError)?;
+        self.free.reserve(lent)?;
+        self.lent = lent;
+        Ok(())
+    }
+
+    /// Lends the free block of a class that came last.
+    fn lend(&mut self, class: usize) -> Vec<T>
+        requires { HasFree self.old.free class }
+        ensures room { class_room class ≤ vec_capacity result }
+        ensures value { self.new ≡ record {
+          lent = self.old.lent + 1;
+          free = without_one self.old.free class;
+        } }
+        ensures count { free_count self.new.free + 1 ≡ free_count self.old.free }
+    {
+        let _fit = self.free.capacity();
+        let block = self.free.remove(self.stacks[class].top);
+        self.stacks[class] = block.under;
         self.lent += 1;
-        Ok(samples)
+        block.samples
+    }
+
+    /// Makes a block that was lent free. Its samples stay as they are.
+    pub fn give_back(&mut self, samples: Vec<T>)
+        requires { 1 ≤ self.old.lent }
+        ensures lent { self.new.lent + 1 ≡ self.old.lent }
+        ensures free { GetsFree (vec_capacity samples) self.old.free self.new.free }
+        ensures blocks { block_count self.new ≡ block_count self.old }
+    {
+        let _fit = self.free.capacity();
+        let class = class_of(samples.capacity());
+        let under = self.stacks[class];
+        let block = Free {
+            samples,
+            class,
+            under,
+        };
+        let top = self.free.insert_reserved(block);
+        self.stacks[class] = Stack {
+            top,
+            len: under.len + 1,
+        };
+        self.lent -= 1;
     }
 
     /// Drops all free blocks: their memory goes back to the system.
     pub fn drop_free(&mut self)
-        ensures { self.new ≡ record { lent = self.old.lent; rooms = [] } }
+        ensures { self.new ≡ record { lent = self.old.lent; free = replicate class_count 0 } }
     {
         self.free.clear();
-        self.room = 0;
+        self.stacks = [EMPTY; CLASSES];
     }
 
-    /// Makes a block that was lent free. Its samples stay as they are. Where the free blocks would
-    /// then be too many, or have too much room, those before are dropped.
-    pub fn give_back(&mut self, samples: Vec<T>)
-        requires { 1 ≤ self.old.lent }
-        ensures lent { self.new.lent + 1 ≡ self.old.lent }
-        ensures rooms { GetsRoom self.old.rooms self.new.rooms (length samples.items) }
+    /// Drops free blocks, the largest first, until they are not too many and haven't too much room.
+    pub fn trim(&mut self)
+        ensures lent { self.new.lent ≡ self.old.lent }
+        ensures trim { IsTrim self.new.free }
+        ensures fewer { IsFewer self.new.free self.old.free }
+        ensures kept { IsTrim self.old.free → self.new ≡ self.old }
     {
-        let room_left = KEPT_ROOM.saturating_sub(self.room);
-        if self.free.len() >= KEPT_BLOCKS || samples.capacity() > room_left {
-            self.drop_free();
+        while !are_trim(&self.stacks, self.free.len()) {
+            self.drop_largest();
         }
-        self.lent -= 1;
-        self.room += samples.capacity();
-        self.free.push_reserved(samples);
     }
+
+    /// Drops a free block of the greatest class of which one is free: there are too many.
+    #[tactic(auto, using(crate::proofs::FreeLemmas::none_is_trim))]
+    fn drop_largest(&mut self)
+        requires { IsTrim self.old.free → ⊥ }
+        ensures lent { self.new.lent ≡ self.old.lent }
+        ensures count { free_count self.new.free + 1 ≡ free_count self.old.free }
+        ensures fewer { IsFewer self.new.free self.old.free }
+    {
+        match largest(&self.stacks) {
+            Some(class) => {
+                drop(self.lend(class));
+                self.lent -= 1;
+            }
+            None => unreachable!(),
+        }
+    }
+}
+
+/// So many samples in new memory, as much as a block of their class has.
+fn new_samples<T: Copy + Drop>(alloc: Global, zero: T, count: usize) -> Result<Vec<T>, AllocError>
+    ensures count { IfOk result (λ samples. length samples.items ≡ count) }
+    ensures room { IfOk result (λ samples. FitsIn count (vec_capacity samples)) }
+{
+    let mut samples = Vec::with_capacity(alloc, room_for(count))?;
+    let _fits = samples.resize(count, zero);
+    Ok(samples)
+}
+
+/// The same memory with so many samples, which fit. What is far too large is made smaller, so that
+/// few samples can't keep much memory; where that is refused, it stays as it is.
+fn resized<T: Copy + Drop>(mut samples: Vec<T>, zero: T, count: usize) -> Vec<T>
+    requires { count ≤ vec_capacity samples }
+    ensures count { length result.items ≡ count }
+    ensures room { FitsIn count (vec_capacity samples) → FitsIn count (vec_capacity result) }
+{
+    let _fits = samples.resize(count, zero);
+    if is_far_too_large(samples.capacity(), count) {
+        samples.shrink_to(room_for(count));
+    }
+    samples
+}
+
+/// Whether a room is more than twice as large as what is asked for, and isn't small.
+fn is_far_too_large(room: usize, count: usize) -> bool {
+    room > SMALL_ROOM && room / 2 > count
 }

@@ -3,20 +3,20 @@ ghost use Rattle.std.specs.Prelude.{◌≡◌};
 ghost use Rattle.vx_base.specs.Picture.{samples_format};
 ghost use Rattle.pixel_pool.specs.Pool.{HasLent};
 
-use crate::Pool;
 use crate::laws::{taken_again, taken_and_given_back};
+use crate::{Block, Pool};
 use std::test::Fail;
 use vx_base::{Format, Samples};
 
 /// Gives a block of U8 back, and tells for how many samples it has room.
-fn give_back(pool: &mut Pool, samples: Samples) -> usize
-    requires { HasLent pool.old (samples_format samples) }
+fn give_back(pool: &mut Pool, block: Block) -> usize
+    requires { HasLent pool.old (samples_format block) }
 {
-    let room = match &samples {
+    let room = match block.samples() {
         Samples::U8(samples) => samples.capacity(),
         _ => 0,
     };
-    pool.give_back(samples);
+    pool.give_back(block);
     room
 }
 
@@ -25,7 +25,7 @@ fn each_format_has_blocks(rt: HostRuntime) -> Result<(), Fail> {
     let mut pool = Pool::new(rt.alloc());
     for format in [Format::U8, Format::S16, Format::U32] {
         let samples = pool.take(format, 12)?;
-        assert!(rt; (samples.format(), samples.len()) == (format, 12));
+        assert!(rt; (samples.format(), samples.samples().len()) == (format, 12));
         assert!(rt; (pool.lent(format), pool.blocks(format), pool.free(format)) == (1, 1, 0));
         pool.give_back(samples);
         assert!(rt; (pool.lent(format), pool.blocks(format), pool.free(format)) == (0, 1, 1));
@@ -39,23 +39,25 @@ fn a_block_is_taken_again(rt: HostRuntime) -> Result<(), Fail> {
     taken_and_given_back(&mut pool, Format::U8, 49)?;
     assert!(rt; pool.blocks(Format::U8) == 1);
     let again = taken_again(&mut pool, Format::U8, 49)?;
-    assert!(rt; (again.len(), pool.blocks(Format::U8)) == (49, 1));
+    assert!(rt; (again.samples().len(), pool.blocks(Format::U8)) == (49, 1));
     Ok(())
 }
 
 #[test]
 fn what_is_taken_as_zeros_is_cleared(rt: HostRuntime) -> Result<(), Fail> {
     let mut pool = Pool::new(rt.alloc());
-    let mut samples = pool.take(Format::U8, 3)?;
+    let mut block = pool.take(Format::U8, 3)?;
+    let mut samples = block.lift();
     if let Samples::U8(samples) = &mut samples {
         samples.fill(7);
     }
-    pool.give_back(samples);
+    block.put(samples);
+    pool.give_back(block);
     let as_it_is = pool.take(Format::U8, 3)?;
-    assert!(rt; as_it_is == Samples::U8(vec![in rt.alloc(); 7; 3]?));
+    assert!(rt; *as_it_is.samples() == Samples::U8(vec![in rt.alloc(); 7; 3]?));
     pool.give_back(as_it_is);
     let cleared = pool.take_zeros(Format::U8, 3)?;
-    assert!(rt; cleared == Samples::U8(vec![in rt.alloc(); 0; 3]?));
+    assert!(rt; *cleared.samples() == Samples::U8(vec![in rt.alloc(); 0; 3]?));
     Ok(())
 }
 
@@ -68,9 +70,9 @@ fn the_smallest_that_fits_is_taken(rt: HostRuntime) -> Result<(), Fail> {
     pool.give_back(second);
     let grown = pool.take(Format::U8, 500)?;
     assert!(rt; (pool.blocks(Format::U8), pool.free(Format::U8)) == (2, 1));
-    assert!(rt; give_back(&mut pool, grown) == 500);
+    assert!(rt; give_back(&mut pool, grown) == 512);
     let small = pool.take(Format::U8, 60)?;
-    assert!(rt; give_back(&mut pool, small) == 100);
+    assert!(rt; give_back(&mut pool, small) == 104);
     Ok(())
 }
 
@@ -78,9 +80,10 @@ fn the_smallest_that_fits_is_taken(rt: HostRuntime) -> Result<(), Fail> {
 fn few_samples_keep_little_memory(rt: HostRuntime) -> Result<(), Fail> {
     for (first, then, kept) in [
         (1_000_000, 1, 1),
-        (1_000_000, 499_999, 499_999),
-        (1_000_000, 500_000, 1_000_000),
-        (1_025, 512, 1_025),
+        (1_000_000, 500_000, 524_288),
+        (1_000_000, 524_288, 1_048_576),
+        (1_025, 575, 576),
+        (1_025, 576, 1_152),
         (1_024, 1, 1_024),
     ] {
         let mut pool = Pool::new(rt.alloc());
@@ -115,14 +118,16 @@ fn free_blocks_are_given_up(rt: HostRuntime) -> Result<(), Fail> {
 }
 
 #[test]
-fn free_blocks_keep_room_for_so_many_samples(rt: HostRuntime) -> Result<(), Fail> {
-    for (count, free) in [(33_554_432, 2), (33_554_433, 1)] {
+fn free_blocks_are_trimmed_to_so_many_samples(rt: HostRuntime) -> Result<(), Fail> {
+    for (count, kept) in [(33_554_432, 2), (33_554_433, 1)] {
         let mut pool = Pool::new(rt.alloc());
         let first = pool.take(Format::U8, count)?;
         let second = pool.take(Format::U8, count)?;
         pool.give_back(first);
         pool.give_back(second);
-        assert!(rt; (pool.lent(Format::U8), pool.free(Format::U8)) == (0, free));
+        assert!(rt; (pool.lent(Format::U8), pool.free(Format::U8)) == (0, 2));
+        pool.trim();
+        assert!(rt; (pool.lent(Format::U8), pool.free(Format::U8)) == (0, kept));
     }
     Ok(())
 }

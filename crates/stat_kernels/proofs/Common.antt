@@ -1,13 +1,14 @@
 -- The names that several proofs cite, passed on from one place. Declares nothing.
 pub use Rattle.image_core.specs.Bands.{all_rows}
 pub use Rattle.image_core.specs.declared.band.Band.{Band}
-pub use Rattle.stat_kernels.specs.Counts.{added, count_at, count_in_all}
+pub use Rattle.lane_rows.specs.Running.{sum_below, sums_below}
+pub use Rattle.lane_rows.specs.Tallies.{count_at, count_in_all}
+pub use Rattle.stat_kernels.specs.Counts.{added}
 pub use Rattle.stat_kernels.specs.Located.{extremes_of, found_in}
 pub use Rattle.stat_kernels.specs.Part.{IsValidPart, band_of, valid_in}
-pub use Rattle.stat_kernels.specs.Sums.{AreAbove, AreSums, IsRowAbove, last_row, sum_before, sum_below, sums_below}
+pub use Rattle.stat_kernels.specs.Sums.{AreSums, IsRowAbove, last_row, sum_before, sums_row}
 pub use Rattle.stat_kernels.specs.declared.located.Found.{Found}
 pub use Rattle.stat_kernels.specs.declared.part.Part.{Part}
-pub use Rattle.std.proofs.Math.Seq.{take-add}
 pub use Rattle.std.proofs.lemmas.Bool.{cases_Bool, cases_eq, cases_lt}
 pub use Rattle.std.proofs.lemmas.Bool.Decides.{nat_tests}
 pub use Rattle.std.proofs.lemmas.Int.{ints, to_z-of_z}
@@ -15,7 +16,7 @@ pub use Rattle.std.proofs.lemmas.List.{drop-map, get_or-map, get_or-replicate, g
 pub use Rattle.std.proofs.lemmas.List.Elements.{All-cons, All-head, All-nil, All-tail}
 pub use Rattle.std.proofs.lemmas.List.FromFn.{fill_by_all, get_or-map-range_with_len, length-map-range_with_len, take-map-range_with_len}
 pub use Rattle.std.proofs.lemmas.List.Sums.{count_by-le-length, sum_by-append, sum_by-cons, sum_by_more}
-pub use Rattle.std.proofs.lemmas.Simd.{bitmask_splat, length-chunk, ones-mask_l}
+pub use Rattle.std.proofs.lemmas.Simd.{length-chunk}
 pub use Rattle.std.specs.Int.{int_max, int_min}
 pub use Rattle.std.specs.List.{All, flat_map, fold, range_with_len, sum, sum_by}
 pub use Rattle.std.specs.Ordering.{int_eq}
@@ -25,4 +26,3 @@ pub use Rattle.vx_base.specs.Description.{Description}
 pub use Rattle.vx_base.specs.Image.{ImageValue, IsImage, at, band, run, within}
 pub use Rattle.vx_base.specs.Rectangle.{Rectangle}
 pub use Rattle.vx_base.specs.Statistics.{BinsValue, bin_of, chosen, count_of, extremes, first_of, histogram, is_bin, places, row_places, samples_in, sum_to, tallies, valid_samples}
-pub use lib.Count.{ones}

@@ -1,11 +1,10 @@
 mod Common
 mod Rows
 mod PlaceLaws
-mod CountLaws
 mod TallyLaws
 pub mod BandLaws
 pub mod LocatedLaws
-mod LaneSums
 mod SumLaws
 pub mod NextRowLaws
+pub mod AlikeLaws
 mod ExtremeLaws

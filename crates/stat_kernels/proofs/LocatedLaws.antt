@@ -7,7 +7,7 @@ use Rattle.std.specs.Option.{unwrap_or, option_or}
 use Rattle.std.proofs.lemmas.List.Sums.{fold-append}
 use Rattle.std.proofs.lemmas.List.Folds.{find-append}
 use Rattle.stat_kernels.proofs.Rows.{above}
-use Rattle.stat_kernels.proofs.CountLaws.{eq_from_test, test_same, test_other}
+use Rattle.lane_rows.proofs.CountLaws.{eq_from_test, test_same, test_other}
 use Rattle.stat_kernels.proofs.PlaceLaws.{next_places, places_fit, row_samples, row_places-append}
 use Rattle.stat_kernels.specs.Located.{IsDirection, located, joined_found, lowered, lowered_found, joined}
 
@@ -226,21 +226,25 @@ module _ (choose : ℤ → ℤ → ℤ) (beyond : ℤ → ℤ → Bool) (d : IsD
     joins_other some below other = joins old (sym (joined_kept beyond old its some among below other))
 
 -- one more row
-pub next_found : (image : ImageValue) (part : Part) → IsValidPart image part → (y n : ℕ) (row : List ℤ) (old new : Found) → part.top ≤ y → n ≡ part.count → row ≡ run part.x part.count (λ k. at image k y)
-    → ((f : ℕ → ℕ → ℤ) (before : List (ℕ × ℕ)) → old ≡ found_in f before → row ≡ run part.x n (λ k. f k y) → new ≡ found_in f (before ++ row_places part.x n y))
-    → old ≡ found_in (at image) (places (above image.valid y)) → new ≡ found_in (at image) (places (above image.valid (y + 1)))
-next_found image part is y n row old new below wide same more found =
-    more (at image) (places (above image.valid y)) found (same ∙ ap (λ m. run part.x m (λ k. at image k y)) (sym wide))
-    ∙ ap (λ m. found_in (at image) (places (above image.valid y) ++ row_places part.x m y)) wide
-    ∙ ap (found_in (at image)) (next_places image part is y below)
+pub next_found : (image : ImageValue) (part : Part) → IsValidPart image part → (y : ℕ) (new : Found) → part.top ≤ y
+    → new ≡ found_in (at image) (places (above image.valid y) ++ row_places part.x part.count y) → new ≡ found_in (at image) (places (above image.valid (y + 1)))
+next_found image part is y new below more = more ∙ ap (found_in (at image)) (next_places image part is y below)
+
+-- a row of an image, whose samples are `row`
+pub row_found : (image : ImageValue) (x count y n : ℕ) (row : List ℤ) (old new : Found) → n ≡ count → row ≡ run x count (λ k. at image k y)
+    → ((f : ℕ → ℕ → ℤ) (before : List (ℕ × ℕ)) → old ≡ found_in f before → row ≡ run x n (λ k. f k y) → new ≡ found_in f (before ++ row_places x n y))
+    → (before : List (ℕ × ℕ)) → old ≡ found_in (at image) before → new ≡ found_in (at image) (before ++ row_places x count y)
+row_found image x count y n row old new wide same more before found =
+    more (at image) before found (same ∙ ap (λ m. run x m (λ k. at image k y)) (sym wide))
+    ∙ ap (λ m. found_in (at image) (before ++ row_places x m y)) wide
 
 pub found_joined : (f : ℕ → ℕ → ℤ) (ps qs : List (ℕ × ℕ)) → joined_found (found_in f ps) (found_in f qs) ≡ found_in f (ps ++ qs)
 found_joined f ps qs = cc (located_joined int_min int_lt downwards f ps qs, located_joined int_max (λ z v. int_lt v z) upwards f ps qs)
 
 -- so many places more may hold what is found in the rows above
-pub found_room : (image : ImageValue) (part : Part) → IsValidPart image part → (y n : ℕ) (found : Found) → found ≡ found_in (at image) (places (above image.valid y)) → part.top ≤ y → y < part.bottom → n ≡ part.count
-    → (found.least.count + n < 4294967296) × (found.greatest.count + n < 4294967296)
-found_room image part is y n found same from below wide =
+pub found_room : (image : ImageValue) (part : Part) → IsValidPart image part → (y : ℕ) (found : Found) → found ≡ found_in (at image) (places (above image.valid y)) → part.top ≤ y → y < part.bottom
+    → (found.least.count + part.count < 4294967296) × (found.greatest.count + part.count < 4294967296)
+found_room image part is y found same from below =
     let fit = places_fit image part is y from below in
     let few = λ (choose : ℤ → ℤ → ℤ). at_most choose (at image) (places (above image.valid y)) in
     (omega (arith, ap (λ (f : Found). f.least.count) same, few int_min, fit), omega (arith, ap (λ (f : Found). f.greatest.count) same, few int_max, fit))

@@ -1,25 +1,26 @@
 -- Rows of an integral image from the row above them.
-use Rattle.std.proofs.Common.{false, true, ◌%◌, ◌≡◌, ◌⊎◌, inl, inr, ℕ, pos, zero, suc, ◌+◌, ◌-◌, ◌*◌, ◌<◌, ◌≤◌, List, ◌++◌, length, map, take, drop, get_or, replicate, Option, Some, None, IfSome, subst, ap, ◌∙◌, sym, refl, arith, unwrap_or, option_map, Bool, if◌then◌else◌, ◌==◌, Bor, option_copied, unsigned_abs, drop_at, get_or-drop, get_or-take}
-use Rattle.stat_kernels.proofs.Common.{sum_by, range_with_len, flat_map, cases_lt, nat_tests, drop-map, get_or-map, get_or-replicate, length-replicate, length-chunk, Rectangle, ImageValue, IsImage, at, band, run, within, row_places, sum_to, band-more, get_or-run, run-same, Part, IsValidPart, AreSums, IsRowAbove, sum_before, sums_below}
+use Rattle.std.proofs.Common.{false, true, ◌%◌, ◌≡◌, ◌⊎◌, inl, inr, ℕ, pos, zero, suc, ◌+◌, ◌-◌, ◌*◌, ◌<◌, ◌≤◌, List, ◌++◌, length, map, take, drop, get_or, replicate, Option, Some, None, IfSome, subst, ap, ◌∙◌, sym, refl, arith, unwrap_or, option_map, Bool, if◌then◌else◌, ◌==◌, Bor, option_copied, unsigned_abs, drop_at, get_or-drop, get_or-take, append-nil}
+use Rattle.stat_kernels.proofs.Common.{cases_Bool, sum_by, range_with_len, flat_map, cases_lt, nat_tests, drop-map, get_or-map, get_or-replicate, length-replicate, map-append, map-replicate, length-chunk, Rectangle, ImageValue, IsImage, at, band, run, within, row_places, sum_to, band-more, get_or-run, run-same, Part, IsValidPart, AreSums, IsRowAbove, sum_before, sums_below, sums_row, last_row}
+use Rattle.std.specs.Option.{option_or}
 use Rattle.vx_base.specs.Rectangle.{inside}
-use Rattle.vx_base.proofs.TableLaws.{length-band, run-constant, within_beside, within_inside}
+use Rattle.vx_base.proofs.TableLaws.{band-append, length-band, run-constant, within_beside, within_inside}
 use Rattle.stat_kernels.specs.Part.{has_row}
-use Rattle.stat_kernels.specs.Sums.{IsRowOf, last_row_or, sums_row}
+use Rattle.stat_kernels.specs.Sums.{AreRowsOf, IsRowOf}
 use Rattle.stat_kernels.proofs.SumLaws.{row_of_parts, sum_at, sums_next}
 
 -- ---- places of a rectangle in a row
 
-record IsInside (r : Rectangle) (x y : ℕ) : Type 0 where
-  left : r.x0 ≤ x
-  right : x < r.x1
-  top : r.y0 ≤ y
-  bottom : y < r.y1
+pub record IsInside (r : Rectangle) (x y : ℕ) : Type 0 where
+  pub left : r.x0 ≤ x
+  pub right : x < r.x1
+  pub top : r.y0 ≤ y
+  pub bottom : y < r.y1
 
-inside_parts : (r : Rectangle) (x y : ℕ) → inside r x y ≡ true → IsInside r x y
+pub inside_parts : (r : Rectangle) (x y : ℕ) → inside r x y ≡ true → IsInside r x y
 inside_parts r x y is =
     record { left = grind (arith, nat_tests, is); right = grind (arith, nat_tests, is); top = grind (arith, nat_tests, is); bottom = grind (arith, nat_tests, is) }
 
-inside_from : (r : Rectangle) (x y : ℕ) → r.x0 ≤ x → x < r.x1 → r.y0 ≤ y → y < r.y1 → inside r x y ≡ true
+pub inside_from : (r : Rectangle) (x y : ℕ) → r.x0 ≤ x → x < r.x1 → r.y0 ≤ y → y < r.y1 → inside r x y ≡ true
 inside_from r x y a b c d = grind (arith, nat_tests, a, b, c, d)
 
 -- where a row has valid places, another with the same ones has the same columns
@@ -46,11 +47,16 @@ outside : (part : ImageValue) (y : ℕ) (p : Part) → IsValidPart part p → ha
 outside part y p is none x = grind (arith, nat_tests, is.count, is.top, is.bottom)
 
 -- where it has none, the integral image is 0 there
-pub no_sums : (part whole : ImageValue) (y line : ℕ) (p : Part) → IsValidPart part p → has_row p y ≡ false → IsRowOf part y whole line → sums_row whole line ≡ replicate whole.width (pos 0)
-no_sums part whole y line p is none same =
-    run-same (λ x. within whole.valid (sum_to whole) x line) (λ _. pos 0) 0 whole.width
+pub no_sums : (part whole : ImageValue) (y line : ℕ) (p : Part) → IsValidPart part p → has_row p y ≡ false → IsRowOf part y whole line → (out : List ℕ) → out ≡ replicate part.width 0 → map pos out ≡ sums_row whole line
+no_sums part whole y line p is none same out zeros =
+    ap (map pos) (zeros ∙ ap (λ n. replicate n 0) same.width) ∙ map-replicate pos whole.width 0
+    ∙ sym (run-same (λ x. within whole.valid (sum_to whole) x line) (λ _. pos 0) 0 whole.width
     (λ x a b. ap (λ (t : Bool). if t then sum_to whole x line else pos 0) (sym (same.valid x) ∙ outside part y p is none x))
-    ∙ run-constant (pos 0) 0 whole.width
+    ∙ run-constant (pos 0) 0 whole.width)
+
+-- each row is its own
+pub same_row : (image : ImageValue) (y : ℕ) → IsRowOf image y image y
+same_row image y = record { width = refl; valid = λ x. refl; samples = λ x below. refl }
 
 -- what is said of a row that is lent
 pub lent_long : (above : Option (Bor (List ℕ))) (n : ℕ) → IfSome above (λ r. length r.now ≡ n) → IfSome (option_copied above) (λ row. length row ≡ n)
@@ -141,21 +147,29 @@ module _ (whole : ImageValue) (is : IsImage whole) where
 
 -- ---- rows one after the other
 
+-- the last row of those before, or the one above them all where there are none
+abbrev pub last_or : ℕ → (before : List ℕ) → Option (List ℕ) → Option (List ℕ)
+last_or width before above = if length before == 0 then above else Some (drop (length before - width) before)
+
+pub last_is : (width : ℕ) (before : List ℕ) (last above : Option (Bor (List ℕ))) → option_copied last ≡ last_row width before → option_copied (option_or last above) ≡ last_or width before (option_copied above)
+last_is width before None above is = grind (arith, is, cases_Bool (length before == 0))
+last_is width before (Some r) above is = grind (arith, is, cases_Bool (length before == 0))
+
 -- above the next row stands the last of those that are there, or the one above them all
 pub row_above : (whole : ImageValue) (line k width : ℕ) (before : List ℕ) (above : Option (List ℕ)) → 1 ≤ width → width ≡ whole.width → map pos before ≡ band width line k (within whole.valid (sum_to whole))
-    → length before ≡ k * width → IsRowAbove whole line above → IsRowAbove whole (line + k) (last_row_or width before above)
+    → length before ≡ k * width → IsRowAbove whole line above → IsRowAbove whole (line + k) (last_or width before above)
 row_above whole line k width before above wide same are long is_above = by_count k are long
   where
-    by_count : (n : ℕ) → map pos before ≡ band width line n (within whole.valid (sum_to whole)) → length before ≡ n * width → IsRowAbove whole (line + n) (last_row_or width before above)
+    by_count : (n : ℕ) → map pos before ≡ band width line n (within whole.valid (sum_to whole)) → length before ≡ n * width → IsRowAbove whole (line + n) (last_or width before above)
     by_count zero are long =
         let none : length before ≡ 0 = omega (arith, long) in
-        subst (λ m. IsRowAbove whole m (last_row_or width before above)) {x = line} {y = line + 0} (omega arith)
+        subst (λ m. IsRowAbove whole m (last_or width before above)) {x = line} {y = line + 0} (omega arith)
         (subst (IsRowAbove whole line) (sym (ap (λ m. if m == 0 then above else Some (drop (m - width) before)) none)) is_above)
     by_count (suc m) are long =
         let f = within whole.valid (sum_to whole) in
         let more : length before ≡ m * width + width = omega (arith, long) in
         let some : (length before == 0) ≡ false = grind (arith, nat_tests, more, wide) in
-        let last : last_row_or width before above ≡ Some (drop (length before - width) before) =
+        let last : last_or width before above ≡ Some (drop (length before - width) before) =
         ap (λ (t : Bool). if t then above else Some (drop (length before - width) before)) some in
         let cut : length before - width ≡ m * width = omega (arith, more) in
         let next : suc m ≡ m + 1 = omega arith in
@@ -166,3 +180,14 @@ row_above whole line k width before above wide same are long is_above = by_count
         let row : map pos (drop (length before - width) before) ≡ sums_row whole (line + suc m - 1) =
         is_last ∙ ap (λ w. run 0 w (λ x. f x (line + m))) same ∙ ap (λ n. run 0 whole.width (λ x. f x n)) at in
         subst (IsRowAbove whole (line + suc m)) (sym last) (omega arith, row)
+
+-- the first row of some, and those below it
+pub rows_below : (image : ImageValue) → IsImage image → (start count n : ℕ) (first others : List ℕ) → count ≡ 1 + n → map pos first ≡ sums_row image start
+    → ((whole : ImageValue) (line : ℕ) → AreRowsOf image (record { start = start + 1; count = n }) whole line → IsRowAbove whole line (Some first) → map pos others ≡ band image.width line n (within whole.valid (sum_to whole)))
+    → map pos (first ++ others) ≡ band image.width start count (within image.valid (sum_to image))
+rows_below image is start count n first others next top rest =
+    let f = within image.valid (sum_to image) in
+    let back : start ≡ start + 1 - 1 = omega arith in
+    let below = rest image (start + 1) (record { is = is; each = λ k h. same_row image (start + 1 + k) }) (omega arith, top ∙ ap (sums_row image) back) in
+    map-append pos first others ∙ ap (λ l. l ++ map pos others) (top ∙ sym (append-nil (sums_row image start))) ∙ ap (λ l. band image.width start 1 f ++ l) below
+    ∙ sym (band-append image.width start 1 n f) ∙ ap (λ m. band image.width start m f) (sym next)

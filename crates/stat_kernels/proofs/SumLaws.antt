@@ -1,10 +1,9 @@
 -- Sums to the left and above, row by row.
-use Rattle.std.proofs.Common.{false, ◌%◌, ◌≡◌, ◌⊎◌, inl, inr, ℕ, ℤ, pos, ◌+◌, ◌-◌, ◌*◌, ◌<◌, ◌≤◌, List, [], ◌∷◌, ◌++◌, length, map, take, drop, get_or, subst, ap, ◌∙◌, sym, refl, arith, replicate, unsigned_abs, ◌==◌, if◌then◌else◌, Some, None, IfSome, ext_get_or, length-append}
-use Rattle.stat_kernels.proofs.Common.{sum, sum_by, range_with_len, length-chunk, nat_tests, take-map, get_or-map, length-map, map-append, take-map-range_with_len, get_or-map-range_with_len, sum_by-append, sum_by-cons, Rectangle, ImageValue, at, run, band, within, samples_in, sum_to, map-replicate, get_or-run, length-range, band-more, Part, IsValidPart, sum_before, sum_below, sums_below, AreSums, AreAbove, last_row}
-use Rattle.std.proofs.Math.Seq.{take-append_seam, take-append-add, drop-append_seam}
+use Rattle.std.proofs.Common.{◌%◌, ◌≡◌, ℕ, ℤ, pos, ◌+◌, ◌-◌, ◌*◌, ◌<◌, ◌≤◌, List, [], ◌∷◌, ◌++◌, length, map, take, get_or, ap, ◌∙◌, sym, refl, arith, replicate, unsigned_abs, ext_get_or}
+use Rattle.stat_kernels.proofs.Common.{sum, sum_by, range_with_len, nat_tests, take-map, get_or-map, length-map, map-append, take-map-range_with_len, get_or-map-range_with_len, sum_by-append, sum_by-cons, Rectangle, ImageValue, at, run, band, within, samples_in, sum_to, map-replicate, get_or-run, length-range, band-more, Part, IsValidPart, sum_before, sum_below, sums_below, AreSums}
+use Rattle.std.proofs.Math.Seq.{take-append_seam, take-append-add}
 use Rattle.vx_base.specs.Rectangle.{whole, meet_of}
-use Rattle.vx_base.proofs.TableLaws.{length-run, row_across, row_outside}
-use Rattle.stat_kernels.proofs.Rows.{above}
+use Rattle.vx_base.proofs.TableLaws.{length-run, row_across}
 use Rattle.stat_kernels.specs.Sums.{corner}
 use Rattle.stat_kernels.proofs.PlaceLaws.{samples_more}
 
@@ -35,12 +34,6 @@ sum_at image x y a b d e = ap (λ r. pos (sum_by unsigned_abs (samples_in r imag
 map-zeros : (n : ℕ) → map pos (replicate n 0) ≡ replicate n (pos 0)
 map-zeros n = map-replicate pos n 0
 
--- a row beside the valid part
-pub row_of_zeros : (image : ImageValue) (part : Part) → IsValidPart image part → (y : ℕ) (out : List ℕ) → ((y < part.top) ⊎ (part.bottom ≤ y)) → out ≡ replicate image.width 0 → map pos out ≡ run 0 image.width (λ x. within image.valid (sum_to image) x y)
-row_of_zeros image part is y out beside zeros =
-    let at_rows : (y < image.valid.y0) ⊎ (image.valid.y1 ≤ y) = elim beside [ inl before ↦ inl (omega (arith, is.top)) | inr after ↦ inr (omega (arith, is.bottom)) ] in
-    ap (map pos) zeros ∙ map-zeros image.width ∙ sym (row_outside image.valid (sum_to image) image.width y at_rows)
-
 run_of_sums : (sums : List ℕ) (x n : ℕ) (f : ℕ → ℤ) → length sums ≡ n → ((k : ℕ) → k < n → pos (get_or sums k 0) ≡ f (x + k)) → map pos sums ≡ run x n f
 run_of_sums sums x n f long same =
     ext_get_or (pos 0) (map pos sums) (run x n f) (length-map sums pos ∙ long ∙ sym (length-run f x n))
@@ -60,14 +53,6 @@ module _ (image : ImageValue) (part : Part) (is : IsValidPart image part) (y : �
       ap (λ l. get_or l k 0) is_below ∙ here
       ∙ omega (arith, are k (omega arith), row_is, sum_more image (image.valid.x0 + k + 1) y (omega (arith, is.top)))
 
-  -- the same from the row above, of which a part is read
-  pub sums_from : (row above sums : List ℕ) (x : ℕ) → x ≡ part.x → map pos row ≡ run part.x part.count (λ k. at image k y) → length row ≡ part.count → length above ≡ image.width
-      → sums ≡ sums_below (take (x + part.count - x) (drop x above)) row → AreSums image y (take part.count (drop part.x above)) → AreSums image (y + 1) sums
-  sums_from row above sums x at_x same wide above_wide is_below are =
-      let e : x + part.count - x ≡ part.count = omega arith in
-      let cut : take (x + part.count - x) (drop x above) ≡ take part.count (drop part.x above) = cc (e, at_x) in
-      sums_next row _ sums same wide (ap length cut ∙ length-chunk part.x part.count above (omega (arith, above_wide, is.in_columns))) is_below (rw cut are)
-
   -- a row through the valid part
   pub row_of_parts : (left sums right : List ℕ) → y < part.bottom → left ≡ replicate part.x 0 → right ≡ replicate (image.width - (part.x + part.count)) 0 → length sums ≡ part.count → AreSums image (y + 1) sums
       → map pos (left ++ (sums ++ right)) ≡ run 0 image.width (λ x. within image.valid (sum_to image) x y)
@@ -79,30 +64,12 @@ module _ (image : ImageValue) (part : Part) (is : IsValidPart image part) (y : �
       cc (map-append pos left (sums ++ right), map-append pos sums right, at_left, at_right, map-zeros part.x, is.x, sums_are, map-zeros (image.width - (part.x + part.count)), beside)
       ∙ sym (row_across r (sum_to image) image.width r.x0 r.x1 y refl refl is.columns (omega (arith, is.x, is.count, is.columns, is.in_columns)) (omega (arith, is.top)) (omega (arith, is.bottom)))
 
--- ---- the row above
-
--- the same row of a number that is written otherwise
-pub above_at : (image : ImageValue) (part : Part) (m n : ℕ) (row : List ℕ) → m ≡ n → AreAbove image part m row → AreAbove image part n row
-above_at image part m n row same are = subst (λ k. AreAbove image part k row) same are
-
--- above the others stands the row that was written last
-pub last_row_is : (width : ℕ) (before row : List ℕ) → 1 ≤ width → length row ≡ width → last_row width (before ++ row) ≡ Some row
-last_row_is width before row wide long =
-    let more : length (before ++ row) ≡ length before + length row = length-append before row in
-    let count : length (before ++ row) - width ≡ length before = omega (arith, more, long) in
-    let some : (length (before ++ row) == 0) ≡ false = grind (arith, nat_tests, more, long, wide) in
-    ap (λ t. if t then None else Some (drop (length (before ++ row) - width) (before ++ row))) some ∙ cc (count, drop-append_seam before row)
-
 -- one more row is written
 module _ (y width : ℕ) (before row rest : List ℕ) (start : length before ≡ y * width) (long : length row ≡ width) where
   rows_so_far : take ((y + 1) * width) (before ++ (row ++ rest)) ≡ before ++ row
   rows_so_far =
       let e : (y + 1) * width ≡ length before + length row = omega arith in
       cc (e, take-append-add before (row ++ rest) (length row), take-append_seam row rest)
-
-  pub above_next : (P : List ℕ → Type 0) → 1 ≤ width → P row → IfSome (last_row width (take ((y + 1) * width) (before ++ (row ++ rest)))) P
-  above_next P wide holds =
-      rw (rows_so_far, last_row_is width before row wide long) holds
 
   pub rows_written : (top : ℕ) (f : ℕ → ℕ → ℤ) → map pos before ≡ band width top y f → map pos row ≡ run 0 width (λ x. f x (top + y)) → map pos (take ((y + 1) * width) (before ++ (row ++ rest))) ≡ band width top (y + 1) f
   rows_written top f are is =

@@ -1,6 +1,6 @@
 -- Counts by value, and those in bins.
-use Rattle.std.proofs.Common.{◌≡◌, ℕ, ℤ, pos, ◌+◌, ◌*◌, ◌<◌, ◌≤◌, List, [], ◌∷◌, ◌++◌, length, map, take, get_or, set, replicate, cond, Bool, ◌&&◌, suc, refl, ap, ◌∙◌, sym, arith, if◌then◌else◌, Some, None, unsigned_abs, ◌==◌, nat_lt, length-set, get_or-set_same, get_or-set_other, length-take}
-use Rattle.stat_kernels.proofs.Common.{range_with_len, All, cases_eq, cases_lt, nat_tests, get_or_past, get_or-map, length-map, length-replicate, get_or-replicate, All-nil, All-cons, All-head, All-tail, sum_by-cons, sum_by-append, sum_by_more, count_by-le-length, length-map-range_with_len, get_or-map-range_with_len, fill_by_all, BinsValue, bin_of, is_bin, tallies, count_at, count_in_all}
+use Rattle.std.proofs.Common.{◌≡◌, ℕ, ℤ, ◌+◌, ◌<◌, ◌≤◌, List, [], ◌∷◌, ◌++◌, length, map, get_or, set, replicate, cond, Bool, ◌&&◌, refl, ap, ◌∙◌, sym, arith, if◌then◌else◌, Some, None, unsigned_abs, ◌==◌, nat_lt, length-set, get_or-set_same, get_or-set_other}
+use Rattle.stat_kernels.proofs.Common.{range_with_len, All, cases_eq, cases_lt, nat_tests, get_or_past, length-replicate, get_or-replicate, All-head, All-tail, sum_by-cons, sum_by-append, count_by-le-length, length-map-range_with_len, get_or-map-range_with_len, fill_by_all, BinsValue, bin_of, is_bin, tallies, count_at, count_in_all}
 use Rattle.std.specs.List.{count_by}
 
 -- of these samples how many are below v and fall into bin k
@@ -96,33 +96,6 @@ zero_at n v = grind (arith, cases_lt v n, get_or-replicate {A = ℕ} n v 0 0, ge
 -- nothing is counted yet
 pub zeros_counted : (v : ℕ) → count_in_all (replicate 256 0) (replicate 256 0) (replicate 256 0) (replicate 256 0) v ≡ 0
 zeros_counted v = omega (arith, zero_at 256 v)
-
--- one sample more
-pub one_at : (v : ℕ) (row : List ℕ) (i j : ℕ) → i < length row → j ≡ i + 1 → count_at v (take j (map pos row)) ≡ count_at v (take i (map pos row)) + cond (get_or row i 0 == v) 1 0
-one_at v row i j below next =
-    ap (λ n. count_at v (take n (map pos row))) next
-    ∙ sum_by_more (λ z. cond (unsigned_abs z == v) 1 0) (map pos row) i (pos 0) (omega (arith, length-map row pos))
-    ∙ ap (λ z. count_at v (take i (map pos row)) + cond (unsigned_abs z == v) 1 0) (get_or-map pos row i 0 (pos 0) below)
-
-pub four_more : (v : ℕ) (row : List ℕ) (k : ℕ) → 4 * k + 3 < length row → count_at v (take (4 * (k + 1)) (map pos row))
-    ≡ count_at v (take (4 * k) (map pos row)) + (((cond (get_or row (4 * k) 0 == v) 1 0 + cond (get_or row (4 * k + 1) 0 == v) 1 0) + cond (get_or row (4 * k + 2) 0 == v) 1 0) + cond (get_or row (4 * k + 3) 0 == v) 1 0)
-four_more v row k room =
-    omega (
-      arith,
-      one_at v row (4 * k) (4 * k + 1) (omega arith) refl,
-      one_at v row (4 * k + 1) (4 * k + 2) (omega arith) (omega arith),
-      one_at v row (4 * k + 2) (4 * k + 3) (omega arith) (omega arith),
-      one_at v row (4 * k + 3) (4 * (k + 1)) (omega arith) (omega arith),
-    )
-
--- so many are counted among the first samples at most
-pub few_of_first : (v : ℕ) (row : List ℕ) (i : ℕ) → i ≤ length row → count_at v (take i (map pos row)) ≤ i
-few_of_first v row i room =
-    omega (arith, count_by-le-length (λ z. unsigned_abs z == v) (take i (map pos row)), length-take i (map pos row), length-map row pos)
-
-pub all_bytes : (row : List ℕ) → ((i : ℕ) → get_or row i 0 < 256) → All (λ z. unsigned_abs z < 256) (map pos row)
-all_bytes [] small = All-nil (λ z. unsigned_abs z < 256)
-all_bytes (x ∷ row) small = All-cons (λ z. unsigned_abs z < 256) (pos x) (map pos row) (small 0) (all_bytes row (λ i. small (suc i)))
 
 -- the samples of the rows above, and those of one more
 pub row_counted : (v : ℕ) (zs ws : List ℤ) (old new : ℕ) → old ≡ count_at v zs → new ≡ old + count_at v ws → new ≡ count_at v (zs ++ ws)

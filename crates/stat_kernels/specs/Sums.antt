@@ -1,11 +1,10 @@
 -- Sums of samples to the left and above.
-use Rattle.std.specs.Prelude.{ℕ, ℤ, pos, ◌≡◌, ◌+◌, ◌-◌, ◌%◌, ◌^◌, ◌<◌, ◌≤◌, ◌==◌, max, if◌then◌else◌, unsigned_abs, Option, Some, None, List, length, map, slice_index, take, drop}
-use Rattle.std.specs.List.{sum, sum_by, range_with_len}
+use Rattle.std.specs.Prelude.{ℕ, ℤ, pos, ◌≡◌, ◌+◌, ◌-◌, ◌%◌, ◌^◌, ◌<◌, ◌≤◌, ◌==◌, if◌then◌else◌, unsigned_abs, Option, Some, None, List, length, map, slice_index, drop}
+use Rattle.std.specs.List.{sum_by}
 use Rattle.vx_base.specs.Rectangle.{Rectangle, inside}
 use Rattle.vx_base.specs.Image.{ImageValue, IsImage, at, run, within}
 use Rattle.vx_base.specs.Statistics.{samples_in, sum_to}
 use Rattle.image_core.specs.declared.band.Band.{Band}
-use Rattle.stat_kernels.specs.declared.part.Part.{Part}
 
 -- the part of a rectangle that is left of column x and above row y
 abbrev pub corner : Rectangle → ℕ → ℕ → Rectangle
@@ -18,18 +17,6 @@ sum_before image x y = sum_by unsigned_abs (samples_in (corner image.valid x y) 
 -- for each valid column the sum of the samples up to it and above row y, modulo 2 ^ 32
 abbrev pub AreSums : ImageValue → ℕ → List ℕ → Type 0
 AreSums image y sums = (k : ℕ) → k < length sums → slice_index sums k ≡ sum_before image (image.valid.x0 + k + 1) y % 2 ^ 32
-
--- the sum above a place of a row and of the samples of the row up to that place, modulo 2 ^ 32
-abbrev pub sum_below : (above row : List ℕ) → ℕ → ℕ
-sum_below above row k = (slice_index above k + sum (take (k + 1) row)) % 2 ^ 32
-
--- such sums at all places of the row
-abbrev pub sums_below : (above row : List ℕ) → List ℕ
-sums_below above row = map (sum_below above row) (range_with_len 0 (length row))
-
--- in the row above row y stand the sums that the valid row y, or the first valid one below it, adds to
-abbrev pub AreAbove : ImageValue → Part → ℕ → List ℕ → Type 0
-AreAbove image part y row = y < part.bottom → AreSums image (max part.top y) (take part.count (drop part.x row))
 
 -- the last row of those before, if there is one
 abbrev pub last_row : ℕ → (before : List ℕ) → Option (List ℕ)
@@ -56,7 +43,3 @@ pub record IsRowOf (part : ImageValue) (y : ℕ) (whole : ImageValue) (line : �
 pub record AreRowsOf (part : ImageValue) (rows : Band) (whole : ImageValue) (line : ℕ) : Type 0 where
   pub is : IsImage whole
   pub each : (k : ℕ) → k < rows.count → IsRowOf part (rows.start + k) whole (line + k)
-
--- the row before the next one, or this one where there is none
-abbrev pub last_row_or : ℕ → (before : List ℕ) → Option (List ℕ) → Option (List ℕ)
-last_row_or width before above = if length before == 0 then above else Some (drop (length before - width) before)

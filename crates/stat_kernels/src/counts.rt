@@ -1,52 +1,17 @@
 //! Histograms.
-ghost use Rattle.std.specs.Prelude.{◌≡◌, ◌==◌, ◌+◌, ◌<◌, ◌^◌, ℕ, pos, if◌then◌else◌, map, length};
-ghost use Rattle.std.specs.Prelude.{slice_index, unsigned_abs};
+ghost use Rattle.std.specs.Prelude.{◌≡◌, ◌+◌, ◌<◌, ◌^◌, ℕ, length, slice_index, unsigned_abs};
 ghost use Rattle.std.specs.List.{All};
 ghost use Rattle.vx_base.specs.declared.format.Format.TheVariants.{U8};
 ghost use Rattle.vx_base.specs.Statistics.{valid_samples, histogram};
 ghost use Rattle.image_core.specs.Bands.{IsInRows};
-ghost use Rattle.stat_kernels.specs.Counts.{added, count_at, count_in_all};
+ghost use Rattle.lane_rows.specs.Tallies.{count_at, count_in_all};
+ghost use Rattle.stat_kernels.specs.Counts.{added};
 ghost use Rattle.stat_kernels.specs.Part.{valid_in};
 
 use crate::part::Part;
 use image_core::{Band, Image};
+use lane_rows::tally_row;
 use vx_base::{Bins, GREATEST_BINS};
-
-/// Counts one more sample of this value.
-fn count_one(counts: &mut [u32; 256], value: u8)
-    requires { slice_index counts.old value + 1 < 2 ^ 32 }
-    ensures { (v : ℕ) → slice_index counts.new v
-        ≡ slice_index counts.old v + (if value == v then 1 else 0) }
-{
-    counts[usize::from(value)] += 1;
-}
-
-/// Counts the samples of a row, each in the next of four tables, so that equal samples one after
-/// another don't wait for each other.
-fn count_row(
-    row: &[u8],
-    first: &mut [u32; 256],
-    second: &mut [u32; 256],
-    third: &mut [u32; 256],
-    fourth: &mut [u32; 256],
-)
-    requires room { (v : ℕ) → count_in_all first.old second.old third.old fourth.old v
-        + length row.now < 2 ^ 32 }
-    ensures counted { (v : ℕ) → count_in_all first.new second.new third.new fourth.new v
-        ≡ count_in_all first.old second.old third.old fourth.old v + count_at v (map pos row.now) }
-    ensures bytes { All (λ z. unsigned_abs z < 256) (map pos row.now) }
-{
-    let fours = row.len() / 4;
-    for k in 0..fours {
-        count_one(first, row[4 * k]);
-        count_one(second, row[4 * k + 1]);
-        count_one(third, row[4 * k + 2]);
-        count_one(fourth, row[4 * k + 3]);
-    }
-    for i in 4 * fours..row.len() {
-        count_one(first, row[i]);
-    }
-}
 
 /// Counts the valid samples in these rows of a U8 image by their values.
 fn count_values(
@@ -69,7 +34,7 @@ fn count_values(
     let part = Part::of(image).in_rows(rows);
     for y in part.top..part.bottom {
         let row = image.part_of_row::<u8>(part.x, y, part.count);
-        count_row(row, first, second, third, fourth);
+        tally_row(row, first, second, third, fourth);
     }
 }
 

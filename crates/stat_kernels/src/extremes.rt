@@ -1,21 +1,44 @@
 //! The least and the greatest sample.
-ghost use Rattle.std.specs.Prelude.{◌≡◌, ◌≢◌, ◌+◌, ◌<◌, ◌^◌};
+ghost use Rattle.std.specs.Prelude.{◌≡◌, ◌≢◌, ◌+◌, ◌<◌, ◌≤◌, ◌^◌, ◌++◌, ℕ, List};
 ghost use Rattle.vx_base.specs.declared.format.Format.TheVariants.{U32};
 ghost use Rattle.vx_base.specs.Image.{at};
-ghost use Rattle.vx_base.specs.Statistics.{places, extremes};
+ghost use Rattle.vx_base.specs.Statistics.{places, row_places, extremes};
 ghost use Rattle.image_core.specs.Bands.{IsInRows};
 ghost use Rattle.stat_kernels.specs.Located.{added_extremes, extremes_of, found_in};
 ghost use Rattle.stat_kernels.specs.Part.{valid_in};
 
 use crate::located::Found;
 use crate::part::Part;
-use crate::short::Short;
 use image_core::{Band, Image};
 use vx_base::{Extremes, Format};
 
+/// What is found in these samples and in those of row y, at places behind theirs.
+fn with_row(found: Found, image: &Image<'_>, part: Part, y: u16) -> Found
+    requires format { image.now.format ≢ U32 }
+    requires row { y < image.now.height }
+    requires columns { part.x + part.count ≤ image.now.width }
+    requires columns_fit { part.x + part.count < 2 ^ 16 }
+    requires least_room { found.least.count + part.count < 2 ^ 32 }
+    requires greatest_room { found.greatest.count + part.count < 2 ^ 32 }
+    ensures { (before : List (ℕ × ℕ)) → found ≡ found_in (at image.now) before →
+        result ≡ found_in (at image.now) (before ++ row_places part.x part.count y) }
+{
+    match image.desc().format() {
+        Format::U8 => {
+            let row = image.part_of_row::<u8>(part.x, y, part.count);
+            found.joined(part.x, y, row)
+        }
+        Format::S16 => {
+            let row = image.part_of_row::<i16>(part.x, y, part.count);
+            found.joined(part.x, y, row)
+        }
+        Format::U32 => unreachable!(),
+    }
+}
+
 /// What is found in the valid samples of these rows.
-fn locate<T: Short>(image: &Image<'_>, rows: Band) -> Found
-    requires format { image.now.format ≡ T.format }
+fn found_in(image: &Image<'_>, rows: Band) -> Found
+    requires format { image.now.format ≢ U32 }
     requires rows { IsInRows image.now.height rows }
     ensures { result ≡ found_in (at image.now) (places (valid_in rows image.now).valid) }
 {
@@ -23,23 +46,9 @@ fn locate<T: Short>(image: &Image<'_>, rows: Band) -> Found
     let part = Part::of(image).in_rows(rows);
     let mut found = Found::nowhere();
     for y in part.top..part.bottom {
-        let row = (&*image).part_of_row::<T>(part.x, y, part.count);
-        found = found.joined(part.x, y, row);
+        found = with_row(found, image, part, y);
     }
     found
-}
-
-/// The same, whatever the image's format is.
-fn found_in(image: &Image<'_>, rows: Band) -> Found
-    requires format { image.now.format ≢ U32 }
-    requires rows { IsInRows image.now.height rows }
-    ensures { result ≡ found_in (at image.now) (places (valid_in rows image.now).valid) }
-{
-    match image.desc().format() {
-        Format::U8 => locate::<u8>(image, rows),
-        Format::S16 => locate::<i16>(image, rows),
-        Format::U32 => unreachable!(),
-    }
 }
 
 /// The least and the greatest valid sample of a U8 or S16 image (OpenVX 1.3, "Min, Max

@@ -3,8 +3,11 @@ ghost use Rattle.std.specs.Prelude.{◌≡◌, ◌≢◌, ◌+◌, ◌≤ℤ◌,
 ghost use Rattle.std.specs.List.{All, Contains};
 ghost use Rattle.vx_base.specs.Image.{ImageValue};
 ghost use Rattle.vx_base.specs.Statistics.{BinsValue, extremes, histogram, valid_samples};
+ghost use Rattle.image_core.specs.declared.band.Band.{Band as Rows};
 ghost use Rattle.stat_kernels.specs.Counts.{added};
+ghost use Rattle.stat_kernels.specs.Located.{added_extremes};
 ghost use Rattle.stat_kernels.specs.Part.{valid_in};
+ghost use Rattle.stat_kernels.specs.Sums.{AreRowsOf};
 
 /// No valid sample of an image is beyond its extremes, and where it has valid samples, the extremes
 /// are among them.
@@ -25,4 +28,24 @@ pub fn bands_are_counted()
         histogram bins (valid_in (record { start = start; count = first + second }) image)
         ≡ added (histogram bins (valid_in (record { start = start; count = first }) image))
         (histogram bins (valid_in (record { start = start + first; count = second }) image)) }
+{}
+
+/// The extremes of two bands of which one follows the other, the second's added to the first's, are
+/// those of the rows of both together: as `min_max` finds them, with counts and first places.
+pub fn bands_are_located()
+    ensures { (image : ImageValue) (start first second : ℕ) →
+        added_extremes 0
+        (extremes (valid_in (record { start = start; count = first }) image))
+        (extremes (valid_in (record { start = start + first; count = second }) image))
+        ≡ extremes (valid_in (record { start = start; count = first + second }) image) }
+{}
+
+/// The second band may be rows of another image, which stand for those of `whole` so many rows
+/// further down.
+pub fn bands_of_parts_are_located()
+    ensures { (part whole : ImageValue) (rows : Rows) (start first down : ℕ) →
+        rows.start + down ≡ start + first → AreRowsOf part rows whole (start + first) →
+        added_extremes down (extremes (valid_in (record { start = start; count = first }) whole))
+        (extremes (valid_in rows part))
+        ≡ extremes (valid_in (record { start = start; count = first + rows.count }) whole) }
 {}

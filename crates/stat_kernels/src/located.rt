@@ -3,9 +3,7 @@ ghost use Rattle.std.specs.Prelude.{◌≡◌, ◌+◌, ◌<◌, ◌^◌, ◌++�
 ghost use Rattle.vx_base.specs.Image.{run};
 ghost use Rattle.vx_base.specs.Statistics.{row_places, chosen, count_of};
 
-use crate::extent::{greatest_of, least_of};
-use crate::occurrences::{count_of, first_of};
-use crate::short::Short;
+use lane_rows::{Compared, count_of, first_of, greatest_of, least_of};
 use vx_base::Extremes;
 
 /// The least or the greatest of some samples, how many places hold it, and the first of them; all
@@ -23,7 +21,7 @@ impl Located {
     /// The same of these samples and of a row's, at places behind theirs, of which this one is the
     /// least or the greatest. The caller says whether it is beyond the value: below the least,
     /// above the greatest.
-    fn joined<T: Short>(self, is_beyond: bool, sample: T, x: u16, y: u16, row: &[T]) -> Located
+    fn joined<T: Compared>(self, is_beyond: bool, sample: T, x: u16, y: u16, row: &[T]) -> Located
         requires among { 0 < count_of (T.value sample) (map T.value row.now) }
         requires columns { x + length row.now < 2 ^ 16 }
         requires room { self.count + length row.now < 2 ^ 32 }
@@ -116,7 +114,7 @@ impl Found {
     }
 
     /// What is found in these samples and in a row's, at places behind theirs.
-    pub fn joined<T: Short>(self, x: u16, y: u16, row: &[T]) -> Found
+    pub fn joined<T: Compared>(self, x: u16, y: u16, row: &[T]) -> Found
         requires columns { x + length row.now < 2 ^ 16 }
         requires least_room { self.least.count + length row.now < 2 ^ 32 }
         requires greatest_room { self.greatest.count + length row.now < 2 ^ 32 }

@@ -2,20 +2,27 @@
 ghost use Rattle.std.specs.Prelude.{◌≡◌, ◌⊎◌, ◌+◌, ◌*◌, ◌<◌, ◌≤◌, ℕ, pos, map, take, drop};
 ghost use Rattle.std.specs.Prelude.{length, replicate, unwrap_or, IfSome};
 ghost use Rattle.std.specs.Option.{option_copied, option_map};
+ghost use Rattle.vx_base.specs.declared.desc.TheConstants.{GREATEST_SIDE};
 ghost use Rattle.vx_base.specs.declared.format.Format.TheVariants.{U8, U32};
-ghost use Rattle.vx_base.specs.Image.{ImageValue, IsImage, run, band, within};
+ghost use Rattle.vx_base.specs.Image.{ImageValue, IsImage, band, within};
 ghost use Rattle.vx_base.specs.Statistics.{sum_to, integral};
 ghost use Rattle.image_core.specs.Bands.{IsInRows};
 ghost use Rattle.image_core.specs.Fits.{HaveSameSize};
 ghost use Rattle.image_core.specs.Target.{written, IsTarget, Writes};
+ghost use Rattle.lane_rows.specs.Running.{sums_below};
 ghost use Rattle.stat_kernels.specs.Part.{IsValidPart};
-ghost use Rattle.stat_kernels.specs.Sums.{AreSums, AreAbove, last_row, sums_below};
-ghost use Rattle.stat_kernels.specs.Sums.{AreRowsOf, IsRowAbove, IsRowOf, last_row_or, sums_row};
+ghost use Rattle.stat_kernels.specs.Sums.{AreRowsOf, AreSums, IsRowAbove, IsRowOf};
+ghost use Rattle.stat_kernels.specs.Sums.{last_row, sums_row};
 
 use crate::part::Part;
-use crate::running::{add_row, add_row_to};
 use image_core::{Band, Image, ImageMut, Whole};
-use vx_base::Rect;
+use lane_rows::running_sums;
+use vx_base::{GREATEST_SIDE, Rect};
+
+const LONGEST_ROW: usize = GREATEST_SIDE as usize;
+
+/// What stands above the first row.
+static ZEROS: [u32; LONGEST_ROW] = [0; LONGEST_ROW];
 
 /// Makes the sums above the first valid row those above row y.
 fn add_lines(image: &Image<'_>, part: Part, y: u16, sums: &mut [u32])
@@ -26,72 +33,83 @@ fn add_lines(image: &Image<'_>, part: Part, y: u16, sums: &mut [u32])
     requires sums { AreSums image.now part.top sums.old }
     ensures { AreSums image.now y sums.new }
 {
+    let _limits = image.desc().width();
+    let mut room = [0; LONGEST_ROW];
+    let above = &mut room[..part.count];
     for line in part.top..y {
-        add_row_to(image.part_of_row::<u8>(part.x, line, part.count), sums);
+        above.copy_from_slice(sums);
+        let row = image.part_of_row::<u8>(part.x, line, part.count);
+        running_sums(row, above, sums);
     }
 }
 
-/// Writes the sums of valid row y in the valid columns: from the row above it, or where there is
-/// none from all valid rows down to it.
-fn write_valid(image: &Image<'_>, part: Part, y: u16, above: Option<&[u32]>, out: &mut [u32])
+/// Writes row y of the integral image by the sums of all valid rows down to it.
+fn write_from_top(image: &Image<'_>, y: u16, out: &mut [u32])
     requires format { image.now.format ≡ U8 }
-    requires part { IsValidPart image.now part }
-    requires rows { (part.top ≤ y) × (y < part.bottom) }
-    requires above_len { IfSome above (λ row. length row.now ≡ image.now.width) }
-    requires out_len { length out.old ≡ part.count }
-    requires sums { IfSome above
-        (λ row. AreSums image.now y (take part.count (drop part.x row.now))) }
-    ensures { AreSums image.now (y + 1) out.new }
+    requires row { y < image.now.height }
+    requires out_len { length out.old ≡ image.now.width }
+    ensures { map pos out.new ≡ sums_row image.now y }
+{
+    let part = Part::of(image);
+    out.fill(0);
+    if !part.has_row(y) {
+        return;
+    }
+    let x = usize::from(part.x);
+    add_lines(image, part, y + 1, &mut out[x..x + part.count]);
+}
+
+/// Writes the sums above a part of a row, from column x on, and of its samples: where there is no
+/// row above, of these alone.
+fn write_part(row: &[u8], above: Option<&[u32]>, x: usize, out: &mut [u32])
+    requires above_len { IfSome above (λ sums. x + length row.now ≤ length sums.now) }
+    requires out_len { length out.old ≡ length row.now }
+    requires room { length row.now ≤ GREATEST_SIDE }
+    ensures { out.new ≡ sums_below
+        (unwrap_or (option_map (λ sums. take (length row.now) (drop x sums))
+        (option_copied above.entry)) (replicate (length row.now) 0)) row.now }
 {
     match above {
-        Some(above) => {
-            let x = usize::from(part.x);
-            let row = image.part_of_row::<u8>(part.x, y, part.count);
-            add_row(row, &above[x..x + part.count], out);
-        }
-        None => {
-            out.fill(0);
-            add_lines(image, part, y + 1, out);
-        }
+        Some(above) => running_sums(row, &above[x..x + row.len()], out),
+        None => running_sums(row, &ZEROS[..row.len()], out),
     }
 }
 
-/// Writes row y of the integral image, which goes through the valid part.
+/// Writes row y of the integral image, which goes through the valid part, as `write_row` does.
 fn write_across(image: &Image<'_>, part: Part, y: u16, above: Option<&[u32]>, out: &mut [u32])
     requires format { image.now.format ≡ U8 }
     requires part { IsValidPart image.now part }
+    requires some { 1 ≤ part.count }
     requires rows { (part.top ≤ y) × (y < part.bottom) }
     requires above_len { IfSome above (λ row. length row.now ≡ image.now.width) }
     requires out_len { length out.old ≡ image.now.width }
-    requires sums { IfSome above
-        (λ row. AreSums image.now y (take part.count (drop part.x row.now))) }
-    ensures sums { AreSums image.now (y + 1) (take part.count (drop part.x out.new)) }
-    ensures written { map pos out.new ≡ run 0 image.now.width
-        (λ x. within image.now.valid (sum_to image.now) x y) }
+    ensures { (whole : ImageValue) (line : ℕ) → IsImage whole → IsRowOf image.now y whole line →
+        IsRowAbove whole line (option_copied above.entry) → map pos out.new ≡ sums_row whole line }
 {
-    let (left, others) = out.split_at_mut(usize::from(part.x));
+    let _limits = image.desc().width();
+    let x = usize::from(part.x);
+    let (left, others) = out.split_at_mut(x);
     let (middle, right) = others.split_at_mut(part.count);
     left.fill(0);
-    write_valid(image, part, y, above, middle);
+    let row = image.part_of_row::<u8>(part.x, y, part.count);
+    write_part(row, above, x, middle);
     right.fill(0);
 }
 
-/// Writes row y of the integral image: from the row above it, or where there is none from all valid
-/// rows down to it.
+/// Writes a row of an integral image from the row above it: of the image `whole` whose row `line`
+/// is row y of this one. The first row of an image has none above it.
 fn write_row(image: &Image<'_>, part: Part, y: u16, above: Option<&[u32]>, out: &mut [u32])
     requires format { image.now.format ≡ U8 }
     requires part { IsValidPart image.now part }
     requires above_len { IfSome above (λ row. length row.now ≡ image.now.width) }
     requires out_len { length out.old ≡ image.now.width }
-    requires sums { IfSome above (λ row. AreAbove image.now part y row.now) }
-    ensures sums { AreAbove image.now part (y + 1) out.new }
-    ensures written { map pos out.new ≡ run 0 image.now.width
-        (λ x. within image.now.valid (sum_to image.now) x y) }
+    ensures { (whole : ImageValue) (line : ℕ) → IsImage whole → IsRowOf image.now y whole line →
+        IsRowAbove whole line (option_copied above.entry) → map pos out.new ≡ sums_row whole line }
 {
-    if y < part.top || part.bottom <= y {
-        out.fill(0);
-    } else {
+    if part.has_row(y) {
         write_across(image, part, y, above, out);
+    } else {
+        out.fill(0);
     }
 }
 
@@ -107,101 +125,6 @@ pub fn row_above(before: &[u32], width: usize) -> Option<&[u32]>
     }
 }
 
-/// Writes the samples of a band of the integral image row by row, each from the one above.
-fn write_sums(image: &Image<'_>, rows: Band, samples: &mut [u32])
-    requires format { image.now.format ≡ U8 }
-    requires rows { IsInRows image.now.height rows }
-    requires size { length samples.old ≡ rows.count * image.now.width }
-    ensures { map pos samples.new ≡ band image.now.width rows.start rows.count
-        (within image.now.valid (sum_to image.now)) }
-{
-    let width = usize::from(image.desc().width());
-    let part = Part::of(image);
-    for k in 0..rows.count {
-        let (before, others) = samples.split_at_mut(usize::from(k) * width);
-        let above = row_above(before, width);
-        write_row(image, part, rows.start + k, above, &mut others[..width]);
-    }
-}
-
-// ---- rows of which the one above is there
-
-/// So many of the sums of a row, if there is one.
-fn cut(above: Option<&[u32]>, x: usize, count: usize) -> Option<&[u32]>
-    requires { IfSome above (λ row. x + count ≤ length row.now) }
-    ensures { option_copied result
-        ≡ option_map (λ row. take count (drop x row)) (option_copied above.entry) }
-{
-    match above {
-        Some(row) => Some(&row[x..x + count]),
-        None => None,
-    }
-}
-
-/// Writes the sums above a row and of its samples: where there is no row above, of these alone.
-fn add_row_on(row: &[u8], above: Option<&[u32]>, out: &mut [u32])
-    requires above_len { IfSome above (λ sums. length sums.now ≡ length row.now) }
-    requires out_len { length out.old ≡ length row.now }
-    ensures { out.new ≡ sums_below
-        (unwrap_or (option_copied above.entry) (replicate (length row.now) 0)) row.now }
-{
-    let Some(above) = above else {
-        out.fill(0);
-        add_row_to(row, out);
-        return;
-    };
-    add_row(row, above, out);
-}
-
-/// Writes row y of the integral image, which goes through the valid part, as `write_on` does.
-fn write_across_on(image: &Image<'_>, part: Part, y: u16, above: Option<&[u32]>, out: &mut [u32])
-    requires format { image.now.format ≡ U8 }
-    requires part { IsValidPart image.now part }
-    requires some { 1 ≤ part.count }
-    requires rows { (part.top ≤ y) × (y < part.bottom) }
-    requires above_len { IfSome above (λ row. length row.now ≡ image.now.width) }
-    requires out_len { length out.old ≡ image.now.width }
-    ensures { (whole : ImageValue) (line : ℕ) → IsImage whole → IsRowOf image.now y whole line →
-        IsRowAbove whole line (option_copied above.entry) → map pos out.new ≡ sums_row whole line }
-{
-    let x = usize::from(part.x);
-    let (left, others) = out.split_at_mut(x);
-    let (middle, right) = others.split_at_mut(part.count);
-    left.fill(0);
-    let row = image.part_of_row::<u8>(part.x, y, part.count);
-    add_row_on(row, cut(above, x, part.count), middle);
-    right.fill(0);
-}
-
-/// Writes a row of an integral image from the row above it: of the image `whole` whose row `line`
-/// is row y of this one. The first row of an image has none above it.
-fn write_on(image: &Image<'_>, y: u16, above: Option<&[u32]>, out: &mut [u32])
-    requires format { image.now.format ≡ U8 }
-    requires above_len { IfSome above (λ row. length row.now ≡ image.now.width) }
-    requires out_len { length out.old ≡ image.now.width }
-    ensures { (whole : ImageValue) (line : ℕ) → IsImage whole → IsRowOf image.now y whole line →
-        IsRowAbove whole line (option_copied above.entry) → map pos out.new ≡ sums_row whole line }
-{
-    let part = Part::of(image);
-    if part.has_row(y) {
-        write_across_on(image, part, y, above, out);
-    } else {
-        out.fill(0);
-    }
-}
-
-/// The last of the rows before the next one, or this one where there are none.
-fn row_above_or<'a>(before: &'a [u32], width: usize, above: Option<&'a [u32]>) -> Option<&'a [u32]>
-    requires { length before.now ≡ 0 ⊎ width ≤ length before.now }
-    ensures { option_copied result ≡ last_row_or width before.now (option_copied above.entry) }
-{
-    if before.is_empty() {
-        return above;
-    }
-    let last = before.len() - width;
-    Some(&before[last..])
-}
-
 /// Writes rows of an integral image from the row above them, which is there already: of the image
 /// `whole` whose rows from `line` on are these of this one. It looks at these rows alone.
 pub fn integral_on(image: &Image<'_>, rows: Band, above: Option<&[u32]>, samples: &mut [u32])
@@ -214,11 +137,34 @@ pub fn integral_on(image: &Image<'_>, rows: Band, above: Option<&[u32]>, samples
         ≡ band image.now.width line rows.count (within whole.valid (sum_to whole)) }
 {
     let width = usize::from(image.desc().width());
+    let part = Part::of(image);
     for k in 0..rows.count {
         let (before, others) = samples.split_at_mut(usize::from(k) * width);
-        let above = row_above_or(before, width, above);
-        write_on(image, rows.start + k, above, &mut others[..width]);
+        let above = row_above(before, width).or(above);
+        write_row(image, part, rows.start + k, above, &mut others[..width]);
     }
+}
+
+/// Writes the samples of a band of the integral image: the first row from the top, the others from
+/// the row above them.
+fn write_sums(image: &Image<'_>, rows: Band, samples: &mut [u32])
+    requires format { image.now.format ≡ U8 }
+    requires rows { IsInRows image.now.height rows }
+    requires size { length samples.old ≡ rows.count * image.now.width }
+    ensures { map pos samples.new ≡ band image.now.width rows.start rows.count
+        (within image.now.valid (sum_to image.now)) }
+{
+    let _valid = image.valid();
+    if rows.count == 0 {
+        return;
+    }
+    let (first, others) = samples.split_at_mut(usize::from(image.desc().width()));
+    write_from_top(image, rows.start, first);
+    let below = Band {
+        start: rows.start + 1,
+        count: rows.count - 1,
+    };
+    integral_on(image, below, Some(first), others);
 }
 
 /// The integral image of an image.

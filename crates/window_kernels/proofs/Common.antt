@@ -17,8 +17,5 @@ pub use Rattle.vx_base.specs.Sample.{clamp}
 pub use Rattle.vx_base.specs.Window.{convolved, gradient_x, gradient_y, look, median, nine_around, window_valid}
 pub use Rattle.vx_base.specs.declared.border.Border.{Border}
 pub use Rattle.vx_base.specs.declared.format.Format.TheVariants.{S16, U8}
-pub use Rattle.window_kernels.specs.ByColumns.{x_is_x, y_is_y}
-pub use Rattle.window_kernels.specs.Gradients.{change, weighted, x_at, y_at}
-pub use Rattle.window_kernels.specs.Nine.{column_in, column_seen, median_of_sorted, three_at}
 pub use Rattle.window_kernels.specs.Products.{IsPairTable, IsUpTo, alternating, evens_of, first_of_pair, line_of, odds_of, pair_at, row_sum, second_of_pair, sum_of_first, sum_of_rows, turned, turned_pairs}
 pub use borrow.Rule.Slice.PartMut.{put_mid}

@@ -1,5 +1,4 @@
 mod Common
-mod ColumnLaws
 mod BitLaws
 mod PlaceLaws
 mod AddLaws
@@ -8,6 +7,4 @@ mod ProductLaws
 mod ScaleLaws
 mod MatrixLaws
 mod RowLaws
-mod MedianLaws
-mod LaneLaws
-mod GradientLaws
+mod WindowLaws

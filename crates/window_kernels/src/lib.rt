@@ -1,34 +1,29 @@
 //! Functions that give each sample of an image from the samples around its place.
 //!
 //! Each writes a whole output: the formula of OpenVX 1.3 where the border mode makes the output
-//! valid, 0 elsewhere. A kernel of nine samples is a type that writes a piece of a row of them,
-//! `OfNine`; that it gives a whole image is proved once for all, in `write_nine`. Most of them go
-//! down the columns of three rows, which are read where they stand, and then across three columns:
-//! `OfColumn` and `AcrossColumns`; for medians in lanes (`median_lanes`). Both gradients at once
-//! are computed from the three rows themselves, in lanes (`gradient_lanes`). `convolve` loads what
-//! the windows of a piece see, with what counts beside the image, and sums up the products with two
-//! coefficients at once, at 32 places (`products`). Rows are computed in `pieces` of at most 1,024
-//! columns, so that no scratch memory grows with the width of images. No function takes memory.
-//! `examples` works the definitions out in numbers, and `laws` states what the median means.
+//! valid, 0 elsewhere. A kernel of nine samples is an `OfWindow`; that it gives a whole image is
+//! proved once for all, in `write_windows`. The windows in the middle of a row lie in valid columns,
+//! so they are read from three rows where these stand, and written by the lane kernels of lane_rows:
+//! of nine shifted slices at once (`InPlace`), or down the columns and then across three of their
+//! sums (`means`). The first and the last sample of a row, whose windows may lie beside the valid
+//! columns, are computed one by one. `convolve` loads what the windows of a piece of a row see, with
+//! what counts beside the image, and sums up the products with two coefficients at once, at 32
+//! places (`products`), so that no scratch memory of its grows with the width of images (`pieces`).
+//! No function takes memory. `examples` works the definitions out in numbers, and `laws` states what
+//! the median means.
 #![tactic(auto)]
 
-mod columns;
 mod convolution;
 pub mod examples;
-mod extremes;
-mod gradient_lanes;
 mod gradients;
 pub mod laws;
 mod means;
-mod median;
-mod median_lanes;
-mod nine;
 mod pieces;
 mod products;
-mod sums;
+mod ranks;
+mod windows;
 
 pub use convolution::convolve;
-pub use extremes::{dilate3, erode3};
 pub use gradients::{sobel_x3, sobel_y3, sobel3};
 pub use means::{box3, gaussian3};
-pub use median::median3;
+pub use ranks::{dilate3, erode3, median3};

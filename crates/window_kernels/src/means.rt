@@ -1,60 +1,108 @@
-//! Means of the nine samples around a place.
-ghost use Rattle.std.specs.Prelude.{◌≡◌, pos, ◌+ℤ◌, ◌*ℤ◌};
-ghost use Rattle.std.specs.Int.{int_div_euclid};
+//! Means of the nine samples around a place: the sums of the columns of three rows, which stand in
+//! scratch memory, and then what three of these sums give.
+ghost use Rattle.std.specs.Prelude.{◌≡◌, ◌+◌, ◌*◌, ◌≤◌};
 ghost use Rattle.vx_base.specs.declared.format.Format.TheVariants.{U8};
 ghost use Rattle.vx_base.specs.Window.{box_mean, gaussian_mean, from_nine};
 ghost use Rattle.image_core.specs.Target.{Writes};
 ghost use Rattle.window_kernels.specs.Fits.{WindowFits};
-ghost use Rattle.window_kernels.specs.ByColumns.{box_is_box, gaussian_is_gaussian};
 
-use crate::columns::OfColumn;
-use crate::nine::{AcrossColumns, ByColumns, with_scratch, write_by_columns, write_nine};
-use crate::sums::{Sum, WeightedSum, sum_of, weighted_sum_of};
-use image_core::{Image, ImageMut, Number};
-use vx_base::Border;
+use crate::windows::{OfWindow, write_windows};
+use image_core::{Image, ImageMut};
+use lane_rows::{ThreeItems, ninths, sixteenths, sum3, weighted3};
+use vx_base::{Border, GREATEST_SIDE};
+
+/// The sum of three samples.
+fn sum_of(items: ThreeItems) -> u16
+    ensures value { result ≡ items.0 + items.1 + items.2 }
+    ensures limit { result ≤ 765 }
+{
+    u16::from(items.0) + u16::from(items.1) + u16::from(items.2)
+}
+
+/// The sum of three samples, the middle one twice.
+fn weighted_sum_of(items: ThreeItems) -> u16
+    ensures value { result ≡ items.0 + 2 * items.1 + items.2 }
+    ensures limit { result ≤ 1020 }
+{
+    u16::from(items.0) + 2 * u16::from(items.1) + u16::from(items.2)
+}
 
 struct BoxMean;
 
-impl OfColumn<Sum> for BoxMean {
-    ghost gives = { λ _ a b c. a +ℤ b +ℤ c };
+impl OfWindow<u8> for BoxMean {
+    ghost formula = { λ _. box_mean };
 
-    fn of_column(&self, above: u8, here: u8, below: u8) -> Sum {
-        sum_of(above, here, below)
-    }
-}
+    ghost room = { 1 };
 
-impl AcrossColumns<u8, Sum> for BoxMean {
-    ghost joined = { λ _ a b c. int_div_euclid (a +ℤ b +ℤ c) (pos 9) };
-
-    ghost of_nine = { λ _. box_mean };
-
-    fn join(&self, left: Sum, middle: Sum, right: Sum) -> u8 {
-        ((left.sum + middle.sum + right.sum) / 9) as u8
+    fn item(&self, above: ThreeItems, here: ThreeItems, below: ThreeItems) -> u8 {
+        ((sum_of(above) + sum_of(here) + sum_of(below)) / 9) as u8
     }
 
-    ghost is_of_nine = { λ _. box_is_box };
+    fn write_row(
+        &self,
+        above: &[u8],
+        here: &[u8],
+        below: &[u8],
+        scratch: &mut [i16],
+        out: &mut [u8],
+    ) {
+        let (count, sums) = (out.len(), &mut scratch[..above.len()]);
+        sum3(above, here, below, sums);
+        ninths(
+            &sums[0..count],
+            &sums[1..count + 1],
+            &sums[2..count + 2],
+            out,
+        );
+    }
 }
 
 struct GaussianMean;
 
-impl OfColumn<WeightedSum> for GaussianMean {
-    ghost gives = { λ _ a b c. a +ℤ pos 2 *ℤ b +ℤ c };
+impl OfWindow<u8> for GaussianMean {
+    ghost formula = { λ _. gaussian_mean };
 
-    fn of_column(&self, above: u8, here: u8, below: u8) -> WeightedSum {
-        weighted_sum_of(above, here, below)
+    ghost room = { 1 };
+
+    fn item(&self, above: ThreeItems, here: ThreeItems, below: ThreeItems) -> u8 {
+        let (first, third) = (weighted_sum_of(above), weighted_sum_of(below));
+        ((first + 2 * weighted_sum_of(here) + third) / 16) as u8
+    }
+
+    fn write_row(
+        &self,
+        above: &[u8],
+        here: &[u8],
+        below: &[u8],
+        scratch: &mut [i16],
+        out: &mut [u8],
+    ) {
+        let (count, sums) = (out.len(), &mut scratch[..above.len()]);
+        weighted3(above, here, below, sums);
+        sixteenths(
+            &sums[0..count],
+            &sums[1..count + 1],
+            &sums[2..count + 2],
+            out,
+        );
     }
 }
 
-impl AcrossColumns<u8, WeightedSum> for GaussianMean {
-    ghost joined = { λ _ a b c. int_div_euclid (a +ℤ pos 2 *ℤ b +ℤ c) (pos 16) };
-
-    ghost of_nine = { λ _. gaussian_mean };
-
-    fn join(&self, left: WeightedSum, middle: WeightedSum, right: WeightedSum) -> u8 {
-        ((left.sum + 2 * middle.sum + right.sum) / 16) as u8
-    }
-
-    ghost is_of_nine = { λ _. gaussian_is_gaussian };
+/// `with_sums!(width, sums => call)` makes the call with `sums` on the stack, for the columns of an
+/// image of this width. It is cleared once, and a small image needs little of it.
+macro_rules! with_sums {
+    ($width:expr, $sums:ident => $call:expr) => {
+        if $width <= 64 {
+            let $sums = &mut [0; 64];
+            $call
+        } else if $width <= 512 {
+            let $sums = &mut [0; 512];
+            $call
+        } else {
+            let $sums = &mut [0; GREATEST_SIDE as usize];
+            $call
+        }
+    };
 }
 
 /// Writes the mean of the nine samples, rounded down (OpenVX 1.3, "Box Filter"); both images are
@@ -63,7 +111,10 @@ pub fn box3(image: &Image<'_>, output: &mut ImageMut<'_>, border: Border)
     requires { WindowFits U8 image.now output.old }
     ensures { Writes (from_nine U8 box_mean border image.now) output.old output.new }
 {
-    write_by_columns!(u8, Sum, &BoxMean, image, output, border);
+    let _limits = image.valid();
+    with_sums!(image.desc().width(), sums => {
+        write_windows::<u8, _>(&BoxMean, image, output, border, sums)
+    })
 }
 
 /// Writes the mean of the nine samples with the weights 1 2 1, 2 4 2 and 1 2 1, rounded down
@@ -72,5 +123,8 @@ pub fn gaussian3(image: &Image<'_>, output: &mut ImageMut<'_>, border: Border)
     requires { WindowFits U8 image.now output.old }
     ensures { Writes (from_nine U8 gaussian_mean border image.now) output.old output.new }
 {
-    write_by_columns!(u8, WeightedSum, &GaussianMean, image, output, border);
+    let _limits = image.valid();
+    with_sums!(image.desc().width(), sums => {
+        write_windows::<u8, _>(&GaussianMean, image, output, border, sums)
+    })
 }

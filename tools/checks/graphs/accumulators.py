@@ -96,6 +96,12 @@ def sums_that_change():
     ]
 
 
+def sum_and_its_depth():
+    """Two runs of a graph that adds to sums and shows them; a run that is lost adds nothing."""
+    return [*BEGUN, *in_graph((adds(A, S), shown(S, B)), G), processed(G), holds(S, S16, [15]),
+            holds(B, U8, [15]), processed(G), holds(S, S16, [25]), holds(B, U8, [25])]
+
+
 def sums_in_slots():
     """1 is an image of one U8 sample, 2 of S16, 3 a delay of two like 2, 4 a graph that adds to
     slot 0 and ages the delay."""

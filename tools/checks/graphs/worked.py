@@ -9,8 +9,9 @@ from feqyldan.wire import (
     OPTIMIZED_AWAY, SATURATE, THRESHOLD, U8, WRAP, node, reference)
 from checks.graphs.cast import both, in_graph, inverse
 from checks.sessions.rows import (
-    CLIENT, NOWHERE, REPLICATE, added, aged, closed, confined, delayed, graph, holds, in_slots,
-    made, name, opened, processed, released, removed, shows, told, verified, virtual, wrote)
+    CLIENT, NOWHERE, REPLICATE, SAME, added, aged, closed, confined, delayed, graph, holds,
+    in_slots, made, name, opened, processed, released, removed, shows, told, verified, virtual,
+    wrote)
 
 
 def details():
@@ -101,6 +102,14 @@ def image_read_twice():
         opened(), made(1, U8), made(2, U8), graph(3), *(virtual(number, 3) for number in (4, 5, 6)),
         *in_graph(nodes, 3), wrote(1, U8, [10]), processed(3), holds(2, U8, [10]),
         wrote(1, U8, [20]), processed(3), holds(2, U8, [20]),
+    ]
+
+
+def image_read_twice_and_released():
+    """The same, and then a verification, a node that goes, a convolution, and the context's end."""
+    return [
+        *image_read_twice(), verified(3), told(1, U8, (0, 0, 1, 1)), removed(3, 1),
+        verified(3, INVALID_LINK), (SAME, name(7)), closed(),
     ]
 
 

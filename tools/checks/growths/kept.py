@@ -3,7 +3,7 @@
 from typing import List
 
 from feqyldan import wire
-from checks.growths.refusing import check, counted, serve
+from checks.growths.refusing import Refusing, check
 
 CLIENT, TIMES = 7, 20
 SAMPLES = bytes(range(256))
@@ -39,12 +39,13 @@ NONE = {
 }
 
 
-def growths_of(command: List[str], shim: str, count_file: str, asked: List[bytes]) -> int:
-    """How often the program asks for memory, in all of a stream that is answered SUCCESS."""
-    served = serve(command, [*BEFORE, *asked], shim, 0, count_file)
+def growths_of(program: Refusing, asked: List[bytes]) -> int:
+    """Returns how often the program asks for memory, in all of a stream that is answered
+    SUCCESS."""
+    served = program.run(b"".join([*BEFORE, *asked]))
     codes = {wire.code_of(reply) for reply in wire.replies(served.stdout)}
     check(served.returncode == 0 and codes == {wire.SUCCESS}, f"{asked[0].hex()}: {codes}")
-    return counted(count_file)
+    return program.counted()[0]
 
 
 def images_in_turn() -> List[bytes]:
@@ -60,13 +61,12 @@ def changed_graphs() -> List[bytes]:
         wire.remove_node(CLIENT, 3, number), wire.verify_graph(CLIENT, 3))]
 
 
-def check_kept(command: List[str], shim: str, count_file: str) -> str:
+def check_kept(program: Refusing) -> str:
     """That what takes no memory takes none, that a run takes it once, for the list of its slots,
     and that a graph that has changed takes it again."""
     def more(asked: List[bytes], first: int = 1) -> int:
         """How much more often it asks for memory than with the first of these requests alone."""
-        return (growths_of(command, shim, count_file, asked)
-                - growths_of(command, shim, count_file, asked[:first]))
+        return growths_of(program, asked) - growths_of(program, asked[:first])
 
     for words, request in NONE.items():
         taken = more([request] * TIMES)

@@ -1,61 +1,76 @@
-/* Refuses one allocation: preloaded before the C library's allocator, the call with the number in
- * REFUSE_GROWTH (from 1) finds no memory. The number of calls is written to the file that
- * COUNT_GROWTHS names when the program ends. */
+/* Refuses growths: preloaded before the C library's allocator, the call with the number in
+ * REFUSE_GROWTH (from 1) finds no memory, and nor does the next call that asks for as much again,
+ * or for less, before the program writes a reply. The file that GROWTHS names is written when the
+ * program ends: the number of calls, and how many bytes of replies were written before the one that
+ * was refused. */
 #include <errno.h>
-#include <stddef.h>
+#include <fcntl.h>
 #include <stdio.h>
 #include <stdlib.h>
+#include <sys/syscall.h>
 #include <unistd.h>
-#include <fcntl.h>
-#include <string.h>
 
 extern void *__libc_malloc(size_t);
 extern void *__libc_calloc(size_t, size_t);
 extern void *__libc_realloc(void *, size_t);
 extern void *__libc_memalign(size_t, size_t);
 
-static long calls;
+static long calls, written, written_before;
 static long refused = -1;
+/* The size that was refused last, until a reply is written. */
+static size_t asked;
 
-static int is_refused(void) {
+static int is_refused(size_t size) {
   if (refused < 0) {
     const char *number = getenv("REFUSE_GROWTH");
     refused = number ? atol(number) : 0;
   }
   calls += 1;
-  if (calls != refused)
+  if (calls == refused) {
+    asked = size;
+    written_before = written;
+  } else if (asked > 0 && size <= asked) {
+    asked = 0;
+  } else {
     return 0;
+  }
   errno = ENOMEM;
   return 1;
 }
 
-void *malloc(size_t n) { return is_refused() ? NULL : __libc_malloc(n); }
+ssize_t write(int file, const void *bytes, size_t count) {
+  ssize_t taken = syscall(SYS_write, file, bytes, count);
+  if (file == STDOUT_FILENO && taken > 0) {
+    written += taken;
+    asked = 0;
+  }
+  return taken;
+}
 
-void *calloc(size_t n, size_t size) { return is_refused() ? NULL : __libc_calloc(n, size); }
+void *malloc(size_t n) { return is_refused(n) ? NULL : __libc_malloc(n); }
 
-void *realloc(void *p, size_t n) { return is_refused() ? NULL : __libc_realloc(p, n); }
+void *calloc(size_t n, size_t size) {
+  return is_refused(n * size) ? NULL : __libc_calloc(n, size);
+}
+
+void *realloc(void *p, size_t n) { return is_refused(n) ? NULL : __libc_realloc(p, n); }
 
 void *aligned_alloc(size_t alignment, size_t n) {
-  return is_refused() ? NULL : __libc_memalign(alignment, n);
+  return is_refused(n) ? NULL : __libc_memalign(alignment, n);
 }
 
 int posix_memalign(void **p, size_t alignment, size_t n) {
-  if (is_refused())
+  if (is_refused(n))
     return ENOMEM;
   *p = __libc_memalign(alignment, n);
   return *p ? 0 : ENOMEM;
 }
 
-__attribute__((destructor)) static void tell_count(void) {
-  const char *path = getenv("COUNT_GROWTHS");
-  char text[32];
-  if (!path)
-    return;
-  int file = open(path, O_WRONLY | O_CREAT | O_TRUNC, 0600);
-  int length = snprintf(text, sizeof text, "%ld\n", calls);
+__attribute__((destructor)) static void tell(void) {
+  const char *path = getenv("GROWTHS");
+  int file = path ? open(path, O_WRONLY | O_CREAT | O_TRUNC, 0600) : -1;
   if (file >= 0) {
-    if (write(file, text, (size_t)length) != length)
-      errno = 0;
+    dprintf(file, "%ld %ld\n", calls, written_before);
     close(file);
   }
 }

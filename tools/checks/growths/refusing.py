@@ -3,29 +3,12 @@
 import os
 import subprocess
 import sys
-from typing import List, Optional, Tuple
+from itertools import accumulate
+from typing import List, NamedTuple, Tuple
 
 from feqyldan import wire
 
 Ended = subprocess.CompletedProcess[bytes]
-
-
-def run(command: List[str], stream: bytes, shim: Optional[str] = None, refused: int = 0,
-        count_file: Optional[str] = None) -> Ended:
-    """The command on a stream, with the allocation refused that has this number."""
-    environment = dict(os.environ)
-    if shim:
-        environment["LD_PRELOAD"] = shim
-        environment["REFUSE_GROWTH"] = str(refused)
-    if count_file:
-        environment["COUNT_GROWTHS"] = count_file
-    return subprocess.run(command, input=stream, capture_output=True, env=environment,
-                          timeout=60)
-
-
-def serve(command: List[str], stream: List[bytes], shim: Optional[str] = None, refused: int = 0,
-          count_file: Optional[str] = None) -> Ended:
-    return run(command, b"".join(stream), shim, refused, count_file)
 
 
 def check(condition: object, what: str) -> None:
@@ -33,75 +16,102 @@ def check(condition: object, what: str) -> None:
         sys.exit(f"refused_growths: {what}")
 
 
-NOT_STARTED, DONE_WITHOUT = -2, -1
+class Refusing(NamedTuple):
+    """A program whose growths are refused by a library that is loaded before the C library."""
+
+    command: List[str]
+    library: str
+    # The file to which the library writes what it counted.
+    counts: str
+
+    def run(self, stream: bytes, refused: int = 0) -> Ended:
+        """Runs the program on a stream, refusing the growth of this number (0: none)."""
+        environment = dict(os.environ, LD_PRELOAD=self.library, REFUSE_GROWTH=str(refused),
+                           GROWTHS=self.counts)
+        return subprocess.run(self.command, input=stream, capture_output=True, env=environment,
+                              timeout=60)
+
+    def counted(self) -> Tuple[int, int]:
+        """Returns how many growths the last run asked for, and how many bytes it had written when
+        one was refused."""
+        with open(self.counts) as text:
+            growths, written = text.read().split()
+        return int(growths), int(written)
+
+
+NOT_STARTED = -1
 # Requests that take no memory.
 NEVER_LOST = {
     wire.RELEASE_CONTEXT, wire.QUERY_IMAGE, wire.READ_IMAGE, wire.READ_IMAGE_PGM, wire.SET_VALID,
     wire.RELEASE, wire.READ_MIN_MAX, wire.REMOVE_NODE, wire.IMMEDIATE, wire.AGE_DELAY}
 
 
-def refuse(command: List[str], shim: str, stream: List[bytes], number: int) -> int:
-    """The index of the frame that was lost, or what else became of the refusal."""
-    ended = serve(command, stream, shim, number)
-    if ended.returncode == 5:
-        check(ended.stdout == b"" and ended.stderr == b"NO_MEMORY\n",
-              f"growth {number}: status 5 with {ended.stderr!r}")
-        return NOT_STARTED
-    check(ended.returncode == 0, f"growth {number}: status {ended.returncode}, {ended.stderr!r}")
-    got = wire.replies(ended.stdout)
-    check(len(got) == len(stream), f"growth {number}: {len(got)} replies to {len(stream)} frames")
-    whole = wire.replies(serve(command, stream).stdout)
-    if got == whole:
-        return DONE_WITHOUT
-    lost = [k for k, reply in enumerate(got) if wire.code_of(reply) == 1]
-    check(len(lost) == 1, f"growth {number}: {len(lost)} replies are NO_MEMORY")
-    k = lost[0]
-    check(op_of(stream[k]) not in NEVER_LOST,
-          f"growth {number}: frame {k} is lost, which takes no memory")
-    others = serve(command, stream[:k] + stream[k + 1 :])
-    check(got[:k] + got[k + 1 :] == wire.replies(others.stdout),
-          f"growth {number}: frame {k} left a trace")
-    again = serve(command, stream[: k + 1] + stream[k:], shim, number)
-    check(wire.replies(again.stdout) == got[: k + 1] + whole[k:],
-          f"growth {number}: frame {k} sent again")
-    return k
+class Refused(NamedTuple):
+    """What became of one growth that was refused."""
+
+    # The frame that was being answered, or NOT_STARTED.
+    frame: int
+    is_lost: bool
 
 
 def op_of(frame: bytes) -> int:
     return frame[6]
 
 
-def counted(path: str) -> int:
-    with open(path) as text:
-        return int(text.read())
+def answers(program: Refusing, stream: List[bytes]) -> List[bytes]:
+    """Returns the replies to a stream that finds the memory that it needs."""
+    ended = program.run(b"".join(stream))
+    check(ended.returncode == 0, f"with ample memory: status {ended.returncode}")
+    return wire.replies(ended.stdout)
 
 
-def refuse_each(command: List[str], shim: str, stream: List[bytes],
-                count_file: str) -> Tuple[int, List[int], int]:
-    """How many growths come before the stream, the indices of the frames that the later ones lose,
-    and how many of those the program does without."""
-    whole = serve(command, stream, shim, 0, count_file)
-    check(whole.returncode == 0, f"with ample memory: status {whole.returncode}")
-    check(all(wire.code_of(reply) != 1 for reply in wire.replies(whole.stdout)),
+def refuse(program: Refusing, stream: List[bytes], whole: List[bytes], number: int) -> Refused:
+    """Refuses one growth, and the second asking for it: exactly one reply is NO_MEMORY, and all
+    others are those of the stream without that frame; or the growth is done without, and all
+    replies are those of the stream."""
+    ended = program.run(b"".join(stream), number)
+    if ended.returncode == 5:
+        check(ended.stdout == b"" and ended.stderr == b"NO_MEMORY\n",
+              f"growth {number}: status 5 with {ended.stderr!r}")
+        return Refused(NOT_STARTED, True)
+    check(ended.returncode == 0, f"growth {number}: status {ended.returncode}, {ended.stderr!r}")
+    got = wire.replies(ended.stdout)
+    check(len(got) == len(stream), f"growth {number}: {len(got)} replies to {len(stream)} frames")
+    before = program.counted()[1]
+    k = sum(end <= before for end in accumulate(map(len, whole)))
+    if got == whole:
+        return Refused(k, False)
+    lost = [at for at, reply in enumerate(got) if wire.code_of(reply) == wire.NO_MEMORY]
+    check(lost == [k], f"growth {number}, of frame {k}: frames {lost} are lost")
+    check(op_of(stream[k]) not in NEVER_LOST,
+          f"growth {number}: frame {k} is lost, which takes no memory")
+    check(got[:k] + got[k + 1 :] == answers(program, stream[:k] + stream[k + 1 :]),
+          f"growth {number}: frame {k} left a trace")
+    again = program.run(b"".join(stream[: k + 1] + stream[k:]), number)
+    check(wire.replies(again.stdout) == got[: k + 1] + whole[k:],
+          f"growth {number}: frame {k} sent again")
+    return Refused(k, True)
+
+
+def refuse_each(program: Refusing, stream: List[bytes]) -> List[Refused]:
+    """Refuses each growth of a stream in turn, from the program's start on."""
+    whole = answers(program, stream)
+    check(all(wire.code_of(reply) != wire.NO_MEMORY for reply in whole),
           "with ample memory: a reply is NO_MEMORY")
-    lost = [refuse(command, shim, stream, number) for number in range(1, counted(count_file) + 1)]
-    first = next((at for at, k in enumerate(lost) if k >= 0), len(lost))
-    check(first < len(lost), "no growth was refused while the stream was served")
-    check(NOT_STARTED not in lost[first:],
-          "a growth of the stream was refused, and the program ended")
-    return first, [k for k in lost[first:] if k >= 0], lost[first:].count(DONE_WITHOUT)
+    growths = program.counted()[0]
+    return [refuse(program, stream, whole, number) for number in range(1, growths + 1)]
 
 
-def refuse_in_apply(program: str, shim: str, count_file: str) -> Tuple[int, int]:
-    """How many growths of `apply` were refused, and how many of these it did without."""
-    command, text = [program, "apply", "box", "--border=replicate"], b"P2 30 20 255" + b" 9" * 600
-    whole = run(command, text, shim, 0, count_file)
+def refuse_in_apply(program: Refusing) -> Tuple[int, int]:
+    """Returns how many growths of `apply` were refused, and how many of these it did without."""
+    text = b"P2 30 20 255" + b" 9" * 600
+    whole = program.run(text)
     check((whole.returncode, whole.stderr) == (0, b""), f"apply with ample memory: {whole}")
-    ended = [run(command, text, shim, number)
-             for number in range(1, counted(count_file) + 1)]
+    growths = program.counted()[0]
+    ended = [program.run(text, number) for number in range(1, growths + 1)]
     for number, got in enumerate(ended, 1):
-        told = (got.returncode, got.stdout, got.stderr)
-        check(told in ((5, b"", b"NO_MEMORY\n"), (0, whole.stdout, b"")),
-              f"growth {number} of apply: {told}")
+        answer = (got.returncode, got.stdout, got.stderr)
+        check(answer in ((5, b"", b"NO_MEMORY\n"), (0, whole.stdout, b"")),
+              f"growth {number} of apply: {answer}")
     check(any(got.returncode for got in ended), "no growth of apply was refused")
-    return len(ended), sum(got.returncode == 0 for got in ended)
+    return growths, sum(got.returncode == 0 for got in ended)

@@ -140,3 +140,16 @@ def windows_and_statistics() -> List[bytes]:
         wire.create_min_max(2),
         wire.read_min_max(2, 18),
     ]
+
+
+def first_objects() -> List[bytes]:
+    """A threshold and extremes that are the first objects of their contexts, and virtual images
+    until the table of names grows: these creates take memory for their entry alone."""
+    first = wire.create_threshold(4, wire.U8, (10,)), wire.create_min_max(4)
+    return [
+        *(frame for create in first
+          for frame in (wire.open_context(4), create, wire.release_context(4))),
+        wire.open_context(4),
+        wire.create_graph(4),
+        *[wire.create_virtual_image(4, 1)] * 16,
+    ]

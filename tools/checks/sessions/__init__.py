@@ -14,7 +14,7 @@ from checks.sessions.delays import delays, delays_as_exemplars, nodes_on_slots, 
 from checks.sessions.images import (
     full_context, full_of_extremes, objects_released, pictures, pictures_in_long_bodies,
     refusals_of_pictures, sides, sizes)
-from checks.sessions.nodes import nodes_that_run, refusals_of_nodes
+from checks.sessions.nodes import counts_and_tables, nodes_that_run, refusals_of_nodes
 from checks.sessions.rectangles import (
     refusals_of_rectangles, valid_blocks, valid_in_delays, valid_outputs, valid_rectangles)
 from checks.sessions.refusals import refusals_in_order, refusals_of_kinds, refusals_of_other_objects
@@ -35,6 +35,7 @@ SESSIONS = (
     ("objects that are released", objects_released),
     ("contexts that are released", contexts_released),
     ("nodes that run", nodes_that_run),
+    ("counts and tables", counts_and_tables),
     ("refusals of nodes", refusals_of_nodes),
     ("valid rectangles", valid_rectangles),
     ("valid rectangles of rows and columns", valid_blocks),
@@ -72,9 +73,9 @@ SESSIONS = (
 )
 # Whatever Immediate runs or refuses in these, a graph of that node does too.
 BY_GRAPHS = (
-    nodes_that_run, refusals_of_nodes, valid_outputs, valid_in_delays, delays, nodes_on_slots,
-    refusals_of_slots, windows, windows_beside_the_valid, convolutions, two_outputs, histograms,
-    integrals, places_of_extremes, statistics_of_slots, sums, sums_beside_the_valid,
+    nodes_that_run, counts_and_tables, refusals_of_nodes, valid_outputs, valid_in_delays, delays,
+    nodes_on_slots, refusals_of_slots, windows, windows_beside_the_valid, convolutions, two_outputs,
+    histograms, integrals, places_of_extremes, statistics_of_slots, sums, sums_beside_the_valid,
     refusals_of_sums, refusals_of_kinds, refusals_in_order,
 )
 

@@ -1,9 +1,12 @@
 """Sessions on the nodes of Immediate: those that run, and those that are refused."""
 
+from feqyldan import wire
 from feqyldan.wire import (
-    INVALID_DIMENSION, INVALID_FORMAT, INVALID_GRAPH, INVALID_REFERENCE, INVALID_TYPE, S16, U8,
-    reference)
-from checks.sessions.rows import TURNED, holds, made, name, opened, ran, threshold, wrote
+    HISTOGRAM, INVALID_DIMENSION, INVALID_FORMAT, INVALID_GRAPH, INVALID_REFERENCE, INVALID_TYPE,
+    MIN_MAX_LOCATION, S16, TABLE_LOOKUP, THRESHOLD, U8, reference)
+from checks.sessions.rows import (
+    CLIENT, EXTREMES, NOTHING_FOUND, NOWHERE, THIRDS, TURNED, confined, counted, found, holds, made,
+    name, opened, ran, threshold, wrote)
 
 
 def nodes_that_run():
@@ -15,6 +18,24 @@ def nodes_that_run():
             (4, None, 3, U8, 51), (1, 2, 3, U8, 136), (5, 2, 4, S16, 374), (5, 1, 4, S16, 408),
             (11, 6, 3, U8, 7), (12, 5, 3, U8, 51), (13, None, 4, S16, 204),
         ) for row in (ran(function, 1, in2, out1), holds(out1, fmt, [sample]), *pixels)),
+    ]
+
+
+def counts_and_tables():
+    """Histogram, MinMaxLoc, thresholds of both kinds and a lookup of S16, at their limits."""
+    samples = [9, 10, 20, 21]
+    return [
+        opened(), made(1, U8, 3), (THIRDS, name(2)), wrote(1, U8, [85, 86, 255], 3),
+        ran(HISTOGRAM, 1, None, 2), counted(2, [1, 1, 1]), made(3, U8, 2, 2), (EXTREMES, name(4)),
+        wrote(3, U8, [7, 7, 3, 7], 2, 2), ran(MIN_MAX_LOCATION, 3, None, 4),
+        found(4, 3, 7, 1, 3, 0, 1, 0, 0), confined(3, NOWHERE), ran(MIN_MAX_LOCATION, 3, None, 4),
+        found(4, *NOTHING_FOUND), made(5, U8, 4), made(6, U8, 4), wrote(5, U8, samples, 4),
+        (wire.create_threshold(CLIENT, U8, (10, 20)), name(7)), ran(THRESHOLD, 5, 7, 6),
+        holds(6, U8, [0, 255, 255, 0], 4), (wire.create_threshold(CLIENT, U8, (10,)), name(8)),
+        ran(THRESHOLD, 5, 8, 6), holds(6, U8, [0, 0, 255, 255], 4), made(9, S16, 3),
+        made(10, S16, 3), wrote(9, S16, [-32768, 0, 32767], 3),
+        (wire.create_lut(CLIENT, S16, range(32767, -32769, -1)), name(11)),
+        ran(TABLE_LOOKUP, 9, 11, 10), holds(10, S16, [32767, -1, -32768], 3),
     ]
 
 

@@ -10,5 +10,5 @@ invariant-loop-slot l =
       size : into_iter_len l.slot-iterator ≡ length (into_iter_items l.slot-iterator);
       gives : (format : Format) → lent_of l.pool format + slot_blocks l.fn.slots.items format
           ≡ lent_of l.fn.pool format + slot_blocks (into_iter_items l.slot-iterator) format;
-      blocks : (format : Format) → blocks_of l.pool format ≤ blocks_of l.fn.pool format;
+      blocks : (format : Format) → blocks_of l.pool format ≡ blocks_of l.fn.pool format;
     }

@@ -1,12 +1,10 @@
-use Rattle.std.proofs.Common.{arith}
-use Rattle.lane_rows.proofs.RowLaws.{pair_updated, left_of_more}
+use Rattle.std.proofs.Common.{◌*◌, ◌/◌, length, arith}
+use Rattle.lane_rows.proofs.BlockLaws.{pair_rest_written}
 use Rattle.lane_rows.proofs.rows.update_row.Goals as goal
 
-pub loop-i-preserved : goal.loop-i-preserved
-loop-i-preserved g c = record {
-  updated =
-      pair_updated g.A.Item.value g.T.Item.value (g.K.OfPair.formula c.args.kernel.now) c.args.row.now c.args.sums.now c.loop-i.sums c.loop-i.i c.index-row-i.result c.index-sums-i.result c.item.result
-      (omega (arith, c.loop-i-test.true, c.loop-i.auto.sums)) (omega (arith, c.requires, c.loop-i.auto.sums)) (omega (arith, c.loop-i.auto.sums))
-      c.loop-i.invariant.updated c.loop-i.invariant.left c.index-row-i.is c.index-sums-i.is c.item.ensures;
-  left = left_of_more c.args.sums.now c.loop-i.sums c.loop-i.i c.item.result c.loop-i.invariant.left;
-}
+pub returns : goal.returns
+returns g c =
+    pair_rest_written g.A.Item.value g.T.Item.value g.T.Item.value (g.K.OfSum.formula c.args.kernel.now) c.args.row.now c.split_at.result.0.now c.split_at.result.1.now
+    c.args.sums.now c.split_at_mut-sums.result.0.now c.split_at_mut-sums.result.1.now c.update_blocks.new.sums c.update_items.new.sums (16 * (length c.args.sums.now / 16))
+    (omega (arith, c.requires)) (omega arith)
+    c.split_at.ensures.front c.split_at.ensures.back c.split_at_mut-sums.ensures.front c.split_at_mut-sums.ensures.back c.update_blocks.ensures c.update_items.ensures

@@ -71,9 +71,9 @@ narrowed-requires-clause-fits c = fit c.args.a c.args.b c.requires.a_fits c.requ
 
 pub quarters_exchanged-requires-clause-fits : goal.quarters_exchanged-requires-clause-fits
 quarters_exchanged-requires-clause-fits c =
-    narrow_fit c.args.a c.args.b c.requires.a_fits c.requires.b_fits c.args.amount c.products.result c.scaled.result c.products.ensures c.scaled.ensures c.args.policy c.narrowed.result c.narrowed.ensures
+    narrow_fit c.args.a c.args.b c.requires.a_fits c.requires.b_fits c.args.amount c.products.result c.scaled.result c.products.ensures c.scaled.ensures c.args.policy c.narrowed.result c.narrowed.ensures.value
 
 pub returns : goal.returns
 returns c =
-    placed c.args.a c.args.b c.requires.a_fits c.requires.b_fits c.args.amount c.products.result c.scaled.result c.products.ensures c.scaled.ensures c.args.policy c.narrowed.result c.narrowed.ensures
+    placed c.args.a c.args.b c.requires.a_fits c.requires.b_fits c.args.amount c.products.result c.scaled.result c.products.ensures c.scaled.ensures c.args.policy c.narrowed.result c.narrowed.ensures.value
     c.quarters_exchanged.result c.requires.a_len c.requires.b_len c.quarters_exchanged.ensures

@@ -1,5 +1,5 @@
-use Rattle.std.proofs.Common.{map, ap, ◌∙◌, w16, w32}
-use Rattle.lane_rows.proofs.Common.{S16, Wrap, Saturate, narrow}
+use Rattle.std.proofs.Common.{map, ap, ◌∙◌, subst, sym, w16, w32, FitsSigned}
+use Rattle.lane_rows.proofs.Common.{S16, Wrap, Saturate, narrow, Each1}
 use Rattle.lane_rows.proofs.ShortLaws.{of_bits, fit_as_bits, told}
 use Rattle.lane_rows.proofs.NarrowLaws.{narrow_fits}
 use Rattle.lane_rows.proofs.shorts.narrowed.Goals.{in-Wrap, in-Saturate}
@@ -11,8 +11,8 @@ wrapped-requires-clause-fits c = fit_as_bits w32 c.args.numbers c.requires.fits
 pub clamped-requires-clause-fits : goal.clamped-requires-clause-fits
 clamped-requires-clause-fits c = fit_as_bits w32 c.args.numbers c.requires.fits
 
-pub returns : goal.returns
-returns c =
+pub returns-clause-value : goal.returns-clause-value
+returns-clause-value c =
     let ns = c.args.numbers in
     let read = of_bits w32 ns c.requires.fits in
     elim c.match-policy.branch [
@@ -21,3 +21,6 @@ returns c =
       | in-Saturate w ↦
           rw (w.result-is, w.in-Saturate.is) (told w16 w.clamped.result _ (w.clamped.ensures ∙ ap (map (narrow S16 Saturate)) read) (narrow_fits Saturate ns c.requires.fits))
     ]
+
+pub returns-clause-result_fits : goal.returns-clause-result_fits
+returns-clause-result_fits c = subst (Each1 (FitsSigned w16)) (sym (returns-clause-value c)) (narrow_fits c.args.policy c.args.numbers c.requires.fits)

@@ -10,4 +10,4 @@ returns-in-U8 c =
 
 pub returns-in_default : goal.returns-in_default
 returns-in_default c =
-    in_format (λ f. from_one f (converted f c.args.policy c.args.amount) c.args.image.now) c.args.output.now.desc.format U8 c.args.output.now c.write_one-in_default.new.output (search rules) c.write_one-in_default.ensures
+    in_format (λ f. from_one f (converted f c.args.policy c.args.amount) c.args.image.now) c.args.output.now.desc.format U8 c.args.output.now c.narrow_depth.new.output (search rules) c.narrow_depth.ensures

@@ -9,5 +9,5 @@ returns g c =
     let image = c.args.image.now in
     let desc = c.args.output.now.desc in
     let sides = same_sides (written c.args.output.now) image c.requires.size in
-    written_alike desc.width desc.height image.width image.height g.T.Sample.format c.valid-area.result image.valid (λ x y. g.K.OfOne.formula c.args.kernel.now (at image x y)) c.args.output.now c.write.new.self
+    written_alike desc.width desc.height image.width image.height g.T.Sample.format c.valid-area.result image.valid (λ x y. g.K.OfItem.formula c.args.kernel.now (at image x y)) c.args.output.now c.write.new.self
     sides.0 sides.1 c.valid-area.ensures.value c.write.ensures

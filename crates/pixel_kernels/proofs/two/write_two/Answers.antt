@@ -13,5 +13,5 @@ returns g c =
     let desc = c.args.output.now.desc in
     let sides = same_sides (written c.args.output.now) first c.requires.size in
     let area : c.meet-area.result ≡ meet_of first.valid second.valid = c.meet-area.ensures ∙ ap (λ r. meet_of r c.valid-2.result) c.valid.ensures.value ∙ ap (meet_of first.valid) c.valid-2.ensures.value in
-    written_alike desc.width desc.height first.width first.height g.T.Sample.format c.meet-area.result (meet_of first.valid second.valid) (λ x y. g.K.OfTwo.formula c.args.kernel.now (at first x y) (at second x y)) c.args.output.now c.write.new.self
+    written_alike desc.width desc.height first.width first.height g.T.Sample.format c.meet-area.result (meet_of first.valid second.valid) (λ x y. g.K.OfPair.formula c.args.kernel.now (at first x y) (at second x y)) c.args.output.now c.write.new.self
     sides.0 sides.1 area c.write.ensures

@@ -6,8 +6,8 @@ use Rattle.stat_kernels.proofs.PlaceLaws.{next_row, places_fit, length-samples, 
 use Rattle.stat_kernels.proofs.TallyLaws.{row_counted}
 use Rattle.stat_kernels.proofs.counts.count_values.Goals as goal
 
-pub count_row-requires : goal.count_row-requires
-count_row-requires c = record {
+pub tally_row-requires : goal.tally_row-requires
+tally_row-requires c = record {
   room = λ v.
       let image = valid_in c.args.rows c.args.image.now in
       let above_it = above image.valid c.loop-y.y in
@@ -29,8 +29,8 @@ loop-y-preserved c =
     let ws = map pos c.part_of_row-row.result.now in
     let next = next_row image c.in_rows-part.result (c.in_rows-part.ensures c.args.image.now c.requires.rows c.of.ensures) c.loop-y.y ws c.loop-y.auto.y c.part_of_row-row.ensures.value in
     record {
-      counted = λ v. row_counted v zs ws _ _ (c.loop-y.invariant.counted v) (c.count_row.ensures.counted v) ∙ ap (count_at v) next;
-      bytes = All-same (λ z. unsigned_abs z < 256) _ _ (sym next) (All-append (λ z. unsigned_abs z < 256) zs ws c.loop-y.invariant.bytes c.count_row.ensures.bytes);
+      counted = λ v. row_counted v zs ws _ _ (c.loop-y.invariant.counted v) (c.tally_row.ensures.counted v) ∙ ap (count_at v) next;
+      bytes = All-same (λ z. unsigned_abs z < 256) _ _ (sym next) (All-append (λ z. unsigned_abs z < 256) zs ws c.loop-y.invariant.bytes c.tally_row.ensures.bytes);
     }
 
 pub returns-clause-few : goal.returns-clause-few

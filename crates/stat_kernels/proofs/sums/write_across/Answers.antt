@@ -1,14 +1,35 @@
-use Rattle.std.proofs.Common.{◌≡◌, ◌∙◌, ◌+◌, ◌-◌, length, replicate, ap, arith}
-use Rattle.stat_kernels.proofs.SumLaws.{row_of_parts}
+use Rattle.std.proofs.Common.{ℕ, List, ◌≡◌, ◌+◌, ◌-◌, ◌∙◌, length, take, drop, replicate, ap, subst, arith, unwrap_or, option_copied, option_map, IfSome}
+use Rattle.stat_kernels.proofs.Common.{at, run, run-same, sums_below}
+use Rattle.stat_kernels.proofs.NextRowLaws.{lent_long, next_row, same_columns}
 use Rattle.stat_kernels.proofs.sums.write_across.Goals as goal
 
-pub returns-clause-written : goal.returns-clause-written
-returns-clause-written c =
+pub returns : goal.returns
+returns c = λ whole line is same is_above.
+    let image = c.args.image.now in
     let part = c.args.part in
-    let left : length c.split_at_mut-left.result.0.now ≡ part.x = c.split_at_mut-left.ensures.front_len ∙ c.from.ensures in
-    let right : length c.split_at_mut-middle.result.1.now ≡ c.args.image.now.width - (part.x + part.count) = omega (arith, c.split_at_mut-middle.ensures.back_len, c.split_at_mut-left.ensures.back_len, c.from.ensures, c.requires.out_len) in
-    row_of_parts c.args.image.now part c.requires.part c.args.y c.requires.rows.0 c.fill.new.self c.write_valid.new.out c.fill-2.new.self c.requires.rows.1
-    (c.fill.ensures.after (λ y same. same) ∙ ap (λ n. replicate n 0) left)
-    (c.fill-2.ensures.after (λ y same. same) ∙ ap (λ n. replicate n 0) right)
-    (c.write_valid.auto.out ∙ c.split_at_mut-middle.ensures.front_len)
-    c.write_valid.ensures
+    let columns = same_columns image.valid whole.valid c.args.y line same.valid (omega (arith, c.requires.some, c.requires.part.count)) (omega (arith, c.requires.part.top, c.requires.rows.0)) (omega (arith, c.requires.part.bottom, c.requires.rows.1)) in
+    let x_is : part.x ≡ whole.valid.x0 = c.requires.part.x ∙ columns.first in
+    let count_is : part.count ≡ whole.valid.x1 - whole.valid.x0 = omega (arith, c.requires.part.count, columns.first, columns.last) in
+    let row = c.part_of_row-row.result.now in
+    let wide : length row ≡ whole.valid.x1 - whole.valid.x0 = c.part_of_row-row.ensures.len ∙ count_is in
+    let copied = option_copied c.args.above in
+    let cut : ℕ → ℕ → List ℕ → List ℕ = λ n k above. take n (drop k above) in
+    let cut_is : cut (length row) c.from-x.result ≡ cut (whole.valid.x1 - whole.valid.x0) whole.valid.x0 =
+    ap (λ n. cut n c.from-x.result) wide ∙ ap (cut (whole.valid.x1 - whole.valid.x0)) (c.from-x.ensures ∙ x_is) in
+    let left : length c.split_at_mut-left.result.0.now ≡ part.x = c.split_at_mut-left.ensures.front_len ∙ c.from-x.ensures in
+    let right : length c.split_at_mut-middle.result.1.now ≡ image.width - (part.x + part.count) =
+    omega (arith, c.split_at_mut-middle.ensures.back_len, c.split_at_mut-left.ensures.back_len, c.from-x.ensures, c.requires.out_len) in
+    next_row whole is line columns.top columns.bottom copied (subst (λ n. IfSome copied (λ r. length r ≡ n)) same.width (lent_long c.args.above image.width c.requires.above_len)) is_above
+    row c.fill.new.self c.write_part.new.out c.fill-2.new.self
+    (c.part_of_row-row.ensures.value
+    ∙ ap (λ x. run x part.count (λ k. at image k c.args.y)) x_is ∙ ap (λ n. run whole.valid.x0 n (λ k. at image k c.args.y)) count_is
+    ∙ run-same (λ k. at image k c.args.y) (λ k. at whole k line) whole.valid.x0 (whole.valid.x1 - whole.valid.x0)
+    (λ k a b. same.samples k (omega (arith, b, is.ordered.columns, is.room.columns))))
+    wide
+    (c.write_part.ensures
+    ∙ ap (λ f. sums_below (unwrap_or (option_map f copied) (replicate (length row) 0)) row) cut_is
+    ∙ ap (λ n. sums_below (unwrap_or (option_map (cut (whole.valid.x1 - whole.valid.x0) whole.valid.x0) copied) (replicate n 0)) row) wide)
+    (c.write_part.auto.out ∙ c.split_at_mut-middle.ensures.front_len ∙ count_is)
+    (c.fill.ensures.after (λ y same. same) ∙ ap (λ n. replicate n 0) (left ∙ x_is))
+    (c.fill-2.ensures.after (λ y same. same)
+    ∙ ap (λ n. replicate n 0) (right ∙ ap (λ w. w - (part.x + part.count)) same.width ∙ ap (λ x. whole.width - (x + part.count)) x_is ∙ ap (λ n. whole.width - (whole.valid.x0 + n)) count_is))

@@ -1,5 +1,5 @@
 use Rattle.std.proofs.Common.{◌∷◌, [], refl, sym}
-use Rattle.window_kernels.proofs.MedianLaws.{median_is, median_is_middle, median_is_among}
+use Rattle.lane_rows.proofs.MedianLaws.{median_is, median_is_middle, median_is_among}
 use Rattle.window_kernels.proofs.laws.median_of_nine.Goals as goal
 
 pub returns-clause-among : goal.returns-clause-among

@@ -20,7 +20,7 @@ as_numbers count lent items same = ap (λ (l : List ℕ). map pos (take count l)
 pub new-requires-clause-image : goal.new-requires-clause-image
 new-requires-clause-image c =
     over_image c.args.self.now c.desc-desc.result c.sample_count-count.result _ c.sample_count-count.ensures.value
-    (as_numbers _ _ _ c.deref.ensures.value ∙ ap (λ q. take c.sample_count-count.result (values q)) (sym c.in-U8.is))
+    (as_numbers _ _ _ c.deref.ensures.value ∙ ap (λ q. take c.sample_count-count.result (values q)) (sym c.in-U8.is ∙ c.samples.ensures))
     c.args.self.now.holder c.requires.there c.desc-desc.ensures c.requires.image
 
 pub new-requires-in-S16-clause-image : goal.new-requires-in-S16-clause-image
@@ -29,13 +29,13 @@ new-requires-in-S16-clause-image c = grind (arith, map-id)
 pub new-requires-in-U32-clause-image : goal.new-requires-in-U32-clause-image
 new-requires-in-U32-clause-image c =
     over_image c.args.self.now c.desc-desc.result c.sample_count-count.result _ c.sample_count-count.ensures.value
-    (as_numbers _ _ _ c.deref-in-U32.ensures.value ∙ ap (λ q. take c.sample_count-count.result (values q)) (sym c.in-U32.is))
+    (as_numbers _ _ _ c.deref-in-U32.ensures.value ∙ ap (λ q. take c.sample_count-count.result (values q)) (sym c.in-U32.is ∙ c.samples.ensures))
     c.args.self.now.holder c.requires.there c.desc-desc.ensures c.requires.image
 
 pub returns-in-U8 : goal.returns-in-U8
 returns-in-U8 c =
     result_over c.args.self.now c.desc-desc.result c.sample_count-count.result _ c.sample_count-count.ensures.value
-    (as_numbers _ _ _ c.deref.ensures.value ∙ ap (λ q. take c.sample_count-count.result (values q)) (sym c.in-U8.is))
+    (as_numbers _ _ _ c.deref.ensures.value ∙ ap (λ q. take c.sample_count-count.result (values q)) (sym c.in-U8.is ∙ c.samples.ensures))
     c.new.result c.new.ensures c.args.self.now.holder c.desc-desc.ensures
 
 pub returns-in-S16 : goal.returns-in-S16
@@ -44,5 +44,5 @@ returns-in-S16 c = grind (arith, map-id)
 pub returns-in-U32 : goal.returns-in-U32
 returns-in-U32 c =
     result_over c.args.self.now c.desc-desc.result c.sample_count-count.result _ c.sample_count-count.ensures.value
-    (as_numbers _ _ _ c.deref-in-U32.ensures.value ∙ ap (λ q. take c.sample_count-count.result (values q)) (sym c.in-U32.is))
+    (as_numbers _ _ _ c.deref-in-U32.ensures.value ∙ ap (λ q. take c.sample_count-count.result (values q)) (sym c.in-U32.is ∙ c.samples.ensures))
     c.new-in-U32.result c.new-in-U32.ensures c.args.self.now.holder c.desc-desc.ensures

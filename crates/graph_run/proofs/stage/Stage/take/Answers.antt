@@ -21,25 +21,25 @@ returns-in-Some c =
     let t = c.index_mut-slot.result.now in
     let read = c.index_mut-slot.ensures.value in
     let there = c.requires.there in
-    let set = slot_set s is cell k at t read there c.take.new.self t.valid c.take.ensures.left_format in
-    let after : Stage = record { table = s.table; slots = with_item s.slots k (record { samples = c.take.new.self; valid = t.valid; holder = t.holder }) } in
+    let set = slot_set s is cell k at t read there c.lift.new.self t.valid c.lift.ensures.left_format in
+    let after : Stage = record { table = s.table; slots = with_item s.slots k (record { samples = c.lift.new.self; valid = t.valid; holder = t.holder }) } in
     let left : Rectangle → List ℤ → Context = λ area samples. with_objects (scene s) (with_object (scene s).objects cell (with_samples (cell_object (scene s).objects cell) area samples)) in
     let places = sample_count (description_of (image_held (scene s).objects cell)) in
     record {
       desc = described s is cell k at t read there c.desc.result c.desc.ensures;
-      samples = for_slot s is cell k at t read there c.desc.result c.take.result c.desc.ensures c.take.ensures.format c.take.ensures.value c.requires.image;
-      value = taken_here s is cell k at t read there c.desc.result c.take.result c.desc.ensures c.take.ensures.value;
-      count = slot_count s is cell k at t read there c.take.result c.take.ensures.value;
+      samples = for_slot s is cell k at t read there c.desc.result c.lift.result c.desc.ensures c.lift.ensures.format c.lift.ensures.value c.requires.image;
+      value = taken_here s is cell k at t read there c.desc.result c.lift.result c.desc.ensures c.lift.ensures.value;
+      count = slot_count s is cell k at t read there c.lift.result c.lift.ensures.value;
       stage = set.0;
-      left = set.1 ∙ ap (λ (zs : List ℤ). left t.valid (take places zs)) c.take.ensures.left ∙ ap (left t.valid) (take-nil places)
+      left = set.1 ∙ ap (λ (zs : List ℤ). left t.valid (take places zs)) c.lift.ensures.left ∙ ap (left t.valid) (take-nil places)
           ∙ ap (λ (r : Rectangle). left r []) (valid_here s is cell k at t read there);
-      none = subst (λ (zs : List ℤ). Resized cell.name (length zs) s after) c.take.ensures.left set.2;
+      none = subst (λ (zs : List ℤ). Resized cell.name (length zs) s after) c.lift.ensures.left set.2;
     }
 
 -- ---- out of the table
 
-pub take-requires-in-None : goal.take-requires-in-None
-take-requires-in-None c =
+pub take-requires : goal.take-requires
+take-requires c =
     as_image c.args.self.now c.requires.stage c.args.cell (place_is c.args.self.now _ _ c.name.ensures.value _ c.place_of.ensures _ c.in-None.is) c.requires.there
 
 pub returns-in-None : goal.returns-in-None
@@ -49,13 +49,13 @@ returns-in-None c =
     let cell = c.args.cell in
     let none = place_is s _ _ c.name.ensures.value _ c.place_of.ensures _ c.in-None.is in
     let same = sym (as_object s is cell none) in
-    let taken = c.take-in-None.ensures in
+    let taken = c.take.ensures in
     let image : ImageValue = image_over (description_of (image_held s.table.objects cell)) (image_held s.table.objects cell).valid [] in
     let set = held_set s is cell none c.requires.there image _ taken.left 0 in
     record {
       desc = taken.desc ∙ ap (λ (x : ObjectValue). description_of (image_value x)) same;
-      samples = for_held s is cell none c.requires.there c.take-in-None.result.0 c.take-in-None.result.1 taken.desc taken.format taken.value c.requires.image;
-      value = taken_held s is cell none c.requires.there c.take-in-None.result.0 c.take-in-None.result.1 taken.desc taken.value c.requires.image;
+      samples = for_held s is cell none c.requires.there c.take.result.0 c.take.result.1 taken.desc taken.format taken.value c.requires.image;
+      value = taken_held s is cell none c.requires.there c.take.result.0 c.take.result.1 taken.desc taken.value c.requires.image;
       count = none_resized s.slots.items cell.name _ (nowhere s is cell none);
       stage = set.0;
       left = set.1 ∙ ap (λ (x : ObjectValue). with_objects (scene s) (with_object (scene s).objects cell (with_samples x (image_value x).valid []))) same;

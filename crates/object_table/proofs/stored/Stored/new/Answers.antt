@@ -7,7 +7,7 @@ use Rattle.object_table.proofs.stored.Stored.new.Goals as goal
 pub returns : goal.returns
 returns c =
     let d = c.args.desc in
-    let new = zeros_are_new d c.whole.result c.in_ok-samples.samples c.sample_count.result c.whole.ensures c.sample_count.ensures.value (search rules) in
+    let new = zeros_are_new d c.whole.result c.in_ok-block.block c.sample_count.result c.whole.ensures c.sample_count.ensures.value (search rules) in
     record {
       value = new;
       image = subst IsImage (sym new) (new_image_is d.width d.height d.format (side d.width c.has_sides.ensures.width) (side d.height c.has_sides.ensures.height));

@@ -1,11 +1,7 @@
-use Rattle.std.proofs.Common.{rules}
-use Rattle.pixel_pool.specs.Free.{rooms}
-use Rattle.pixel_pool.proofs.FreeLemmas.{room_taken}
+use Rattle.pixel_pool.proofs.StackLemmas.{taken_best}
 use Rattle.pixel_pool.proofs.shelf.Shelf.take.Goals as goal
 
-pub invariant_of-self-2 : goal.invariant_of-self-2
-invariant_of-self-2 g c = (
-  search rules,
-  room_taken (rooms c.self.inside.free.items) (rooms c.take_at.new.free.items) c.best_fit-at.result c.room_at-room.result c.self.inside.room c.self.invariant.1 (search rules) c.in_ok-samples.ensures.rooms,
-  search rules,
-)
+pub returns-in-Some-clause-best : goal.returns-in-Some-clause-best
+returns-in-Some-clause-best g c some =
+    taken_best c.self.inside.stacks c.self.inside.lent c.args.count c.in-Some.class c.args.self.now c.lend.new.self c.self.view_is c.lend.ensures.value
+    c.in-Some.ensures.free c.in-Some.ensures.fits c.in-Some.ensures.least

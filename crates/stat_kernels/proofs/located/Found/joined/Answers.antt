@@ -11,13 +11,13 @@ returns-then-is_empty g c f before same row =
 pub joined-requires-clause-among : goal.joined-requires-clause-among
 joined-requires-clause-among g c =
     let some : 0 < length c.args.row.now = grind (arith, nat_tests, c.is_empty.ensures, c.if-is_empty.false) in
-    let value = g.T.Number.value in
+    let value = g.T.Item.value in
     chosen_among int_min int_lt downwards (map value c.args.row.now) (value c.least_of-low.result) (omega (arith, some, length-map c.args.row.now value)) c.least_of-low.ensures
 
 pub joined-requires-2-clause-among : goal.joined-requires-2-clause-among
 joined-requires-2-clause-among g c =
     let some : 0 < length c.args.row.now = grind (arith, nat_tests, c.is_empty.ensures, c.if-is_empty.false) in
-    let value = g.T.Number.value in
+    let value = g.T.Item.value in
     chosen_among int_max (λ z v. int_lt v z) upwards (map value c.args.row.now) (value c.greatest_of-high.result) (omega (arith, some, length-map c.args.row.now value)) c.greatest_of-high.ensures
 
 pub returns : goal.returns

@@ -1,12 +1,12 @@
 use Rattle.std.proofs.Common.{◌≡◌, ◌+◌, inl, inr, ◌∙◌, sym, ap, arith, rules, to_z, of_z, w16, FitsSigned}
 use Rattle.stat_kernels.proofs.Common.{to_z-of_z}
-use Rattle.stat_kernels.proofs.CountLaws.{none_of_first}
+use Rattle.lane_rows.proofs.CountLaws.{none_of_first}
 use Rattle.stat_kernels.proofs.LocatedLaws.{parts, joins_taken, joins_equal, joins_other}
 use Rattle.stat_kernels.proofs.located.Located.joined.Goals as goal
 
 pub returns-then-is_beyond : goal.returns-then-is_beyond
 returns-then-is_beyond g c choose beyond f before d same test is row =
-    let v = g.T.Number.value c.args.sample in
+    let v = g.T.Item.value c.args.sample in
     let fits : FitsSigned w16 c.short-value.result = search rules in
     ap (λ z. parts z c.count_of.result (c.args.x + c.first_of.result, c.args.y)) (to_z-of_z w16 c.short-value.result fits ∙ c.short-value.ensures)
     ∙ joins_taken choose beyond d f c.args.x _ c.args.y _ row v is c.requires.among before c.args.self
@@ -16,7 +16,7 @@ returns-then-is_beyond g c choose beyond f before d same test is row =
 
 pub returns-then-value-self : goal.returns-then-value-self
 returns-then-value-self g c choose beyond f before d same test is row =
-    let v = g.T.Number.value c.args.sample in
+    let v = g.T.Item.value c.args.sample in
     let fits : FitsSigned w16 c.short-value.result = search rules in
     let old_fits : FitsSigned w16 c.args.self.value = search rules in
     let told = to_z-of_z w16 c.short-value.result fits in
@@ -27,5 +27,5 @@ returns-then-value-self g c choose beyond f before d same test is row =
 
 pub returns-else-value-self : goal.returns-else-value-self
 returns-else-value-self g c choose beyond f before d same test is row =
-    joins_other choose beyond d f c.args.x _ c.args.y _ row (g.T.Number.value c.args.sample) is c.requires.among before c.args.self same
+    joins_other choose beyond d f c.args.x _ c.args.y _ row (g.T.Item.value c.args.sample) is c.requires.among before c.args.self same
     (omega (arith, c.if-is_beyond.false.0)) (sym test ∙ c.if-is_beyond.false.1) (λ equal. c.if-value-self.false (ap (of_z w16) (c.short-value.ensures ∙ equal)))

@@ -1,0 +1,132 @@
+-- What is computed of bytes in lanes.
+use Rattle.std.proofs.Common.{◌≡◌, inl, inr, ℕ, ℤ, pos, negsuc, suc, ◌+◌, ◌-◌, ◌%◌, ◌<◌, ◌≤◌, ◌-ℤ◌, unsigned_abs, List, length, map, Bool, true, false, cond, min, max, ltb, w8, Fits, refl, ap, ◌∙◌, arith, int_le, ◌&&◌, if◌then◌else◌}
+use Rattle.lane_rows.proofs.Common.{zip2, Each1, ints, clamps, cases_lt, nat_tests, U8, Wrap, Saturate, narrow, top}
+use Rattle.vx_base.specs.Pixelwise.{sum, difference, absolute_difference, smaller, greater, not_bits}
+use Rattle.vx_base.specs.declared.threshold.ThresholdKind.TheVariants.{Binary, Range}
+use Rattle.lane_rows.specs.Chosen as spec
+use Rattle.lane_rows.proofs.LaneLaws.{clamp_pos, smaller_lane}
+use Rattle.lane_rows.proofs.Lanewise.{Lanewise, both, chosen, pairs_are, items_are}
+
+abbrev less : ℕ → ℕ → ℕ
+less x y = cond (ltb x y) 255 0
+
+abbrev pub plus : ℕ → ℕ → ℕ
+plus x y = (x + y) % 256
+
+abbrev pub minus : ℕ → ℕ → ℕ
+minus x y = (x + (256 - y)) % 256
+
+abbrev pub turned : ℕ → ℕ
+turned x = 255 - x
+
+-- a lane of one or of another, where a lane is less than a third
+abbrev pub where_less : Lanewise ℕ ℕ ℕ → Lanewise ℕ ℕ ℕ → Lanewise ℕ ℕ ℕ → Lanewise ℕ ℕ ℕ → Lanewise ℕ ℕ ℕ
+where_less a b e f = chosen (top 7) (both less a b) e f
+
+abbrev pub smallest : Lanewise ℕ ℕ ℕ → Lanewise ℕ ℕ ℕ → Lanewise ℕ ℕ ℕ
+smallest e f = where_less e f e f
+
+abbrev pub largest : Lanewise ℕ ℕ ℕ → Lanewise ℕ ℕ ℕ → Lanewise ℕ ℕ ℕ
+largest e f = where_less e f f e
+
+-- what is made of two vectors of bytes, and of one
+pub bytes_are : (e : Lanewise ℕ ℕ ℕ) (f : ℤ → ℤ → ℤ) (xs ys : List ℕ) → (length xs ≡ 32) × Each1 (Fits w8) xs → (length ys ≡ 32) × Each1 (Fits w8) ys
+    → ((x y : ℕ) → Fits w8 x → Fits w8 y → pos (e.at x y) ≡ f (pos x) (pos y)) → map pos (e.all 32 xs ys) ≡ zip2 f (map pos xs) (map pos ys)
+bytes_are e f xs ys p q at = pairs_are e (Fits w8) (Fits w8) pos pos pos f 32 xs ys p.0 q.0 p.1 q.1 at
+
+pub row_is : (e : Lanewise ℕ ℕ ℕ) (f : ℤ → ℤ) (xs : List ℕ) → (length xs ≡ 32) × Each1 (Fits w8) xs → ((x : ℕ) → Fits w8 x → pos (e.at x x) ≡ f (pos x)) → map pos (e.all 32 xs xs) ≡ map f (map pos xs)
+row_is e f xs p at = items_are e (Fits w8) pos pos f 32 xs p.0 p.1 at
+
+-- ---- at one lane
+
+where_w8 : (t : Bool) (a b : ℕ) → cond (top 7 (cond t 255 0)) a b ≡ cond t a b
+where_w8 t a b = elim t as (λ v. cond (top 7 (cond v 255 0)) a b ≡ cond v a b) [ true ↦ refl | false ↦ refl ]
+
+greater_lane : (x y : ℕ) → cond (ltb x y) y x ≡ max x y
+greater_lane x y = grind arith
+
+smallest_at : (x y : ℕ) → cond (top 7 (less x y)) x y ≡ min x y
+smallest_at x y = where_w8 (ltb x y) x y ∙ smaller_lane x y
+
+largest_at : (x y : ℕ) → cond (top 7 (less x y)) y x ≡ max x y
+largest_at x y = where_w8 (ltb x y) y x ∙ greater_lane x y
+
+below : (x y : ℕ) → x < y → pos x -ℤ pos y ≡ negsuc (y - suc x)
+below x y small = omega (arith, ints, small)
+
+from : (x y : ℕ) → y ≤ x → pos x -ℤ pos y ≡ pos (x - y)
+from x y large = omega (arith, ints, large)
+
+pub turned_is : (x : ℕ) → Fits w8 x → pos (turned x) ≡ not_bits (pos x)
+turned_is x p = let e = p.fits in omega (arith, ints, e)
+
+pub sum_wrapped : (x y : ℕ) → Fits w8 x → Fits w8 y → pos (plus x y) ≡ sum U8 Wrap (pos x) (pos y)
+sum_wrapped x y p q = refl
+
+pub sum_clamped : (x y : ℕ) → Fits w8 x → Fits w8 y → pos (plus x (cond (top 7 (less y (turned x))) y (turned x))) ≡ sum U8 Saturate (pos x) (pos y)
+sum_clamped x y p q =
+    let a = p.fits in
+    let b = q.fits in
+    let e : (x + min y (255 - x)) % 256 ≡ min (x + y) 255 = omega (arith, a, b) in
+    rw (smallest_at y (255 - x), e) (clamp_pos (x + y))
+
+pub difference_wrapped : (x y : ℕ) → Fits w8 x → Fits w8 y → pos (minus x y) ≡ difference U8 Wrap (pos x) (pos y)
+difference_wrapped x y p q =
+    let a = p.fits in
+    let b = q.fits in
+    elim (cases_lt x y) [
+      | inl small ↦ (let e : (x + (256 - y)) % 256 ≡ 255 - (y - suc x) % 256 = omega (arith, a, b, small) in rw (below x y small) (ap pos e))
+      | inr large ↦ (let e : (x + (256 - y)) % 256 ≡ (x - y) % 256 = omega (arith, a, b, large) in rw (from x y large) (ap pos e))
+    ]
+
+clamp_negative : (n : ℕ) → pos 0 ≡ narrow U8 Saturate (negsuc n)
+clamp_negative n = grind (arith, ints, clamps)
+
+pub difference_clamped : (x y : ℕ) → Fits w8 x → Fits w8 y → pos (minus (cond (top 7 (less x y)) y x) y) ≡ difference U8 Saturate (pos x) (pos y)
+difference_clamped x y p q =
+    let a = p.fits in
+    let b = q.fits in
+    rw (largest_at x y)
+    (elim (cases_lt x y) [
+      | inl small ↦ (let e : (max x y + (256 - y)) % 256 ≡ 0 = omega (arith, a, b, small) in rw (below x y small, e) (clamp_negative (y - suc x)))
+      | inr large ↦ (let e : (max x y + (256 - y)) % 256 ≡ min (x - y) 255 = omega (arith, a, b, large) in rw (from x y large, e) (clamp_pos (x - y)))
+    ])
+
+apart : (x y : ℕ) → unsigned_abs (pos x -ℤ pos y) ≡ max x y - min x y
+apart x y = elim (cases_lt x y) [
+  | inl small ↦ (let e : suc (y - suc x) ≡ max x y - min x y = omega (arith, small) in rw (below x y small) e)
+  | inr large ↦ (let e : x - y ≡ max x y - min x y = omega (arith, large) in rw (from x y large) e)
+]
+
+pub distance_is : (x y : ℕ) → Fits w8 x → Fits w8 y → pos (minus (cond (top 7 (less x y)) y x) (cond (top 7 (less x y)) x y)) ≡ absolute_difference U8 (pos x) (pos y)
+distance_is x y p q =
+    let a = p.fits in
+    let b = q.fits in
+    let e : (max x y + (256 - min x y)) % 256 ≡ min (max x y - min x y) 255 = omega (arith, a, b) in
+    rw (largest_at x y, smallest_at x y, e, apart x y) (clamp_pos (max x y - min x y))
+
+pub smaller_is : (x y : ℕ) → Fits w8 x → Fits w8 y → pos (cond (top 7 (less x y)) x y) ≡ smaller (pos x) (pos y)
+smaller_is x y p q = ap pos (smallest_at x y) ∙ grind (arith, ints, clamps)
+
+pub greater_is : (x y : ℕ) → Fits w8 x → Fits w8 y → pos (cond (top 7 (less x y)) y x) ≡ greater (pos x) (pos y)
+greater_is x y p q = ap pos (largest_at x y) ∙ grind (arith, ints, clamps)
+
+-- ---- thresholds
+
+pick : (b : Bool) (t f : ℕ) → pos (cond b t f) ≡ (if b then pos t else pos f)
+pick true t f = refl
+pick false t f = refl
+
+pub above_is : (limit t f x : ℕ) → pos (cond (top 7 (less limit x)) t f) ≡ spec.chosen (Binary (pos limit)) t f (pos x)
+above_is limit t f x = ap pos (where_w8 (ltb limit x) t f) ∙ pick (ltb limit x) t f
+
+between : (a b : Bool) (lower upper x t f : ℕ) → ltb x lower ≡ a → ltb upper x ≡ b
+    → pos (cond a f (cond b f t)) ≡ (if int_le (pos lower) (pos x) && int_le (pos x) (pos upper) then pos t else pos f)
+between true b lower upper x t f low high = grind (arith, nat_tests, ints, low)
+between false true lower upper x t f low high = grind (arith, nat_tests, ints, low, high)
+between false false lower upper x t f low high = grind (arith, nat_tests, ints, low, high)
+
+pub between_is : (lower upper t f x : ℕ) → pos (cond (top 7 (less x lower)) f (cond (top 7 (less upper x)) f t)) ≡ spec.chosen (Range (pos lower) (pos upper)) t f (pos x)
+between_is lower upper t f x =
+    ap pos (where_w8 (ltb x lower) f (cond (top 7 (less upper x)) f t) ∙ ap (λ n. cond (ltb x lower) f n) (where_w8 (ltb upper x) f t))
+    ∙ between (ltb x lower) (ltb upper x) lower upper x t f refl refl

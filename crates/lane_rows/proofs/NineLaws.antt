@@ -1,0 +1,89 @@
+-- What is computed in lanes of the nine samples of windows, lane by lane.
+use Rattle.std.proofs.Common.{◌≡◌, ℕ, ℤ, pos, zero, suc, ◌+◌, List, [], ◌∷◌, length, map, get_or, Bool, true, false, cond, min, max, ltb, refl, ap, ◌∙◌, sym, arith}
+use Rattle.lane_rows.proofs.Common.{range_with_len, sel_l, zip2, length-map, put_chunk_whole, top}
+use Rattle.std.specs.Simd.Lanes.{put_chunk}
+use Rattle.std.proofs.lemmas.Simd.{map-map}
+use Rattle.vx_base.specs.Image.{run}
+use Rattle.vx_base.proofs.TableLaws.{length-range, run-same}
+use Rattle.std.specs.Prelude.{slice_index}
+use Rattle.lane_rows.specs.declared.nine_rows.Nine.{Nine}
+use Rattle.lane_rows.specs.Windows.{nine_at}
+use Rattle.lane_rows.specs.Ranks.{chosen_of_nine, middle_of_nine}
+
+-- ---- the lesser and the greater lanes of two vectors
+
+pub chosen_pairs : (t : ℕ → Bool) (m : ℕ → ℕ → ℕ) (f : ℕ → ℕ → ℕ) → ((x y : ℕ) → cond (t (m x y)) x y ≡ f x y) → (xs ys : List ℕ) → sel_l (map t (zip2 m xs ys)) xs ys ≡ zip2 f xs ys
+chosen_pairs t m f same [] ys = refl
+chosen_pairs t m f same (x ∷ xs) [] = refl
+chosen_pairs t m f same (x ∷ xs) (y ∷ ys) = cc (same x y, chosen_pairs t m f same xs ys)
+
+pub chosen_turned : (t : ℕ → Bool) (m : ℕ → ℕ → ℕ) (f : ℕ → ℕ → ℕ) → ((x y : ℕ) → cond (t (m x y)) y x ≡ f x y) → (xs ys : List ℕ) → sel_l (map t (zip2 m xs ys)) ys xs ≡ zip2 f xs ys
+chosen_turned t m f same [] ys = refl
+chosen_turned t m f same (x ∷ xs) [] = refl
+chosen_turned t m f same (x ∷ xs) (y ∷ ys) = cc (same x y, chosen_turned t m f same xs ys)
+
+chosen_w8 : (t : Bool) (a b : ℕ) → cond (top 7 (cond t 255 0)) a b ≡ cond t a b
+chosen_w8 t a b = elim t as (λ v. cond (top 7 (cond v 255 0)) a b ≡ cond v a b) [ true ↦ refl | false ↦ refl ]
+
+smaller_lane : (x y : ℕ) → cond (ltb x y) x y ≡ min x y
+smaller_lane x y = grind arith
+
+greater_lane : (x y : ℕ) → cond (ltb x y) y x ≡ max x y
+greater_lane x y = grind arith
+
+pub less : (x y : ℕ) → cond (top 7 (cond (ltb x y) 255 0)) x y ≡ min x y
+less x y = chosen_w8 (ltb x y) x y ∙ smaller_lane x y
+
+pub more : (x y : ℕ) → cond (top 7 (cond (ltb x y) 255 0)) y x ≡ max x y
+more x y = chosen_w8 (ltb x y) y x ∙ greater_lane x y
+
+pub same_three : {A B : Type 0} (g : A → A → A → B) {a b c p q r : A} → a ≡ p → b ≡ q → c ≡ r → g a b c ≡ g p q r
+same_three g x y z = cc (x, y, z)
+
+-- ---- of nine vectors
+
+abbrev Net : Type 0 → Type 0
+Net A = A → A → A → A → A → A → A → A → A → A
+
+-- what is computed of vectors is computed lane by lane
+abbrev ByLanes : Net (List ℕ) → Net ℕ → Type 0
+ByLanes wide net =
+    (a b c d e f g h i : ℕ → ℕ) (ks : List ℕ) → wide (map a ks) (map b ks) (map c ks) (map d ks) (map e ks) (map f ks) (map g ks) (map h ks) (map i ks) ≡ map (λ k. net (a k) (b k) (c k) (d k) (e k) (f k) (g k) (h k) (i k)) ks
+
+pub chosen_by_lanes : (op : ℕ → ℕ → ℕ) → ByLanes (chosen_of_nine (zip2 op)) (chosen_of_nine op)
+chosen_by_lanes op a b c d e f g h i [] = refl
+chosen_by_lanes op a b c d e f g h i (k ∷ ks) = ap (λ l. chosen_of_nine op (a k) (b k) (c k) (d k) (e k) (f k) (g k) (h k) (i k) ∷ l) (chosen_by_lanes op a b c d e f g h i ks)
+
+pub middle_by_lanes : (lo hi : ℕ → ℕ → ℕ) → ByLanes (middle_of_nine (zip2 lo) (zip2 hi)) (middle_of_nine lo hi)
+middle_by_lanes lo hi a b c d e f g h i [] = refl
+middle_by_lanes lo hi a b c d e f g h i (k ∷ ks) = ap (λ l. middle_of_nine lo hi (a k) (b k) (c k) (d k) (e k) (f k) (g k) (h k) (i k) ∷ l) (middle_by_lanes lo hi a b c d e f g h i ks)
+
+-- the items of a row at 32 places
+abbrev at : List ℕ → ℕ → List ℕ
+at row place = map (slice_index row) (range_with_len place 32)
+
+-- what is stored of 32 places
+pub stored : (wide : Net (List ℕ)) (net : Net ℕ) (of_nine : List ℤ → ℤ) → ByLanes wide net
+    → ((a b c d e f g h i : ℕ) → pos (net a b c d e f g h i) ≡ of_nine (pos a ∷ pos b ∷ pos c ∷ pos d ∷ pos e ∷ pos f ∷ pos g ∷ pos h ∷ pos i ∷ []))
+    → (nine : Nine) (place : ℕ) (out r p q s t u v w x y : List ℕ) → length out ≡ 32
+    → p ≡ at nine.above.left.now place → q ≡ at nine.above.middle.now place → s ≡ at nine.above.right.now place
+    → t ≡ at nine.here.left.now place → u ≡ at nine.here.middle.now place → v ≡ at nine.here.right.now place
+    → w ≡ at nine.below.left.now place → x ≡ at nine.below.middle.now place → y ≡ at nine.below.right.now place
+    → r ≡ wide p q s t u v w x y
+    → map pos (put_chunk 0 out r) ≡ run place 32 (λ k. of_nine (nine_at nine k))
+stored wide net of_nine by_lanes law nine place out r p q s t u v w x y room pp qq ss tt1 uu vv ww xx yy is =
+    let ks = range_with_len place 32 in
+    let a : ℕ → ℕ = slice_index nine.above.left.now in
+    let b : ℕ → ℕ = slice_index nine.above.middle.now in
+    let c : ℕ → ℕ = slice_index nine.above.right.now in
+    let d : ℕ → ℕ = slice_index nine.here.left.now in
+    let e : ℕ → ℕ = slice_index nine.here.middle.now in
+    let f : ℕ → ℕ = slice_index nine.here.right.now in
+    let g : ℕ → ℕ = slice_index nine.below.left.now in
+    let h : ℕ → ℕ = slice_index nine.below.middle.now in
+    let i : ℕ → ℕ = slice_index nine.below.right.now in
+    let lane : ℕ → ℕ = λ k. net (a k) (b k) (c k) (d k) (e k) (f k) (g k) (h k) (i k) in
+    let made : r ≡ map lane ks = rw (is, pp, qq, ss, tt1, uu, vv, ww, xx, yy) (by_lanes a b c d e f g h i ks) in
+    ap (map pos) (put_chunk_whole out r (room ∙ sym (ap length made ∙ length-map ks lane ∙ length-range place 32)) ∙ made)
+    ∙ map-map pos lane ks
+    ∙ run-same (λ k. pos (lane k)) (λ k. of_nine (nine_at nine k)) place 32 (λ k _ _. law (a k) (b k) (c k) (d k) (e k) (f k) (g k) (h k) (i k))

@@ -1,0 +1,123 @@
+-- What is computed of numbers of 16 bits in lanes.
+use Rattle.std.proofs.Common.{rules, ◌≡◌, ℕ, ℤ, pos, ◌+◌, ◌-◌, ◌%◌, ◌-ℤ◌, ◌+ℤ◌, int_lt, unsigned_abs, List, length, map, Bool, true, false, cond, w16, w32, FitsSigned, to_z, of_z, refl, ap, ◌∙◌, sym, subst, arith, map-id}
+use Rattle.std.specs.Int.{int_min, int_max}
+use Rattle.lane_rows.proofs.Common.{zip2, Each1, ints, clamps, to_z-of_z, int_wrap_fits, S16, Policy, narrow, top, Width}
+use Rattle.std.proofs.lemmas.Int.{wrapping_add_is, wrapping_sub_is}
+use Rattle.vx_base.specs.Sample.{distance}
+use Rattle.lane_rows.proofs.LaneLaws.{chosen_w16}
+use Rattle.lane_rows.proofs.ShortLaws.{of_bits, fit_as_bits, wider, widened}
+use Rattle.lane_rows.proofs.Lanewise.{Lanewise, one, other, each, both, chosen, pairs_are, map-zip2, each_of}
+
+-- the bits of the lanes of the one vector and of the other
+abbrev pub one_short : Lanewise ℤ ℤ ℕ
+one_short = each (of_z w16) one
+
+abbrev pub other_short : Lanewise ℤ ℤ ℕ
+other_short = each (of_z w16) other
+
+abbrev less : ℕ → ℕ → ℕ
+less a b = cond (int_lt (to_z w16 a) (to_z w16 b)) 65535 0
+
+abbrev pub smallest : Lanewise ℤ ℤ ℕ → Lanewise ℤ ℤ ℕ → Lanewise ℤ ℤ ℕ
+smallest e f = chosen (top 15) (both less e f) e f
+
+abbrev pub largest : Lanewise ℤ ℤ ℕ → Lanewise ℤ ℤ ℕ → Lanewise ℤ ℤ ℕ
+largest e f = chosen (top 15) (both less e f) f e
+
+-- in 32 bits
+abbrev pub wide : ℕ → ℕ
+wide x = of_z w32 (to_z w16 x)
+
+abbrev pub plus : ℕ → ℕ → ℕ
+plus x y = (x + y) % 4294967296
+
+abbrev pub minus : ℕ → ℕ → ℕ
+minus x y = (x + (4294967296 - y)) % 4294967296
+
+pub shorts_are : (e : Lanewise ℤ ℤ ℕ) (w : Width) (f : ℤ → ℤ → ℤ) (us vs : List ℤ) → length us ≡ 16 → length vs ≡ 16 → Each1 (FitsSigned w16) us → Each1 (FitsSigned w16) vs
+    → ((x y : ℤ) → FitsSigned w16 x → FitsSigned w16 y → to_z w (e.at x y) ≡ f x y) → map (to_z w) (e.all 16 us vs) ≡ zip2 f us vs
+shorts_are e w f us vs p q ps qs at =
+    pairs_are e (FitsSigned w16) (FitsSigned w16) (to_z w) (λ z. z) (λ z. z) f 16 us vs p q ps qs at
+    ∙ ap (λ (l : List ℤ). zip2 f l (map (λ z. z) vs)) (map-id us) ∙ ap (zip2 f us) (map-id vs)
+
+-- ---- at one lane
+
+least_bits : (b : Bool) (x y : ℤ) → int_lt x y ≡ b → cond b (of_z w16 x) (of_z w16 y) ≡ of_z w16 (int_min x y)
+least_bits true x y h = let e : x ≡ int_min x y = grind (arith, ints, clamps, h) in ap (of_z w16) e
+least_bits false x y h = let e : y ≡ int_min x y = grind (arith, ints, clamps, h) in ap (of_z w16) e
+
+greatest_bits : (b : Bool) (x y : ℤ) → int_lt x y ≡ b → cond b (of_z w16 y) (of_z w16 x) ≡ of_z w16 (int_max x y)
+greatest_bits true x y h = let e : y ≡ int_max x y = grind (arith, ints, clamps, h) in ap (of_z w16) e
+greatest_bits false x y h = let e : x ≡ int_max x y = grind (arith, ints, clamps, h) in ap (of_z w16) e
+
+smallest_at : (x y : ℤ) → FitsSigned w16 x → FitsSigned w16 y → cond (top 15 (less (of_z w16 x) (of_z w16 y))) (of_z w16 x) (of_z w16 y) ≡ of_z w16 (int_min x y)
+smallest_at x y p q = rw (to_z-of_z w16 x p, to_z-of_z w16 y q, chosen_w16 (int_lt x y) (of_z w16 x) (of_z w16 y)) (least_bits (int_lt x y) x y refl)
+
+largest_at : (x y : ℤ) → FitsSigned w16 x → FitsSigned w16 y → cond (top 15 (less (of_z w16 x) (of_z w16 y))) (of_z w16 y) (of_z w16 x) ≡ of_z w16 (int_max x y)
+largest_at x y p q = rw (to_z-of_z w16 x p, to_z-of_z w16 y q, chosen_w16 (int_lt x y) (of_z w16 y) (of_z w16 x)) (greatest_bits (int_lt x y) x y refl)
+
+pub min_fits : (x y : ℤ) → FitsSigned w16 x → FitsSigned w16 y → FitsSigned w16 (int_min x y)
+min_fits x y p q = by (int_lt x y) refl
+  where
+    by : (b : Bool) → int_lt x y ≡ b → FitsSigned w16 (int_min x y)
+    by true h = let e : x ≡ int_min x y = grind (arith, ints, clamps, h) in subst (FitsSigned w16) e p
+    by false h = let e : y ≡ int_min x y = grind (arith, ints, clamps, h) in subst (FitsSigned w16) e q
+
+pub max_fits : (x y : ℤ) → FitsSigned w16 x → FitsSigned w16 y → FitsSigned w16 (int_max x y)
+max_fits x y p q = by (int_lt x y) refl
+  where
+    by : (b : Bool) → int_lt x y ≡ b → FitsSigned w16 (int_max x y)
+    by true h = let e : y ≡ int_max x y = grind (arith, ints, clamps, h) in subst (FitsSigned w16) e q
+    by false h = let e : x ≡ int_max x y = grind (arith, ints, clamps, h) in subst (FitsSigned w16) e p
+
+pub smaller_is : (x y : ℤ) → FitsSigned w16 x → FitsSigned w16 y → to_z w16 (cond (top 15 (less (of_z w16 x) (of_z w16 y))) (of_z w16 x) (of_z w16 y)) ≡ int_min x y
+smaller_is x y p q = ap (to_z w16) (smallest_at x y p q) ∙ to_z-of_z w16 (int_min x y) (min_fits x y p q)
+
+pub greater_is : (x y : ℤ) → FitsSigned w16 x → FitsSigned w16 y → to_z w16 (cond (top 15 (less (of_z w16 x) (of_z w16 y))) (of_z w16 y) (of_z w16 x)) ≡ int_max x y
+greater_is x y p q = ap (to_z w16) (largest_at x y p q) ∙ to_z-of_z w16 (int_max x y) (max_fits x y p q)
+
+pub sum_fits : (x y : ℤ) → FitsSigned w16 x → FitsSigned w16 y → FitsSigned w32 (x +ℤ y)
+sum_fits x y p q = first_of (search (rules, ints), grind (arith, ints))
+
+pub difference_fits : (x y : ℤ) → FitsSigned w16 x → FitsSigned w16 y → FitsSigned w32 (x -ℤ y)
+difference_fits x y p q = first_of (search (rules, ints), grind (arith, ints))
+
+pub sum_is : (x y : ℤ) → FitsSigned w16 x → FitsSigned w16 y → to_z w32 (plus (wide (of_z w16 x)) (wide (of_z w16 y))) ≡ x +ℤ y
+sum_is x y p q = rw (widened x p, widened y q) (wrapping_add_is w32 x y (wider x p) (wider y q) ∙ int_wrap_fits w32 (x +ℤ y) (sum_fits x y p q))
+
+pub difference_is : (x y : ℤ) → FitsSigned w16 x → FitsSigned w16 y → to_z w32 (minus (wide (of_z w16 x)) (wide (of_z w16 y))) ≡ x -ℤ y
+difference_is x y p q = rw (widened x p, widened y q) (wrapping_sub_is w32 x y (wider x p) (wider y q) ∙ int_wrap_fits w32 (x -ℤ y) (difference_fits x y p q))
+
+apart : (b : Bool) (x y : ℤ) → int_lt x y ≡ b → int_max x y -ℤ int_min x y ≡ pos (unsigned_abs (x -ℤ y))
+apart true x y h = grind (arith, ints, clamps, h)
+apart false x y h = grind (arith, ints, clamps, h)
+
+pub distance_is : (x y : ℤ) → FitsSigned w16 x → FitsSigned w16 y
+    → to_z w32 (minus (wide (cond (top 15 (less (of_z w16 x) (of_z w16 y))) (of_z w16 y) (of_z w16 x))) (wide (cond (top 15 (less (of_z w16 x) (of_z w16 y))) (of_z w16 x) (of_z w16 y)))) ≡ pos (distance x y)
+distance_is x y p q =
+    ap (λ a. to_z w32 (minus (wide a) (wide (cond (top 15 (less (of_z w16 x) (of_z w16 y))) (of_z w16 x) (of_z w16 y))))) (largest_at x y p q)
+    ∙ ap (λ b. to_z w32 (minus (wide (of_z w16 (int_max x y))) (wide b))) (smallest_at x y p q)
+    ∙ difference_is (int_max x y) (int_min x y) (max_fits x y p q) (min_fits x y p q) ∙ apart (int_lt x y) x y refl
+
+pub distance_fits : (x y : ℤ) → FitsSigned w16 x → FitsSigned w16 y → FitsSigned w32 (pos (distance x y))
+distance_fits x y p q = subst (FitsSigned w32) (apart (int_lt x y) x y refl) (difference_fits (int_max x y) (int_min x y) (max_fits x y p q) (min_fits x y p q))
+
+-- ---- numbers of 32 bits made of two, and narrowed
+
+pub read_both : (g : ℤ → ℤ → ℤ) (us vs : List ℤ) → Each1 (FitsSigned w16) us → Each1 (FitsSigned w16) vs
+    → zip2 g (map (to_z w16) (map (of_z w16) us)) (map (to_z w16) (map (of_z w16) vs)) ≡ zip2 g us vs
+read_both g us vs f h = ap (λ (l : List ℤ). zip2 g l (map (to_z w16) (map (of_z w16) vs))) (of_bits w16 us f) ∙ ap (zip2 g us) (of_bits w16 vs h)
+
+pub pairs_fit : (g : ℤ → ℤ → ℤ) (w : Width) → ((x y : ℤ) → FitsSigned w16 x → FitsSigned w16 y → FitsSigned w (g x y)) → (us vs : List ℤ) → Each1 (FitsSigned w16) us → Each1 (FitsSigned w16) vs → Each1 (FitsSigned w) (zip2 g us vs)
+pairs_fit g w fit us vs f h = each_of (FitsSigned w16) (FitsSigned w16) (FitsSigned w) g us vs f h fit
+
+module _ (g : ℤ → ℤ → ℤ) (us vs : List ℤ) (fit : Each1 (FitsSigned w32) (zip2 g us vs)) (ms : List ℤ) (is : ms ≡ zip2 g us vs) where
+  made_fit : Each1 (FitsSigned w32) ms
+  made_fit = subst (Each1 (FitsSigned w32)) (sym is) fit
+
+  pub to_narrow_fit : Each1 (FitsSigned w32) (map (to_z w32) (map (of_z w32) ms))
+  to_narrow_fit = fit_as_bits w32 ms made_fit
+
+  pub narrow_is : (policy : Policy) (ns : List ℤ) → ns ≡ map (narrow S16 policy) (map (to_z w32) (map (of_z w32) ms)) → Each1 (FitsSigned w16) ns
+      → map (to_z w16) (map (of_z w16) ns) ≡ zip2 (λ x y. narrow S16 policy (g x y)) us vs
+  narrow_is policy ns thus fits = of_bits w16 ns fits ∙ thus ∙ ap (map (narrow S16 policy)) (of_bits w32 ms made_fit ∙ is) ∙ map-zip2 (narrow S16 policy) g us vs

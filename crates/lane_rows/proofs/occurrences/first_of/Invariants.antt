@@ -1,0 +1,6 @@
+use Rattle.std.proofs.Common.{◌≡◌, map, take}
+use Rattle.lane_rows.proofs.Names.{count_of}
+use Rattle.lane_rows.proofs.occurrences.first_of.Given as goal
+
+abbrev pub invariant-loop-i : goal.invariant-loop-i
+invariant-loop-i g l = count_of (g.T.Item.value l.item) (take l.i (map g.T.Item.value l.row)) ≡ 0

@@ -1,0 +1,6 @@
+use Rattle.std.proofs.Common.{◌≡◌, ◌*◌, map, take}
+use Rattle.lane_rows.proofs.Names.{count_of}
+use Rattle.lane_rows.proofs.occurrences.without.Given as goal
+
+abbrev pub invariant-loop-k : goal.invariant-loop-k
+invariant-loop-k g l = count_of (g.T.Item.value l.item) (take (32 * l.k) (map g.T.Item.value l.row)) ≡ 0

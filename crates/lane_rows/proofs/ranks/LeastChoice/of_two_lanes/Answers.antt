@@ -1,0 +1,6 @@
+use Rattle.std.proofs.Common.{min}
+use Rattle.lane_rows.proofs.NineLaws.{chosen_pairs, less}
+use Rattle.lane_rows.proofs.ranks.LeastChoice.of_two_lanes.Goals as goal
+
+pub returns : goal.returns
+returns c = chosen_pairs _ _ min less c.args.a c.args.b

@@ -1,0 +1,12 @@
+-- That the limits of kernels of three numbers are low enough to add up in 16 bits.
+use Rattle.std.specs.Prelude.{◌≤◌}
+use Rattle.std.proofs.Common.{arith}
+
+pub greatest_addend : 8191 ≤ 8191
+greatest_addend = omega arith
+
+pub greatest_sum : 765 ≤ 8191
+greatest_sum = omega arith
+
+pub greatest_weighted_sum : 1020 ≤ 8191
+greatest_weighted_sum = omega arith

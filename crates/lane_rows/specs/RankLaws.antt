@@ -1,0 +1,39 @@
+-- That what is chosen of each row, and then of the rows, is the least of nine or the greatest.
+use Rattle.std.specs.Prelude.{ℕ, ℤ, ◌≡◌, [], ◌∷◌, pos, min, max}
+use Rattle.std.specs.Int.{int_min, int_max}
+use Rattle.std.proofs.Common.{arith, ap, ◌∙◌}
+use Rattle.std.proofs.lemmas.Int.{ints}
+use Rattle.vx_base.specs.Window.{least_of, greatest_of}
+use Rattle.lane_rows.specs.Ranks.{chosen_of_nine}
+
+-- of an operation whose order doesn't matter, as numbers with a sign
+module _ (lo : ℕ → ℕ → ℕ) (op : ℤ → ℤ → ℤ) (as_number : (x y : ℕ) → pos (lo x y) ≡ op (pos x) (pos y)) (assoc : (x y z : ℕ) → lo x (lo y z) ≡ lo (lo x y) z) where
+  one_after_another : (r d e f : ℕ) → lo r (lo (lo d e) f) ≡ lo (lo (lo r d) e) f
+  one_after_another r d e f = assoc r (lo d e) f ∙ ap (λ z. lo z f) (assoc r d e)
+
+  numbers : (a b c d e f g h i : ℕ) → pos (lo (lo (lo (lo (lo (lo (lo (lo a b) c) d) e) f) g) h) i) ≡ op (op (op (op (op (op (op (op (pos a) (pos b)) (pos c)) (pos d)) (pos e)) (pos f)) (pos g)) (pos h)) (pos i)
+  numbers a b c d e f g h i = simp as_number
+
+  by_rows : (a b c d e f g h i : ℕ) → pos (chosen_of_nine lo a b c d e f g h i) ≡ op (op (op (op (op (op (op (op (pos a) (pos b)) (pos c)) (pos d)) (pos e)) (pos f)) (pos g)) (pos h)) (pos i)
+  by_rows a b c d e f g h i =
+      ap (λ z. pos (lo z (lo (lo g h) i))) (one_after_another (lo (lo a b) c) d e f)
+      ∙ ap pos (one_after_another (lo (lo (lo (lo (lo a b) c) d) e) f) g h i)
+      ∙ numbers a b c d e f g h i
+
+pub least_is_least : (a b c d e f g h i : ℕ) → pos (chosen_of_nine min a b c d e f g h i) ≡ least_of (pos a ∷ pos b ∷ pos c ∷ pos d ∷ pos e ∷ pos f ∷ pos g ∷ pos h ∷ pos i ∷ [])
+least_is_least = by_rows min int_min as_number assoc
+  where
+    as_number : (x y : ℕ) → pos (min x y) ≡ int_min (pos x) (pos y)
+    as_number x y = grind arith
+
+    assoc : (x y z : ℕ) → min x (min y z) ≡ min (min x y) z
+    assoc x y z = grind arith
+
+pub greatest_is_greatest : (a b c d e f g h i : ℕ) → pos (chosen_of_nine max a b c d e f g h i) ≡ greatest_of (pos a ∷ pos b ∷ pos c ∷ pos d ∷ pos e ∷ pos f ∷ pos g ∷ pos h ∷ pos i ∷ [])
+greatest_is_greatest = by_rows max int_max as_number assoc
+  where
+    as_number : (x y : ℕ) → pos (max x y) ≡ int_max (pos x) (pos y)
+    as_number x y = grind arith
+
+    assoc : (x y z : ℕ) → max x (max y z) ≡ max (max x y) z
+    assoc x y z = grind arith

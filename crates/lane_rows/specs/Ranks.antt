@@ -1,0 +1,22 @@
+-- Of nine items by rows the chosen one, by choices of two, and the middle one.
+use Rattle.std.specs.Prelude.{ℕ, ℤ}
+
+-- of three
+abbrev pub chosen_of_three : {A : Type 0} → (A → A → A) → A → A → A → A
+chosen_of_three op a b c = op (op a b) c
+
+-- of each row, and of the rows
+abbrev pub chosen_of_nine : {A : Type 0} → (A → A → A) → A → A → A → A → A → A → A → A → A → A
+chosen_of_nine op a b c d e f g h i = chosen_of_three op (chosen_of_three op a b c) (chosen_of_three op d e f) (chosen_of_three op g h i)
+
+-- the middle one of three, by the lesser and the greater of two
+abbrev pub middle_of_three : {A : Type 0} → (A → A → A) → (A → A → A) → A → A → A → A
+middle_of_three lo hi a b c = hi (lo a b) (lo (hi a b) c)
+
+-- of nine by rows: of the columns a d g, b e h and c f i the middle one of the greatest least, the least greatest and the middle middle
+abbrev pub middle_of_nine : {A : Type 0} → (A → A → A) → (A → A → A) → A → A → A → A → A → A → A → A → A → A
+middle_of_nine lo hi a b c d e f g h i =
+    middle_of_three lo hi
+    (chosen_of_three hi (chosen_of_three lo a d g) (chosen_of_three lo b e h) (chosen_of_three lo c f i))
+    (chosen_of_three lo (chosen_of_three hi a d g) (chosen_of_three hi b e h) (chosen_of_three hi c f i))
+    (middle_of_three lo hi (middle_of_three lo hi a d g) (middle_of_three lo hi b e h) (middle_of_three lo hi c f i))

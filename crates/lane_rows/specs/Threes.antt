@@ -1,0 +1,19 @@
+-- Rows of numbers from 0 to a limit, three of which are added up.
+use Rattle.std.specs.Prelude.{ℕ, ℤ, pos, ◌≤ℤ◌, List, [], ◌∷◌, slice_index_or}
+
+-- from 0 to the limit
+abbrev pub IsUpTo : ℕ → ℤ → Type 0
+IsUpTo limit z = (pos 0 ≤ℤ z) × (z ≤ℤ pos limit)
+
+-- the number at a place of a row
+abbrev pub number_at : List ℤ → ℕ → ℤ
+number_at row i = slice_index_or row i (pos 0)
+
+-- each number of a row is from 0 to the limit
+abbrev pub AreUpTo : ℕ → List ℤ → Type 0
+AreUpTo limit row = (i : ℕ) → IsUpTo limit (number_at row i)
+
+-- a function of three numbers, at each place of three rows
+abbrev pub zip3 : (ℤ → ℤ → ℤ → ℤ) → List ℤ → List ℤ → List ℤ → List ℤ
+zip3 f (x ∷ xs) (y ∷ ys) (z ∷ zs) = f x y z ∷ zip3 f xs ys zs
+zip3 f xs ys zs = []

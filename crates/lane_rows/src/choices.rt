@@ -1,0 +1,55 @@
+//! Bytes in 32 lanes, chosen by what numbers are.
+ghost use Rattle.std.specs.Prelude.{◌≡◌, pos, map, length, FitsSigned};
+ghost use Rattle.std.specs.Int.{w16};
+ghost use Rattle.std.specs.Simd.Lanes.{Each1};
+ghost use Rattle.vx_base.specs.declared.threshold.ThresholdKind.TheVariants.{Binary, Range};
+ghost use Rattle.lane_rows.specs.Chosen.{chosen};
+
+use std::simd::prelude::*;
+
+/// One value where a byte is above the limit, another elsewhere.
+pub fn bytes_above(row: u8x32, limit: u8, true_value: u8, false_value: u8) -> u8x32
+    ensures { map pos result ≡ map (chosen (Binary (pos limit)) true_value false_value)
+        (map pos row) }
+{
+    row.simd_gt(u8x32::splat(limit))
+        .select(u8x32::splat(true_value), u8x32::splat(false_value))
+}
+
+/// One value where a byte is from the lower to the upper limit, another elsewhere.
+pub fn bytes_between(row: u8x32, lower: u8, upper: u8, true_value: u8, false_value: u8) -> u8x32
+    ensures { map pos result ≡ map (chosen (Range (pos lower) (pos upper)) true_value false_value)
+        (map pos row) }
+{
+    let up_to = row
+        .simd_gt(u8x32::splat(upper))
+        .select(u8x32::splat(false_value), u8x32::splat(true_value));
+    row.simd_lt(u8x32::splat(lower))
+        .select(u8x32::splat(false_value), up_to)
+}
+
+/// One value where a number is above the limit, another elsewhere.
+pub fn shorts_above(row: i16x32, limit: i16, true_value: u8, false_value: u8) -> u8x32
+    requires len { length row ≡ 32 }
+    requires fits { Each1 (FitsSigned w16) row }
+    ensures { map pos result ≡ map (chosen (Binary limit) true_value false_value) row }
+{
+    row.simd_gt(i16x32::splat(limit))
+        .cast::<i8>()
+        .select(u8x32::splat(true_value), u8x32::splat(false_value))
+}
+
+/// One value where a number is from the lower to the upper limit, another elsewhere.
+pub fn shorts_between(row: i16x32, lower: i16, upper: i16, true_value: u8, false_value: u8) -> u8x32
+    requires len { length row ≡ 32 }
+    requires fits { Each1 (FitsSigned w16) row }
+    ensures { map pos result ≡ map (chosen (Range lower upper) true_value false_value) row }
+{
+    let up_to = row
+        .simd_gt(i16x32::splat(upper))
+        .cast::<i8>()
+        .select(u8x32::splat(false_value), u8x32::splat(true_value));
+    row.simd_lt(i16x32::splat(lower))
+        .cast::<i8>()
+        .select(u8x32::splat(false_value), up_to)
+}

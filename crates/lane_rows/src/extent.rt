@@ -1,0 +1,86 @@
+//! The least and the greatest item of a row. The loops ask nothing, so that the compiler runs them
+//! in lanes.
+ghost use Rattle.std.specs.Prelude.{◌≡◌, ◌<◌, ◌^◌, pos, map, length};
+ghost use Rattle.std.specs.Int.{int_min, int_max};
+ghost use Rattle.vx_base.specs.Statistics.{chosen, count_of};
+
+use crate::compared::Compared;
+use crate::occurrences::count_of;
+
+/// The least item of a row that has one.
+pub fn least_of<T: Compared>(row: &[T]) -> T
+    requires { 0 < length row.now }
+    ensures { T.value result ≡ chosen int_min (map T.value row.now) }
+{
+    let mut least = row[0];
+    for item in row {
+        least = least.lesser(*item);
+    }
+    least
+}
+
+/// The greatest item of a row that has one.
+pub fn greatest_of<T: Compared>(row: &[T]) -> T
+    requires { 0 < length row.now }
+    ensures { T.value result ≡ chosen int_max (map T.value row.now) }
+{
+    let mut greatest = row[0];
+    for item in row {
+        greatest = greatest.greater(*item);
+    }
+    greatest
+}
+
+/// The least and the greatest item of a row, and how many items are equal to each.
+#[derive(Clone, Copy)]
+pub struct RowExtremes<T: Copy> {
+    pub least: T,
+    pub least_count: u32,
+    pub greatest: T,
+    pub greatest_count: u32,
+}
+
+fn extremes_of<T: Compared>(row: &[T]) -> RowExtremes<T>
+    requires some { 0 < length row.now }
+    requires room { length row.now < 2 ^ 32 }
+    ensures least { T.value result.least ≡ chosen int_min (map T.value row.now) }
+    ensures greatest { T.value result.greatest ≡ chosen int_max (map T.value row.now) }
+    ensures least_count { result.least_count
+        ≡ count_of (T.value result.least) (map T.value row.now) }
+    ensures greatest_count { result.greatest_count
+        ≡ count_of (T.value result.greatest) (map T.value row.now) }
+{
+    let (least, greatest) = (least_of(row), greatest_of(row));
+    RowExtremes {
+        least,
+        least_count: count_of(row, least),
+        greatest,
+        greatest_count: count_of(row, greatest),
+    }
+}
+
+/// Returns the least and the greatest item of a row that has one, and how many items are equal to
+/// each.
+pub fn extremes_u8(row: &[u8]) -> RowExtremes<u8>
+    requires some { 0 < length row.now }
+    requires room { length row.now < 2 ^ 32 }
+    ensures least { pos result.least ≡ chosen int_min (map pos row.now) }
+    ensures greatest { pos result.greatest ≡ chosen int_max (map pos row.now) }
+    ensures least_count { result.least_count ≡ count_of (pos result.least) (map pos row.now) }
+    ensures greatest_count { result.greatest_count ≡ count_of (pos result.greatest) (map pos row.now) }
+{
+    extremes_of(row)
+}
+
+/// Returns the least and the greatest item of a row that has one, and how many items are equal to
+/// each.
+pub fn extremes_s16(row: &[i16]) -> RowExtremes<i16>
+    requires some { 0 < length row.now }
+    requires room { length row.now < 2 ^ 32 }
+    ensures least { result.least ≡ chosen int_min row.now }
+    ensures greatest { result.greatest ≡ chosen int_max row.now }
+    ensures least_count { result.least_count ≡ count_of result.least row.now }
+    ensures greatest_count { result.greatest_count ≡ count_of result.greatest row.now }
+{
+    extremes_of(row)
+}

@@ -1,0 +1,44 @@
+//! Rows that are written or updated item by item: what is left of a row after its last block.
+ghost use Rattle.std.specs.Prelude.{◌≡◌, map, length};
+ghost use Rattle.std.specs.Simd.Lanes.{zip2};
+
+use crate::item::Item;
+use crate::kernel::{OfItem, OfPair, OfSum};
+
+/// Writes what the kernel gives at each place of a row.
+pub fn map_items<A: Item, T: Item, K: OfItem<A, T>>(kernel: &K, row: &[A], out: &mut [T])
+    requires { length row.now ≡ length out.old }
+    ensures { map T.value out.new ≡ map (K.formula kernel.now) (map A.value row.now) }
+{
+    for (i, item) in out.iter_mut().enumerate() {
+        *item = kernel.item(row[i]);
+    }
+}
+
+/// Writes what the kernel gives at each place of two rows.
+pub fn zip_items<A: Item, B: Item, T: Item, K: OfPair<A, B, T>>(
+    kernel: &K,
+    first: &[A],
+    second: &[B],
+    out: &mut [T],
+)
+    requires first_len { length first.now ≡ length out.old }
+    requires second_len { length second.now ≡ length out.old }
+    ensures { map T.value out.new ≡ zip2 (K.formula kernel.now) (map A.value first.now)
+        (map B.value second.now) }
+{
+    for (i, item) in out.iter_mut().enumerate() {
+        *item = kernel.item(first[i], second[i]);
+    }
+}
+
+/// Makes each sum what the kernel gives of the row's item at its place and of it.
+pub fn update_items<A: Item, T: Item, K: OfSum<A, T>>(kernel: &K, row: &[A], sums: &mut [T])
+    requires { length row.now ≡ length sums.old }
+    ensures { map T.value sums.new ≡ zip2 (K.formula kernel.now) (map A.value row.now)
+        (map T.value sums.old) }
+{
+    for (i, sum) in sums.iter_mut().enumerate() {
+        *sum = kernel.item(row[i], *sum);
+    }
+}

@@ -1,0 +1,41 @@
+//! Rows of bytes that are counted by value.
+ghost use Rattle.std.specs.Prelude.{◌≡◌, ◌==◌, ◌+◌, ◌<◌, ◌^◌, ℕ, pos, if◌then◌else◌, map, length};
+ghost use Rattle.std.specs.Prelude.{slice_index, unsigned_abs};
+ghost use Rattle.std.specs.List.{All};
+ghost use Rattle.lane_rows.specs.Tallies.{count_at, count_in_all};
+
+/// Counts one more item of this value.
+fn count_one(counts: &mut [u32; 256], value: u8)
+    requires { slice_index counts.old value + 1 < 2 ^ 32 }
+    ensures { (v : ℕ) → slice_index counts.new v
+        ≡ slice_index counts.old v + (if value == v then 1 else 0) }
+{
+    counts[usize::from(value)] += 1;
+}
+
+/// Counts the items of a row by value, each in the next of four tables, so that equal items one
+/// after another don't wait for each other. The tables together have the counts.
+pub fn tally_row(
+    row: &[u8],
+    first: &mut [u32; 256],
+    second: &mut [u32; 256],
+    third: &mut [u32; 256],
+    fourth: &mut [u32; 256],
+)
+    requires room { (v : ℕ) → count_in_all first.old second.old third.old fourth.old v
+        + length row.now < 2 ^ 32 }
+    ensures counted { (v : ℕ) → count_in_all first.new second.new third.new fourth.new v
+        ≡ count_in_all first.old second.old third.old fourth.old v + count_at v (map pos row.now) }
+    ensures bytes { All (λ z. unsigned_abs z < 256) (map pos row.now) }
+{
+    let fours = row.len() / 4;
+    for k in 0..fours {
+        count_one(first, row[4 * k]);
+        count_one(second, row[4 * k + 1]);
+        count_one(third, row[4 * k + 2]);
+        count_one(fourth, row[4 * k + 3]);
+    }
+    for i in 4 * fours..row.len() {
+        count_one(first, row[i]);
+    }
+}

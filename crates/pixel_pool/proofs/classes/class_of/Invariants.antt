@@ -1,0 +1,14 @@
+use Rattle.std.proofs.Common.{◌-◌, ◌≡◌, ◌<◌, ◌≤◌, ◌+◌}
+use Rattle.pixel_pool.specs.Classes.{class_room}
+use Rattle.pixel_pool.proofs.classes.class_of.Given as goal
+
+abbrev pub invariant-loop-class : goal.invariant-loop-class
+invariant-loop-class l =
+    record {
+      known : l.class < 193;
+      next : l.next ≡ class_room (l.class + 1);
+      within : class_room l.class ≤ l.room;
+    }
+
+abbrev pub decreases-loop-class : goal.decreases-loop-class
+decreases-loop-class l = 193 - l.class

@@ -1,0 +1,69 @@
+//! Blocks in a hand.
+ghost use Rattle.std.specs.Prelude.{◌≡◌, []};
+ghost use Rattle.vx_base.specs.Picture.{values, samples_format};
+
+use std::marker::Model;
+use vx_base::{Format, Samples};
+
+/// A block that a pool has lent, with its samples. Only a pool makes one, and it can't be copied:
+/// so it is in one hand. It is given back to the pool that lent it.
+#[derive(Drop)]
+pub struct Block {
+    samples: Samples,
+}
+
+impl Model for Block {
+    ghost use Rattle.vx_base.specs.declared.samples.Samples.{Samples};
+
+    ghost Value = { Samples };
+
+    ghost view = { λ b. b.samples };
+}
+
+impl Block {
+    /// A block of these samples, which the pool lends.
+    pub(crate) fn new(samples: Samples) -> Block
+        ensures { result ≡ samples }
+    {
+        Block { samples }
+    }
+
+    /// The samples of a block that is given back.
+    pub(crate) fn into_samples(self) -> Samples
+        ensures { result ≡ self }
+    {
+        self.samples
+    }
+
+    pub fn format(&self) -> Format
+        ensures { result ≡ samples_format self.now }
+    {
+        self.samples.format()
+    }
+
+    /// The samples, as many as were asked for.
+    pub fn samples(&self) -> &Samples
+        ensures { result.now ≡ self.now }
+    {
+        &self.samples
+    }
+
+    /// Takes the samples out of the block, so that they can be written while others are read; `put`
+    /// brings them back. It takes no memory.
+    pub fn lift(&mut self) -> Samples
+        ensures format { samples_format result ≡ samples_format self.old }
+        ensures value { values result ≡ values self.old }
+        ensures left_format { samples_format self.new ≡ samples_format self.old }
+        ensures left { values self.new ≡ [] }
+    {
+        self.samples.take()
+    }
+
+    /// Gives the block samples of its format, in the place of those that were taken out.
+    pub fn put(&mut self, samples: Samples)
+        requires { samples_format samples ≡ samples_format self.old }
+        ensures { self.new ≡ samples }
+    {
+        self.samples = samples;
+    }
+}

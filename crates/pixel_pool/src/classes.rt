@@ -1,0 +1,48 @@
+//! The size classes of blocks.
+ghost use Rattle.std.specs.Prelude.{◌≡◌, ◌<◌, ◌≤◌, ◌^◌};
+ghost use Rattle.pixel_pool.specs.Classes.{class_count, class_step, IsClassOf, FitsIn};
+
+/// How many classes there are. The last has room for 67,108,864 samples, as many as the largest
+/// image has.
+pub const CLASSES: usize = 193;
+
+/// For how many samples more a class has room than the one below it.
+#[tactic(auto, using(crate::proofs::ClassLemmas::step_small))]
+pub fn step(class: usize) -> usize
+    requires { class < class_count }
+    ensures value { result ≡ class_step class }
+    ensures small { result ≤ 2 ^ 23 }
+{
+    1 << (class / 8).saturating_sub(1)
+}
+
+/// The class of a block that has room for so many samples: the greatest that it has the room of.
+#[tactic(auto, using(crate::proofs::ClassLemmas::room_zero, crate::proofs::ClassLemmas::room_more, crate::proofs::ClassLemmas::room_mono, crate::proofs::ClassLemmas::room_small))]
+pub fn class_of(room: usize) -> usize
+    ensures { IsClassOf room result }
+{
+    let mut class = 0;
+    let mut next = 1;
+    while class + 1 < CLASSES && next <= room {
+        class += 1;
+        next += step(class);
+    }
+    class
+}
+
+/// For how many samples a new block has room into which so many fit: for as many as a class has,
+/// unless they fit in none.
+#[tactic(auto, using(crate::proofs::ClassLemmas::room_zero, crate::proofs::ClassLemmas::room_more, crate::proofs::ClassLemmas::room_mono, crate::proofs::ClassLemmas::room_small))]
+pub fn room_for(count: usize) -> usize
+    ensures enough { count ≤ result }
+    ensures class { FitsIn count result }
+{
+    let mut room = 0;
+    for class in 0..CLASSES {
+        if count <= room {
+            return room;
+        }
+        room += step(class);
+    }
+    count
+}

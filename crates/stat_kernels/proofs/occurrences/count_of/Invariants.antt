@@ -1,9 +1,0 @@
-use Rattle.std.proofs.Common.{◌≡◌, ◌*◌, map, take}
-use Rattle.stat_kernels.proofs.Common.{count_of}
-use Rattle.stat_kernels.proofs.occurrences.count_of.Given as goal
-
-abbrev pub invariant-loop-k : goal.invariant-loop-k
-invariant-loop-k g l = l.count ≡ count_of (g.T.Number.value l.sample) (take (32 * l.k) (map g.T.Number.value l.row))
-
-abbrev pub invariant-loop-i : goal.invariant-loop-i
-invariant-loop-i g l = l.count ≡ count_of (g.T.Number.value l.sample) (take l.i (map g.T.Number.value l.row))

@@ -1,8 +1,0 @@
-use Rattle.std.proofs.Common.{◌∙◌, sym}
-use Rattle.stat_kernels.proofs.CountLaws.{item_passed}
-use Rattle.stat_kernels.proofs.occurrences.first_of.Goals as goal
-
-pub loop-i-preserved : goal.loop-i-preserved
-loop-i-preserved g c =
-    let value = g.T.Number.value in
-    sym (item_passed value (value c.args.sample) c.args.row.now c.loop-i.i 0 c.index-row-i.result c.loop-i-test.true c.index-row-i.is (sym c.loop-i.invariant) (sym c.is.ensures ∙ c.if-is.false))

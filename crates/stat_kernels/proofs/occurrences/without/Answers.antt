@@ -1,8 +1,0 @@
-use Rattle.std.proofs.Common.{◌∙◌, sym}
-use Rattle.stat_kernels.proofs.CountLaws.{block_counted}
-use Rattle.stat_kernels.proofs.occurrences.without.Goals as goal
-
-pub loop-k-preserved : goal.loop-k-preserved
-loop-k-preserved g c =
-    let value = g.T.Number.value in
-    sym (block_counted value (value c.args.sample) c.args.row.now c.loop-k.k 0 0 (sym c.loop-k.invariant) (sym c.if-count_in-ne0.false ∙ c.count_in.ensures))

@@ -1,5 +1,0 @@
-use Rattle.std.proofs.Common.{ℕ, pos, ◌<◌, get_or, w16, FitsSigned}
-use Rattle.stat_kernels.proofs.short.I16Short.count_in.Given as goal
-
-abbrev pub invariant-loop-sample : goal.invariant-loop-sample
-invariant-loop-sample l = (j : ℕ) → j < l.sample-index → FitsSigned w16 (get_or l.block j (pos 0))

@@ -1,0 +1,114 @@
+-- What the windows of rows that are read where they stand give.
+use Rattle.std.proofs.Common.{◌≡◌, ℕ, ℤ, pos, ◌+◌, ◌<◌, ◌+ℤ◌, ◌-ℤ◌, ◌*ℤ◌, ◌*◌, ◌≤◌, zero, suc, List, [], ◌∷◌, ◌++◌, length, map, take, drop, get_or, refl, ap, ◌∙◌, sym, subst, arith, zero-add, replicate, w8, Fits, get_or-drop}
+use Rattle.window_kernels.proofs.Common.{ints, get_or-map, map-append, run, run-append, get_or-run, run_shifted, nine_around}
+use Rattle.std.proofs.lemmas.List.{length-replicate}
+use Rattle.vx_base.proofs.ZeroLaws.{map-replicate}
+use Rattle.std.proofs.lemmas.Simd.{get_or-chunk}
+use Rattle.vx_base.proofs.TableLaws.{run-same}
+use Rattle.lane_rows.specs.Windows.{nine_from}
+use Rattle.lane_rows.specs.Threes.{IsUpTo, AreUpTo, number_at}
+use Rattle.std.specs.Int.{int_div_euclid}
+use Rattle.vx_base.specs.Window.{box_mean, gaussian_mean}
+
+pub map-same : {A B : Type 0} (f g : A → B) → ((a : A) → f a ≡ g a) → (xs : List A) → map f xs ≡ map g xs
+map-same f g same [] = refl
+map-same f g same (x ∷ xs) = cc (same x, map-same f g same xs)
+
+-- a row of one sample
+pub all_are : (n v : ℕ) (z : ℤ) → pos v ≡ z → map pos (replicate n v) ≡ replicate (length (replicate n v)) z
+all_are n v z is = map-replicate pos n v ∙ ap (replicate n) is ∙ ap (λ k. replicate k z) (sym (length-replicate n v))
+
+-- a sample of a row that is read in place
+item_at : (f : ℤ → ℤ → ℤ) (x m i : ℕ) (v w : ℤ) (row : List ℕ) → map pos row ≡ run x m (λ c. f (pos c) v) → i < m → v ≡ w → pos (get_or row i 0) ≡ f (pos (x + i)) w
+item_at f x m i v w row same below on =
+    sym (get_or-map pos row i 0) ∙ ap (λ l. get_or l i (pos 0)) same ∙ get_or-run (λ c. f (pos c) v) x m i (pos 0) below ∙ ap (f (pos (x + i))) on
+
+-- the windows of three rows in place, from the column to the left of their first place on
+pub nines_inside : (of_nine : List ℤ → ℤ) (f : ℤ → ℤ → ℤ) (x m n : ℕ) (y over on under : ℤ) (above here below : List ℕ)
+    → map pos above ≡ run x m (λ c. f (pos c) over) → map pos here ≡ run x m (λ c. f (pos c) on) → map pos below ≡ run x m (λ c. f (pos c) under)
+    → over ≡ y -ℤ pos 1 → on ≡ y → under ≡ y +ℤ pos 1 → m ≡ n + 2
+    → run 0 n (λ i. of_nine (nine_from above here below i)) ≡ run (x + 1) n (λ k. of_nine (nine_around f (pos k) y))
+nines_inside of_nine f x m n y over on under above here below a b d is_over is_on is_under long =
+    run_shifted (λ i. of_nine (nine_from above here below i)) (λ k. of_nine (nine_around f (pos k) y)) 0 (x + 1) n place
+  where
+    same : (i : ℕ) (u : ℤ) → i < m → pos (x + i) ≡ u → (pos (get_or above i 0) ≡ f u (y -ℤ pos 1)) × (pos (get_or here i 0) ≡ f u y) × (pos (get_or below i 0) ≡ f u (y +ℤ pos 1))
+    same i u inside at = (
+      item_at f x m i over (y -ℤ pos 1) above a inside is_over ∙ ap (λ v. f v (y -ℤ pos 1)) at,
+      item_at f x m i on y here b inside is_on ∙ ap (λ v. f v y) at,
+      item_at f x m i under (y +ℤ pos 1) below d inside is_under ∙ ap (λ v. f v (y +ℤ pos 1)) at,
+    )
+
+    place : (k : ℕ) → k < n → of_nine (nine_from above here below (0 + k)) ≡ of_nine (nine_around f (pos (x + 1 + k)) y)
+    place k h =
+        let left = same k (pos (x + 1 + k) -ℤ pos 1) (omega arith) (omega (arith, ints)) in
+        let middle = same (k + 1) (pos (x + 1 + k)) (omega arith) (omega (arith, ints)) in
+        let right = same (k + 2) (pos (x + 1 + k) +ℤ pos 1) (omega arith) (omega (arith, ints)) in
+        ap (λ i. of_nine (nine_from above here below i)) (zero-add k)
+        ∙ ap of_nine (cc (left.0, middle.0, right.0, left.1, middle.1, right.1, left.2, middle.2, right.2))
+
+-- a run that is written in three parts, the first and the last of which are one sample
+pub parts_joined : {T : Type 0} (value : T → ℤ) (f : ℕ → ℤ) (x n m last : ℕ) (xs ys zs : List T) → map value xs ≡ run x 1 f → map value ys ≡ run (x + 1) m f → map value zs ≡ run last 1 f
+    → last ≡ x + 1 + m → n ≡ 1 + (m + 1) → map value (xs ++ (ys ++ zs)) ≡ run x n f
+parts_joined value f x n m last xs ys zs one two three to_last whole =
+    rw (map-append value xs (ys ++ zs), map-append value ys zs, one, two, three, to_last, whole, run-append f x 1 (m + 1), run-append f (x + 1) m 1) refl
+
+-- ---- down the columns, then across three of them
+
+bytes_at : (row : List ℕ) (i : ℕ) → number_at (map pos row) i ≡ pos (get_or row i 0)
+bytes_at row i = get_or-map pos row i 0
+
+pub bytes_up_to : (limit : ℕ) (row : List ℕ) → 255 ≤ limit → ((i : ℕ) → Fits w8 (get_or row i 0)) → AreUpTo limit (map pos row)
+bytes_up_to limit row more fits i = subst (IsUpTo limit) (sym (bytes_at row i)) (omega (arith, ints), omega (arith, ints, (fits i).fits))
+
+run_up_to : (limit : ℕ) (f : ℕ → ℤ) (x n : ℕ) → ((i : ℕ) → IsUpTo limit (f i)) → AreUpTo limit (run x n f)
+run_up_to limit f x zero all i = (omega (arith, ints), omega (arith, ints))
+run_up_to limit f x (suc n) all zero = all x
+run_up_to limit f x (suc n) all (suc i) = run_up_to limit f (x + 1) n all i
+
+take_up_to : (limit n : ℕ) (xs : List ℤ) → AreUpTo limit xs → AreUpTo limit (take n xs)
+take_up_to limit zero xs all i = (omega (arith, ints), omega (arith, ints))
+take_up_to limit (suc n) [] all i = (omega (arith, ints), omega (arith, ints))
+take_up_to limit (suc n) (x ∷ xs) all zero = all 0
+take_up_to limit (suc n) (x ∷ xs) all (suc i) = take_up_to limit n xs (λ j. all (suc j)) i
+
+pub part_up_to : (limit a n m : ℕ) (f : ℕ → ℤ) (xs : List ℤ) → xs ≡ run 0 m f → ((i : ℕ) → IsUpTo limit (f i)) → AreUpTo limit (take n (drop a xs))
+part_up_to limit a n m f xs is all =
+    let whole : AreUpTo limit xs = subst (AreUpTo limit) (sym is) (run_up_to limit f 0 m all) in
+    take_up_to limit n (drop a xs) (λ i. subst (IsUpTo limit) (sym (get_or-drop a xs i (pos 0))) (whole (a + i)))
+
+part_at : (f : ℕ → ℤ) (m a n p i : ℕ) (xs : List ℤ) → xs ≡ run 0 m f → p ≡ n → i < n → a + i < m → number_at (take p (drop a xs)) i ≡ f (a + i)
+part_at f m a n p i xs is same below inside =
+    get_or-chunk a p xs i (pos 0) (omega arith) ∙ ap (λ l. number_at l (a + i)) is ∙ get_or-run f 0 m (a + i) (pos 0) inside ∙ ap f (zero-add (a + i))
+
+module _ (down across : ℤ → ℤ → ℤ → ℤ) (of_nine : List ℤ → ℤ)
+    (law : (a b c d e f g h i : ℤ) → across (down a d g) (down b e h) (down c f i) ≡ of_nine (a ∷ b ∷ c ∷ d ∷ e ∷ f ∷ g ∷ h ∷ i ∷ [])) where
+  -- what three columns of three rows give
+  pub by_columns : (above here below : List ℕ) (m n p q r : ℕ) (sums : List ℤ)
+      → sums ≡ run 0 m (λ i. down (number_at (map pos above) i) (number_at (map pos here) i) (number_at (map pos below) i)) → m ≡ n + 2 → p ≡ n → q ≡ n → r ≡ n
+      → run 0 n (λ i. across (number_at (take p (drop 0 sums)) i) (number_at (take q (drop 1 sums)) i) (number_at (take r (drop 2 sums)) i)) ≡ run 0 n (λ i. of_nine (nine_from above here below i))
+  by_columns above here below m n p q r sums is long pp qq rr =
+      run-same _ (λ i. of_nine (nine_from above here below i)) 0 n place
+    where
+      bytes : (i k : ℕ) → i ≡ k → down (number_at (map pos above) i) (number_at (map pos here) i) (number_at (map pos below) i) ≡ down (pos (get_or above k 0)) (pos (get_or here k 0)) (pos (get_or below k 0))
+      bytes i k same = ap (λ j. down (number_at (map pos above) j) (number_at (map pos here) j) (number_at (map pos below) j)) same ∙ cc (bytes_at above k, bytes_at here k, bytes_at below k)
+
+      place : (i : ℕ) → 0 ≤ i → i < 0 + n → across (number_at (take p (drop 0 sums)) i) (number_at (take q (drop 1 sums)) i) (number_at (take r (drop 2 sums)) i) ≡ of_nine (nine_from above here below i)
+      place i _ below_n =
+          let f : ℕ → ℤ = λ i. down (number_at (map pos above) i) (number_at (map pos here) i) (number_at (map pos below) i) in
+          let left = part_at f m 0 n p i sums is pp (omega arith) (omega arith) ∙ bytes (0 + i) i (omega arith) in
+          let middle = part_at f m 1 n q i sums is qq (omega arith) (omega arith) ∙ bytes (1 + i) (i + 1) (omega arith) in
+          let right = part_at f m 2 n r i sums is rr (omega arith) (omega arith) ∙ bytes (2 + i) (i + 2) (omega arith) in
+          cc (left, middle, right, law (pos (get_or above i 0)) (pos (get_or above (i + 1) 0)) (pos (get_or above (i + 2) 0)) (pos (get_or here i 0)) (pos (get_or here (i + 1) 0)) (pos (get_or here (i + 2) 0)) (pos (get_or below i 0)) (pos (get_or below (i + 1) 0)) (pos (get_or below (i + 2) 0)))
+
+-- the sums of columns a d g, b e h and c f i are those of the nine samples
+pub box_is_box : (a b c d e f g h i : ℤ) → int_div_euclid (((a +ℤ d +ℤ g) +ℤ (b +ℤ e +ℤ h)) +ℤ (c +ℤ f +ℤ i)) (pos 9) ≡ box_mean (a ∷ b ∷ c ∷ d ∷ e ∷ f ∷ g ∷ h ∷ i ∷ [])
+box_is_box a b c d e f g h i = ap (λ z. int_div_euclid z (pos 9)) (omega (arith, ints))
+
+pub gaussian_is_gaussian : (a b c d e f g h i : ℤ) → int_div_euclid (((a +ℤ pos 2 *ℤ d +ℤ g) +ℤ pos 2 *ℤ (b +ℤ pos 2 *ℤ e +ℤ h)) +ℤ (c +ℤ pos 2 *ℤ f +ℤ i)) (pos 16) ≡ gaussian_mean (a ∷ b ∷ c ∷ d ∷ e ∷ f ∷ g ∷ h ∷ i ∷ [])
+gaussian_is_gaussian a b c d e f g h i = ap (λ z. int_div_euclid z (pos 16)) (omega (arith, ints))
+
+pub sum_up_to : (limit : ℕ) (a b c : ℤ) → IsUpTo limit a → IsUpTo limit b → IsUpTo limit c → IsUpTo (3 * limit) (a +ℤ b +ℤ c)
+sum_up_to limit a b c p q r = (omega (arith, ints, p.0, q.0, r.0), omega (arith, ints, p.1, q.1, r.1))
+
+pub weighted_up_to : (limit : ℕ) (a b c : ℤ) → IsUpTo limit a → IsUpTo limit b → IsUpTo limit c → IsUpTo (4 * limit) (a +ℤ pos 2 *ℤ b +ℤ c)
+weighted_up_to limit a b c p q r = (omega (arith, ints, p.0, q.0, r.0), omega (arith, ints, p.1, q.1, r.1))

@@ -1,0 +1,244 @@
+//! Images of the nine samples around each place.
+ghost use Rattle.std.specs.Prelude.{◌≡◌, ◌+◌, ◌*◌, ◌<◌, ◌≤◌, ℕ, ℤ, List, pos, map, length};
+ghost use Rattle.std.specs.Prelude.{replicate, refl};
+ghost use Rattle.vx_base.specs.declared.format.Format.TheVariants.{U8};
+ghost use Rattle.vx_base.specs.Image.{run};
+ghost use Rattle.vx_base.specs.Window.{look, nine_around, window_valid, from_nine};
+ghost use Rattle.image_core.specs.Fits.{HaveSameSize};
+ghost use Rattle.image_core.specs.Target.{written, IsTarget, Writes};
+ghost use Rattle.border_rows.specs.Seen.{value_beside};
+ghost use Rattle.lane_rows.specs.Windows.{nine_of, nine_from};
+
+use border_rows::{row_in_place, seen_around, value_beside, window_valid};
+use image_core::{Image, ImageMut, RowFormula, Sample, set_all};
+use lane_rows::{Item, Nine, OfNine, ThreeItems, write_nine};
+use vx_base::{Border, GREATEST_SIDE, Rect};
+
+/// A kernel of the nine samples around a place.
+pub trait OfWindow<T: Sample> {
+    /// The sample, from the nine by rows from above to below.
+    ghost formula: { Self → List ℤ → ℤ };
+
+    /// How many items of scratch memory it needs for each column of three rows.
+    ghost room: { ℕ };
+
+    fn item(&self, above: ThreeItems, here: ThreeItems, below: ThreeItems) -> T
+        ensures { T.value result ≡ formula self.now (nine_of above here below) };
+
+    /// Writes what it gives in the middle of each three columns of three rows.
+    fn write_row(&self, above: &[u8], here: &[u8], below: &[u8], scratch: &mut [i16], out: &mut [T])
+        requires above { length above.now ≡ length out.old + 2 }
+        requires here { length here.now ≡ length out.old + 2 }
+        requires below { length below.now ≡ length out.old + 2 }
+        requires scratch { room * length above.now ≤ length scratch.old }
+        ensures { map T.value out.new ≡ run 0 (length out.old)
+            (λ i. formula self.now (nine_from above.now here.now below.now i)) };
+}
+
+/// Samples that are items of rows: U8 and S16.
+pub trait RowSample: Sample + Item {
+    ghost same: { (z : Self) → Self.Item.value z ≡ Self.Number.value z };
+}
+
+impl RowSample for u8 {
+    ghost same = { λ _. refl };
+}
+
+impl RowSample for i16 {
+    ghost same = { λ _. refl };
+}
+
+/// A kernel that reads nine slices of the rows where they stand, in lanes.
+#[derive(Drop)]
+pub struct InPlace<K>(pub K);
+
+impl<T: RowSample, K: OfNine<T>> OfWindow<T> for InPlace<K> {
+    ghost formula = { λ s. K.formula s.0 };
+
+    ghost room = { 0 };
+
+    fn item(&self, above: ThreeItems, here: ThreeItems, below: ThreeItems) -> T {
+        self.0.item(above, here, below)
+    }
+
+    fn write_row(
+        &self,
+        above: &[u8],
+        here: &[u8],
+        below: &[u8],
+        _scratch: &mut [i16],
+        out: &mut [T],
+    ) {
+        write_nine(&self.0, &Nine::around(above, here, below), out);
+    }
+}
+
+/// A U8 image under a border, and where its windows give something.
+#[derive(Drop)]
+struct Window<'a, 'b> {
+    image: &'a Image<'b>,
+    border: Border,
+    /// A row as it is seen above and below all valid rows, where none of them is.
+    off_rows: &'a [u8],
+    area: Rect,
+    ghost format: { image.now.format ≡ U8 },
+    ghost columns: { (area.x1 ≤ image.now.valid.x1) ×
+        (area.x0 < area.x1 → image.now.valid.x0 < image.now.valid.x1) },
+    ghost inside: { area.x0 < area.x1 → image.now.valid.x0 ≤ area.x0 },
+    ghost rows: { (area.y1 ≤ image.now.valid.y1) ×
+        (area.y0 < area.y1 → image.now.valid.y0 < image.now.valid.y1) },
+    ghost off: { map pos off_rows.now ≡ replicate (length off_rows.now)
+        (value_beside border (pos 0)) },
+    ghost room: { image.now.width ≤ length off_rows.now },
+}
+
+/// What a kernel gives of a U8 image under a border.
+#[derive(Drop)]
+struct FromNine<'a, 'b, K> {
+    kernel: &'a K,
+    window: &'a Window<'a, 'b>,
+}
+
+impl<K> FromNine<'_, '_, K> {
+    /// Writes the sample at one place.
+    fn write_place<T: Sample>(&self, x: u16, y: u16, out: &mut [T])
+    where
+        K: OfWindow<T>,
+        requires rows { self.now.window.now.image.now.valid.y0
+            < self.now.window.now.image.now.valid.y1 }
+        requires column { (self.now.window.now.image.now.valid.x0 ≤ x) ×
+            (x < self.now.window.now.image.now.valid.x1) }
+        requires one { length out.old ≡ 1 }
+        ensures { map T.value out.new ≡ run x 1 (λ k. K.formula self.now.kernel.now (nine_around
+            (look self.now.window.now.image.now self.now.window.now.border) (pos k) (pos y))) }
+    {
+        let (image, border, line) = (self.window.image, self.window.border, i32::from(y));
+        let above = seen_around(image, x, line - 1, border);
+        let here = seen_around(image, x, line, border);
+        let below = seen_around(image, x, line + 1, border);
+        set_all(out, self.kernel.item(above, here, below));
+    }
+
+    /// Writes the samples of row y to the right of column x, where only valid columns are seen:
+    /// from the rows where they stand.
+    fn write_inside<T: Sample>(&self, x: u16, y: u16, scratch: &mut [i16], out: &mut [T])
+    where
+        K: OfWindow<T>,
+        requires rows { self.now.window.now.image.now.valid.y0
+            < self.now.window.now.image.now.valid.y1 }
+        requires columns { (self.now.window.now.image.now.valid.x0 ≤ x) ×
+            (x + length out.old + 2 ≤ self.now.window.now.image.now.valid.x1) }
+        requires scratch { K.room * (length out.old + 2) ≤ length scratch.old }
+        ensures { map T.value out.new ≡ run (x + 1) (length out.old)
+            (λ k. K.formula self.now.kernel.now (nine_around
+            (look self.now.window.now.image.now self.now.window.now.border) (pos k) (pos y))) }
+    {
+        let (image, border, off_rows) = (
+            self.window.image,
+            self.window.border,
+            self.window.off_rows,
+        );
+        let (_valid, line) = (image.valid(), i32::from(y));
+        let count = out.len() + 2;
+        let above = row_in_place(image, x, line - 1, count, border, off_rows);
+        let here = row_in_place(image, x, line, count, border, off_rows);
+        let below = row_in_place(image, x, line + 1, count, border, off_rows);
+        self.kernel.write_row(above, here, below, scratch, out);
+    }
+}
+
+impl<T: Sample, K: OfWindow<T>> RowFormula<T, i16> for FromNine<'_, '_, K> {
+    ghost at = { λ s x y. K.formula s.kernel.now
+        (nine_around (look s.window.now.image.now s.window.now.border) (pos x) (pos y)) };
+
+    ghost area = { λ s. s.window.now.area };
+
+    ghost most = { λ _. 65535 };
+
+    ghost room = { λ s. K.room * s.window.now.image.now.width };
+
+    fn area(&self) -> Rect {
+        self.window.area
+    }
+
+    fn most(&self) -> u16 {
+        u16::MAX
+    }
+
+    fn fill(&self, x: u16, y: u16, scratch: &mut [i16], out: &mut [T]) {
+        let (_valid, last) = (self.window.image.valid(), out.len() - 1);
+        if last == 0 {
+            self.write_place(x, y, out);
+        } else {
+            // At the first and the last place there may be columns that aren't valid.
+            let (first, others) = out.split_at_mut(1);
+            let (inside, end) = others.split_at_mut(last - 1);
+            self.write_place(x, y, first);
+            self.write_inside(x, y, scratch, inside);
+            self.write_place(x + last as u16, y, end);
+        }
+    }
+}
+
+/// Writes what the kernel gives, with a row as it is seen where no valid row is.
+fn write_with_rows<T: Sample, K: OfWindow<T>>(
+    kernel: &K,
+    image: &Image<'_>,
+    output: &mut ImageMut<'_>,
+    border: Border,
+    off_rows: &[u8],
+    scratch: &mut [i16],
+)
+    requires target { IsTarget output.old }
+    requires size { HaveSameSize (written output.old) image.now }
+    requires input_format { image.now.format ≡ U8 }
+    requires format { (written output.old).format ≡ T.format }
+    requires off_rows { map pos off_rows.now
+        ≡ replicate (length off_rows.now) (value_beside border (pos 0)) }
+    requires room { image.now.width ≤ length off_rows.now }
+    requires scratch { K.room * image.now.width ≤ length scratch.old }
+    ensures { Writes (from_nine T.format (K.formula kernel.now) border image.now)
+        output.old output.new }
+{
+    let area = window_valid(border, 1, 1, image.valid());
+    let window = Window {
+        image,
+        border,
+        off_rows,
+        area,
+    };
+    let formula = FromNine {
+        kernel,
+        window: &window,
+    };
+    output.write_by_rows::<T, i16, _>(&formula, scratch);
+}
+
+/// Writes what the kernel gives of a U8 image to another of its size. The row that is seen where no
+/// valid row is stands on the stack; a small image needs little of it.
+pub fn write_windows<T: Sample, K: OfWindow<T>>(
+    kernel: &K,
+    image: &Image<'_>,
+    output: &mut ImageMut<'_>,
+    border: Border,
+    scratch: &mut [i16],
+)
+    requires target { IsTarget output.old }
+    requires size { HaveSameSize (written output.old) image.now }
+    requires input_format { image.now.format ≡ U8 }
+    requires format { (written output.old).format ≡ T.format }
+    requires scratch { K.room * image.now.width ≤ length scratch.old }
+    ensures { Writes (from_nine T.format (K.formula kernel.now) border image.now)
+        output.old output.new }
+{
+    let _limits = image.valid();
+    let (width, off) = (image.desc().width(), value_beside(border, 0));
+    if width <= 64 {
+        write_with_rows(kernel, image, output, border, &[off; 64], scratch);
+    } else if width <= 512 {
+        write_with_rows(kernel, image, output, border, &[off; 512], scratch);
+    } else {
+        let rows = [off; GREATEST_SIDE as usize];
+        write_with_rows(kernel, image, output, border, &rows, scratch);
+    }
+}

@@ -1,0 +1,117 @@
+"""Counts the vector instructions of the kernels in a built program.
+
+A kernel of lane_rows is small, so the compiler puts it into the function that calls it: no symbol
+tells its instructions from those of others. What is counted is the instruction that a kernel is
+made of, in all functions of the program but those of the standard library. Where it is rarer than
+the table says, the kernel no longer runs in lanes; or it has other instructions now, and the table
+is to follow. Of `pand`, `por` and `pxor`, which other kernels have too, this says little.
+"""
+
+import re
+import shutil
+import subprocess
+import sys
+from collections import Counter
+from typing import Iterable, NamedTuple
+
+FUNCTION = re.compile(r"^[0-9a-f]+ <(.*)>:$")
+INSTRUCTION = re.compile(r"^ +[0-9a-f]+:\s+v?([a-z0-9]+)")
+LIBRARY = re.compile(r"^(core|io|libc|memchr|os|std|std_\w+)::")
+
+OWN = ""
+WINDOWS = "window_kernels::"
+
+
+class Kernel(NamedTuple):
+    """What a kernel is made of: at least so many of an instruction, with or without the v of AVX,
+    in the functions whose name has a word; none where the least is 0."""
+
+    name: str
+    instruction: str
+    least: int
+    word: str = OWN
+
+
+KERNELS = [
+    Kernel("and_u8", "pand", 1),
+    Kernel("or_u8", "por", 1),
+    Kernel("xor_u8, not_u8", "pxor", 1),
+    Kernel("add_u8, wrapping", "paddb", 1),
+    Kernel("add_u8, saturating", "paddusb", 1),
+    Kernel("sub_u8, wrapping", "psubb", 1),
+    Kernel("sub_u8, saturating", "psubusb", 1),
+    Kernel("min_u8", "pminub", 1),
+    Kernel("max_u8", "pmaxub", 1),
+    Kernel("add_s16, wrapping", "paddw", 1),
+    Kernel("add_s16, saturating", "paddsw", 1),
+    Kernel("sub_s16, absdiff_s16, saturating", "psubsw", 1),
+    Kernel("min_s16", "pminsw", 1),
+    Kernel("max_s16", "pmaxsw", 1),
+    Kernel("mul_u8, mul_s16", "pmullw", 1),
+    Kernel("mul_s16", "pmulhw", 1),
+    Kernel("threshold_s16", "pcmpgtw", 1),
+    Kernel("threshold_u8, threshold_s16", "pblendvb", 1),
+    Kernel("shift_up", "psllw", 1),
+    Kernel("narrow", "psraw", 1),
+    Kernel("accumulate, accumulate_square", "pminuw", 1),
+    Kernel("accumulate_square", "psrlw", 1),
+    # Sixteen numbers multiplied and the products of neighbours added up, which takes half the time
+    # of single products of 32 bits.
+    Kernel("convolution", "pmaddwd", 4, WINDOWS),
+    Kernel("convolution, by single products", "pmulld", 0, WINDOWS),
+]
+
+Counts = dict[str, Counter[str]]
+
+
+def counted(lines: Iterable[str]) -> Counts:
+    """How many there are of each instruction in each function of a disassembly."""
+    counts: Counts = {}
+    function = ""
+    for line in lines:
+        if start := FUNCTION.match(line):
+            function = start[1]
+        elif (found := INSTRUCTION.match(line)) and "::" in function:
+            if not LIBRARY.match(function):
+                counts.setdefault(function, Counter())[found[1]] += 1
+    return counts
+
+
+def wrong(counts: Counts, kernels: Iterable[Kernel] = KERNELS) -> list[str]:
+    """What is to be said of the kernels that don't run in lanes as they should."""
+    lines = []
+    for kernel in kernels:
+        there = sum(of[kernel.instruction] for name, of in counts.items() if kernel.word in name)
+        if there < kernel.least or kernel.least == 0 < there:
+            wanted = f"at least {kernel.least}" if kernel.least else "none"
+            lines.append(f"{kernel.name}: {there} {kernel.instruction}, and not {wanted}")
+    return lines
+
+
+def planted(counts: Counts, kernel: Kernel) -> Counts:
+    """The counts of a program whose kernel is computed item by item."""
+    if kernel.least == 0:
+        return {**counts, f"{kernel.word}planted": Counter({kernel.instruction: 1})}
+    return {
+        name: Counter({word: n for word, n in of.items() if word != kernel.instruction})
+        for name, of in counts.items()
+    }
+
+
+def main() -> None:
+    arguments = [word for word in sys.argv[1:] if word != "--faults"]
+    if len(arguments) != 1:
+        sys.exit("usage: tools/check_lanes [--faults] PROGRAM")
+    if shutil.which("objdump") is None:
+        print("vector instructions not counted: no objdump")
+        return
+    command = ["objdump", "-d", "--no-show-raw-insn", arguments[0]]
+    listing = subprocess.run(command, check=True, capture_output=True, text=True).stdout
+    counts = counted(listing.splitlines())
+    if "--faults" in sys.argv:
+        hidden = [k.name for k in KERNELS if not wrong(planted(counts, k), [k])]
+        print(f"{len(KERNELS) - len(hidden)} of {len(KERNELS)} planted kernels are found")
+        sys.exit("\n".join(f"not found: {name}" for name in hidden) or None)
+    lines = wrong(counts)
+    print(f"{len(KERNELS) - len(lines)} of {len(KERNELS)} kernels run in their lanes")
+    sys.exit("\n".join(lines) or None)
