@@ -104,6 +104,15 @@ static vx_status status_of(vx_node node) {
     return status;
 }
 
+/* What is made of an object that couldn't be made has its status. */
+static void pass_errors(void) {
+    vx_graph error = (vx_graph)vxCreateImage(context, WIDTH, HEIGHT, VX_DF_IMAGE_RGB);
+    EXPECT(VX_ERROR_NOT_SUPPORTED, STATUS(vxNotNode(error, u8, v8)));
+    EXPECT(VX_ERROR_NOT_SUPPORTED, STATUS(vxPhaseNode(error, s16, s16, u8)));
+    EXPECT(VX_ERROR_NOT_SUPPORTED, STATUS(vxCreateVirtualImage(error, 0, 0, VX_DF_IMAGE_VIRT)));
+    EXPECT(VX_ERROR_INVALID_REFERENCE, vxVerifyGraph(error));
+}
+
 /* The verdict is about the fourth of five nodes, and nothing is wrong with it once it is gone. */
 static void tell_nodes(void) {
     vx_node nodes[5];
@@ -262,6 +271,7 @@ int main(void) {
     refuse_holes();
     tell_operands();
     tell_numbers();
+    pass_errors();
     tell_nodes();
     tell_links();
     refuse_two_writers();
