@@ -94,7 +94,8 @@ static void tell_numbers(void) {
     EXPECT(VX_SUCCESS, STATUS(vxMultiplyNode(graph, u8, u8, scale, VX_CONVERT_POLICY_WRAP,
                                              VX_ROUND_POLICY_TO_ZERO, v8)));
     SAYS(VX_ERROR_NOT_SUPPORTED, vxVerifyGraph(graph),
-         "node 0 (vxMultiplyNode): scale is 0.333333343, and has to be 1 / 2^n with n from 0 to 15");
+         "node 0 (vxMultiplyNode): scale is 0.333333343, and has to be 1 / 2^n with n from 0 to "
+         "15");
     EXPECT(VX_SUCCESS, vxReleaseGraph(&graph));
 }
 
@@ -173,7 +174,8 @@ static void refuse_two_writers(void) {
     EXPECT(VX_SUCCESS, vxSetParameterByIndex(node, 3, (vx_reference)places));
     EXPECT(VX_SUCCESS, vxVerifyGraph(graph));
     vx_node other = vxMinMaxLocNode(graph, v8, three, two, NULL, NULL, NULL, NULL);
-    SAYS(VX_ERROR_MULTIPLE_WRITERS, vxProcessGraph(graph), "node 0 (vxMinMaxLocNode) writes maxVal");
+    SAYS(VX_ERROR_MULTIPLE_WRITERS, vxProcessGraph(graph),
+         "node 0 (vxMinMaxLocNode) writes maxVal");
     EXPECT(VX_SUCCESS, vxSetParameterByIndex(node, 2, (vx_reference)one));
     EXPECT(VX_ERROR_MULTIPLE_WRITERS, vxVerifyGraph(graph));
     EXPECT(VX_SUCCESS, vxRemoveNode(&other));
