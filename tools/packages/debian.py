@@ -1,5 +1,5 @@
-"""The package for Debian: the server for both kinds of processor, the Python package, the broker as
-a service, manual pages and documents."""
+"""The package for Debian: the server for both kinds of processor, the Python package, the units of
+systemd, manual pages and documents."""
 
 import glob
 import gzip
@@ -31,8 +31,8 @@ Priority: optional
 Description: vision server with the behaviour of OpenVX
  Images, graphs, virtual images, delays, immediate mode and 25 vision functions
  on grey pictures of 8 and 16 bits, for many clients at once: none of them sees
- another's pixels. With a package for Python, OpenVX's calls for C, and a broker
- that shares servers among the programs of a machine.
+ another's pixels. With a package for Python, OpenVX's calls for C, and a socket
+ at which each program of the machine has a server of its own.
 """
 COPYRIGHT = """\
 Format: https://www.debian.org/doc/packaging-manuals/copyright-format/1.0/
@@ -44,14 +44,30 @@ License: Apache-2.0
  On Debian systems the whole text of the Apache License, version 2.0, is in
  /usr/share/common-licenses/Apache-2.0.
 """
-BROKER = """\
+# A command that is a module of the Python package.
+COMMAND = """\
 #!/usr/bin/python3
 import sys
 
-from feqyldan.broker import main
+from feqyldan.{module} import main
 
 sys.exit(main())
 """
+COMMANDS = ("door", "broker")
+# The units of deploy/, and what in them is otherwise in a package: by the words there, those here.
+UNITS = ("feqyldan.slice", "feqyldan.socket", "feqyldan@.service", "feqyldan-door.service",
+         "feqyldan-door.socket", "feqyldan-broker.service", "feqyldan-broker.socket")
+PROGRAM = "/opt/feqyldan/bin/vx_main"
+# The program that this machine's processors can run is looked for once, before the socket listens.
+CHOSEN = "/run/feqyldan/program"
+CHANGES = {
+    "feqyldan.socket": {
+        "Accept=yes\n": "Accept=yes\nExecStartPre=/usr/bin/install -d -m 755 /run/feqyldan\n"
+                        "ExecStartPre=/bin/sh -c 'exec ln -sfn \"$$(/usr/bin/feqyldan --which)\" "
+                        f"{CHOSEN}'\n"},
+    "feqyldan@.service": {PROGRAM: CHOSEN},
+    **{f"feqyldan-{module}.service": {"Environment=PYTHONPATH=/opt/feqyldan/python\n": "",
+                                      PROGRAM: "/usr/bin/feqyldan"} for module in COMMANDS}}
 # In a root folder of another system nothing is started and nobody is added.
 AFTER_INSTALL = """\
 #!/bin/sh
@@ -62,14 +78,19 @@ if [ "$1" = configure ] && [ -z "$DPKG_ROOT" ]; then
     if [ -d /run/systemd/system ]; then systemctl daemon-reload; fi
 fi
 """
+# Nothing that isn't there, or is masked, keeps the package from being removed.
 BEFORE_REMOVAL = """\
 #!/bin/sh
 set -e
 if [ "$1" = remove ] && [ -z "$DPKG_ROOT" ] && [ -d /run/systemd/system ]; then
-    systemctl disable --now feqyldan.service feqyldan.socket
+    for unit in feqyldan.socket feqyldan-door.socket feqyldan-door.service \\
+        feqyldan-broker.socket feqyldan-broker.service; do
+        systemctl disable --now "$unit" || true
+    done
+    systemctl stop 'feqyldan@*.service' || true
 fi
 find "$DPKG_ROOT/usr/lib/python3/dist-packages/feqyldan" -name __pycache__ -prune \\
-    -exec rm -r {} +
+    -exec rm -r {} + || true
 """
 AFTER_REMOVAL = """\
 #!/bin/sh
@@ -86,13 +107,12 @@ def text_of(*path: str) -> str:
         return file.read()
 
 
-def service() -> str:
-    """The unit of deploy/, with the package's paths."""
-    said = text_of("deploy", "feqyldan.service")
-    for before, after in (("Environment=PYTHONPATH=/opt/feqyldan/python\n", ""),
-                          ("/opt/feqyldan/bin/vx_main", "/usr/bin/feqyldan")):
+def unit(name: str) -> str:
+    """A unit of deploy/, with the package's paths."""
+    said = text_of("deploy", name)
+    for before, after in CHANGES.get(name, {}).items():
         if said.count(before) != 1:
-            sys.exit(f"tools/package: deploy/feqyldan.service has {before!r} not just once")
+            sys.exit(f"tools/package: deploy/{name} has {before!r} not just once")
         said = said.replace(before, after)
     return said
 
@@ -118,11 +138,10 @@ def plain_files(wheel: str) -> Dict[str, Data]:
     library = "usr/lib/python3/dist-packages"
     return {
         **{f"{library}/{name}": data for name, data in wheels.entries_of(wheel).items()},
-        "usr/lib/systemd/system/feqyldan.service": service(),
-        "usr/lib/systemd/system/feqyldan.socket": text_of("deploy", "feqyldan.socket"),
+        **{f"usr/lib/systemd/system/{name}": unit(name) for name in UNITS},
         "usr/lib/sysusers.d/feqyldan.conf": text_of("deploy", "sysusers.conf"),
-        "usr/share/man/man1/feqyldan.1.gz": manual("feqyldan.1"),
-        "usr/share/man/man1/feqyldan-broker.1.gz": manual("feqyldan-broker.1"),
+        **{f"usr/share/man/man1/{name}.1.gz": manual(f"{name}.1")
+           for name in (NAME, *(f"{NAME}-{module}" for module in COMMANDS))},
         **documents(),
         f"usr/share/doc/{NAME}/copyright": COPYRIGHT,
         f"usr/share/doc/{NAME}/changelog.gz": packed(text_of("CHANGELOG.md")),
@@ -175,7 +194,8 @@ def build(wheel: str, programs: Dict[str, bytes], c_library: Tuple[int, int], fo
         put(stage, {f"usr/lib/{NAME}/{name}": data for name, data in programs.items()}, 0o755)
         strip_programs(stage, programs)
         put(stage, {"usr/bin/feqyldan": text_of("deploy", "starter"),
-                    "usr/bin/feqyldan-broker": BROKER}, 0o755)
+                    **{f"usr/bin/feqyldan-{module}": COMMAND.format(module=module)
+                       for module in COMMANDS}}, 0o755)
         put_control(stage, c_library)
         subprocess.run(["dpkg-deb", "--root-owner-group", "--build", stage, target],
                        stdout=subprocess.DEVNULL, check=True)

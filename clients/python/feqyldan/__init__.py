@@ -14,34 +14,48 @@ runs functions in immediate mode by `vxu` and in a `Graph`. A refused request ra
 `Refused`, one for each code.
 """
 
+from typing import List
+
 from . import wire
 from .context import Context, Vxu
 from .errors import (
-    Closed, FeqyldanError, InvalidDimension, InvalidFormat, InvalidGraph, InvalidLink,
-    InvalidParameters, InvalidReference, InvalidScope, InvalidType, InvalidValue, MultipleWriters,
-    NoMemory, NoResources, OptimizedAway, ProgramNotFound, Refused, ServerEnded, TimedOut,
-    UnexpectedReply)
+    BadPicture, BrokerFull, Closed, FeqyldanError, InvalidDimension, InvalidFormat, InvalidGraph,
+    InvalidLink, InvalidParameters, InvalidReference, InvalidScope, InvalidType, InvalidValue,
+    MultipleWriters, NoMemory, NoResources, NotYet, OptimizedAway, OrderWarning, ProgramNotFound,
+    Refused, ServerEnded, TimedOut, UnexpectedReply)
 from .functions import FUNCTIONS, REPLICATE, UNDEFINED, Border, Policy, constant
+from .graph_files import GraphFile, GraphFileError
 from .graphs import Graph, Node, VirtualImage
+from .images import AnyImage, Delay, Image, Slot
 from .objects import (
-    AnyImage, Convolution, Delay, Description, Distribution, Extremes, Image, Lut, MinMax,
-    Rectangle, Slot, Threshold)
+    Convolution, Description, Distribution, Extremes, Lut, MinMax, Rectangle, Threshold)
 from .pictures import png, write_pgm, write_png
 from .pipeline import Pipeline, Result
+from .profiles import Profile, Timing
+from .regions import Region, regions
 from .samples import Format, Picture
-from .server import Server, SocketServer, connect
+from .server import Server, SocketServer, connect, status
+from .streams import Station, stream
+from .usage import Usage
 
 U8, S16, U32 = Format.U8, Format.S16, Format.U32
 WRAP, SATURATE = Policy.WRAP, Policy.SATURATE
 
 __version__ = "0.1.0"
 __all__ = [
-    "AnyImage", "Border", "Closed", "Context", "Convolution", "Delay", "Description",
-    "Distribution", "Extremes", "FUNCTIONS", "FeqyldanError", "Format", "Graph", "Image",
-    "InvalidDimension", "InvalidFormat", "InvalidGraph", "InvalidLink", "InvalidParameters",
-    "InvalidReference", "InvalidScope", "InvalidType", "InvalidValue", "Lut",
-    "MinMax", "MultipleWriters", "NoMemory", "NoResources", "Node", "OptimizedAway", "Picture",
-    "Pipeline", "Policy", "ProgramNotFound", "REPLICATE", "Rectangle", "Refused", "Result", "S16",
-    "SATURATE", "Server", "ServerEnded", "Slot", "SocketServer", "Threshold", "TimedOut", "U32",
-    "U8", "UNDEFINED", "UnexpectedReply", "VirtualImage", "Vxu", "WRAP", "connect", "constant",
-    "png", "wire", "write_pgm", "write_png"]
+    "AnyImage", "BadPicture", "Border", "BrokerFull", "Closed", "Context", "Convolution",
+    "Delay", "Description", "Distribution", "Extremes", "FUNCTIONS", "FeqyldanError", "Format",
+    "Graph", "GraphFile", "GraphFileError", "Image", "InvalidDimension", "InvalidFormat",
+    "InvalidGraph", "InvalidLink", "InvalidParameters", "InvalidReference", "InvalidScope",
+    "InvalidType", "InvalidValue", "Lut", "MinMax", "MultipleWriters", "NoMemory",
+    "NoResources", "Node", "NotYet", "OptimizedAway", "OrderWarning", "Picture", "Pipeline",
+    "Policy", "Profile", "ProgramNotFound", "REPLICATE", "Rectangle", "Refused", "Region",
+    "Result", "S16", "SATURATE", "Server", "ServerEnded", "Slot", "SocketServer", "Station",
+    "Threshold", "TimedOut", "Timing", "U32", "U8", "UNDEFINED", "UnexpectedReply", "Usage",
+    "VirtualImage", "Vxu", "WRAP", "connect", "constant", "png", "regions", "status", "stream",
+    "wire", "write_pgm", "write_png"]
+
+
+def __dir__() -> List[str]:
+    """The names for programs, without those of the modules."""
+    return [*__all__, "__version__"]

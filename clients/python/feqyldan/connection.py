@@ -4,6 +4,11 @@ pipes, or one socket.
 
 Requests may be sent ahead of their replies. Whatever is sent, replies are read meanwhile as they
 come, so that two full pipes never wait for each other.
+
+An exception may come at any bytecode, as KeyboardInterrupt does, and loses nothing. Three rules see
+to that. A system call's count is stored by the C function that makes the call, see `moved`. A
+request is taken, and a reply is given to its request, by one store. Everything else follows from
+the counts, the line of requests and their answers, and is worked out again by the next call.
 """
 
 from __future__ import annotations
@@ -11,19 +16,29 @@ from __future__ import annotations
 import os
 import select
 import struct
+import sys
 import threading
 import time
 from collections import deque
-from typing import Callable, Deque, List, NamedTuple, Optional, Union
+from itertools import islice
+from typing import (
+    Any, Callable, Deque, List, NamedTuple, Optional, Sequence, Tuple, Union)
 
 from .errors import Closed, FeqyldanError, Refused, ServerEnded, TimedOut, UnexpectedReply, refusal
-from .wire import CODES, GREATEST_LENGTH, GREATEST_SIDE
+from .wire import BODY_BYTES, CODES, GREATEST_LENGTH, GREATEST_SIDE
 
-# A part of a frame of at most so many bytes is copied, and sent with what follows; a longer one is
-# sent as it stands.
+# A part of a frame of at most this many bytes may wait to be sent with what follows; a longer one
+# has been sent when send() returns.
 SMALL = 1 << 15
+# How many parts one system call is given at most (Linux takes 1,024), and how many unsent requests
+# are looked through for them.
+PARTS, REQUESTS = 64, 16
+# How many buffers for long replies are kept.
+KEPT = 4
 # So many bytes are read at once.
 CHUNK = 1 << 16
+# A reply has so many bytes before its body: its length, its client, its op and its code.
+HEAD = struct.Struct(">IHBB")
 # A reply stands in its buffer from here on: so its samples, 13 bytes after its start, begin at a
 # multiple of 16.
 LEAD = 3
@@ -33,6 +48,9 @@ GREATEST_REPLY = 9 + 4 * GREATEST_SIDE**2
 # No request is longer, told likewise: the server ends where it reads a greater length.
 GREATEST_REQUEST = GREATEST_LENGTH
 
+# Stands for a success that was taken.
+TAKEN = memoryview(bytes(8))
+
 Part = Union[bytes, memoryview]
 # What of a request's objects is at fault, in words, for the code that the server refused it with;
 # empty if unknown.
@@ -40,107 +58,225 @@ Explain = Callable[[int], str]
 
 
 class Place(NamedTuple):
-    """Which call of a pipeline a request is, and where it is called."""
+    """Which call of a pipeline a request is, in words, and where it is called."""
 
     number: int
+    words: str
     file: str
     line: int
 
     def __str__(self) -> str:
-        return f"call {self.number} of the pipeline, {os.path.basename(self.file)}:{self.line}"
+        return f"{self.words}, {os.path.basename(self.file)}:{self.line}"
+
+
+class Body(NamedTuple):
+    """What the body of a success has: so many bytes, and these as the first of them."""
+
+    size: int
+    begin: bytes = b""
 
 
 class Request:
     """
     A request that was sent or is about to be: itself in words, its place in its pipeline, and its
-    reply as soon as that is there.
+    answer as soon as that is there: the reply's whole frame, and where it ends among all replies.
+    `body` is what a success has after its head.
     """
 
-    __slots__ = ("words", "client", "op", "reply", "on_refusal", "explain", "place")
+    __slots__ = ("words", "client", "op", "answer", "on_refusal", "on_answer", "explain", "place",
+                 "parts", "start", "end", "body", "_error")
 
-    def __init__(self, words: str, client: int, op: int, explain: Optional[Explain] = None) -> None:
+    def __init__(self, words: str, client: int, op: int, explain: Optional[Explain] = None,
+                 body: Optional[Body] = None) -> None:
         self.words, self.client, self.op, self.explain = words, client, op, explain
+        self.body = body or Body(BODY_BYTES.get(op, 0))
         self.place: Optional[Place] = None
-        # The whole frame, and what is called with this request when the frame is a refusal.
-        self.reply: Optional[memoryview] = None
+        self.answer: Optional[Tuple[memoryview, int]] = None
+        # Called with this request, whose reply is there by then: when that is a refusal, and in
+        # any case. Each may be called again after an interruption.
         self.on_refusal: Optional[Callable[[Request], None]] = None
+        self.on_answer: Optional[Callable[[memoryview], None]] = None
+        # Its frame until it was sent, and where that begins and ends among all that is sent.
+        self.parts: Sequence[Part] = ()
+        self.start = self.end = 0
+        self._error: Optional[Refused] = None
+
+    @property
+    def reply(self) -> Optional[memoryview]:
+        """The reply's whole frame, when it is there."""
+        return None if self.answer is None else self.answer[0]
 
     @property
     def error(self) -> Optional[Refused]:
         """What the reply, which is there, refuses; None where it is a success."""
-        assert self.reply is not None
-        code = self.reply[7]
+        assert self.answer is not None
+        code = self.answer[0][7]
         if code == 0:
             return None
-        fault = "" if self.explain is None else self.explain(code)
-        return refusal(code, self.words, self.op, "" if self.place is None else str(self.place),
-                       fault)
+        if self._error is None:
+            fault = "" if self.explain is None else self.explain(code)
+            place = "" if self.place is None else str(self.place)
+            self._error = refusal(code, self.words, self.op, place, fault)
+        return self._error.with_traceback(None)
 
-    def arrive(self, reply: memoryview) -> None:
-        client, op, code = struct.unpack_from(">HBB", reply, 4)
+    def look_at(self, head: memoryview) -> None:
+        """Raises UnexpectedReply where a reply that begins so isn't one to this request."""
+        length, client, op, code = HEAD.unpack_from(head)
         if (client, op) != (self.client, self.op):
             raise UnexpectedReply(f"{self.words}: the reply is to op {op} of client {client}")
         if code >= len(CODES):
             raise UnexpectedReply(f"{self.words}: the reply has the unknown code {code}")
-        self.reply = reply
+        size, wanted = length - 4, 0 if code else self.body.size
+        if size != wanted:
+            raise UnexpectedReply(f"{self.words}: the reply with code {CODES[code]} has a body of "
+                                  f"{size} bytes, and not of {wanted}")
+
+    def arrive(self, reply: memoryview, end: int) -> None:
+        """Takes its reply, which ends there among all replies."""
+        code, begin = reply[7], self.body.begin
+        if code == 0 and reply[HEAD.size : HEAD.size + len(begin)] != begin:
+            raise UnexpectedReply(f"{self.words}: the reply is of another object")
+        if self.on_answer is not None:
+            self.on_answer(reply)
         if self.on_refusal is not None and code != 0:
             self.on_refusal(self)
+        self.answer = reply, end
+
+    def take_reply(self) -> memoryview:
+        """Returns the reply, which is there and a success, once: the request lets go of it, so that
+        its memory is free when the caller does too."""
+        assert self.answer is not None
+        reply, end = self.answer
+        self.answer = TAKEN, end
+        return reply
+
+    def own(self) -> None:
+        """Copies its frame, which isn't sent to the end: the caller may change the samples."""
+        if not all(isinstance(part, bytes) for part in self.parts):
+            self.parts = [bytes(part) for part in self.parts]
 
 
-class ReplyReader:
-    """Splits what a file descriptor gives into reply frames, each in a buffer of its own."""
+def moved(counts: List[int], call: Callable[[int, Any], int], descriptor: int,
+          buffers: Sequence[Any]) -> None:
+    """
+    Appends to the counts how many bytes a system call moved.
+
+    No bytecode runs between the call and the append, so no exception comes between them either: a
+    signal's handler runs before the call moves anything, or after the count is stored.
+    """
+    counts.extend(map(call, (descriptor,), (buffers,)))
+
+
+def references(buffers: Sequence[bytearray]) -> List[int]:
+    """How many references there are to each of these, where Python counts them."""
+    return [sys.getrefcount(buffer) for buffer in buffers]
+
+
+# How many references there are to a buffer that only a list has; None where nobody can tell.
+ALONE = (references([bytearray()])[0]
+         if sys.implementation.name == "cpython" and getattr(sys, "_is_gil_enabled", lambda: True)()
+         else None)
+
+
+class Buffers:
+    """
+    Memory for long replies. A buffer whose picture nobody has any more is used again: new memory
+    costs as much time as what is read into it.
+    """
+
+    def __init__(self) -> None:
+        self._kept: List[bytearray] = []
+
+    def take(self, size: int) -> bytearray:
+        """Returns so many bytes, which may be of an older reply."""
+        if size < CHUNK or ALONE is None:
+            return bytearray(size)
+        for at, count in enumerate(references(self._kept)):
+            if count == ALONE and len(self._kept[at]) == size:
+                return self._kept[at]
+        buffer = bytearray(size)
+        self._kept = [*self._kept[1 - KEPT :], buffer]
+        return buffer
+
+
+class Replies:
+    """
+    Splits what a file descriptor gives into reply frames, each in a buffer of its own.
+
+    All positions count the bytes of the whole stream of replies. The bytes from `base` on stand in
+    the buffer that is read into: a chunk, or the buffer of one frame that isn't whole yet.
+    """
 
     def __init__(self, descriptor: int) -> None:
         self._descriptor = descriptor
+        self._buffers = Buffers()
+        self._counts = [0]
         self._chunk = memoryview(bytearray(CHUNK))
-        # How many bytes of the chunk are the start of a frame whose length isn't known yet: at most
-        # three.
-        self._rest = 0
-        # A frame that is known in part, and how much of its buffer is filled.
-        self._frame: Optional[memoryview] = None
-        self._filled = 0
+        # The buffer that is read into, its base, and whether it is that of a frame.
+        self._into: Tuple[memoryview, int, bool] = self._chunk, 0, False
+
+    def read(self, at: int) -> bool:
+        """Reads once, where all replies up to there were taken. Returns whether something came; it
+        is False at the end of the replies."""
+        received = self.received
+        if received == at:
+            self._into = self._chunk, at, False
+        buffer, base, _ = self._into
+        moved(self._counts, os.readv, self._descriptor, [buffer[received - base :]])
+        return self._counts[-1] > 0
 
     @property
-    def is_within_frame(self) -> bool:
-        return self._rest > 0 or self._frame is not None
+    def received(self) -> int:
+        """Where the bytes end that were read."""
+        if len(self._counts) > 1:
+            self._counts = [sum(self._counts)]
+        return self._counts[0]
 
-    def read(self) -> Optional[List[memoryview]]:
-        """The frames that are whole after one more read; None where nothing more comes."""
-        if self._frame is not None:
-            return self._read_on(self._frame)
-        count = os.readv(self._descriptor, [self._chunk[self._rest :]])
-        return self._split(self._rest + count) if count else None
+    def frame_at(self, at: int, request: Optional[Request]) -> Optional[memoryview]:
+        """Returns the whole frame that begins there, where the last one ended and something was
+        read, and that answers the request; None while it isn't whole, and then there is room to
+        read on."""
+        buffer, base, is_frame = self._into
+        received = self.received
+        if not is_frame:
+            return self._split(buffer, base, at, received, request)
+        return buffer if received - base == len(buffer) else None
 
-    def _read_on(self, frame: memoryview) -> Optional[List[memoryview]]:
-        count = os.readv(self._descriptor, [frame[self._filled :]])
-        if count == 0:
+    def _split(self, buffer: memoryview, base: int, at: int, received: int,
+               request: Optional[Request]) -> Optional[memoryview]:
+        there = received - at
+        chunk = buffer[at - base : received - base]
+        length = length_of(chunk) if there >= 4 else 0
+        if there < HEAD.size:
+            if at > base:
+                self._make_room(chunk, at)
             return None
-        self._filled += count
-        if self._filled < len(frame):
-            return []
-        self._frame = None
-        return [frame]
+        if request is None:
+            raise UnexpectedReply("there is a reply without a request")
+        # No memory is taken for what is no reply.
+        request.look_at(chunk)
+        frame = memoryview(self._buffers.take(LEAD + length))[LEAD:]
+        if len(frame) <= there:
+            frame[:] = chunk[: len(frame)]
+            return frame
+        frame[:there] = chunk
+        self._into = frame, at, True
+        return None
 
-    def _split(self, end: int) -> List[memoryview]:
-        frames, at, chunk = [], 0, self._chunk
-        while end - at >= 4:
-            frame = memoryview(bytearray(LEAD + self._length(at)))[LEAD:]
-            there = min(len(frame), end - at)
-            frame[:there] = chunk[at : at + there]
-            at += there
-            if there < len(frame):
-                self._frame, self._filled = frame, there
-            else:
-                frames.append(frame)
-        self._rest = end - at
-        chunk[: self._rest] = bytes(chunk[at:end])
-        return frames
+    def _make_room(self, rest: memoryview, at: int) -> None:
+        """Has a new chunk begin with the rest, at most seven bytes of a frame whose head isn't
+        known yet."""
+        chunk = memoryview(bytearray(CHUNK))
+        chunk[: len(rest)] = rest
+        self._into = chunk, at, False
 
-    def _length(self, at: int) -> int:
-        length: int = struct.unpack_from(">I", self._chunk, at)[0]
-        if not 4 <= length <= GREATEST_REPLY:
-            raise UnexpectedReply("what was read is no reply frame: its length isn't allowed")
-        return 4 + length
+
+def length_of(chunk: memoryview) -> int:
+    """Returns how long a frame is by its first four bytes, those included."""
+    length: int = struct.unpack_from(">I", chunk)[0]
+    if not 4 <= length <= GREATEST_REPLY:
+        raise UnexpectedReply("what was read is no reply frame: its length isn't allowed")
+    return 4 + length
 
 
 class Connection:
@@ -159,20 +295,22 @@ class Connection:
         self._waited = 0.0
         os.set_blocking(writer, False)
         os.set_blocking(reader, False)
-        self._replies = ReplyReader(reader)
+        self._replies = Replies(reader)
         self._readable, self._either = select.poll(), select.poll()
         self._readable.register(reader, select.POLLIN)
         self._either.register(reader, select.POLLIN)
         self._either.register(writer, select.POLLOUT | (select.POLLIN if writer == reader else 0))
         self._lock = threading.RLock()
-        self._awaited: Deque[Request] = deque()
-        # Small parts that aren't sent yet; and what is being sent, which an interrupted call leaves
-        # to the next one.
-        self._held = bytearray()
-        self._outgoing: List[memoryview] = []
-        # Whether a frame is being taken, or a read or a write is under way, of which an
-        # interruption would lose a part.
-        self._is_moving = False
+        # The last request that was answered, and those after it; at the start one that stands for
+        # an answered one.
+        start = Request("the start", 0, 0)
+        start.answer = memoryview(b""), 0
+        self._line: Deque[Request] = deque([start])
+        # Those of them that aren't sent to the end, and how many bytes of all are.
+        self._unsent: Deque[Request] = deque()
+        self._counts = [0]
+        # Whether all frames that were read are with their requests.
+        self._is_delivered = True
         self._fault: Optional[FeqyldanError] = None
 
     @property
@@ -180,37 +318,67 @@ class Connection:
         """Why nothing more can be sent; None while it can."""
         return self._fault
 
-    def send(self, request: Request, parts: List[Part]) -> None:
+    def send(self, request: Request, parts: List[Part], is_followed: bool = False) -> None:
         """
-        Takes the parts of a request's frame. Small ones are sent as far as the server takes them
-        now, and the rest with what follows; a long one has been sent when this returns, so what it
-        was taken from may change then.
+        Takes the parts of a request's frame. Short frames are sent as far as the server takes them
+        now, and the rest with what follows; a long one has been sent when this returns. Either way
+        what it was taken from may change then, but where the request is followed by another: then
+        all is sent with that. After an interruption a frame was taken whole, or not at all.
         """
         with self._lock:
             self._refuse_if_ended()
             try:
                 self._take(request, parts)
-                if self._outgoing or len(self._held) > SMALL:
+                if is_followed:
+                    return
+                if request.end - self._unsent[0].start > SMALL:
                     self._flush()
                 else:
-                    self._offer()
+                    self._write()
+                    if self._unsent:
+                        self.own_unsent()
             except BaseException:
-                self._after_interruption()
+                self.own_unsent()
                 raise
 
-    def wait(self, request: Optional[Request] = None) -> None:
-        """Waits until the reply to a request has come, or those to all."""
+    def wait(self, request: Optional[Request] = None, limit: Optional[float] = None,
+             wake: Optional[int] = None) -> bool:
+        """Waits until the reply to a request has come, or those to all, and returns whether it has:
+        at most so many seconds, or until the file descriptor `wake` is readable."""
+        until = None if limit is None else time.monotonic() + limit
         with self._lock:
-            if request is not None and request.reply is not None:
-                return
+            if request is not None and request.answer is not None:
+                return True
             self._refuse_if_ended()
-            try:
-                self._flush()
-                while self._awaited if request is None else request.reply is None:
-                    self._receive(self._readable)
-            except BaseException:
-                self._after_interruption()
-                raise
+            self._mend()
+            while (request or self._line[-1]).answer is None:
+                if self._read() or self._unsent and self._write():
+                    continue
+                left = None if until is None else until - time.monotonic()
+                if left is not None and left <= 0:
+                    return False
+                ready = self._await(self._poll_with(wake), left)
+                if wake is not None and any(descriptor == wake for descriptor, _ in ready):
+                    return False
+        return True
+
+    def own_unsent(self) -> None:
+        """Copies what was taken and isn't sent yet: it may be the caller's, who goes on and changes
+        it."""
+        with self._lock:
+            for request in self._unsent:
+                request.own()
+
+    def look(self) -> None:
+        """Takes in the replies that have come, and sends what the server takes now, without
+        waiting."""
+        with self._lock:
+            self._refuse_if_ended()
+            self._mend()
+            if self._unsent:
+                self._write()
+            while self._line[-1].answer is None and self._read():
+                pass
 
     def close(self) -> None:
         """Nothing more is sent or waited for."""
@@ -227,119 +395,161 @@ class Connection:
         if self._fault is not None:
             raise self._fault.with_traceback(None)
 
-    def _after_interruption(self) -> None:
-        if self._is_moving and self._fault is None:
-            self._fault = Closed("a request was interrupted in the middle of its bytes, so the "
-                                 "connection is closed")
+    # ---- what is sent
 
     def _take(self, request: Request, parts: List[Part]) -> None:
         """Puts a whole frame after what is to be sent."""
-        self._is_moving = True
-        self._awaited.append(request)
-        for part in parts:
-            if len(part) <= SMALL:
-                self._held += part
-            else:
-                self._let_go()
-                self._outgoing.append(memoryview(part))
-        self._is_moving = False
+        last = self._line[-1]
+        if last.end > self._counts[0]:
+            self._mend()
+        request.parts, request.start = parts, last.end
+        request.end = last.end + sum(map(len, parts))
+        self._line.append(request)
+        self._unsent.append(request)
 
-    def _let_go(self) -> None:
-        """Puts what is held to what is being sent."""
-        if self._held:
-            self._outgoing.append(memoryview(self._held))
-            self._held = bytearray()
+    def _mend(self) -> None:
+        """Where an interruption came just after a request was taken, it has to be sent yet."""
+        last = self._line[-1]
+        if last.end > self._sent and (not self._unsent or self._unsent[-1] is not last):
+            self._unsent.append(last)
 
-    def _offer(self) -> None:
-        """Sends of what is held as much as the server takes without waiting, so that it needn't
-        wait either."""
-        self._is_moving = True
-        try:
-            del self._held[: os.write(self._writer, self._held)]
-        except BlockingIOError:
-            pass
-        except (BrokenPipeError, ConnectionResetError):
-            self._hear_out()
-        self._is_moving = False
+    @property
+    def _sent(self) -> int:
+        """How many bytes were sent."""
+        if len(self._counts) > 1:
+            self._counts = [sum(self._counts)]
+        return self._counts[0]
 
     def _flush(self) -> None:
         """Sends all that was taken."""
-        self._let_go()
-        while self._outgoing:
-            self._write()
+        while self._unsent:
+            if not self._write() and self._unsent and not self._read():
+                self._await(self._either, None)
 
-    def _write(self) -> None:
-        self._is_moving = True
+    def _write(self) -> bool:
+        """Sends as much as the server takes without waiting, so that it needn't wait either.
+        Returns whether it took something."""
+        sent = self._drop_sent()
+        if not self._unsent:
+            return False
+        first = self._unsent[0]
+        is_alone = len(self._unsent) == 1 and first.start == sent
         try:
-            self._drop_sent(os.writev(self._writer, self._outgoing))
+            moved(self._counts, os.writev, self._writer,
+                  first.parts if is_alone else self._next_parts(sent))
         except BlockingIOError:
-            self._is_moving = False
-            self._receive(self._either)
+            return False
         except (BrokenPipeError, ConnectionResetError):
             self._hear_out()
-        self._is_moving = False
+        self._drop_sent()
+        return True
 
-    def _drop_sent(self, count: int) -> None:
-        while self._outgoing and count >= len(self._outgoing[0]):
-            count -= len(self._outgoing.pop(0))
-        if count:
-            self._outgoing[0] = self._outgoing[0][count:]
+    def _drop_sent(self) -> int:
+        """Forgets what was sent. Returns how many bytes were."""
+        sent, unsent = self._sent, self._unsent
+        while unsent and unsent[0].end <= sent:
+            unsent.popleft().parts = ()
+        return sent
 
-    def _receive(self, poll: select.poll) -> None:
-        """Takes in replies that are there. Where none are, waits until one of the things happens
-        that `poll` has."""
-        if not self._read():
-            self._await(poll)
+    def _next_parts(self, sent: int) -> List[Part]:
+        """The bytes that come next, as far as one call takes them."""
+        skipped = sent - self._unsent[0].start
+        parts: List[Part] = []
+        for request in islice(self._unsent, REQUESTS):
+            parts += request.parts
+        while skipped >= len(parts[0]):
+            skipped -= len(parts.pop(0))
+        if skipped:
+            parts[0] = memoryview(parts[0])[skipped:]
+        return parts[:PARTS]
 
-    def _await(self, poll: select.poll) -> None:
+    # ---- what is read
+
+    def _poll_with(self, wake: Optional[int]) -> select.poll:
+        """For what is awaited: a reply, room for what isn't sent yet, and `wake`."""
+        if wake is None:
+            return self._either if self._unsent else self._readable
+        poll = select.poll()
+        poll.register(wake, select.POLLIN)
+        if self._unsent:
+            poll.register(self._writer, select.POLLOUT)
+        is_one = self._unsent and self._writer == self._reader
+        poll.register(self._reader, select.POLLIN | (select.POLLOUT if is_one else 0))
+        return poll
+
+    def _await(self, poll: select.poll, limit: Optional[float]) -> List[Tuple[int, int]]:
         """
         Only the time that is spent here counts towards the timeout: so replies that came while
         nobody read them aren't late, and each request has its own time.
         """
         if self._timeout is None:
-            poll.poll()
-            return
+            return poll.poll(None if limit is None else limit * 1000 + 1)
         start = time.monotonic()
-        poll.poll(max(0.0, self._timeout - self._waited) * 1000 + 1)
+        left = max(0.0, self._timeout - self._waited)
+        ready = poll.poll((left if limit is None else min(left, limit)) * 1000 + 1)
         self._waited += time.monotonic() - start
         if self._waited >= self._timeout and not self._readable.poll(0):
             self._time_out()
+        return ready
 
     def _time_out(self) -> None:
-        words = self._awaited[0].words if self._awaited else "the server's end"
+        waiting = next((request for request in self._line if request.answer is None), None)
+        words = waiting.words if waiting else "the server's end"
         self._fault = TimedOut(f"{words}: no answer in {self._timeout:g} seconds, so the "
                                "connection was closed")
         self._give_up()
         raise self._fault
 
     def _read(self) -> bool:
-        """Whether something was read."""
-        self._is_moving = True
+        """Takes in replies that are there. Returns whether something was read."""
+        if not self._is_delivered:
+            self._deliver()
+        self._is_delivered = False
         try:
-            frames = self._replies.read()
-            if frames is None:
+            if not self._replies.read(self._answered):
                 self._end()
-            for frame in frames or ():
-                if not self._awaited:
-                    raise UnexpectedReply("there is a reply without a request")
-                self._waited = 0.0
-                self._awaited.popleft().arrive(frame)
         except BlockingIOError:
-            frames = None
+            self._is_delivered = True
+            return False
         except ConnectionResetError:
             self._end()
+        self._deliver()
+        return True
+
+    @property
+    def _answered(self) -> int:
+        """Where the replies end that are with their requests."""
+        line = self._line
+        while len(line) > 1 and line[1].answer is not None:
+            line.popleft()
+        answer = line[0].answer
+        assert answer is not None
+        return answer[1]
+
+    def _deliver(self) -> None:
+        """Gives each frame that was read to its request."""
+        try:
+            at = self._answered
+            while at < self._replies.received:
+                line = self._line
+                frame = self._replies.frame_at(at, line[1] if len(line) > 1 else None)
+                if frame is None:
+                    break
+                self._waited = 0.0
+                line[1].arrive(frame, at + len(frame))
+                at = self._answered
         except UnexpectedReply as fault:
             self._fault = fault
             raise
-        self._is_moving = False
-        return frames is not None
+        self._is_delivered = True
 
     def _hear_out(self) -> None:
         """Nobody reads any more what is sent: what was answered before is still to be read, up to
         its end."""
         while True:
-            self._receive(self._readable)
+            if not self._read():
+                self._await(self._readable, None)
 
     def _end(self) -> None:
-        self._fault = self._ended(self._replies.is_within_frame)
+        self._fault = self._ended(self._replies.received > self._answered)
         raise self._fault

@@ -3,24 +3,29 @@ its own."""
 
 from __future__ import annotations
 
+import asyncio
 import struct
+import weakref
 from collections import deque
 from types import TracebackType
 from typing import (
-    TYPE_CHECKING, Any, Callable, Deque, List, Optional, Sequence, Tuple, Type, TypeVar)
+    TYPE_CHECKING, Any, Callable, Deque, Dict, List, Optional, Sequence, Set, Tuple, Type, TypeVar)
 
 from . import wire
-from .connection import GREATEST_REQUEST, Connection, Explain, Part, Request
+from .connection import GREATEST_REQUEST, Body, Connection, Explain, Part, Request
 from .errors import Closed, FeqyldanError, InvalidScope
+from .files import load
 from .functions import Call, Functions
+from .graph_files import GraphFile, read_graph
 from .graphs import Graph
-from .objects import (
-    AnyImage, Convolution, Delay, Distribution, Image, Lut, MinMax, Named, Threshold,
-    sides_of_frame)
+from .images import AnyImage, Delay, Image
+from .objects import Convolution, Distribution, Lut, Made, MinMax, Named, Threshold, sides_of_frame
 from .pictures import Path, read_bytes, size_of_pgm
 from .pipeline import Pipeline
-from .samples import Format, Samples, Size, entries_of, format_of, samples_of
+from .samples import Format, Numbers, Rows, Samples, Size, entries_of, format_of, samples_of
 from .uncopied import Uncopied
+from .usage import Usage, Used, wanted_bytes
+from .verdicts import formats_in_words
 from .whole import BYTE, SIGNED, UNSIGNED, whole, within
 
 if TYPE_CHECKING:
@@ -29,15 +34,42 @@ if TYPE_CHECKING:
 Value = TypeVar("Value")
 
 
-class Vxu(Functions[None]):
+class Vxu(Uncopied, Functions[None]):
     """Immediate mode: each vision function is a method that runs it at once."""
+
+    __slots__ = ("_context",)
+    _inner = frozenset(("run",))
 
     def __init__(self, context: Context) -> None:
         self._context = context
 
+    def run(self, call: Call) -> None:
+        """Runs a call of any function."""
+        self._run(call)
+
     def _run(self, call: Call) -> None:
         references = self._context.references_of(call)
-        self._context.tell(str(call), wire.immediate, *call.fields(references))
+        self._context.tell(str(call), wire.immediate, *call.fields(references),
+                           explain=lambda code: fault_of(call, code))
+
+
+def fault_of(call: Call, code: int) -> str:
+    """What of a call in immediate mode is at fault, for the code that it was refused with."""
+    if code == wire.INVALID_FORMAT:
+        return f"{call.name} takes {formats_in_words(call.name)}."
+    return ""
+
+
+class Death(weakref.ref):  # type: ignore[type-arg]
+    """
+    Tells when Python forgets an object, whose name on the server it has.
+
+    Its callback is a function in C. Within one in Python an exception may come, as
+    KeyboardInterrupt does, and would be lost there.
+    """
+
+    __slots__ = ("name",)
+    name: int
 
 
 class Context(Uncopied):
@@ -45,49 +77,89 @@ class Context(Uncopied):
     A client's context, as Server.context() opens it. It ends with its `with`, by close(), or with
     the server, and all of its objects end with it. One thread uses it at a time; several threads
     may use contexts of one server.
+
+    Each object may be given a name=, by which messages call it.
     """
 
+    __slots__ = ("_server", "_connection", "_number", "_vxu", "_pipeline", "_alive", "_dead",
+                 "_unclaimed", "_used", "_is_closed", "__weakref__")
+    _inner = frozenset((
+        "ask", "tell", "send", "create", "claim", "add_node", "look_at", "release", "references_of",
+        "enter_pipeline", "leave_pipeline", "close_within", "connection"))
+
     def __init__(self, server: Server, connection: Connection, number: int) -> None:
-        self.server, self.connection, self.number = server, connection, number
-        self.vxu = Vxu(self)
-        self._pipeline: Optional[Pipeline] = None
-        # Names of objects that Python has forgotten, which are released before the next request.
-        self._forgotten: Deque[int] = deque()
+        self._server, self._connection, self._number = server, connection, number
+        self._vxu = Vxu(self)
+        # The pipeline that is open, as long as somebody has it: where an interruption came within
+        # its __enter__, nobody does.
+        self._pipeline: Optional[weakref.ref[Pipeline]] = None
+        # The objects that Python has, by their names; and those that it has forgotten, which are
+        # released before the next request.
+        self._alive: Dict[int, Death] = {}
+        self._dead: Deque[Death] = deque()
+        # Those that the server has made and no object in Python has: where that is so at the next
+        # request, an interruption came between.
+        self._unclaimed: Set[int] = set()
+        self._used = Used()
         self._is_closed = False
         self.tell("open a context", wire.open_context)
 
+    @property
+    def server(self) -> Server:
+        return self._server
+
+    @property
+    def connection(self) -> Connection:
+        return self._connection
+
+    @property
+    def number(self) -> int:
+        """The number by which the server knows this client."""
+        return self._number
+
+    @property
+    def vxu(self) -> Vxu:
+        return self._vxu
+
     # ---- objects
 
-    def image(self, fmt: int, width: int, height: int) -> Image:
+    def image(self, fmt: Format, width: int, height: int, *, name: str = "") -> Image:
         """A new image of width by height samples, from 1 to 8192 each: 0 everywhere and wholly
         valid."""
         made, (columns, rows) = format_of(fmt), sides_of_frame(width, height)
         words = f"create a {made} image of {columns} by {rows}"
-        return Image(self, self.create(words, wire.create_image, made, columns, rows), made,
-                     columns, rows)
+        number = self.create(words, wire.create_image, made, columns, rows,
+                             size=columns * rows * made.sample_bytes)
+        return Image(self, Made(number, name), made, columns, rows)
 
-    def image_like(self, exemplar: AnyImage, fmt: Optional[int] = None) -> Image:
+    def image_like(self, exemplar: AnyImage, fmt: Optional[Format] = None, *,
+                   name: str = "") -> Image:
         """A new image of the size of this one, and of its format unless another is given. No sample
         is copied."""
-        return self.image(exemplar.fmt if fmt is None else fmt, exemplar.width, exemplar.height)
+        self.look_at("image_like", exemplar)
+        if not isinstance(exemplar, AnyImage):
+            raise TypeError(f"image_like takes an image, and no {type(exemplar).__name__}: give "
+                            "the format and the sides to context.image()")
+        return self.image(exemplar.fmt if fmt is None else fmt, exemplar.width, exemplar.height,
+                          name=name)
 
-    def image_from(self, samples: Any, fmt: Optional[int] = None) -> Image:
+    def image_from(self, samples: Any, fmt: Optional[Format] = None, *, name: str = "") -> Image:
         """
         An image of these samples: a NumPy array of shape (height, width) and dtype uint8, int16 or
         uint32, another buffer of that shape, or rows of numbers, which are U8 where no format is
-        given.
+        given. What is no such picture raises BadPicture.
         """
         if fmt is None:
-            return self._image_of(samples_of(samples))
+            return self._image_of(samples_of(samples), name)
         given = samples_of(samples, Size(format_of(fmt), 0, 0))
         if given.fmt != fmt:
             raise TypeError(f"these samples are {given.fmt}, and not {format_of(fmt)}")
-        return self._image_of(given)
+        return self._image_of(given, name)
 
-    def image_from_pgm(self, text: bytes) -> Image:
+    def image_from_pgm(self, text: bytes, *, name: str = "") -> Image:
         """An image of the picture in a PGM text, P5 or P2: U8 for a maxval up to 255, S16 for one
         up to 32767."""
-        image = self.image(*size_of_pgm(text))
+        image = self.image(*size_of_pgm(text), name=name)
         try:
             image.write_pgm(text)
         except FeqyldanError:
@@ -95,11 +167,22 @@ class Context(Uncopied):
             raise
         return image
 
-    def read_pgm(self, path: Path) -> Image:
+    def read_pgm(self, path: Path, *, name: str = "") -> Image:
         """An image of the picture in a PGM file."""
-        return self.image_from_pgm(read_bytes(path))
+        return self.image_from_pgm(read_bytes(path), name=name)
 
-    def lut(self, fmt: int, entries: Sequence[int]) -> Lut:
+    def load(self, path: Path, *, name: str = "") -> Image:
+        """
+        An image of the picture in a file: PGM; .npy, by NumPy; all others, as PNG and JPEG, by
+        OpenCV or PIL, where one of them is installed. Colours are made grey. Samples of 8 bits give
+        U8, wider ones S16 where all are below 32768.
+        """
+        with open(path, "rb") as file:
+            is_pgm = file.read(2) in (b"P2", b"P5")
+        return (self.read_pgm(path, name=name) if is_pgm else
+                self.image_from(load(path), name=name))
+
+    def lut(self, fmt: Format, entries: Numbers, *, name: str = "") -> Lut:
         """A table of U8, which has 256 entries, or of S16, which has 65,536, the one for the least
         sample first."""
         made = format_of(fmt)
@@ -109,12 +192,12 @@ class Context(Uncopied):
             raise ValueError(f"a table of {made} has an entry for each sample, "
                              f"{65536 if made == Format.S16 else 256} of them, and not "
                              f"{len(content) // made.sample_bytes}")
-        return Lut(self, self.create(f"create a {made} lookup "
-                                     "table", wire.create_lut_of, made, content), made)
+        number = self.create(f"create a {made} lookup table", wire.create_lut_of, made, content)
+        return Lut(self, Made(number, name), made, content)
 
-    def threshold(self, fmt: int, above: Optional[int] = None,
+    def threshold(self, fmt: Format, above: Optional[int] = None,
                   between: Optional[Tuple[int, int]] = None,
-                  true_value: int = 255, false_value: int = 0) -> Threshold:
+                  true_value: int = 255, false_value: int = 0, *, name: str = "") -> Threshold:
         """
         A threshold of U8 or S16 samples. One passes that is greater than `above`
         (VX_THRESHOLD_TYPE_BINARY), or that is `between` two limits, both included
@@ -128,66 +211,83 @@ class Context(Uncopied):
                        for limit in ((above,) if between is None else between))
         if between is not None and len(limits) != 2:
             raise TypeError("between has a lower and an upper limit")
-        values = [within(value, "a threshold's true or false value", BYTE,
-                         "a whole number from 0 to 255")
-                  for value in (true_value, false_value)]
+        outputs = (within(true_value, *_AN_OUTPUT), within(false_value, *_AN_OUTPUT))
         made = format_of(fmt)
         kind = "above" if between is None else "between"
         words = f"create a {made} threshold {kind} {' and '.join(map(str, limits))}"
-        return Threshold(self, self.create(words, wire.create_threshold, made, limits, *values),
-                         made)
+        number = self.create(words, wire.create_threshold, made, limits, *outputs)
+        return Threshold(self, Made(number, name), made, limits, outputs)
 
-    def convolution(self, coefficients: Sequence[Sequence[int]], scale: int = 1) -> Convolution:
+    def convolution(self, coefficients: Rows, scale: int = 1, *, name: str = "") -> Convolution:
         """
         Rows of coefficients from -32768 to 32767, in 3, 5, 7 or 9 rows and columns; they may be an
         array of that shape. Their sum is divided by the scale, which is a power of 2 up to 2^31.
         """
-        rows = [[coefficient_of(value) for value in row] for row in coefficients]
-        columns = len(rows[0]) if rows else 0
-        if any(len(row) != columns for row in rows):
-            raise ValueError("rows of coefficients are of one length")
+        rows = rows_of_kernel(coefficients)
         divisor = whole(scale, "the scale of a convolution", "a whole number, a power of 2")
         exponent = divisor.bit_length() - 1
         is_power = divisor >= 1 and divisor == 1 << exponent
         if not is_power or exponent > BYTE.greatest or len(rows) > BYTE.greatest:
             raise ValueError("the scale of a convolution is a power of 2 up to 2^31, and not "
                              f"{scale}")
-        sides = f"{columns} by {len(rows)}"
+        columns = len(rows[0]) if rows else 0
         flat = [value for row in rows for value in row]
-        words = f"create a convolution of {sides}"
-        name = self.create(words, wire.create_convolution, columns, len(rows), exponent, flat)
-        return Convolution(self, name, f"({sides})")
+        words = f"create a convolution of {columns} by {len(rows)}"
+        number = self.create(words, wire.create_convolution, columns, len(rows), exponent, flat)
+        return Convolution(self, Made(number, name), rows, divisor)
 
-    def distribution(self, bins: int, offset: int = 0, range: int = 256) -> Distribution:
+    def distribution(self, bins: int, offset: int = 0, range: int = 256, *,
+                     name: str = "") -> Distribution:
         """From 1 to 256 bins of the same width, which begin at the offset, 0 to 255, and are
         together range long."""
-        numbers = [within(number, f"a distribution's {what}", UNSIGNED, f"a whole number {allowed}")
-                   for number, what, allowed in (
-                       (bins, "number of bins", "from 1 to 256"),
-                       (offset, "offset", "from 0 to 255"), (range, "range", "from 1 to 256"))]
+        sides = (within(bins, "a distribution's number of bins", UNSIGNED,
+                        "a whole number from 1 to 256"),
+                 within(offset, "a distribution's offset", UNSIGNED,
+                        "a whole number from 0 to 255"),
+                 within(range, "a distribution's range", UNSIGNED, "a whole number from 1 to 256"))
         words = f"create a distribution of {bins} bins from {offset} on, {range} long"
-        return Distribution(self, self.create(words, wire.create_distribution, *numbers),
-                            f"({bins} bins)")
+        number = self.create(words, wire.create_distribution, *sides)
+        return Distribution(self, Made(number, name), sides)
 
-    def min_max(self) -> MinMax:
+    def min_max(self, *, name: str = "") -> MinMax:
         """What vxu.min_max_loc writes into."""
-        return MinMax(self, self.create("create extremes", wire.create_min_max))
+        return MinMax(self, Made(self.create("create extremes", wire.create_min_max), name))
 
-    def delay(self, exemplar: AnyImage, slots: int) -> Delay:
+    def delay(self, exemplar: AnyImage, slots: int, *, name: str = "") -> Delay:
         """From 1 to 16 slots of new images, of the format and the size of this one, whose samples
         aren't used."""
         self.look_at("delay", exemplar)
         count = within(slots, "the number of a delay's slots", BYTE, "a whole number from 1 to 16")
         words = f"create a delay of {count} slots like {exemplar}"
-        return Delay(self, self.create(words, wire.create_delay, exemplar.reference, count),
-                     exemplar, count)
+        number = self.create(words, wire.create_delay, exemplar.reference, count,
+                             size=count * wanted_bytes(exemplar))
+        return Delay(self, Made(number, name), exemplar, count)
 
-    def graph(self) -> Graph:
+    def graph(self, *, name: str = "") -> Graph:
         """A graph without nodes."""
-        return Graph(self, self.create("create a graph", wire.create_graph))
+        graph = Graph(self, Made(self.create("create a graph", wire.create_graph), name))
+        self._used.graphs.add(graph)
+        return graph
 
-    def _image_of(self, samples: Samples) -> Image:
-        image = self.image(samples.fmt, samples.width, samples.height)
+    def load_graph(self, path: Path) -> GraphFile:
+        """
+        The graph of a file that Graph.save() wrote or a program or a person did, with its objects:
+        `graph`, `inputs` and `outputs`, which have what the graph reads and leaves by their names,
+        and all `objects` by theirs.
+        """
+        return read_graph(self, path)
+
+    def usage(self) -> Usage:
+        """
+        How many objects of this context there are, and how many bytes its images take of the quota,
+        as this package counts them: those that Python forgot or closed are gone, except what the
+        nodes of a graph use.
+        """
+        self._release_forgotten()
+        return self._used.usage(self._server.quota)
+
+    def _image_of(self, samples: Samples, name: str) -> Image:
+        image = self.image(samples.fmt, samples.width, samples.height, name=name)
         self.tell(f"write samples to {image}", wire.write_image_head, image.reference, *samples[:3],
                   content=samples.content)
         return image
@@ -200,32 +300,41 @@ class Context(Uncopied):
 
     def enter_pipeline(self, pipeline: Pipeline) -> None:
         """From here on calls that give nothing don't wait for their replies."""
-        if self._pipeline is not None:
+        if self._open_pipeline() is not None:
             raise ValueError("a pipeline of this context is open already")
-        if self.closed:
+        if self._why_closed is not None:
             raise Closed(f"open a pipeline: {self._why_closed}")
-        self._pipeline = pipeline
+        self._pipeline = weakref.ref(pipeline)
+
+    def _open_pipeline(self) -> Optional[Pipeline]:
+        return None if self._pipeline is None else self._pipeline()
 
     def leave_pipeline(self) -> None:
         """From here on each call waits for its reply."""
         self._pipeline = None
 
     def send(self, words: str, make: Callable[..., bytes], *arguments: Any,
-             content: Optional[Part] = None,
-             explain: Optional[Explain] = None) -> Request:
+             content: Optional[Part] = None, explain: Optional[Explain] = None,
+             on_answer: Optional[Callable[[memoryview], None]] = None,
+             body: Optional[Body] = None) -> Request:
         """
         Sends a request: what `make` gives of the client's number and these arguments, and the
         content after it. In a pipeline its refusal is kept for the end. `explain` says what is at
-        fault where it is refused.
+        fault where it is refused. `body` is what a success gives, where the op alone doesn't
+        say that.
         """
-        if self.closed:
-            raise Closed(f"{words}: {self._why_closed}")
+        why_closed = self._why_closed
+        if why_closed is not None:
+            raise Closed(f"{words}: {why_closed}")
         frame = self._frame(words, make, arguments, 0 if content is None else len(content))
         self._release_forgotten()
-        request = Request(words, self.number, frame[6], explain)
-        if self._pipeline is not None:
-            self._pipeline.take(request)
-        self.connection.send(request, [frame] if content is None else [frame, content])
+        request = Request(words, self._number, frame[6], explain, body)
+        request.on_answer = on_answer
+        pipeline = self._open_pipeline()
+        if pipeline is not None:
+            pipeline.take(request)
+        self._connection.send(request, [frame] if content is None else [frame, content],
+                              pipeline is not None and pipeline.is_followed)
         return request
 
     def tell(self, words: str, make: Callable[..., bytes], *arguments: Any,
@@ -233,17 +342,53 @@ class Context(Uncopied):
              explain: Optional[Explain] = None) -> None:
         """Sends a request that gives nothing; waits for its reply unless a pipeline is open."""
         request = self.send(words, make, *arguments, content=content, explain=explain)
-        if self._pipeline is None:
+        if self._open_pipeline() is None:
             self._reply_to(request)
 
     def ask(self, words: str, make: Callable[..., bytes], decode: Callable[[memoryview], Value],
-            *arguments: Any) -> Value:
-        """Sends a request, waits, and gives what its reply has."""
-        return decode(self._reply_to(self.send(words, make, *arguments)))
+            body: Optional[Body] = None) -> Value:
+        """Sends a request, waits, and gives what its reply has. In a pipeline that may be of an
+        older picture, after a request that was refused: then that refusal is raised."""
+        request = self.send(words, make, body=body)
+        value = decode(self._reply_to(request))
+        pipeline = self._open_pipeline()
+        if pipeline is not None:
+            pipeline.raise_before(request)
+        return value
 
-    def create(self, words: str, make: Callable[..., bytes], *arguments: Any) -> int:
-        """Sends a request that makes an object, waits, and gives its name."""
-        return int(wire.name_of(self._reply_to(self.send(words, make, *arguments))))
+    def create(self, words: str, make: Callable[..., bytes], *arguments: Any, size: int = 0) -> int:
+        """Sends a request that makes an object, waits, and gives its name. The size is how many
+        bytes of the quota it takes."""
+        request = self.send(words, make, *arguments, explain=self._limit_for(size),
+                            on_answer=lambda reply: self._note_made(reply, size))
+        return int(wire.name_of(self._reply_to(request)))
+
+    def _note_made(self, reply: memoryview, size: int) -> None:
+        if reply[7] == wire.SUCCESS:
+            name = wire.name_of(reply)
+            self._used.add(name, size)
+            self._unclaimed.add(name)
+
+    def claim(self, name: int, thing: Named) -> None:
+        """An object in Python has the name from here on. It is released when Python forgets it."""
+        death = Death(thing, self._dead.append)  # type: ignore[arg-type]
+        death.name = name
+        self._alive[name] = death
+        self._unclaimed.discard(name)
+
+    def add_node(self, words: str, *arguments: Any, added: Callable[[int], None]) -> int:
+        """Sends a request that adds a node to a graph, waits, and gives its number, with which
+        `added` is called: after an interruption too, once the reply comes."""
+        request = self.send(words, wire.add_node, *arguments, on_answer=lambda reply: (
+            added(wire.node_of(reply)) if reply[7] == wire.SUCCESS else None))
+        return int(wire.node_of(self._reply_to(request)))
+
+    def release(self, name: int, words: str) -> None:
+        """Releases an object, unless the program knows already that the server is gone."""
+        self._used.release(name)
+        self._alive.pop(name, None)
+        if self._connection.fault is None:
+            self.tell(f"release {words}", wire.release, name)
 
     def references_of(self, call: Call) -> List[Optional[bytes]]:
         """By which a frame names the operands of a call, each None where it is absent."""
@@ -263,9 +408,10 @@ class Context(Uncopied):
             if operand is not None and operand.context is not self:
                 raise InvalidScope(str(words or what), None, f"{operand} is of another context.")
 
-    def forget(self, name: int) -> None:
-        """Has an object released before the next request."""
-        self._forgotten.append(name)
+    def _limit_for(self, size: int) -> Explain:
+        """Which limit an object of so many bytes doesn't keep."""
+        return lambda code: ("" if code != wire.NO_RESOURCES
+                             else self._used.fault(size, self._server.quota))
 
     def _frame(self, words: str, make: Callable[..., bytes], arguments: Sequence[Any],
                content: int) -> bytes:
@@ -281,42 +427,55 @@ class Context(Uncopied):
     def _reply_to(self, request: Request) -> memoryview:
         # It is raised here, so a pipeline that is open needn't keep it.
         request.on_refusal = None
-        self.connection.wait(request)
+        self._connection.wait(request)
         error = request.error
         if error is not None:
             raise error
-        assert request.reply is not None
-        return request.reply
+        return request.take_reply()
 
     def _release_forgotten(self) -> None:
-        while self._forgotten:
-            frame = wire.release(self.number, self._forgotten.popleft())
-            request = Request("release what Python forgot", self.number, frame[6])
-            if self._pipeline is not None:
-                request.on_refusal = self._pipeline.note
-            self.connection.send(request, [frame])
+        """An interruption in between has some released twice, and the second time is refused."""
+        while self._unclaimed:
+            name = next(iter(self._unclaimed))
+            self._release_unseen(name)
+            self._unclaimed.discard(name)
+        while self._dead:
+            name = self._dead[0].name
+            self._release_unseen(name)
+            self._alive.pop(name, None)
+            self._dead.popleft()
+
+    def _release_unseen(self, name: int) -> None:
+        frame = wire.release(self._number, name)
+        self._used.release(name)
+        self._connection.send(Request("release what Python forgot", self._number, frame[6]),
+                              [frame])
 
     # ---- its end
 
     @property
     def closed(self) -> bool:
-        return self._is_closed or self.server.closed
+        """Whether it was closed, or its server or its connection has ended."""
+        return self._why_closed is not None or self._connection.fault is not None
 
     @property
-    def _why_closed(self) -> str:
-        why = None if self._is_closed else self.server.why_closed
-        return why or "the context was closed"
+    def _why_closed(self) -> Optional[str]:
+        return "the context was closed" if self._is_closed else self._server.why_closed
 
     def close(self) -> None:
-        """Ends the context with all of its objects. Nothing happens where that was done before."""
-        if not self.closed:
+        """
+        Ends the context with all of its objects. Nothing happens where that was done before, or
+        where the program was told already that the server is gone.
+        """
+        if self._why_closed is None:
             self._pipeline, is_released = None, False
             try:
-                self.tell("release the context", wire.release_context)
-                is_released = True
+                if self._connection.fault is None:
+                    self.tell("release the context", wire.release_context)
+                    is_released = True
             finally:
                 self._is_closed = True
-                self.server.give_back(self, is_released)
+                self._server.give_back(self, is_released)
 
     def close_within(self, thing: Any, error: Optional[BaseException]) -> None:
         """
@@ -338,8 +497,32 @@ class Context(Uncopied):
                  trace: Optional[TracebackType]) -> None:
         self.close_within(self, error)
 
+    async def run(self, function: Callable[..., Value], *arguments: Any) -> Value:
+        """Calls a function that uses this context, in a thread, and waits for it in the event loop:
+        so others go on meanwhile. One task uses a context at a time."""
+        loop = asyncio.get_running_loop()
+        return await loop.run_in_executor(None, lambda: function(*arguments))
+
+    async def __aenter__(self) -> Context:
+        return self
+
+    async def __aexit__(self, kind: Optional[Type[BaseException]], error: Optional[BaseException],
+                        trace: Optional[TracebackType]) -> None:
+        await self.run(self.__exit__, kind, error, trace)
+
     def __repr__(self) -> str:
-        return f"<context of client {self.number}{', closed' if self.closed else ''}>"
+        return f"<context of client {self._number}{', closed' if self.closed else ''}>"
+
+
+_AN_OUTPUT = ("a threshold's true or false value", BYTE, "a whole number from 0 to 255")
+
+
+def rows_of_kernel(coefficients: Rows) -> Tuple[Tuple[int, ...], ...]:
+    """The coefficients of a convolution by rows."""
+    rows = tuple(tuple(coefficient_of(value) for value in row) for row in coefficients)
+    if any(len(row) != len(rows[0]) for row in rows):
+        raise ValueError("rows of coefficients are of one length")
+    return rows
 
 
 def coefficient_of(value: Any) -> int:

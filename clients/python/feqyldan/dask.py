@@ -16,7 +16,7 @@ from typing import TYPE_CHECKING, Any, Callable, Dict, Iterable, List, NamedTupl
 from .context import Context
 from .errors import FeqyldanError, ServerEnded
 from .graphs import Graph
-from .objects import AnyImage
+from .images import AnyImage
 from .samples import is_array, samples_of
 from .server import Server
 

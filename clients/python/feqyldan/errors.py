@@ -34,6 +34,29 @@ class ProgramNotFound(FeqyldanError, FileNotFoundError):
     """The server's program is in none of the places where it is looked for."""
 
 
+class OrderWarning(UserWarning):
+    """A graph's node writes what a node that was added before it reads, and runs before that."""
+
+
+class NotYet(FeqyldanError, TimeoutError):
+    """A reply hasn't come in the time that Result.value() was given. It is still awaited."""
+
+
+class BadPicture(FeqyldanError):
+    """
+    What is to be written to an image is no picture of the image's format and size, or no picture at
+    all. Each is a TypeError or a ValueError too, or the server's refusal.
+    """
+
+
+class NotAPicture(BadPicture, TypeError):
+    """It is of a type that isn't taken for a picture: an array of floats, a path, None."""
+
+
+class WrongPicture(BadPicture, ValueError):
+    """Its shape or a number in it is wrong: a colour picture, rows of several lengths, 256."""
+
+
 class UnexpectedReply(FeqyldanError):
     """What was read is no reply to the request that was sent: the other end isn't the server."""
 
@@ -76,7 +99,9 @@ class InvalidParameters(Refused):
               "this package is for?")
 
 
-class InvalidReference(Refused):
+class InvalidReference(Refused, Closed):
+    """An object is used after it was closed."""
+
     code = wire.INVALID_REFERENCE
     advice = "An object that it names was closed: make another, or close it later."
 
@@ -88,8 +113,7 @@ class InvalidScope(Refused):
 
 class InvalidFormat(Refused):
     code = wire.INVALID_FORMAT
-    advice = ("The function doesn't take images of these formats together: its docstring says "
-              "which it takes.")
+    advice = "The function doesn't take images of these formats together."
 
 
 class InvalidDimension(Refused):
@@ -138,18 +162,42 @@ class NoResources(Refused):
               "start the server with a greater quota.")
 
 
+class BrokerFull(NoResources):
+    """The broker has as many connections as it allows. One may be free soon: connect(retry=)
+    waits for it."""
+
+
+class WrongPictureSize(InvalidDimension, BadPicture):
+    """A picture is of another size than the image that it is written to."""
+
+
+class WrongPictureFormat(InvalidFormat, BadPicture):
+    """A picture is of another format than the image that it is written to, or no PGM text."""
+
+
+class WrongPictureSample(InvalidValue, BadPicture):
+    """A sample of a PGM text is above its maxval."""
+
+
 CLASSES: Dict[int, Type[Refused]] = {
     kind.code: kind for kind in (
         NoMemory, InvalidParameters, InvalidReference, InvalidScope, InvalidFormat,
         InvalidDimension, InvalidValue, InvalidType, InvalidGraph, InvalidLink, MultipleWriters,
         OptimizedAway, NoResources)}
 
+# A class of its own for a code that a request is refused with.
+OWN_CLASSES: Dict[Tuple[int, Optional[int]], Type[Refused]] = {
+    (wire.NO_RESOURCES, wire.OPEN_CONTEXT): BrokerFull,
+    **{(kind.code, op): kind for op in (wire.WRITE_IMAGE, wire.WRITE_IMAGE_PGM)
+       for kind in (WrongPictureSize, WrongPictureFormat, WrongPictureSample)},
+}
+
 # What to do where a request has a reason of its own for a code.
 _SIDES = "An image has from 1 to {0} columns, and from 1 to {0} rows.".format(wire.GREATEST_SIDE)
 _OF_A_NODE = ("A node's images are not of one size; what is open in a virtual image is taken from "
               "its writer's input.")
-_FORMATS_OF_A_NODE = ("A node's formats are none that its function takes; what is open in a "
-                      "virtual image is taken from the node that writes it.")
+_FORMATS_OF_A_NODE = ("The function doesn't take these formats. A virtual image without a format "
+                      "gets it from the node that writes it.")
 _OF_A_CALL = ("A policy is vx.WRAP or vx.SATURATE, a border vx.UNDEFINED, vx.REPLICATE or "
               "vx.constant(value), and one output of sobel3x3 has to be there.")
 _SHIFTS = ("A shift is out of its range: multiply and accumulate_square have those from 0 to 15, "
@@ -212,4 +260,4 @@ ADVICE: Dict[Tuple[int, Optional[int]], str] = {
 def refusal(code: int, request: str, op: Optional[int], place: str = "",
             fault: str = "") -> Refused:
     """What to raise for a reply with a code that isn't 0."""
-    return CLASSES[code](request, op, place=place, fault=fault)
+    return OWN_CLASSES.get((code, op), CLASSES[code])(request, op, place=place, fault=fault)

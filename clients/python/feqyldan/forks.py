@@ -17,6 +17,8 @@ FORKED = "its server was opened before this process was forked; open a server he
 class Forked:
     """Something that is closed in a child."""
 
+    __slots__ = ()
+
     def lose(self) -> None:
         """Closes what is the parent's, without a word to the server. No other thread runs."""
         raise NotImplementedError

@@ -17,7 +17,9 @@ from typing import (
     Union)
 
 from . import wire
-from .objects import AnyImage, Convolution, Distribution, Lut, MinMax, Named, Threshold
+from .errors import InvalidParameters
+from .images import AnyImage
+from .objects import Convolution, Distribution, Lut, MinMax, Named, Threshold
 from .whole import BYTE, within
 
 if TYPE_CHECKING:
@@ -103,10 +105,21 @@ class Call(NamedTuple):
             self.name].number, in1, in2, out1, self.policy, self.amount, *self.border, out2
 
 
+# What in2 of a function is, where it has one.
+BINARY = {**dict.fromkeys(("and_", "or_", "xor", "add", "subtract", "multiply", "absdiff", "min",
+                           "max"), "its second input"),
+          "threshold": "its threshold", "table_lookup": "its table", "convolve": "its convolution"}
+
+
 def call_of(name: str, operands: Tuple[Optional[Union[Operand, Named]], ...], policy: int,
             amount: int,
             border: Border) -> Call:
     """A call, if a frame can say it."""
+    for at, what in enumerate(("its input", BINARY.get(name, ""))):
+        if what and operands[at] is None:
+            raise InvalidParameters(name, None, f"{what[0].upper()}{what[1:]} is None.")
+    if operands[2] is None and operands[3] is None:
+        raise InvalidParameters(name, None, "It has no output: None is no object to write to.")
     if not isinstance(border, Border):
         raise TypeError(f"{name}: a border is vx.UNDEFINED, vx.REPLICATE or vx.constant(value), "
                         f"and not {border!r}")
@@ -117,6 +130,8 @@ def call_of(name: str, operands: Tuple[Optional[Union[Operand, Named]], ...], po
 
 class Functions(Generic[Given]):
     """The methods that immediate mode and graphs share. All images of one call have one size."""
+
+    __slots__ = ()
 
     def _run(self, call: Call) -> Given:
         raise NotImplementedError

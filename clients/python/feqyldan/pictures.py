@@ -6,9 +6,11 @@ import os
 import re
 import struct
 import zlib
-from typing import Any, NamedTuple, Union
+from typing import Any, List, NamedTuple, Sequence, Tuple, Union
 
-from .samples import Format, Readable, Samples, Size, is_array, numpy_module, samples_of
+from .errors import WrongPicture
+from .samples import (
+    Format, Picture, Readable, Samples, Size, is_array, numbers_of, numpy_module, samples_of)
 
 Path = Union[str, "os.PathLike[str]"]
 
@@ -16,6 +18,7 @@ GAP = rb"(?:[ \t\r\n]|#[^\r\n]*[\r\n])+"
 HEADER = re.compile(rb"P[25]" + 3 * (GAP + rb"0*([0-9]{1,9})"))
 # Kinds of pixels in PNG (its chapter 11.2.2).
 GREY, COLOURED = 0, 2
+RED = 230, 30, 30
 _NO_COLOURS = "a coloured picture has rows of one length, of three numbers a pixel"
 
 
@@ -41,9 +44,20 @@ def size_of_pgm(text: bytes) -> Size:
     """
     header = HEADER.match(text)
     if not header:
-        raise ValueError("these bytes don't begin with the header of a PGM text, P5 or P2")
+        raise WrongPicture("these bytes don't begin with the header of a PGM text, P5 or P2"
+                           f"{_hint_at(bytes(text[:4]))}")
     width, height, maxval = map(int, header.groups())
     return Size(Format.U8 if maxval < 256 else Format.S16, width, height)
+
+
+def _hint_at(begin: bytes) -> str:
+    """What a file is that begins so, and isn't PGM."""
+    kinds = ((b"\xff\xd8", "a JPEG"), (b"\x89PNG", "a PNG"), (b"P6", "a colour picture, PPM"),
+             (b"P3", "a colour picture, PPM"), (b"P4", "a bitmap, PBM"), (b"BM", "a BMP"))
+    for start, kind in kinds:
+        if begin.startswith(start):
+            return f": they are those of {kind}, which context.load(path) reads by OpenCV or PIL"
+    return f": they begin with {begin.hex(' ')}" if begin else ": there are none"
 
 
 def write_pgm(path: Path, picture: Any) -> None:
@@ -57,19 +71,36 @@ def write_pgm(path: Path, picture: Any) -> None:
         file.write(samples.content)
 
 
+def write_npy(path: Path, picture: Any) -> None:
+    """Writes a file of NumPy's of an image, an array of shape (height, width) or rows of numbers,
+    also where NumPy isn't installed."""
+    fmt, width, height, content = _samples(picture)
+    kind = {Format.U8: "|u1", Format.S16: ">i2", Format.U32: ">u4"}[fmt]
+    about = f"{{'descr': '{kind}', 'fortran_order': False, 'shape': ({height}, {width}), }}"
+    # What stands before the samples is a multiple of 64 bytes long.
+    about += " " * (-(11 + len(about)) % 64) + "\n"
+    with open(path, "wb") as file:
+        file.write(b"\x93NUMPY\1\0" + struct.pack("<H", len(about)) + about.encode())
+        file.write(content)
+
+
 def write_png(path: Path, picture: Any) -> None:
     """
     Writes a PNG file of an image, an array or rows: grey of shape (height, width), U8 or S16
     without negative samples; coloured of shape (height, width, 3), red, green and blue from 0 to
     255.
     """
+    content = png(picture)
     with open(path, "wb") as file:
-        file.write(png(picture))
+        file.write(content)
 
 
 def png(picture: Any) -> bytes:
     """The bytes of a PNG file, as write_png writes them."""
-    raster = _raster(picture)
+    return _file_of(_raster(picture))
+
+
+def _file_of(raster: Raster) -> bytes:
     depth, kind = (8, COLOURED) if raster.pixel_bytes == 3 else (8 * raster.pixel_bytes, GREY)
     header = struct.pack(">IIBBBBB", raster.width, raster.height, depth, kind, 0, 0, 0)
     row = raster.width * raster.pixel_bytes
@@ -81,6 +112,45 @@ def png(picture: Any) -> bytes:
     return b"\x89PNG\r\n\x1a\n" + chunks
 
 
+def shown(picture: Picture, valid: Tuple[int, int, int, int]) -> bytes:
+    """The bytes of a PNG file that shows a grey picture: its samples scaled where they aren't U8,
+    and a red frame within the valid rectangle where that isn't all of it."""
+    samples = samples_of(picture)
+    grey = _scaled(samples, valid)
+    width, height = samples.width, samples.height
+    if tuple(valid) == (0, 0, width, height):
+        return _file_of(Raster(width, height, 1, memoryview(grey)))
+    coloured = bytearray(3 * len(grey))
+    for channel in range(3):
+        coloured[channel::3] = grey
+    for x, y in _frame_of(valid):
+        coloured[3 * (y * width + x) : 3 * (y * width + x) + 3] = bytes(RED)
+    return _file_of(Raster(width, height, 3, memoryview(coloured)))
+
+
+def _frame_of(valid: Tuple[int, int, int, int]) -> List[Tuple[int, int]]:
+    """The outermost pixels of a rectangle."""
+    x0, y0, x1, y1 = valid
+    if x0 == x1:
+        return []
+    return [*((x, y) for x in range(x0, x1) for y in (y0, y1 - 1)),
+            *((x, y) for y in range(y0, y1) for x in (x0, x1 - 1))]
+
+
+def _scaled(samples: Samples, valid: Tuple[int, int, int, int]) -> bytes:
+    """Samples from 0 to 255: the least of the valid ones becomes 0, the greatest 255; those of U8
+    stay."""
+    if samples.fmt == Format.U8:
+        return bytes(samples.content)
+    x0, y0, x1, y1 = valid
+    width = samples.width
+    numbers: Sequence[int] = numbers_of(bytes(samples.content), samples.fmt)
+    inside = [number for y in range(y0, y1) for number in numbers[y * width + x0 : y * width + x1]]
+    least, greatest = (min(inside), max(inside)) if inside else (0, 0)
+    span = max(1, greatest - least)
+    return bytes(min(255, max(0, 255 * (number - least) // span)) for number in numbers)
+
+
 def _chunk(kind: bytes, content: bytes) -> bytes:
     return struct.pack(">I", len(content)) + kind + content + struct.pack(">I",
                                                                           zlib.crc32(kind
@@ -88,7 +158,7 @@ def _chunk(kind: bytes, content: bytes) -> bytes:
 
 
 def _samples(picture: Any) -> Samples:
-    return samples_of(picture.read() if isinstance(picture, Readable) else picture)
+    return samples_of(picture)
 
 
 def _raster(picture: Any) -> Raster:

@@ -4,11 +4,14 @@ from __future__ import annotations
 
 import sys
 from types import FrameType, TracebackType
-from typing import TYPE_CHECKING, Any, Callable, Generic, List, Optional, Type, TypeVar, Union
+from typing import (
+    TYPE_CHECKING, Any, Callable, Generic, List, Optional, Tuple, Type, TypeVar, Union, overload)
 
-from .connection import Connection, Place, Request
-from .errors import Refused
-from .objects import AnyImage, Description, Distribution, MinMax
+from .connection import Body, Connection, Place, Request
+from .errors import FeqyldanError, NotYet, Refused
+from .images import AnyImage
+from .objects import Description, Distribution, Extremes, MinMax
+from .samples import Picture
 from .uncopied import Uncopied
 
 if TYPE_CHECKING:
@@ -18,30 +21,101 @@ if TYPE_CHECKING:
 Value = TypeVar("Value")
 
 
+class Stretch:
+    """The requests of a pipeline up to a wait(): those that were refused, in order, and whether the
+    program was told of the first."""
+
+    __slots__ = ("refused", "is_told")
+
+    def __init__(self) -> None:
+        self.refused: List[Request] = []
+        self.is_told = False
+
+    def note(self, request: Request) -> None:
+        """Keeps a request that was refused. An interruption may have it noted twice."""
+        if self.refused[-1:] != [request]:
+            self.refused.append(request)
+
+    @property
+    def errors(self) -> List[Refused]:
+        found = (request.error for request in self.refused if request.answer is not None)
+        return [error for error in found if error is not None]
+
+    def raise_first(self) -> None:
+        """Raises the first refusal, if there is one."""
+        for error in self.errors[:1]:
+            self.is_told = True
+            raise error
+
+    def raise_before(self, request: Request) -> None:
+        """Raises the first refusal if that request was sent before this one, whose reply is
+        there."""
+        if self.refused and number_of(self.refused[0]) < number_of(request):
+            self.raise_first()
+
+
 class Result(Uncopied, Generic[Value]):
     """What a request that was sent ahead gives."""
 
+    _inner = frozenset(("wait",))
+    __slots__ = ("_connection", "_request", "_decode", "_stretch", "_decoded", "__weakref__")
+
     def __init__(self, connection: Connection, request: Request,
-                 decode: Callable[[memoryview], Value]) -> None:
+                 decode: Callable[[memoryview], Value], stretch: Stretch) -> None:
         self._connection, self._request, self._decode = connection, request, decode
+        self._stretch = stretch
         # The one value, once the reply was decoded.
         self._decoded: List[Value] = []
 
     @property
     def is_there(self) -> bool:
-        """Whether the reply has come, so that value() needn't wait."""
-        return self._request.reply is not None
+        """Whether value() needn't wait. Takes in what has come from the server, so a program may
+        poll it."""
+        if self._request.answer is None:
+            try:
+                self._connection.look()
+            except FeqyldanError:
+                # value() raises it.
+                return True
+        return self._request.answer is not None
 
-    def value(self) -> Value:
-        """Waits for the reply and gives what it has, or raises the request's own refusal."""
+    def wait(self, wake: Optional[int] = None) -> None:
+        """Waits for the reply, or until the file descriptor `wake` is readable."""
+        self._connection.wait(self._request, None, wake)
+
+    def value(self, timeout: Optional[float] = None) -> Value:
+        """
+        Waits for the reply and returns what it has.
+
+        Raises the request's own refusal, or the first refusal of a request that the pipeline sent
+        before this one, since what is read may be of an older picture then. Waits for at most
+        `timeout` seconds, if given, and raises NotYet after that: value() may be called again.
+        """
+        self._await(timeout)
+        if self._stretch.refused[:1] == [self._request]:
+            # raw() raises it.
+            self._stretch.is_told = True
+        value = self.raw()
+        self._stretch.raise_before(self._request)
+        return value
+
+    def raw(self) -> Value:
+        """Waits for the reply and returns what it has, also after a refusal of an earlier request:
+        then it may be of an older picture. Raises the request's own refusal."""
         if not self._decoded:
-            self._connection.wait(self._request)
-            error, reply = self._request.error, self._request.reply
+            self._await(None)
+            error = self._request.error
             if error is not None:
                 raise error
-            assert reply is not None
-            self._decoded.append(self._decode(reply))
+            assert self._request.answer is not None
+            self._decoded.append(self._decode(self._request.answer[0]))
+            self._request.take_reply()
         return self._decoded[0]
+
+    def _await(self, timeout: Optional[float]) -> None:
+        if not self._connection.wait(self._request, timeout):
+            raise NotYet(f"{self._request.words}: no reply in {timeout:g} seconds; it is still "
+                         "awaited")
 
 
 class Pipeline(Uncopied):
@@ -60,14 +134,38 @@ class Pipeline(Uncopied):
     later. All other calls wait as ever, and the server answers everything in the order of the
     calls.
 
-    At the end all replies are awaited, and the first refusal is raised; `refusals` has all of them,
-    and each says which call it was. What was sent after a refused request was tried like any other.
+    The server tries what was sent after a refused request like any other. So whatever is read after
+    one, by value() or by a call that waits, raises that first refusal. At the end all replies are
+    awaited, and the first refusal is raised, unless it was raised before; `refusals` has all of
+    them, and each says which call it was.
     """
 
+    _inner = frozenset(("is_followed", "take", "raise_before"))
+    __slots__ = ("is_followed", "_context", "_calls", "_stretch", "__weakref__")
+
     def __init__(self, context: Context) -> None:
-        self.refusals: List[Refused] = []
+        # Whether each request is sent with the next one.
+        self.is_followed = False
         self._context = context
         self._calls = 0
+        self._stretch = Stretch()
+
+    @property
+    def refusals(self) -> List[Refused]:
+        """The refusals that have come, since the last wait() if there was one."""
+        return self._stretch.errors
+
+    @overload
+    def read(self, thing: AnyImage) -> Result[Picture]:
+        ...
+
+    @overload
+    def read(self, thing: Distribution) -> Result[Tuple[int, ...]]:
+        ...
+
+    @overload
+    def read(self, thing: MinMax) -> Result[Extremes]:
+        ...
 
     def read(self, thing: Union[AnyImage, Distribution, MinMax]) -> Result[Any]:
         """Asks for what thing.read() gives: a picture, counts or extremes."""
@@ -82,24 +180,28 @@ class Pipeline(Uncopied):
         return self._ask(*image.querying())
 
     def wait(self) -> None:
-        """Waits for all replies so far, and raises the first refusal of them."""
+        """
+        Waits for all replies so far, and raises the first refusal of them unless it was raised
+        before. What is read from here on isn't held up by it any more.
+        """
         self._context.connection.wait()
-        if self.refusals:
-            first, self.refusals = self.refusals[0], []
-            raise first
+        stretch, self._stretch = self._stretch, Stretch()
+        if not stretch.is_told:
+            stretch.raise_first()
 
     def take(self, request: Request) -> None:
         """A call that is made within it."""
         self._calls += 1
         frame = calling_frame()
-        request.place = Place(self._calls, frame.f_code.co_filename, frame.f_lineno)
-        request.on_refusal = self.note
+        request.place = Place(self._calls, self._words(), frame.f_code.co_filename, frame.f_lineno)
+        request.on_refusal = self._stretch.note
 
-    def note(self, request: Request) -> None:
-        """Keeps the refusal of a request that was sent ahead."""
-        error = request.error
-        if error is not None:
-            self.refusals.append(error)
+    def raise_before(self, request: Request) -> None:
+        """Raises the first refusal, if it is of a request that was sent before this one."""
+        self._stretch.raise_before(request)
+
+    def _words(self) -> str:
+        return f"call {self._calls} of the pipeline"
 
     def __enter__(self) -> Pipeline:
         self._context.enter_pipeline(self)
@@ -110,12 +212,19 @@ class Pipeline(Uncopied):
         self._context.leave_pipeline()
         if error is None:
             self._context.connection.wait()
-            if self.refusals:
-                raise self.refusals[0]
+            if not self._stretch.is_told:
+                self._stretch.raise_first()
 
     def _ask(self, words: str, make: Callable[[int], bytes],
-             decode: Callable[[memoryview], Value]) -> Result[Value]:
-        return Result(self._context.connection, self._context.send(words, make), decode)
+             decode: Callable[[memoryview], Value],
+             body: Optional[Body] = None) -> Result[Value]:
+        request = self._context.send(words, make, body=body)
+        return Result(self._context.connection, request, decode, self._stretch)
+
+
+def number_of(request: Request) -> int:
+    """Which call of its pipeline it is; one without a place comes after all others."""
+    return sys.maxsize if request.place is None else request.place.number
 
 
 def calling_frame() -> FrameType:

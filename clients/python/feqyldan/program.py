@@ -46,16 +46,16 @@ def find() -> str:
 
 def inside() -> List[str]:
     """Where this package itself has the program; nowhere where it was installed without one."""
-    return _in(INSIDE) if os.path.isdir(INSIDE) else []
+    return in_folder(INSIDE) if os.path.isdir(INSIDE) else []
 
 
 def built() -> List[str]:
     """Where builds are that this machine's processor runs, the fastest first; nowhere outside a
     checkout."""
-    return _in(os.path.join(CRATE, "out")) if os.path.isdir(CRATE) else []
+    return in_folder(os.path.join(CRATE, "out")) if os.path.isdir(CRATE) else []
 
 
-def _in(folder: str) -> List[str]:
+def in_folder(folder: str) -> List[str]:
     """The paths in a folder that this machine's processor runs, the fastest first."""
     names = [FASTER, PLAIN] if FASTER_FLAGS <= _flags() else [PLAIN]
     return [os.path.join(folder, name) for name in names]

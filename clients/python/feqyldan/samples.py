@@ -12,19 +12,29 @@ are [y, x] in both, and tolist() gives their rows.
 from __future__ import annotations
 
 import array
+import os
+import struct
 import sys
 from enum import IntEnum
 from functools import lru_cache
-from typing import TYPE_CHECKING, Any, NamedTuple, Optional, Sequence, Tuple, Union
+from typing import TYPE_CHECKING, Any, Iterable, NamedTuple, Optional, Sequence, Tuple, Union
 
 from . import wire
+from .errors import NotAPicture, WrongPicture
 from .whole import first_that_is_none, whole
 
 if TYPE_CHECKING:
     import numpy
 
-# What is read: of shape (height, width), in this machine's byte order.
-Picture = Union["numpy.ndarray[Any, Any]", memoryview]
+    # What is read: of shape (height, width), in this machine's byte order. Where NumPy isn't
+    # installed it is a memoryview of that shape.
+    Picture = numpy.ndarray[Any, Any]
+    # Numbers in one line, and in rows.
+    Numbers = Union[Sequence[int], Iterable[int], numpy.ndarray[Any, Any]]
+    Rows = Union[Sequence[Sequence[int]], numpy.ndarray[Any, Any]]
+else:
+    Picture = Union["numpy.ndarray[Any, Any]", memoryview]
+    Numbers = Rows = Any
 
 
 class Format(IntEnum):
@@ -37,10 +47,12 @@ class Format(IntEnum):
 
     @property
     def sample_bytes(self) -> int:
-        return wire.sample_bytes(self)
+        # 1, 2 and 4: asked for with each frame.
+        return 1 << self._value_ - 1
 
     def __str__(self) -> str:
-        return self.name
+        # `name` is worked out each time that it is asked for, and these words are for each frame.
+        return self._name_
 
 
 def format_of(value: Any) -> Format:
@@ -57,6 +69,8 @@ FORMATS = {"B": Format.U8, "h": Format.S16, "I": Format.U32, "L": Format.U32}
 # The kind and the bytes of NumPy's dtypes.
 DTYPES = {("u", 1): Format.U8, ("i", 2): Format.S16, ("u", 4): Format.U32}
 IS_SWAPPED = sys.byteorder == "little"
+# The sides of the squares in which an array is turned.
+TILE = 128
 
 
 class Samples(NamedTuple):
@@ -79,6 +93,8 @@ class Size(NamedTuple):
 class Readable:
     """Something on a server with samples, which read() gives."""
 
+    __slots__ = ()
+
     def read(self) -> Picture:
         raise NotImplementedError
 
@@ -93,6 +109,26 @@ def numpy_module() -> Any:
     return numpy
 
 
+def needed_numpy(what: str) -> Any:
+    """NumPy, without which there is no such thing."""
+    there = numpy_module()
+    if there is None:
+        raise ImportError(f"{what} needs NumPy, which isn't installed")
+    return there
+
+
+def dtype_of(fmt: Format) -> Any:
+    """NumPy's type of a format's samples; its name where NumPy isn't installed."""
+    name = {Format.U8: "uint8", Format.S16: "int16", Format.U32: "uint32"}[fmt]
+    there = numpy_module()
+    return name if there is None else there.dtype(name)
+
+
+def numbers_of(content: bytes, fmt: Format) -> Tuple[int, ...]:
+    """The numbers of a format that big-endian bytes are."""
+    return struct.unpack(f">{len(content) // fmt.sample_bytes}{LETTERS[fmt]}", content)
+
+
 def is_array(value: Any) -> bool:
     """Whether NumPy takes it for an array, and NumPy is there."""
     has_interface = hasattr(value, "__array_interface__") or hasattr(value, "__array__")
@@ -105,13 +141,24 @@ def samples_of(value: Any, size: Optional[Size] = None) -> Samples:
     have them, are of the size that is given, and stand in this machine's byte order; so are rows of
     numbers of its format, which is U8 where none is given.
     """
+    if isinstance(value, Readable):
+        value = value.read()
     if is_array(value):
-        return _of_array(numpy_module().asarray(value), size)
+        return _of_array(_unmasked(value), size)
     try:
         view = memoryview(value)
     except TypeError:
         return _of_rows(value, size)
     return _of_buffer(view, size)
+
+
+def _unmasked(value: Any) -> Any:
+    """The value as an array. A mask would be lost."""
+    numpy = numpy_module()
+    if isinstance(value, numpy.ma.MaskedArray) and numpy.ma.is_masked(value):
+        raise WrongPicture("a picture has no mask, and some of these samples are masked: write "
+                           "array.filled(0), and the mask as a picture of its own")
+    return numpy.asarray(value)
 
 
 def entries_of(value: Any, fmt: Format) -> bytes:
@@ -126,20 +173,50 @@ def _of_array(pixels: Any, size: Optional[Size]) -> Samples:
     numpy = numpy_module()
     fmt = DTYPES.get((pixels.dtype.kind, pixels.dtype.itemsize))
     if fmt is None:
-        raise TypeError(f"samples are uint8, int16 or uint32, and not {pixels.dtype}: "
-                        f"{_conversion_of(pixels.dtype)}")
+        raise NotAPicture(f"samples are uint8, int16 or uint32, and not {pixels.dtype}: "
+                          f"{_conversion_of(pixels.dtype)}")
     if pixels.ndim == 3 and pixels.shape[2] == 1:
         pixels = pixels.reshape(pixels.shape[:2])
     if pixels.ndim == 1 and size is not None and pixels.size == size.width * size.height:
         pixels = pixels.reshape(size.height, size.width)
     if pixels.ndim != 2 or pixels.size == 0:
-        hint = ": make a grey one of it, as by cv2.cvtColor()" if pixels.shape[2:] in ((3,),
-                                                                                       (4,)) else ""
-        raise ValueError("a grey picture has the shape (height, width), and not "
-                         f"{pixels.shape}{hint}")
+        raise WrongPicture("a grey picture has the shape (height, width), and not "
+                           f"{pixels.shape}{_hint_at(pixels.shape)}")
     height, width = pixels.shape
+    return Samples(fmt, width, height, _bytes_of(_in_rows(pixels, numpy), numpy))
+
+
+def _in_rows(pixels: Any, numpy: Any) -> Any:
+    """
+    The array with its rows in memory one after the other.
+
+    One that stands by columns is copied in squares that fit into the cache: NumPy, which goes along
+    the rows of what it writes, takes ten times as long.
+    """
+    if pixels.flags.c_contiguous or abs(pixels.strides[1]) <= abs(pixels.strides[0]):
+        return pixels
+    height, width = pixels.shape
+    ordered = numpy.empty(pixels.shape, pixels.dtype)
+    for top in range(0, height, TILE):
+        for left in range(0, width, TILE):
+            part = slice(top, top + TILE), slice(left, left + TILE)
+            ordered[part] = pixels[part]
+    return ordered
+
+
+def _bytes_of(pixels: Any, numpy: Any) -> memoryview:
+    """The bytes of an array by rows, big-endian; a copy where it isn't so."""
     ordered = numpy.ascontiguousarray(pixels, pixels.dtype.newbyteorder(">"))
-    return Samples(fmt, width, height, memoryview(ordered.reshape(-1).view(numpy.uint8)))
+    return memoryview(ordered.reshape(-1).view(numpy.uint8))
+
+
+def _hint_at(shape: Tuple[int, ...]) -> str:
+    """What to do with an array of a shape that isn't that of a picture."""
+    if len(shape) == 3 and shape[0] == 1:
+        return ": that is a batch of one picture, which is array[0]"
+    if shape[2:] in ((3,), (4,)):
+        return ": make a grey one of it, as by cv2.cvtColor(array, cv2.COLOR_BGR2GRAY)"
+    return ""
 
 
 def _conversion_of(dtype: Any) -> str:
@@ -147,7 +224,15 @@ def _conversion_of(dtype: Any) -> str:
     if dtype.kind == "f":
         return ("scale and round them first, as (255 * array).round().astype(numpy.uint8) does "
                 "with numbers from 0 to 1")
-    return "convert them by astype()"
+    if dtype.kind == "b":
+        return "a mask of 0 and 255 is mask.astype(numpy.uint8) * 255"
+    if (dtype.kind, dtype.itemsize) == ("u", 2):
+        return ("samples up to 32767, as of 10 or 12 bits, are array.astype(numpy.int16); of 16 "
+                "bits (array >> 1).astype(numpy.int16) or (array >> 8).astype(numpy.uint8)")
+    if dtype.kind in "iu":
+        return ("numpy.clip(array, 0, 255).astype(numpy.uint8), or -32768, 32767 and numpy.int16; "
+                "astype() alone would wrap numbers that are out of range")
+    return "it has to be an array of whole numbers"
 
 
 def _of_buffer(view: memoryview, size: Optional[Size]) -> Samples:
@@ -159,31 +244,68 @@ def _of_buffer(view: memoryview, size: Optional[Size]) -> Samples:
     if view.ndim == 2 and view.shape is not None and fmt is not None:
         return Samples(fmt, view.shape[1], view.shape[0], _reordered(_line_of(view), fmt))
     if size is None:
-        raise ValueError("these samples have no width and height: use an array of shape (height, "
-                         "width), or rows")
-    if view.ndim != 1 or view.nbytes != size.width * size.height * size.fmt.sample_bytes:
-        raise ValueError(f"{view.nbytes} bytes aren't the {size.fmt} samples of {size.width} by "
-                         f"{size.height}")
+        if fmt is None:
+            raise NotAPicture(f"samples of the type {view.format!r} are no U8, S16 or U32: those "
+                              "are 'B', 'h' and 'I'")
+        raise WrongPicture("these samples have no width and height: use an array of shape (height, "
+                           "width), or rows")
     if fmt not in (size.fmt, Format.U8):
-        raise TypeError(f"samples of the type {view.format!r} aren't {size.fmt}")
+        raise NotAPicture(f"samples of the type {view.format!r} aren't {size.fmt}")
+    if view.ndim != 1 or view.nbytes != size.width * size.height * size.fmt.sample_bytes:
+        raise WrongPicture(f"{view.nbytes} bytes aren't the {size.fmt} samples of {size.width} by "
+                           f"{size.height}")
     return Samples(size.fmt, size.width, size.height, _reordered(_line_of(view), size.fmt))
 
 
-def _of_rows(rows: Sequence[Sequence[int]], size: Optional[Size]) -> Samples:
+def _of_rows(value: Any, size: Optional[Size]) -> Samples:
     fmt = size.fmt if size else Format.U8
-    rows = [list(row) for row in rows]
+    rows = _rows_in(value)
     width = len(rows[0]) if rows else 0
     if width == 0 or any(len(row) != width for row in rows):
-        raise ValueError("a picture has rows of one length, and at least one sample")
+        raise WrongPicture("a picture has rows of one length, and at least one sample")
     flat = [sample for row in rows for sample in row]
-    return Samples(fmt, width, len(rows), _ordered(_packed(flat, fmt, "a sample")))
+    try:
+        content = _ordered(_packed(flat, fmt, "a sample"))
+    except TypeError as error:
+        raise NotAPicture(error) from None
+    except ValueError as error:
+        at = first_outside(flat, fmt)
+        raise WrongPicture(f"{error}; it is in row {at // width}, column {at % width}") from None
+    return Samples(fmt, width, len(rows), content)
+
+
+def _rows_in(value: Any) -> Sequence[Sequence[int]]:
+    """Rows of numbers, if it is such."""
+    if value is None:
+        raise NotAPicture("None is no picture: cv2.imread() gives it where it can't read a file")
+    if isinstance(value, (str, os.PathLike)):
+        raise NotAPicture(f"a path is no picture, and this is {os.fspath(value)!r}: "
+                          "context.load(path) makes an image of a file")
+    try:
+        return [list(row) for row in value]
+    except TypeError:
+        raise NotAPicture("a picture is an array, a buffer or rows of numbers, and no "
+                          f"{type(value).__name__}") from None
+
+
+# The least and the greatest sample of each format.
+RANGES = {Format.U8: (0, 255), Format.S16: (-32768, 32767), Format.U32: (0, 2**32 - 1)}
+
+
+def first_outside(numbers: Sequence[int], fmt: Format) -> int:
+    """Where the first number stands that is no sample of a format."""
+    least, greatest = RANGES[fmt]
+    return next(at for at, number in enumerate(numbers) if not least <= number <= greatest)
 
 
 def _packed(numbers: Sequence[int], fmt: Format, what: str) -> Any:
     try:
         return array.array(LETTERS[fmt], numbers)
     except OverflowError:
-        raise ValueError(f"a number is no sample of {fmt}") from None
+        least, greatest = RANGES[fmt]
+        wrong = numbers[first_outside(numbers, fmt)]
+        raise ValueError(f"{what} of {fmt} is a number from {least} to {greatest}, and not "
+                         f"{wrong}") from None
     except TypeError:
         wrong = first_that_is_none(numbers)
         raise TypeError(f"{what} of {fmt} is a whole number, and not {wrong!r}: scale and round it "
@@ -223,11 +345,12 @@ def picture_of(reply: memoryview) -> Picture:
 def _array_of(content: memoryview, fmt: Format, shape: Tuple[int, int]) -> Picture:
     there = numpy_module()
     if there is None:
-        return _reordered(content, fmt).cast(LETTERS[fmt], shape)
+        view: Any = _reordered(content, fmt).cast(LETTERS[fmt], shape)
+        return view  # type: ignore[no-any-return]
     pixels = there.frombuffer(content,
                               f">u{fmt.sample_bytes}" if fmt != Format.S16
                               else ">i2").reshape(shape)
     if IS_SWAPPED and fmt != Format.U8:
         pixels.byteswap(inplace=True)
-    native: numpy.ndarray[Any, Any] = pixels.view(pixels.dtype.newbyteorder("="))
+    native: Picture = pixels.view(pixels.dtype.newbyteorder("="))
     return native

@@ -2,7 +2,10 @@
 
 from __future__ import annotations
 
+import errno
+import json
 import os
+import pwd
 import socket
 import struct
 import subprocess
@@ -10,11 +13,11 @@ import tempfile
 import threading
 import time
 from types import TracebackType
-from typing import Dict, List, Optional, Sequence, Set, Type, Union
+from typing import Any, Dict, List, Optional, Sequence, Set, Type, Union
 
 from .connection import Connection
 from .context import Context
-from .errors import Closed, FeqyldanError, Refused, ServerEnded, TimedOut
+from .errors import BrokerFull, Closed, FeqyldanError, Refused, ServerEnded, TimedOut
 from .forks import FORKED, HELD, OPENING, Forked
 from .pictures import Path
 from .pipes import enlarge
@@ -27,7 +30,9 @@ CLIENTS = 65536
 # said.
 PATIENCE = 10.0
 SAID_BYTES = 4096
-# Seconds between two tries to reach a socket at which nobody listens.
+# What the server takes where nobody says it.
+QUOTA = 2**28
+# Seconds between two tries to reach a socket at which nobody listens, or a broker that is full.
 RETRY_PAUSE = 0.1
 
 
@@ -47,6 +52,10 @@ class Server(Forked, Uncopied):
     process that is forked from this one it is closed.
     """
 
+    __slots__ = ("_lock", "_next_number", "_free_numbers", "_ended_by", "_quota", "_connection",
+                 "_said", "_process", "_input", "_output", "__weakref__")
+    _inner = frozenset(("give_back", "lose", "why_closed"))
+
     def __init__(self, program: Union[Path, Sequence[str], None] = None, *,
                  quota: Optional[int] = None,
                  work: Optional[int] = None, timeout: Optional[float] = None) -> None:
@@ -56,7 +65,8 @@ class Server(Forked, Uncopied):
         self._next_number = 0
         self._free_numbers: List[int] = []
         # Why it can't be used any more; None while it can.
-        self.why_closed: Optional[str] = None
+        self._ended_by: Optional[str] = None
+        self._quota: Optional[int] = QUOTA if quota is None else quota
         seconds = seconds_of(timeout)
         with OPENING:
             self._start(words)
@@ -82,7 +92,18 @@ class Server(Forked, Uncopied):
 
     @property
     def closed(self) -> bool:
-        return self.why_closed is not None
+        """Whether it was closed, or has ended."""
+        return self._ended_by is not None or self._connection.fault is not None
+
+    @property
+    def why_closed(self) -> Optional[str]:
+        """Why it can't be used any more; None while it wasn't closed."""
+        return self._ended_by
+
+    @property
+    def quota(self) -> Optional[int]:
+        """How many bytes the images of each context may take; None where it isn't known."""
+        return self._quota
 
     def context(self) -> Context:
         """Opens a context under a client number that no other context of this server has."""
@@ -106,9 +127,9 @@ class Server(Forked, Uncopied):
         waited for. Raises ServerEnded where it ends otherwise than it should. Nothing happens where
         that was done before.
         """
-        if self.closed:
+        if self._ended_by is not None:
             return
-        self.why_closed = "the server was closed"
+        self._ended_by = "the server was closed"
         try:
             if self._connection.fault is None:
                 self._connection.wait()
@@ -120,8 +141,8 @@ class Server(Forked, Uncopied):
 
     def lose(self) -> None:
         """In the child of a fork: its pipes are closed here, and the server is the parent's."""
-        if not self.closed:
-            self.why_closed = FORKED
+        if self._ended_by is None:
+            self._ended_by = FORKED
             self._connection.lose(FORKED)
             self._input.close()
             self._output.close()
@@ -136,9 +157,9 @@ class Server(Forked, Uncopied):
                  trace: Optional[TracebackType]) -> None:
         if error is None:
             self.close()
-        elif not self.closed:
+        elif self._ended_by is None:
             # What it still answers is wanted by nobody.
-            self.why_closed = "the server was closed"
+            self._ended_by = "the server was closed"
             self._process.terminate()
             self._end()
 
@@ -192,13 +213,19 @@ class SocketServer(Server):
     """
     A server that is reached by a Unix socket, as feqyldan.broker gives it to several programs. Each
     context has a connection of its own; the server goes on when this is closed. Where nobody
-    listens it is tried again for `retry` seconds, also when a context is opened later.
+    listens, or the broker is full, it is tried again for `retry` seconds, also when a context is
+    opened later.
     """
 
-    def __init__(self, path: Path, *, timeout: Optional[float] = None, retry: float = 0.0) -> None:
+    __slots__ = ("_path", "_timeout", "_retry", "_owner", "_streams", "_sockets", "_next")
+
+    def __init__(self, path: Path, *, timeout: Optional[float] = None, retry: float = 0.0,
+                 owner: Union[int, str, None] = None) -> None:
         self._path, self._timeout, self._retry = os.fspath(path), seconds_of(timeout), retry
+        self._owner = None if owner is None else user_number(owner)
         self._lock = threading.Lock()
-        self.why_closed: Optional[str] = None
+        self._ended_by: Optional[str] = None
+        self._quota = None
         # All sockets; that of each context; and that of the next one, which shows at once whether
         # somebody listens.
         self._streams: Set[socket.socket] = set()
@@ -208,10 +235,26 @@ class SocketServer(Server):
             HELD.add(self)
         self._next = self._connect()
 
+    @property
+    def closed(self) -> bool:
+        """Whether it was closed."""
+        return self._ended_by is not None
+
     def context(self) -> Context:
-        """Opens a context on a connection of its own."""
-        if self.why_closed is not None:
-            raise Closed(f"open a context: {self.why_closed}")
+        """Opens a context on a connection of its own. Raises BrokerFull where a broker has as many
+        as it allows, and none was free within the `retry` seconds."""
+        until = time.monotonic() + self._retry
+        while True:
+            try:
+                return self._new_context()
+            except BrokerFull:
+                if time.monotonic() >= until:
+                    raise
+            time.sleep(RETRY_PAUSE)
+
+    def _new_context(self) -> Context:
+        if self._ended_by is not None:
+            raise Closed(f"open a context: {self._ended_by}")
         with self._lock:
             waiting, self._next = self._next, None
         stream = waiting or self._connect()
@@ -234,7 +277,7 @@ class SocketServer(Server):
 
     def close(self) -> None:
         """Closes all connections, on which the server releases their contexts."""
-        self.why_closed = self.why_closed or "the connection to the server was closed"
+        self._ended_by = self._ended_by or "the connection to the server was closed"
         for context in list(self._sockets):
             self.give_back(context, False)
         if self._next is not None:
@@ -244,7 +287,7 @@ class SocketServer(Server):
     def lose(self) -> None:
         """In the child of a fork: its sockets are closed here, and the connections are the
         parent's."""
-        self.why_closed = self.why_closed or FORKED
+        self._ended_by = self._ended_by or FORKED
         for context in self._sockets:
             context.connection.lose(FORKED)
         for stream in self._streams:
@@ -280,6 +323,7 @@ class SocketServer(Server):
                 limit = struct.pack("@ll", int(whole), int(part * 1e6))
                 stream.setsockopt(socket.SOL_SOCKET, socket.SO_SNDTIMEO, limit)
             stream.connect(self._path)
+            self._look_who_listens(stream)
         except BaseException as error:
             self._drop(stream)
             if isinstance(error, BlockingIOError):
@@ -290,18 +334,47 @@ class SocketServer(Server):
             raise
         return stream
 
+    def _look_who_listens(self, stream: socket.socket) -> None:
+        """Raises PermissionError where that is another user than the owner that was given."""
+        if self._owner is None:
+            return
+        credentials = stream.getsockopt(socket.SOL_SOCKET, socket.SO_PEERCRED, 12)
+        _process, user, _group = struct.unpack("iII", credentials)
+        if user != self._owner:
+            raise PermissionError(errno.EPERM, f"user {user} listens there, and not user "
+                                               f"{self._owner}, who is to be its owner")
+
     def _drop(self, stream: socket.socket) -> None:
         self._streams.discard(stream)
         stream.close()
 
 
-def connect(path: Path, *, timeout: Optional[float] = None, retry: float = 0.0) -> SocketServer:
+def connect(path: Path, *, timeout: Optional[float] = None, retry: float = 0.0,
+            owner: Union[int, str, None] = None) -> SocketServer:
     """
-    The server that listens at a Unix socket. Where nobody does, as while it starts, waits up to
-    `retry` seconds. A request that isn't answered within the timeout, in seconds, raises TimedOut
-    and closes the connection of its context.
+    The server that listens at a Unix socket. Where nobody does, as while it starts, or where a
+    broker is full, waits up to `retry` seconds. A request that isn't answered within the timeout,
+    in seconds, raises TimedOut and closes the connection of its context. Where an owner is given, a
+    user's number or name, and another user listens, raises PermissionError before anything is sent;
+    for a socket that systemd holds, the owner is root.
     """
-    return SocketServer(path, timeout=timeout, retry=retry)
+    return SocketServer(path, timeout=timeout, retry=retry, owner=owner)
+
+
+def user_number(user: Union[int, str]) -> int:
+    """A user's number, who may be given by name. Raises KeyError where there is no such user."""
+    return user if isinstance(user, int) else pwd.getpwnam(user).pw_uid
+
+
+def status(path: Path, *, timeout: float = 10.0) -> Dict[str, Any]:
+    """The state of a broker, as its status socket (--status) tells it at this path."""
+    with socket.socket(socket.AF_UNIX, socket.SOCK_STREAM) as stream:
+        stream.settimeout(timeout)
+        stream.connect(os.fspath(path))
+        stream.shutdown(socket.SHUT_WR)
+        with stream.makefile("rb") as replies:
+            found: Dict[str, Any] = json.loads(replies.read())
+    return found
 
 
 def seconds_of(timeout: Optional[float]) -> Optional[float]:

@@ -2,7 +2,7 @@
 
 from __future__ import annotations
 
-from typing import Any, NoReturn
+from typing import Any, FrozenSet, List, NoReturn
 
 
 class Uncopied:
@@ -10,6 +10,15 @@ class Uncopied:
     Refuses copy.copy(), copy.deepcopy() and pickle: two Python objects would release one object of
     the server, and in another process there is no connection to it.
     """
+
+    __slots__ = ()
+    # The names that only this package uses, which completion leaves out.
+    _inner: FrozenSet[str] = frozenset()
+
+    def __dir__(self) -> List[str]:
+        """The names for programs."""
+        return [name for name in super().__dir__()
+                if name not in self._inner and (name[:1] != "_" or name[:2] == "__")]
 
     def __reduce_ex__(self, protocol: Any) -> NoReturn:
         raise TypeError(f"{self!r} is on its server, so it is neither copied nor pickled. read() "

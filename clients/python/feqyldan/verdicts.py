@@ -38,6 +38,8 @@ TAKEN: Dict[str, FrozenSet[Formats]] = {
     "histogram": frozenset({(U8, None, None)}), "integral_image": frozenset({(U8, None, U32)}),
     "min_max_loc": frozenset({(U8, None, None), (S16, None, None)}),
 }
+# What in2 is where it is no image: it has the format of in1.
+_PARAMETERS = {"threshold": "a threshold", "table_lookup": "a table"}
 # The format of a virtual output that leaves it open. Of the functions that aren't here it is in1's.
 OPENED = {
     **dict.fromkeys(("and_", "or_", "xor", "not_", "threshold", "box3x3", "gaussian3x3",
@@ -45,6 +47,25 @@ OPENED = {
     **dict.fromkeys(("add", "subtract", "multiply", "sobel3x3", "convolve", *ADDING), S16),
     "integral_image": U32,
 }
+
+
+def formats_in_words(function: str) -> str:
+    """Which formats a function takes together."""
+    outputs = sorted({formats[2] for formats in TAKEN[function]}, key=lambda fmt: fmt or 0)
+    words = "; ".join(f"{_inputs_in_words(function, output)}{f' to {output}' if output else ''}"
+                      for output in outputs)
+    if function in _PARAMETERS:
+        words += f", and {_PARAMETERS[function]} of the input's format"
+    return words
+
+
+def _inputs_in_words(function: str, output: Optional[Format]) -> str:
+    """Which formats of inputs go with a format of the output."""
+    pairs = sorted((one or 0, 0 if other is None or function in _PARAMETERS else other)
+                   for one, other, out in TAKEN[function] if out == output)
+    if len(pairs) == 4:
+        return "each U8 or S16,"
+    return " or ".join(" and ".join(str(Format(fmt)) for fmt in pair if fmt) for pair in pairs)
 
 
 class Cell(NamedTuple):
@@ -117,7 +138,7 @@ def verdict_on(members: Sequence[Member], refused_with: int = wire.SUCCESS) -> O
     fault = _two_writers(members)
     if fault:
         return Verdict(wire.MULTIPLE_WRITERS, fault)
-    ordered, cycle = _in_order(members)
+    ordered, cycle = _ordered(members)
     if cycle:
         return Verdict(wire.INVALID_GRAPH, f"These nodes go round: {'; '.join(map(str, cycle))}.")
     fault = _loose_end(members)
@@ -125,13 +146,23 @@ def verdict_on(members: Sequence[Member], refused_with: int = wire.SUCCESS) -> O
         return Verdict(wire.INVALID_LINK, fault)
     known = _descriptions(ordered)
     for member in members:
-        verdict = _fault_of(member, known)
+        verdict = _fault_of(member, known, members)
         if verdict is not None:
             return verdict
     if refused_with == wire.NO_RESOURCES:
         return Verdict(wire.NO_RESOURCES,
                        f"Its virtual images have {_virtual_bytes(known):,} bytes.")
     return None
+
+
+def in_order(members: Sequence[Member]) -> List[Member]:
+    """The nodes of a graph without faults, each after those whose outputs it reads."""
+    return _ordered(members)[0]
+
+
+def resolved(members: Sequence[Member]) -> Dict[bytes, Cell]:
+    """What each cell of a graph without faults is, with nothing open."""
+    return _descriptions(in_order(members))
 
 
 def _two_writers(members: Sequence[Member]) -> str:
@@ -146,7 +177,7 @@ def _two_writers(members: Sequence[Member]) -> str:
     return ""
 
 
-def _in_order(members: Sequence[Member]) -> Tuple[List[Member], List[Member]]:
+def _ordered(members: Sequence[Member]) -> Tuple[List[Member], List[Member]]:
     """The nodes, each after those whose outputs it reads; or, where they have none, a cycle of
     them."""
     writers = {cell.reference: member for member in members for cell in member.outputs}
@@ -210,27 +241,51 @@ def _closed(cell: Cell, function: str, in1: Cell) -> Cell:
                          height=cell.height or in1.height)
 
 
-def _fault_of(member: Member, known: Dict[bytes, Cell]) -> Optional[Verdict]:
+def _fault_of(member: Member, known: Dict[bytes, Cell],
+              members: Sequence[Member]) -> Optional[Verdict]:
     """The fault of a node by itself."""
     in1, *others = (known[cell.reference] for cell in (*member.inputs, *member.outputs))
     in2 = None if member.in2 is None else known[member.in2.reference]
-    found = f"{str(member)[0].upper()}{str(member)[1:]}, {_found(member, known)}"
+    node = f"{str(member)[0].upper()}{str(member)[1:]}"
+    found = _found(member, known, members)
     for output in member.outputs:
         formats = in1.fmt, None if in2 is None else in2.fmt, known[output.reference].fmt
         if formats not in TAKEN[member.function]:
-            return Verdict(wire.INVALID_FORMAT, f"{found}takes no such formats.")
+            takes = f"{member.function} takes {formats_in_words(member.function)}"
+            return Verdict(wire.INVALID_FORMAT, f"{node}: {takes}.{found}")
     if any((cell.width, cell.height) != (in1.width, in1.height)
            for cell in others if cell.is_image):
-        return Verdict(wire.INVALID_DIMENSION, f"{found}has images of several sizes.")
+        return Verdict(wire.INVALID_DIMENSION, f"{node}, has images of several sizes.{found}")
     return None
 
 
-def _found(member: Member, known: Dict[bytes, Cell]) -> str:
-    """What virtual images of a node have that was open in them."""
-    cells = [(cell, known[cell.reference]) for cell in (*member.inputs, *member.outputs)]
-    closed = dict.fromkeys(f"{cell.words} is "
-                           f"{in_words(*now[4:])[1:-1]}" for cell, now in cells if cell != now)
-    return f"in which {' and '.join(closed)}, " if closed else ""
+def _found(member: Member, known: Dict[bytes, Cell], members: Sequence[Member]) -> str:
+    """What virtual images of a node have that was open in them, and why."""
+    writers = {cell.reference: other for other in members for cell in other.outputs}
+    cells = {cell.reference: cell for cell in (*member.inputs, *member.outputs)
+             if cell != known[cell.reference]}
+    return "".join(_closing(cell, known[cell.reference], writers[cell.reference])
+                   for cell in cells.values())
+
+
+def _closing(cell: Cell, now: Cell, writer: Member) -> str:
+    """What a virtual image has from its writer, and how to give it something else."""
+    words = f" {cell.words[0].upper()}{cell.words[1:]} is {in_words(*now[4:])[1:-1]}, because "
+    words += f"node {writer.number}, {writer.function}, writes it"
+    if cell.fmt is None:
+        words += " and its format is open; graph.virtual_image(vx.U8) has one"
+    return f"{words}."
+
+
+def overwritten(members: Sequence[Member]) -> List[str]:
+    """Where nodes write what others read that were added before them, which then read the new
+    samples. Virtual images hold none before."""
+    return [f"{reader}, reads {cell.words}, which {writer}, writes. The node that writes runs "
+            "first, though it was added later. To read the old samples take two graphs, or "
+            "immediate mode; verify(warn=False) is silent"
+            for at, writer in enumerate(members) for cell in writer.outputs
+            for reader in members[:at] if not cell.is_virtual
+            and any(read.reference == cell.reference for read in reader.inputs)]
 
 
 def _virtual_bytes(known: Dict[bytes, Cell]) -> int:

@@ -207,6 +207,11 @@ RANGE = Kind.RANGE
 CREATES = (
     CREATE_IMAGE, CREATE_LUT, CREATE_THRESHOLD, CREATE_CONVOLUTION, CREATE_DISTRIBUTION,
     CREATE_MIN_MAX, CREATE_GRAPH, CREATE_VIRTUAL_IMAGE, CREATE_DELAY)
+# How many bytes the reply to a success has after its code, but for what is read, of which its
+# object says that.
+BODY_BYTES: dict[int, int] = {
+    **dict.fromkeys(Op, 0), **dict.fromkeys(CREATES, 4), ADD_NODE: 4, QUERY_IMAGE: 13,
+    READ_MIN_MAX: 20}
 # A virtual image's format, width or height that isn't declared.
 OPEN = 0
 # The lengths that a request frame can have, which count what comes after them.

@@ -157,14 +157,26 @@ class Gate:
             self.writer = None
 
 
+# Runs a module as a Linux before 6.16 has it, which can't refuse descriptors.
+WITHOUT_REFUSAL = """
+import runpy, sys
+from feqyldan.service import descriptors
+descriptors.SO_PASSRIGHTS = 9999
+runpy.run_module(sys.argv.pop(1), run_name="__main__", alter_sys=True)
+"""
+
+
 class Broker:
     """A broker that runs, in a folder of its own: of one server unless told, or of as many as the
     broker takes by itself where `servers` is None; started by the words `before` its own."""
 
+    module = "feqyldan.broker"
+
     def __init__(self, *options: str, command: Optional[List[str]] = None,
                  path: Optional[str] = None,
                  environment: Optional[dict] = None, tells_state: bool = False,
-                 servers: Optional[str] = "1", before: Sequence[str] = ()) -> None:
+                 servers: Optional[str] = "1", before: Sequence[str] = (),
+                 refuses_descriptors: bool = True, stderr: Any = None) -> None:
         self.folder = tempfile.TemporaryDirectory()
         self.status_path = os.path.join(self.folder.name, "status")
         if tells_state:
@@ -173,15 +185,22 @@ class Broker:
         self.log = open(os.path.join(self.folder.name, "log"), "w+")
         if servers is not None:
             options = ("--servers", servers, *options)
-        words = [*before, sys.executable, "-m", "feqyldan.broker", "--socket", self.path,
+        run = ["-m"] if refuses_descriptors else ["-c", WITHOUT_REFUSAL]
+        words = [*before, sys.executable, *run, self.module, "--socket", self.path,
                  "--per-process", "64", *options, "--"]
         paths = [PACKAGE, *filter(None, [os.environ.get("PYTHONPATH")])]
         environment = {**os.environ, "PYTHONPATH": os.pathsep.join(paths),
                        "PYTHONDONTWRITEBYTECODE": "1",
                        **(environment or {})}
         # In a process group of its own, as a shell starts a command.
-        self.process = subprocess.Popen([*words, *(command or PLAIN)], stderr=self.log,
+        self.process = subprocess.Popen([*words, *(command or PLAIN)], stderr=stderr or self.log,
                                         env=environment, start_new_session=True)
+
+    def __enter__(self) -> "Broker":
+        return self
+
+    def __exit__(self, *_: object) -> None:
+        self.close()
 
     def words(self) -> str:
         """What it has written to standard error so far."""
@@ -239,7 +258,37 @@ class Broker:
         self.folder.cleanup()
 
 
+class Door(Broker):
+    """A door that runs."""
+
+    module = "feqyldan.door"
+
+    def __init__(self, *options: str, **keywords: Any) -> None:
+        super().__init__(*options, **{"servers": None, **keywords})
+
+
+def files_of(process: int) -> int:
+    """How many files a process has open."""
+    return len(os.listdir(f"/proc/{process}/fd"))
+
+
+def children_of(process: int) -> List[int]:
+    with open(f"/proc/{process}/task/{process}/children") as children:
+        return [int(word) for word in children.read().split()]
+
+
+def runs(process: int) -> bool:
+    """Whether a process is there that hasn't ended."""
+    try:
+        with open(f"/proc/{process}/stat") as file:
+            return file.read().rpartition(")")[2].split()[0] not in "ZX"
+    except OSError:
+        return False
+
+
 class BrokerTest(unittest.TestCase):
+    kind: "type[Broker]" = Broker
+
     def begin(self, *options: str, **keywords: object) -> Broker:
         """A broker, as soon as it listens."""
         broker = self.begin_any(*options, **keywords)
@@ -247,7 +296,7 @@ class BrokerTest(unittest.TestCase):
         return broker
 
     def begin_any(self, *options: str, **keywords: object) -> Broker:
-        broker = Broker(*options, **keywords)  # type: ignore[arg-type]
+        broker = self.kind(*options, **keywords)  # type: ignore[arg-type]
         self.addCleanup(broker.close)
         return broker
 

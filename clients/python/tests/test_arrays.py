@@ -82,13 +82,37 @@ class TestNotebooks(ProgramTest):
         for thing in (image, self.context.delay(image, 1)[0]):
             self.assertEqual(decoded(thing._repr_png_())[:4], (3, 1, 8, 0))
         self.assertEqual(decoded(self.context.image_from([[1, 256]], S16)._repr_png_())[4],
-                         [b"\0\1\1\0"])
+                         [b"\0\xff"])
+
+    def test_samples_are_scaled(self):
+        for rows, fmt in (([[-300, -200, -100]], S16), ([[0, 2**31, 2**32 - 1]], U32)):
+            image = self.context.image_from(rows, fmt)
+            self.assertEqual(decoded(image._repr_png_()), (3, 1, 8, 0, [b"\0\x7f\xff"]))
+        self.assertEqual(decoded(self.context.image_from([[-1]], S16)._repr_png_())[4], [b"\0"])
+
+    def test_the_valid_rectangle_is_framed(self):
+        image = self.context.image_from([[9] * 5] * 4)
+        image.valid = 1, 0, 4, 3
+        width, height, depth, kind, rows = decoded(image._repr_png_())
+        self.assertEqual((width, height, depth, kind), (5, 4, 8, 2))
+        shown = [[rows[y][3 * x : 3 * x + 3] for x in range(5)] for y in range(4)]
+        red, grey, black = bytes((230, 30, 30)), b"\x09" * 3, bytes(3)
+        self.assertEqual(shown, [[black, red, red, red, black], [black, red, grey, red, black],
+                                 [black, red, red, red, black], [black] * 5])
+        image.valid = 0, 0, 0, 0
+        self.assertEqual(decoded(image._repr_png_())[:2], (5, 4))
 
     def test_what_is_no_picture(self):
         closed = self.context.image(U8, 1, 1)
         closed.close()
-        for thing in (self.context.image_from([[-1]], S16), self.context.image(U32, 1, 1), closed):
-            self.assertIsNone(thing._repr_png_())
+        self.assertIsNone(closed._repr_png_())
+
+    def test_delays_and_graphs(self):
+        image = self.context.image_from([[1]])
+        self.assertEqual(self.context.delay(image, 3)._repr_html_().count("<img"), 3)
+        graph = self.context.graph()
+        graph.not_(image, self.context.image(U8, 1, 1))
+        self.assertIn("<svg", graph._repr_svg_())
 
 
 class TestCopies(ProgramTest):

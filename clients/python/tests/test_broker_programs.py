@@ -6,6 +6,7 @@ are skipped.
 """
 
 import contextlib
+import itertools
 import json
 import multiprocessing
 import os
@@ -18,7 +19,7 @@ import threading
 import time
 import traceback
 import unittest
-from typing import Any, Callable, Dict, List, Tuple
+from typing import Any, Callable, Dict, Iterable, Iterator, List, Set, Tuple
 from unittest import mock
 
 from broker_tools import CLIENT, LATE, PROGRAM, BrokerTest, Broker, Program
@@ -163,9 +164,21 @@ def looks_for_others(path: str, seed: int, is_over: "multiprocessing.Event") -> 
                 raise AssertionError(f"{asked.hex(' ')} is answered {reply.hex(' ')}")
 
 
+def sends_descriptors(path: str, _: int, is_over: "multiprocessing.Event") -> None:
+    """Where they aren't refused they are closed by whoever reads them."""
+    reader, writer = os.pipe()
+    numbers = struct.pack("i", writer) * 50
+    sent = [(socket.SOL_SOCKET, socket.SCM_RIGHTS, numbers)]
+    while not is_over.wait(0.01):
+        with contextlib.suppress(OSError), Program(path) as program:
+            program.send(wire.open_context(CLIENT)[:5])
+            program.sock.sendmsg([wire.open_context(CLIENT)[5:]], sent)
+            program.reply()
+
+
 HOSTILE = {
-    half_frame_and_end: 2, half_frame_and_wait: 2, bad_lengths: 2, takes_no_replies: 2, floods: 3,
-    comes_and_goes: 2, looks_for_others: 1}
+    half_frame_and_end: 2, half_frame_and_wait: 2, bad_lengths: 2, takes_no_replies: 2, floods: 2,
+    comes_and_goes: 2, looks_for_others: 1, sends_descriptors: 1}
 
 
 def run_and_exit(role: Callable, *words: object) -> None:
@@ -178,49 +191,62 @@ def run_and_exit(role: Callable, *words: object) -> None:
     os._exit(0)
 
 
-@unittest.skipUnless(PROGRAM, "FEQYLDAN_PROGRAM doesn't name the server's program")
-class ManyPrograms(BrokerTest):
+class Crowd(BrokerTest):
     """50 programs at once, of which 14 are hostile."""
 
-    def test_each_gets_what_it_would_get_alone(self) -> None:
-        self.serve_all("1")
+    # So many that no process can take another's: 36 of one connection, and 14 of at most 4.
+    OPTIONS = ("--patience", str(PATIENCE), "--connections", "100", "--per-process", "4")
 
-    def test_each_gets_it_of_several_servers(self) -> None:
-        self.serve_all("4")
-
-    def serve_all(self, servers: str) -> None:
-        # So many that no process can take another's: 36 of one connection, and 14 of at most 4.
-        options = ("--patience", str(PATIENCE), "--connections", "100", "--per-process", "4",
-                   "--servers", servers)
-        broker = self.begin(*options, command=[str(PROGRAM), "serve"])
+    def serve_all(self, *options: str, honest: Callable = well_behaved,
+                  meanwhile: Callable[[Broker], None] = lambda _: None,
+                  **keywords: Any) -> Broker:
+        """Has them all be served, and looks at what each says of its replies."""
+        broker = self.begin_any(*self.OPTIONS, *options, command=[str(PROGRAM), "serve"],
+                                tells_state=True, **keywords)
+        self.assertTrue(broker.wait_for(lambda: os.path.exists(broker.status_path)))
         processes = multiprocessing.get_context("fork")
         is_over = processes.Event()
         roles = [role for role, count in HOSTILE.items() for _ in range(count)]
         hostile = [processes.Process(target=run_and_exit, args=(role, broker.path, seed, is_over))
                    for seed, role in enumerate(roles)]
-        honest = [processes.Process(target=run_and_exit,
-                                    args=(well_behaved, broker.path, seed, is_over))
+        polite = [processes.Process(target=run_and_exit, args=(honest, broker.path, seed, is_over))
                   for seed in range(50 - len(hostile))]
         start = time.monotonic()
-        for process in hostile + honest:
+        for process in hostile + polite:
             process.start()
-        end = time.monotonic() + 3 * LATE
-        for process in honest:
-            process.join(max(0.0, end - time.monotonic()))
-        unfinished = [process for process in honest if process.exitcode is None]
+        end = start + 3 * LATE
+        while any(process.is_alive() for process in polite) and time.monotonic() < end:
+            meanwhile(broker)
+            time.sleep(0.02)
+        unfinished = [process for process in polite if process.exitcode is None]
         took = time.monotonic() - start
         is_over.set()
         for process in hostile:
             process.join(LATE)
-        for process in hostile + honest:
+        for process in hostile + polite:
             if process.exitcode is None:
                 process.kill()
-                process.join()
-        self.assertEqual(len(unfinished), 0, f"of {len(honest)} after {took:.1f} s")
-        self.assertEqual([process.exitcode for process in honest], [0] * len(honest))
-        self.assertEqual({role.__name__
-                          for role, process in zip(roles, hostile) if process.exitcode}, set())
-        self.check_after(broker)
+            process.join()
+        self.assertEqual(len(unfinished), 0, f"of {len(polite)} after {took:.1f} s")
+        self.assertEqual([process.exitcode for process in polite], [0] * len(polite))
+        self.check_hostile({role.__name__
+                            for role, process in zip(roles, hostile) if process.exitcode})
+        return broker
+
+    def check_hostile(self, failed: Set[str]) -> None:
+        """What those say of what became of them."""
+        self.assertEqual(failed, set())
+
+
+@unittest.skipUnless(PROGRAM, "FEQYLDAN_PROGRAM doesn't name the server's program")
+class ManyPrograms(Crowd):
+    """At the broker."""
+
+    def test_each_gets_what_it_would_get_alone(self) -> None:
+        self.check_after(self.serve_all())
+
+    def test_each_gets_it_of_several_servers(self) -> None:
+        self.check_after(self.serve_all("--servers", "4"))
 
     def check_after(self, broker: Broker) -> None:
         """All contexts are released: a newcomer has none, whatever number it gets."""
@@ -270,8 +296,23 @@ class ThePackage(BrokerTest):
         self.assertEqual(again.stop(), 0)
 
     def test_a_context_that_is_built_again(self) -> None:
-        """By the program in docs/deploying.md: each picture is answered once and in order, also
-        where its server, or the broker, ends in between."""
+        """By the programs in docs/deploying.md and docs/python.md: each picture is answered once
+        and in order, also where its server, or the broker, ends in between. The second ends with
+        its pictures."""
+        program: Dict[str, Any] = {"vx": vx, "Callable": Callable, "Iterable": Iterable,
+                                   "Iterator": Iterator}
+        exec(programs_in("docs", "deploying.md")["When a server ends"][0], program)
+        exec(programs_in("docs", "python.md")["A robot that survives the end of a server"][0],
+             program)
+
+        def station(path: str, build: Any, pictures: Any) -> Iterator[Any]:
+            program["build"] = build
+            return itertools.islice(program["station"](path, pictures), 8)
+
+        for run in (station, program["robot"]):
+            self.run_through_ends(run)
+
+    def run_through_ends(self, run: Callable[..., Iterator[Any]]) -> None:
         broker = self.begin(command=[str(PROGRAM), "serve"], tells_state=True)
         built: List[vx.Context] = []
 
@@ -282,21 +323,18 @@ class ThePackage(BrokerTest):
             built.append(context)
             return graph, camera, out
 
-        program: Dict[str, Any] = {"vx": vx, "build": build}
-        exec(programs_in("docs", "deploying.md")["When a server ends"][0], program)
         pictures = [bytes([k] * 4) for k in range(8)]
         outputs = []
-        for output in program["station"](broker.path, iter(pictures)):
+        for output in run(broker.path, build, iter(pictures)):
             outputs.append(bytes(output))
             if len(outputs) == 2:
                 self.kill_server(broker)
             if len(outputs) == 4:
                 self.assertEqual(broker.stop(), 0)
                 broker = self.begin(command=[str(PROGRAM), "serve"], path=broker.path)
-            if len(outputs) == len(pictures):
-                break
         self.assertEqual(outputs, [bytes([255 - k] * 4) for k in range(8)])
         self.assertEqual(len(built), 3)
+        self.assertEqual(broker.stop(), 0)
 
     def kill_server(self, broker: Broker) -> None:
         with socket.socket(socket.AF_UNIX, socket.SOCK_STREAM) as sock:
@@ -316,9 +354,31 @@ class ThePackage(BrokerTest):
         broker = self.begin("--connections", "1", command=[str(PROGRAM), "serve"])
         with vx.connect(broker.path) as server, server.context() as context:
             context.image(vx.U8, 1, 1)
-            with self.assertRaises(vx.NoResources) as caught:
+            with self.assertRaises(vx.BrokerFull) as caught:
                 server.context()
+            self.assertIsInstance(caught.exception, vx.NoResources)
             self.assertIn("--connections", str(caught.exception))
+
+    def test_who_waits_gets_the_next_connection(self) -> None:
+        broker = self.begin("--connections", "1", command=[str(PROGRAM), "serve"], tells_state=True)
+        with vx.connect(broker.path, retry=LATE) as server:
+            context = server.context()
+            self.assertEqual(vx.status(broker.status_path)["connections"]["open"], 1)
+            has_tried, pause = threading.Event(), time.sleep
+
+            def noted_pause(seconds: float) -> None:
+                has_tried.set()
+                pause(seconds)
+
+            found: List[vx.Context] = []
+            waiting = threading.Thread(target=lambda: found.append(server.context()))
+            with mock.patch("time.sleep", noted_pause):
+                waiting.start()
+                self.assertTrue(has_tried.wait(LATE))
+                self.assertEqual(found, [])
+                context.close()
+                waiting.join(LATE)
+            self.assertEqual(found[0].image(vx.U8, 2, 1).read_bytes(), bytes(2))
 
     def test_contexts_of_one_program_and_the_server_s_end(self) -> None:
         broker = self.begin(command=[str(PROGRAM), "serve"])

@@ -5,8 +5,6 @@ program with that."""
 import json
 import os
 import re
-import shlex
-import shutil
 import signal
 import socket
 import stat
@@ -15,23 +13,21 @@ import subprocess
 import sys
 import tempfile
 import unittest
-from typing import IO, Any, Dict, List, Union
+from typing import IO, Any, Dict, Union
 from unittest import mock
 
 from broker_tools import (
-    CLIENT, HERE, LATE, PACKAGE, PLAIN, PROGRAM, Broker, BrokerTest, Gate, Program, all_of, plain,
+    CLIENT, LATE, PACKAGE, PLAIN, PROGRAM, Broker, BrokerTest, Gate, Program, all_of, plain,
     success)
 from feqyldan import wire
-from feqyldan.broker import machine
-from feqyldan.broker.command_line import memory_each, parser, servers_unless_told
-from feqyldan.broker.loop import END_SECONDS
+from feqyldan.service import machine
+from feqyldan.broker.command_line import memory_each, servers_unless_told
 from plain_server import EXIT, HOLD, MANY_BYTES, MISTAKE, REFUSE, WHO_ASKED
 
 needs_program = unittest.skipUnless(PROGRAM, "FEQYLDAN_PROGRAM doesn't name the server's program")
 # What a line says of this program's connections.
 OWNER = f"process {os.getpid()} of user {os.getuid()}"
 HasFileno = Union[socket.socket, IO[Any]]
-DEPLOY = os.path.realpath(os.path.join(HERE, "..", "..", "..", "deploy"))
 
 
 class TheServer(BrokerTest):
@@ -406,6 +402,7 @@ class Status(BrokerTest):
             ("turned_away_total", connections["turned_away"]),
             ("requests_total", state["requests"]), ("request_bytes_total", state["bytes_in"]),
             ("reply_bytes_total", state["bytes_out"]),
+            ("held_bytes", state["bytes_held"]),
             ("longest_request_seconds", state["longest_request_seconds"]),
             ("servers_ended_total", state["servers_ended"]))})
 
@@ -631,42 +628,6 @@ class Beginning(BrokerTest):
                                env={**os.environ, "PYTHONPATH": PACKAGE}, timeout=LATE)
         self.assertEqual(ended.returncode, 2)
         self.assertIn(b"--socket", ended.stderr)
-
-
-class Units(unittest.TestCase):
-    """The units of systemd in deploy/."""
-
-    def unit(self, name: str) -> Dict[str, List[str]]:
-        """The values of each word of a unit, in their order."""
-        found: Dict[str, List[str]] = {}
-        with open(os.path.join(DEPLOY, name), encoding="utf-8") as file:
-            for line in file:
-                word, equals, value = line.partition("=")
-                if equals and not line.startswith("#"):
-                    found.setdefault(word, []).append(value.strip())
-        return found
-
-    def test_what_they_start_is_a_broker_that_ends_in_time(self) -> None:
-        service, sockets = self.unit("feqyldan.service"), self.unit("feqyldan.socket")
-        words = shlex.split(service["ExecStart"][0])
-        told = parser().parse_args(words[words.index("feqyldan.broker") + 1 :])
-        # Both sockets are handed over, that of the programs first.
-        self.assertEqual((told.socket, told.status), (None, None))
-        self.assertEqual([os.path.basename(path) for path in sockets["ListenStream"]],
-                         ["socket", "status"])
-        self.assertEqual((service["Type"], service["KillMode"]), (["notify"], ["mixed"]))
-        self.assertLess(told.grace + END_SECONDS, float(service["TimeoutStopSec"][0]))
-        # Where there is no limit on addresses the system kills a server in place of refusing.
-        self.assertRegex(service["LimitAS"][0], r"^\d+G$")
-
-    @unittest.skipUnless(shutil.which("systemd-analyze"), "systemd-analyze isn't there")
-    def test_systemd_finds_no_fault_with_them(self) -> None:
-        names = [os.path.join(DEPLOY, name) for name in ("feqyldan.service", "feqyldan.socket")]
-        said = subprocess.run(["systemd-analyze", "verify", *names], stdout=subprocess.PIPE,
-                              stderr=subprocess.STDOUT, text=True, timeout=LATE)
-        # It may speak of other units of this machine too.
-        self.assertEqual([line for line in said.stdout.splitlines() if "feqyldan" in line], [])
-        self.assertEqual(said.returncode, 0, said.stdout)
 
 
 if __name__ == "__main__":

@@ -1,29 +1,47 @@
-"""The programs in clients/python/README.md run, and do what stands beside them. Those of the other
-documents are in test_examples.py, test_against_cv2.py and test_broker_programs.py."""
+"""The programs in docs/python.md run, and do what stands beside them; its table of functions is
+right. Those of the other documents are in test_examples.py, test_against_cv2.py and
+test_broker_programs.py."""
 
 import asyncio
+import collections.abc
 import importlib.util
 import os
+import re
 import subprocess
 import sys
 import tempfile
 import unittest
 
-from documents import programs_in
+from documents import ROOT, programs_in
 from program import HERE, PROGRAM, ProgramTest, needs_program, vx
-from feqyldan import samples
+from feqyldan import samples, verdicts
+from feqyldan.functions import FUNCTIONS
 from test_pictures import decoded
 
 numpy = samples.numpy_module()
-PROGRAMS = programs_in("clients", "python", "README.md")
+PROGRAMS = programs_in("docs", "python.md")
+TYPES = {name: getattr(collections.abc, name) for name in ("Callable", "Iterable", "Iterator")}
 WIDTH, HEIGHT = 640, 480
+needs_numpy = unittest.skipUnless(numpy, "NumPy isn't installed")
 
 
 class TestAll(unittest.TestCase):
     def test_each_is_here(self):
         self.assertEqual({heading: len(programs) for heading, programs in PROGRAMS.items()},
-                         {"": 1, "Objects": 1, "Graphs": 1, "Requests ahead": 1, "asyncio": 1,
-                          "Pictures over a cluster": 1})
+                         {"": 1, "Pictures": 2, "Graphs": 1, "Streams": 2, "Requests ahead": 1,
+                          "Files and the command line": 1, "asyncio": 1,
+                          "Pictures over a cluster": 1,
+                          "Compare with a reference, and tolerate small shifts": 1,
+                          "Find the regions of marks": 1, "Several recipes in one station": 1,
+                          "A live camera": 1, "A robot that survives the end of a server": 1,
+                          "A background that follows the light": 1})
+        self.assertEqual(len(programs_in("clients", "python", "README.md")[""]), 1)
+
+    def test_the_formats_in_the_table_of_functions(self):
+        with open(os.path.join(ROOT, "docs", "python.md"), encoding="utf-8") as file:
+            rows = re.findall(r"^\| `vxu.*?\| `(\w+)\(.*\| (.*) \|$", file.read(), re.M)
+        self.assertEqual(dict(rows),
+                         {name: verdicts.formats_in_words(name) for name in FUNCTIONS})
 
 
 @needs_program
@@ -54,6 +72,10 @@ class TestWhole(unittest.TestCase):
         for name, rows in (("before", before), ("after", after)):
             vx.write_pgm(os.path.join(self.folder, f"{name}.pgm"), rows)
         self.run_there(PROGRAMS[""][0])
+        os.rename(os.path.join(self.folder, "changed.png"), os.path.join(self.folder, "old.png"))
+        self.run_there(programs_in("clients", "python", "README.md")[""][0])
+        self.assertIn("changed.png", os.listdir(self.folder))
+        os.replace(os.path.join(self.folder, "old.png"), os.path.join(self.folder, "changed.png"))
         with open(os.path.join(self.folder, "changed.png"), "rb") as file:
             width, height, _, _, rows = decoded(file.read())
         self.assertEqual((width, height), (5, 4))
@@ -73,12 +95,13 @@ class TestParts(ProgramTest):
     def setUp(self):
         super().setUp()
         self.camera, self.out = (self.context.image(vx.U8, WIDTH, HEIGHT) for _ in range(2))
-        self.names = {"vx": vx, "context": self.context, "camera": self.camera, "out": self.out}
+        self.names = {"vx": vx, "context": self.context, "camera": self.camera, "out": self.out,
+                      **TYPES}
 
-    def run_part(self, heading, **names):
+    def run_part(self, heading, which=0, **names):
         """What it calls its results."""
         self.names.update(names)
-        exec(PROGRAMS[heading][0], self.names)
+        exec(PROGRAMS[heading][which], self.names)
         return self.names
 
     def plain(self, sample):
@@ -89,10 +112,16 @@ class TestParts(ProgramTest):
         graph.not_(self.camera, self.out)
         return graph
 
-    @unittest.skipUnless(numpy, "NumPy isn't installed")
-    def test_numbers_that_were_not_whole(self):
-        self.run_part("Objects", numpy=numpy, kernel=numpy.full((3, 3), 1 / 9),
-                      picture=numpy.array([[0.0, 0.5, 1.0]]))
+    @needs_numpy
+    def test_pictures(self):
+        as_samples = self.run_part("Pictures", numpy=numpy)["as_samples"]
+        for given, wanted in (([[0, 4095]], "uint16"), ([[0, 1]], "bool")):
+            given = numpy.array(given, wanted)
+            self.context.image_from(as_samples(given))
+        self.holds(self.context.image_from(as_samples(numpy.array([[0.0, 0.5, 1.0]]))),
+                   [[0, 128, 255]])
+        self.holds(self.context.image_from(as_samples(numpy.array([[True, False]]))), [[255, 0]])
+        self.run_part("Pictures", 1, kernel=numpy.full((3, 3), 1 / 9))
 
     def test_a_graph(self):
         self.camera.write(self.plain(25))
@@ -107,16 +136,109 @@ class TestParts(ProgramTest):
                               results=[])
         self.assertEqual([shown[0, 0] for shown in names["shown"]], [255, 254, 253, 252, 251])
 
+    def test_streams(self):
+        frames = [self.plain(number) for number in range(5)]
+        names = self.run_part("Streams", graph=self.inverting(), frames=frames, shown=[])
+        self.assertEqual([marks[0, 0] for _, marks in names["shown"]], [255, 254, 253, 252, 251])
+
+        def build(context):
+            camera, out = (context.image(vx.U8, WIDTH, HEIGHT) for _ in range(2))
+            graph = context.graph()
+            graph.not_(camera, out)
+            return vx.Station(graph, camera, out)
+
+        on_servers = self.run_part("Streams", 1)["on_servers"]
+        with vx.Server() as one, vx.Server() as other:
+            found = [out[0, 0] for _, out in on_servers(frames, build, [one, other])]
+        self.assertEqual(found, [255, 254, 253, 252, 251])
+
+    def test_files(self):
+        camera = self.context.image(vx.U8, WIDTH, HEIGHT, name="camera")
+        graph, marks = self.context.graph(), self.context.image(vx.U8, WIDTH, HEIGHT, name="marks")
+        graph.not_(camera, marks)
+        with tempfile.TemporaryDirectory() as folder:
+            before = os.getcwd()
+            self.addCleanup(os.chdir, before)
+            os.chdir(folder)
+            names = self.run_part("Files and the command line", graph=graph, camera=camera,
+                                  frames=[self.plain(9)], shown=[])
+            os.chdir(before)
+        self.assertEqual(names["shown"][0][0, 0], 246)
+
     def test_asyncio(self):
-        graph = self.inverting()
+        inspect = self.run_part("asyncio")["inspect"]
+        picture = samples.samples_of([[7] * 3] * 3).content.cast("B", (3, 3))
+        self.assertEqual(asyncio.run(inspect(self.server, picture))[1, 1], 7)
 
-        def run(context, picture):
-            self.camera.write(picture)
-            graph.process()
-            return self.out.read_bytes()
 
-        inspect = self.run_part("asyncio", asyncio=asyncio, run=run)["inspect"]
-        self.assertEqual(asyncio.run(inspect(self.context, self.plain(9))), self.plain(246))
+SIDE = 40
+
+
+@needs_numpy
+class TestRecipes(ProgramTest):
+    def setUp(self):
+        super().setUp()
+        self.names = {"vx": vx, "numpy": numpy, **TYPES}
+        for programs in PROGRAMS.values():
+            for program in programs:
+                if program.startswith(("def ", "class ")):
+                    exec(program, self.names)
+        chance = numpy.random.default_rng(1)
+        self.reference = (chance.integers(0, 2, (SIDE // 5, SIDE // 5), numpy.uint8) * 100
+                          + 50).repeat(5, 0).repeat(5, 1)
+
+    def scratched(self):
+        """The reference two pixels to the right, with a bright square."""
+        part = numpy.roll(self.reference, 2, 1)
+        part[:, :2] = self.reference[:, :2]
+        part[10:20, 12:22] = 255
+        return part
+
+    def test_shifts_are_tolerated(self):
+        graph, part, marks = self.names["build"](self.context, self.reference)
+        part.write(numpy.roll(self.reference, 1, 0))
+        graph.process()
+        self.assertEqual(marks.read()[2:].max(), 0)
+        part.write(self.scratched())
+        graph.process()
+        found = marks.read() > 0
+        self.assertTrue(found[11:19, 13:21].all())
+        found[9:21, 11:23] = False
+        self.assertFalse(found.any())
+
+    @unittest.skipUnless(importlib.util.find_spec("cv2") or importlib.util.find_spec("scipy"),
+                         "neither OpenCV nor SciPy is installed")
+    def test_regions(self):
+        built = self.names["build"](self.context, self.reference)
+        good, bad = self.names["inspect"](self.context, *built,
+                                          [self.reference, self.scratched()])
+        self.assertEqual(good, [])
+        self.assertEqual(len(bad), 1)
+
+    def test_a_station(self):
+        station = self.names["Station"](self.context, {
+            name: numpy.roll(self.reference, 7 * name, 0) for name in range(5)})
+        for name in range(5):
+            picture = numpy.roll(self.reference, 7 * name, 0)
+            self.assertEqual(station.marks_of(name, picture).max(), 0)
+            self.assertRaises(vx.BadPicture, station.marks_of, name, picture[1:])
+            self.assertGreater(station.marks_of(name, 255 - picture).max(), 0)
+
+    def test_a_live_camera(self):
+        frames = (numpy.full((SIDE, SIDE), shade, numpy.uint8) for shade in (0, 10, 90))
+        found = [(frame[0, 0], moved[9, 9]) for frame, moved in
+                 self.names["watch"](frames, self.context, SIDE, SIDE)]
+        self.assertEqual(found, [(0, 0), (10, 0), (90, 255)])
+
+    def test_a_background(self):
+        camera, background = (self.context.image(vx.U8, 4, 3) for _ in range(2))
+        add, renew = self.names["renewing"](self.context, camera, background)
+        for shade in (16, 80):
+            camera.fill(shade)
+            for _ in range(16):
+                add()
+            renew()
+            self.assertEqual(background.read()[0, 0], shade)
 
 
 if __name__ == "__main__":

@@ -128,6 +128,31 @@ class Examples(unittest.TestCase):
         self.assertIn(f"something moved in {numbers[3] - 1} of {numbers[3] - 1}", times)
         self.assertEqual(sides_of(self.folder, "video.png"), (4 * 480, 270))
 
+    @unittest.skipUnless(importlib.util.find_spec("cv2"), "OpenCV isn't installed")
+    def test_a_station_with_recipes(self):
+        *parts, wrong, usage = self.run_example("station.py", self.folder).splitlines()
+        self.assertEqual(len(parts), 4)
+        for line in parts:
+            words = line.replace(",", "").split()
+            # As many as were made, where none of them touch.
+            self.assertEqual(words[2], words[5], line)
+        self.assertIn("The samples have the shape (2040, 2448), and the image (2048, 2448)", wrong)
+        self.assertIn("Usage(objects=", usage)
+        self.assertEqual(sides_of(self.folder, "station.png"), (612, 512))
+
+    @unittest.skipUnless(importlib.util.find_spec("cv2"), "OpenCV isn't installed")
+    def test_a_live_camera(self):
+        seen, late = self.run_example("live.py", self.folder).splitlines()
+        self.assertIn("60 frames of 1280 by 720; something moved in 30", seen)
+        self.assertRegex(late, r"a result came [0-9.]+ ms after its frame")
+        self.assertEqual(sides_of(self.folder, "live.png"), (2560, 720))
+
+    def test_a_robot(self):
+        *programs, end = self.run_example("robot.py").splitlines()
+        self.assertEqual(programs, ["    belt: 40 pictures, built 2 times",
+                                    "    front: 40 pictures, built 2 times"])
+        self.assertEqual(end, "    the broker ended with status 0")
+
     def test_bounds_of_any_size(self):
         sys.path.insert(0, EXAMPLES)
         self.addCleanup(sys.path.remove, EXAMPLES)

@@ -196,8 +196,9 @@ class TestTable(unittest.TestCase):
                 self.assertTrue(text.endswith(f"OpenVX: vxu{function.openvx}, "
                                               f"vx{function.openvx}Node."), name)
 
-    def test_the_readme_has_all_of_them(self):
-        with open(os.path.join(HERE, "..", "README.md"), encoding="utf-8") as file:
+    def test_the_manual_has_all_of_them(self):
+        manual = os.path.join(HERE, "..", "..", "..", "docs", "python.md")
+        with open(manual, encoding="utf-8") as file:
             rows = re.findall(r"^\| `vxu(\w+)`, `vx(\w+)Node` \| `(\w+)\(", file.read(), re.M)
         self.assertEqual(
             [(function.openvx, function.openvx, name) for name, function in vx.FUNCTIONS.items()],

@@ -6,7 +6,7 @@ import unittest
 from unittest import mock
 
 from program import ProgramTest, vx
-from feqyldan import samples
+from feqyldan import connection, samples
 
 U8, S16, U32 = vx.U8, vx.S16, vx.U32
 ROWS = {
@@ -59,6 +59,33 @@ class TestSamples(ProgramTest):
             seen[0, 0] = 7
             self.assertEqual(seen[0, 0], 7)
             self.holds(image, rows)
+
+    def test_memory_is_used_again_when_nobody_has_it(self):
+        """Not while anything of a picture is left, an array of it or a part of one."""
+        side = 300
+        image = self.context.image(U8, side, side)
+        seen, kept = [], []
+        for shade in range(12):
+            image.fill(shade)
+            picture = image.read()
+            seen.append(picture)
+            part = picture[10:20] if numpy else memoryview(picture).cast("B")[3000:6000]
+            kept.append((shade, part))
+            if shade % 3 == 0:
+                seen.clear()
+                del picture, part
+                kept = kept[::2]
+            for wanted, one in kept:
+                self.assertEqual(set(one.tolist() if not numpy else one.ravel().tolist()), {wanted})
+        if connection.ALONE is not None:
+            del picture, part, one, seen, kept
+            before = image.read()
+            where = memoryview(before).obj if not numpy else before.ctypes.data
+            del before
+            for _ in range(5):
+                again = image.read()
+                self.assertEqual(memoryview(again).obj if not numpy else again.ctypes.data, where)
+                del again
 
     def test_without_numpy(self):
         with mock.patch.object(samples, "numpy_module", return_value=None):

@@ -12,7 +12,8 @@ import unittest
 
 from program import PROGRAM, TOOLS, vx
 from feqyldan import program
-from feqyldan.broker import command_line
+from feqyldan.broker import command_line as broker
+from feqyldan.door import command_line as door
 from test_packaging import files_of, missing
 
 ROOT = os.path.realpath(os.path.join(TOOLS, ".."))
@@ -78,6 +79,13 @@ class TestStarter(unittest.TestCase):
     def test_words_pass_through(self):
         words = ("serve", "--quota", "", "two words", "*", "line\nline")
         self.assertEqual(self.started(set(), words=words), [program.PLAIN, *words])
+
+    def test_which_says_the_path(self):
+        self.put("cpuinfo", "")
+        said = subprocess.run([self.starter, "--which"], stdout=subprocess.PIPE, text=True,
+                              check=True).stdout
+        self.assertTrue(os.path.samefile(
+            said.strip(), os.path.join(self.folder, "lib", "feqyldan", program.PLAIN)), said)
 
     def test_the_version_is_the_programs_and_the_name_the_commands(self):
         for word in ("--version", "-V"):
@@ -185,28 +193,64 @@ class TestPackages(unittest.TestCase):
         self.assertTrue(run.stdout.startswith(b"P5\n256 256\n255\n"))
         self.assertEqual(set(run.stdout[15:]), {0, 255})
 
-    def test_the_broker_of_the_debian_package(self):
+    def test_the_door_and_the_broker_of_the_debian_package(self):
         self.unpack()
         socket = os.path.join(self.folder, "socket")
-        broker = subprocess.Popen(
-            [sys.executable, f"{self.root}/usr/bin/feqyldan-broker", "--servers", "1", "--socket",
-             socket, "--", "feqyldan", "serve"], env=self.environment, stderr=subprocess.PIPE)
-        try:
-            with vx.connect(socket, retry=30) as server, server.context() as context:
-                self.assertEqual(context.image_from([[1, 2]]).read().tolist(), [[1, 2]])
-        finally:
-            broker.terminate()
-            said = broker.communicate(timeout=30)[1]
-        self.assertEqual(broker.returncode, 0, said)
+        for name, options in (("door", ()), ("broker", ("--servers", "1"))):
+            run = subprocess.Popen(
+                [sys.executable, f"{self.root}/usr/bin/feqyldan-{name}", *options, "--socket",
+                 socket, "--", "feqyldan", "serve"], env=self.environment, stderr=subprocess.PIPE)
+            try:
+                with vx.connect(socket, retry=30) as server, server.context() as context:
+                    self.assertEqual(context.image_from([[1, 2]]).read().tolist(), [[1, 2]])
+            finally:
+                run.terminate()
+                said = run.communicate(timeout=30)[1]
+            self.assertEqual(run.returncode, 0, said)
+            if name == "door":
+                # It has asked the starter once.
+                self.assertIn(f"{self.root}/usr/lib/feqyldan/vx_main-".encode(), said)
 
-    def test_the_service_names_what_the_package_has(self):
+    def test_the_units_name_what_the_package_has(self):
         self.unpack()
         units = f"{self.root}/usr/lib/systemd/system"
-        with open(os.path.join(units, "feqyldan.service"), encoding="utf-8") as file:
-            service = file.read()
-        self.assertIn("-- /usr/bin/feqyldan serve", service)
-        self.assertNotIn("/opt", service)
-        self.assertTrue(os.path.isfile(os.path.join(units, "feqyldan.socket")))
+        texts = {}
+        for name in os.listdir(units):
+            with open(os.path.join(units, name), encoding="utf-8") as file:
+                texts[name] = file.read()
+            self.assertNotIn("/opt", texts[name])
+        self.assertEqual(set(texts), set(os.listdir(os.path.join(ROOT, "deploy"))) - {
+            "man", "starter", "sysusers.conf"})
+        for name in ("door", "broker"):
+            self.assertIn("-- /usr/bin/feqyldan serve", texts[f"feqyldan-{name}.service"])
+        self.assertIn("\nExecStart=/run/feqyldan/program serve ", texts["feqyldan@.service"])
+        self.assertIn("/run/feqyldan/program'\n", texts["feqyldan.socket"])
+
+    def test_the_socket_s_unit_chooses_the_program(self):
+        """By the command that the unit runs before it listens."""
+        self.unpack()
+        with open(f"{self.root}/usr/lib/systemd/system/feqyldan.socket", encoding="utf-8") as file:
+            commands = re.findall("^ExecStartPre=(.*)$", file.read(), re.M)
+        for command in commands:
+            command = command.replace("$$", "$").replace("/run/", f"{self.folder}/run/").replace(
+                "/usr/bin/feqyldan", f"{self.root}/usr/bin/feqyldan")
+            self.run_there("/bin/sh", "-c", command)
+        said = self.run_there(f"{self.folder}/run/feqyldan/program", "--version")
+        self.assertEqual(said.split()[0], "vx_main")
+
+    def test_the_removal_s_script_fails_nowhere(self):
+        """Not where the folder is gone, or systemd refuses."""
+        folder = os.path.join(self.folder, "control")
+        self.run_there("dpkg-deb", "--control", self.debian, folder)
+        os.mkdir(os.path.join(folder, "bin"))
+        with open(os.path.join(folder, "bin", "systemctl"), "w", encoding="utf-8") as file:
+            file.write("#!/bin/sh\nexit 1\n")
+        os.chmod(os.path.join(folder, "bin", "systemctl"), 0o755)
+        with open(os.path.join(folder, "prerm"), encoding="utf-8") as file:
+            script = file.read().replace("/run/systemd/system", "/").replace(
+                "/usr/lib/python3", "/no/such/folder")
+        self.environment["PATH"] = f"{folder}/bin:{self.environment['PATH']}"
+        self.run_there("/bin/sh", "-c", f"DPKG_ROOT=; {script}", "prerm", "remove")
 
     @unittest.skipIf(os.geteuid(), "dpkg installs for root alone")
     def test_an_install_and_a_purge(self):
@@ -235,7 +279,7 @@ class TestPackages(unittest.TestCase):
             self.assertRegex(os.path.basename(path), rf"^feqyldan[-_]{vx.__version__}[-_]")
         self.unpack()
         self.assertEqual(self.run_there("feqyldan", "--version"), f"feqyldan {vx.__version__}\n")
-        for name in ("feqyldan.1", "feqyldan-broker.1"):
+        for name in ("feqyldan.1", "feqyldan-door.1", "feqyldan-broker.1"):
             self.assertIn(f'"feqyldan {vx.__version__}"', self.manual(name))
         for package in self.library:
             said = self.run_there("dpkg-deb", "--field", package, "Version")
@@ -254,8 +298,9 @@ class TestPackages(unittest.TestCase):
         helps = [self.run_there(PROGRAM, *words, "--help")
                  for words in ((), ("serve",), ("apply",))]
         options = {"feqyldan.1": re.findall("--[a-z]+", "".join(helps)),
-                   "feqyldan-broker.1": re.findall(r"^  (?:-h, )?(--[a-z-]+)",
-                                                   command_line.parser().format_help(), re.M)}
+                   **{f"feqyldan-{name}.1": re.findall(r"^  (?:-h, )?(--[a-z-]+)",
+                                                       module.parser().format_help(), re.M)
+                      for name, module in (("door", door), ("broker", broker))}}
         for name, words in options.items():
             self.assertGreater(len(words), 5)
             for word in words:

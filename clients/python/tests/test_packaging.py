@@ -55,8 +55,9 @@ class TestPackage(unittest.TestCase):
         self.assertEqual(files_of(PYTHON), before)
         where = self.run_there(python, "-c", "import feqyldan; print(feqyldan.__file__)").strip()
         self.assertTrue(where.startswith(os.path.join(self.folder, "venv")), where)
-        said = self.run_there(os.path.join(os.path.dirname(python), "feqyldan-broker"), "--help")
-        self.assertIn("--socket", said)
+        for name in ("feqyldan-door", "feqyldan-broker"):
+            said = self.run_there(os.path.join(os.path.dirname(python), name), "--help")
+            self.assertIn("--socket", said)
         if PROGRAM:
             self.environment["FEQYLDAN_PROGRAM"] = os.path.realpath(PROGRAM)
             self.assertEqual(self.run_there(python, "-c",
@@ -78,12 +79,51 @@ class TestPackage(unittest.TestCase):
         for line in ("License: Apache-2.0", "Project-URL: OpenVX, https://",
                      "Requires-Python: >=3.9"):
             self.assertIn(line, about["METADATA"])
-        self.assertIn("feqyldan-broker = feqyldan.broker:main", about["entry_points.txt"])
+        for name in ("door", "broker"):
+            self.assertIn(f"feqyldan-{name} = feqyldan.{name}:main", about["entry_points.txt"])
         sources = {os.path.relpath(path, PYTHON)
                    for path in files_of(os.path.join(PYTHON, "feqyldan"))
                    if path.endswith(".py")}
         self.assertEqual({name for name in names if name.startswith("feqyldan/")},
                          sources | {"feqyldan/py.typed"})
+
+    def test_a_wheel_without_the_package_wheel(self):
+        """What setuptools alone leaves has the same files and says the same."""
+        self.run_there(sys.executable, "-m", "pip", "wheel", "--no-index", "--no-build-isolation",
+                       "--no-deps", PYTHON)
+        os.mkdir(os.path.join(self.folder, "other"))
+        self.run_there(sys.executable, "-c", "import sys\nsys.dont_write_bytecode = True\n"
+                       f"sys.path.insert(0, {PYTHON!r})\nimport build_in_copy\n"
+                       "build_in_copy.is_installed = lambda name: False\n"
+                       "print(build_in_copy.build_wheel('other'))")
+        name, = (name for name in os.listdir(self.folder) if name.endswith(".whl"))
+        one, other = (zipfile.ZipFile(os.path.join(self.folder, *path, name))
+                      for path in ((), ("other",)))
+        with one, other:
+            def names(archive):
+                return sorted(os.path.basename(path) if ".dist-info/" in path else path
+                              for path in archive.namelist())
+
+            self.assertEqual(names(one), names(other))
+            for path in other.namelist():
+                if os.path.basename(path) not in ("RECORD", "WHEEL"):
+                    wanted, = (there for there in one.namelist()
+                               if there == path or ".dist-info/" in path
+                               and os.path.basename(there) == os.path.basename(path)
+                               and ".dist-info/" in there)
+                    # Their order is no matter.
+                    said, told = ({*archive.read(where).splitlines()} - {b"License-File: LICENSE"}
+                                  for archive, where in ((other, path), (one, wanted)))
+                    self.assertEqual(said, told, path)
+        before = files_of(PYTHON)
+        self.run_there(sys.executable, "-m", "venv", "--system-site-packages", "--without-pip",
+                       "venv")
+        python = os.path.join(self.folder, "venv", "bin", "python")
+        self.run_there(python, "-m", "pip", "install", "--no-index", "--no-deps",
+                       os.path.join(self.folder, "other", name))
+        self.assertIn("venv", self.run_there(python, "-c",
+                                             "import feqyldan; print(feqyldan.__file__)"))
+        self.assertEqual(files_of(PYTHON), before)
 
 
 if __name__ == "__main__":

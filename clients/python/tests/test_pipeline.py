@@ -1,6 +1,7 @@
 """Requests that are sent ahead: much of them both ways, refusals, threads, and interruptions."""
 
 import signal
+import struct
 import threading
 import time
 import unittest
@@ -73,9 +74,12 @@ class TestPipelines(ProgramTest):
                 image.write([[1, 2]])
                 image.write([[1, 2, 3]])
                 result, pgm = ahead.read(image), ahead.read_pgm(short)
-        self.assertEqual([type(refused) for refused in ahead.refusals],
-                         [vx.InvalidFormat, vx.InvalidDimension, vx.InvalidFormat])
-        self.assertEqual(result.value().tolist(), [[1, 2, 3]])
+        kinds = vx.InvalidFormat, vx.InvalidDimension, vx.InvalidFormat
+        self.assertEqual(len(ahead.refusals), len(kinds))
+        for refused, kind in zip(ahead.refusals, kinds):
+            self.assertIsInstance(refused, kind)
+        self.assertRaisesRegex(vx.InvalidFormat, r"not_\(image 1 .*call 1 of", result.value)
+        self.assertEqual(result.raw().tolist(), [[1, 2, 3]])
         self.assertRaisesRegex(vx.InvalidFormat, "read a PGM text of image 2", pgm.value)
         line = self.test_refusals.__code__.co_firstlineno
         self.assertEqual([refused.place for refused in ahead.refusals],
@@ -178,13 +182,14 @@ class TestInterruptions(unittest.TestCase):
     def test_samples_that_are_half_sent(self):
         named = wire.reply_frame(0, wire.CREATE_IMAGE, 0, b"\0\0\0\1")
         written = wire.reply_frame(0, wire.WRITE_IMAGE)
-        seen = wire.reply_frame(0, wire.READ_IMAGE_PGM, 0, b"P5 as it was read")
+        body = struct.pack(">BHH4H", wire.U8, 1000, 1000, 0, 0, 1000, 1000)
+        seen = wire.reply_frame(0, wire.QUERY_IMAGE, 0, body)
         server = vx.Server(answering(OPENED, named, INTERRUPT, written, seen))
         context = server.context()
         image = context.image(vx.U8, 1000, 1000)
         self.interrupted(lambda: image.write(bytes(1000 * 1000)))
         # Its frame goes on to its end with the next request.
-        self.assertEqual(image.read_pgm(), b"P5 as it was read")
+        self.assertEqual(image.query(), (vx.U8, 1000, 1000, (0, 0, 1000, 1000)))
         server.close()
 
 

@@ -28,6 +28,13 @@ def is_there(process):
         return False
 
 
+def heed_signals():
+    """What a program has that a shell starts at a terminal. Whoever runs these tests may ignore
+    SIGINT, as `tools/test &` in a script does, and that would be inherited."""
+    for number in (signal.SIGINT, signal.SIGTERM):
+        signal.signal(number, signal.SIG_DFL)
+
+
 class ProcessTest(unittest.TestCase):
     def start(self, script):
         """A program in a process group of its own, as a shell starts one."""
@@ -35,7 +42,8 @@ class ProcessTest(unittest.TestCase):
                                   stdout=subprocess.PIPE,
                                   env={**os.environ, "PYTHONPATH": PACKAGE,
                                        "PYTHONDONTWRITEBYTECODE": "1"},
-                                  stderr=subprocess.DEVNULL, start_new_session=True, text=True)
+                                  stderr=subprocess.DEVNULL, start_new_session=True, text=True,
+                                  preexec_fn=heed_signals)
         self.addCleanup(client.wait)
         self.addCleanup(self.kill_group, client.pid)
         self.addCleanup(client.stdout.close)

@@ -77,8 +77,9 @@ class TestWords(ProgramTest):
         self.graph.not_(between, self.target)
         self.graph.add(self.source, self.source, vx.WRAP, between)
         self.says(vx.InvalidFormat,
-                  "Node 1, not_(virtual image 4 (open), image 2 (U8, 3 by 1)), in which virtual "
-                  "image 4 (open) is S16, 3 by 1, takes no such formats.")
+                  "Node 1, not_(virtual image 4 (open), image 2 (U8, 3 by 1)): not_ takes U8 to U8."
+                  " Virtual image 4 (open) is S16, 3 by 1, because node 2, add, writes it and its "
+                  "format is open; graph.virtual_image(vx.U8) has one.")
 
     def test_sizes(self):
         wide = self.context.image(U8, 4, 1)
@@ -135,7 +136,8 @@ class TestWords(ProgramTest):
                             "not_(virtual image 5 (U8, open by open), image 2 (U8, 3 by 1)), and "
                             "written by none.")):
             self.assertTrue(str(refused).startswith(words.format(line + 6 + call)), refused)
-        self.assertEqual(result.value().tolist(), [[0, 0, 0]])
+        self.assertRaises(vx.InvalidDimension, result.value)
+        self.assertEqual(result.raw().tolist(), [[0, 0, 0]])
 
     def test_nothing_is_said_that_isnt_known(self):
         self.graph.not_(self.source, self.source)
@@ -143,12 +145,16 @@ class TestWords(ProgramTest):
             with self.assertRaises(vx.InvalidGraph) as caught:
                 self.graph.verify()
         self.assertEqual(caught.exception.fault, "")
-        with mock.patch.object(type(self.context), "ask", side_effect=KeyboardInterrupt):
-            self.assertRaises(KeyboardInterrupt, self.graph.not_, self.source, self.target)
-        # Whether that node is in the graph isn't known.
-        with self.assertRaises(vx.InvalidGraph) as caught:
-            self.graph.verify()
-        self.assertEqual(caught.exception.fault, "")
+
+    def test_after_an_interruption(self):
+        """The reply to the call that was interrupted comes later, and says which node it added."""
+        with mock.patch.object(type(self.context.connection), "wait",
+                               side_effect=KeyboardInterrupt):
+            self.assertRaises(KeyboardInterrupt, self.graph.not_, self.source, self.source)
+        self.assertRaises(vx.InvalidGraph, self.graph.verify)
+        self.assertEqual([node.number for node in self.graph.nodes], [1])
+        self.says(vx.InvalidGraph,
+                  "These nodes go round: node 1, not_(image 1 (U8, 3 by 1), image 1 (U8, 3 by 1)).")
 
 
 class Maker:
@@ -214,7 +220,7 @@ class TestRandomGraphs(ProgramTest):
                     maker.add()
                     code = self.code_of(maker.graph)
                     # That there are too many bytes is taken from the server's code.
-                    verdict = verdicts.verdict_on(maker.graph._members, code)
+                    verdict = verdicts.verdict_on(maker.graph.members, code)
                     self.assertEqual(verdict.code if verdict else wire.SUCCESS, code,
                                      f"seed {seed}")
                     met[code] = met.get(code, 0) + 1
@@ -243,7 +249,7 @@ class TestRandomGraphs(ProgramTest):
                     for made in images:
                         out = context.image(made, 3, 1)
                         node = getattr(graph, name)(images[fmt], out)
-                        verdict = verdicts.verdict_on(graph._members)
+                        verdict = verdicts.verdict_on(graph.members)
                         self.assertEqual(verdict.code if verdict else 0, self.code_of(graph),
                                          (name, fmt, made))
                         node.remove()

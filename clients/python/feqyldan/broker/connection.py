@@ -1,11 +1,12 @@
 """A program's connection to the broker."""
 
 import socket
-import struct
-from typing import TYPE_CHECKING, NamedTuple, Optional
+from typing import TYPE_CHECKING, Any, NamedTuple, Optional
 
-from .events import READ, WRITE
-from .incoming import AHEAD, CHUNK, Frames, Incoming, release_of
+from ..service.admission import Owner
+from ..service.descriptors import Descriptors
+from ..service.events import READ, WRITE
+from .incoming import AHEAD, CHUNK, Frames, Incoming, Total, release_of
 
 if TYPE_CHECKING:
     from .server import Server, Turn
@@ -18,43 +19,30 @@ LONG_AT_ONCE = 4
 
 class Limits(NamedTuple):
     """How many connections there are at once, of one process and of one user; bytes of the longest
-    frame and reply; seconds without a byte within a frame or a reply, without a request, for what
-    is asked once the broker stops, and between two lines of counts."""
+    frame and reply, and of those of all connections; seconds without a byte within a frame or a
+    reply, without a request, of the longest request, for what is asked once the broker stops, and
+    between two lines of counts."""
 
     connections: int
     per_process: int
     per_user: int
     bytes_held: int
+    total_held: int
     patience: float
     idle: Optional[float]
+    longest: Optional[float]
     grace: float
     report: float
-
-
-class Owner(NamedTuple):
-    """The process that made a connection, and its user."""
-
-    process: int
-    user: int
-
-    def __str__(self) -> str:
-        return f"process {self.process} of user {self.user}"
-
-
-def owner_of(sock: socket.socket) -> Owner:
-    process, user, _group = struct.unpack("iII",
-                                          sock.getsockopt(socket.SOL_SOCKET, socket.SO_PEERCRED,
-                                                          12))
-    return Owner(process, user)
 
 
 class Connection:
     """One program's connection, from when it is accepted until its number is free again."""
 
-    def __init__(self, sock: socket.socket, number: int, owner: Owner, limits: Limits,
-                 now: float) -> None:
+    def __init__(self, sock: socket.socket, number: int, owner: Owner, limits: Limits, total: Total,
+                 descriptors: Descriptors, now: float) -> None:
         self.sock, self.number, self.owner, self.limits = sock, number, owner, limits
-        self.incoming = Incoming(limits.bytes_held)
+        self.total = total
+        self.incoming = Incoming(limits.bytes_held, total, descriptors)
         # What is left of its replies.
         self.outgoing = bytearray()
         # The server that has its context, once it has asked anything; and its turn that is with it.
@@ -62,8 +50,8 @@ class Connection:
         self.turn: Optional["Turn"] = None
         # Whether the server has heard of it, so that it may have a context.
         self.is_known = False
-        # Whether it waits for its next turn.
-        self.is_in_line = False
+        # Its place in the line of those that wait for their next turn.
+        self.place: Any = None
         # The seconds of the server's time that it has had, those that its last turn took, and those
         # that a request that may take long is expected to take.
         self.used, self.took, self.pace = 0.0, 0.0, TURN_SECONDS
@@ -91,15 +79,13 @@ class Connection:
     def may_ask(self) -> bool:
         return self.turn is None and self.incoming.is_whole and len(self.outgoing) <= AHEAD
 
-    def next_frames(self) -> Optional[Frames]:
-        """Those of its next turn, if it is still there; then that its context be released."""
-        self.is_in_line = False
+    def next_frames(self, turn_bytes: int) -> Frames:
+        """Those of its next turn; once it has ended, that its context be released."""
         if self.is_leaving:
             return release_of(self.number)
-        if not self.is_open:
-            return None
         return self.incoming.take(self.number,
-                                  min(LONG_AT_ONCE, max(1, int(TURN_SECONDS / self.pace))))
+                                  min(LONG_AT_ONCE, max(1, int(TURN_SECONDS / self.pace))),
+                                  turn_bytes)
 
     def has_taken(self, seconds: float, long: int) -> None:
         """A turn of it took so much of the server's time, and had so many requests that may take
@@ -134,6 +120,7 @@ class Connection:
         if not self.outgoing:
             sent, self.taken_at = self.send(piece, now), now
         if sent < len(piece):
+            self.total.take(len(piece) - sent)
             self.outgoing += piece[sent:]
 
     @property
@@ -145,6 +132,7 @@ class Connection:
         with memoryview(self.outgoing) as waiting, waiting[:CHUNK] as first:
             sent = self.send(first, now)
         del self.outgoing[:sent]
+        self.total.give(sent)
 
     # ---- the clock
 
@@ -162,6 +150,12 @@ class Connection:
     def is_idle(self) -> bool:
         return self.turn is None and not self.outgoing and not self.incoming.is_whole
 
+    @property
+    def bytes_held(self) -> int:
+        """What it has of the bytes of all connections."""
+        return self.incoming.taken + len(self.outgoing)
+
     def clear(self) -> None:
         self.incoming.clear()
+        self.total.give(len(self.outgoing))
         self.outgoing = bytearray()

@@ -5,18 +5,20 @@ import struct
 from typing import List, Optional
 
 from .. import wire
+from ..service.descriptors import Descriptors
+from ..service.visitors import HEAD, LEAST_FRAME
 
 LEAST_LENGTH, GREATEST_LENGTH = wire.LEAST_LENGTH, wire.GREATEST_LENGTH
-# A frame's length, its client and its op; the least bytes of a frame.
-HEAD, CLIENT = struct.Struct(">IHB"), struct.Struct(">H")
-LEAST_FRAME = 7
+CLIENT = struct.Struct(">H")
 # How many bytes of frames are read ahead of a connection: about what a pipe would hold. A longer
 # frame is a long one.
 AHEAD = 65_536
 # How many bytes of a long frame are moved at once, so that others get their turn.
 CHUNK = 262_144
-# How many bytes of small frames are a turn: the server takes a millisecond or two for them.
-TURN_BYTES = 16_384
+# How many bytes of small frames are a turn: the server takes a millisecond or two for them, and the
+# broker as long. Where others wait for the same server a turn is shorter, so that they share the
+# broker's time too.
+TURN_BYTES, SHARED_TURN_BYTES = 16_384, 1024
 
 # A request that takes as long as its frame is, and has a short reply; one that may take long, with
 # a short reply; and one of which nothing is known, not even how long its reply is.
@@ -51,12 +53,33 @@ def release_of(number: int) -> Frames:
                   [number << 8 | wire.RELEASE_CONTEXT], 1)
 
 
+class TotalReached(MemoryError):
+    """All connections together hold as much as they may. Nothing was read or changed."""
+
+
+class Total:
+    """The bytes of long frames and of replies that wait, of all connections together."""
+
+    def __init__(self, most: int) -> None:
+        self.most, self.bytes = most, 0
+
+    def take(self, count: int) -> None:
+        if self.bytes + count > self.most:
+            raise TotalReached
+        self.bytes += count
+
+    def give(self, count: int) -> None:
+        self.bytes -= count
+
+
 class Incoming:
     """What a connection has sent and isn't passed on yet: small frames, or a long one, the last of
     them in part."""
 
-    def __init__(self, most: int) -> None:
-        self.most = most
+    def __init__(self, most: int, total: Total, descriptors: Descriptors) -> None:
+        self.most, self.total, self.descriptors = most, total, descriptors
+        # How many bytes of the total it has.
+        self.taken = 0
         self.held = bytearray()
         # The bytes of the first frame, once its length is there; or what is wrong with that.
         self.size: Optional[int] = None
@@ -85,7 +108,7 @@ class Incoming:
         """Reads what is there, as far as there is room; how many bytes that was."""
         if self.pieces:
             return self.receive_long(sock)
-        data = sock.recv(AHEAD - len(self.held))
+        data = self.descriptors.read(sock, AHEAD - len(self.held))
         self.held += data
         if self.size is None or self.size > AHEAD:
             self.look()
@@ -93,13 +116,24 @@ class Incoming:
 
     def receive_long(self, sock: socket.socket) -> int:
         if self.filled == len(self.pieces[-1]):
-            self.pieces.append(bytearray(min(CHUNK, self.left)))
-            self.filled = 0
+            self.begin_piece(min(CHUNK, self.left))
         with memoryview(self.pieces[-1]) as piece, piece[self.filled :] as room:
-            count = sock.recv_into(room)
+            count = self.descriptors.read_into(sock, room)
         self.filled += count
         self.left -= count
         return count
+
+    def begin_piece(self, size: int) -> None:
+        piece = bytearray(size)
+        self.total.take(size)
+        self.taken += size
+        self.pieces.append(piece)
+        self.filled = 0
+
+    def let_go(self) -> None:
+        """What it had of the total is others'."""
+        self.total.give(self.taken)
+        self.taken = 0
 
     def look(self) -> None:
         """Looks at the length of the first frame, if it is there."""
@@ -119,10 +153,11 @@ class Incoming:
                 self.filled = len(self.pieces[0])
                 self.left = self.size - self.filled
 
-    def take(self, number: int, long_at_once: int) -> Frames:
+    def take(self, number: int, long_at_once: int, turn_bytes: int) -> Frames:
         """A turn's frames, the first of which is whole, with this client number put in. At most so
         many of them may take long, and nothing follows one of which nothing is known."""
-        frames = self.take_long(number) if self.pieces else self.take_small(number, long_at_once)
+        frames = (self.take_long(number) if self.pieces else
+                  self.take_small(number, long_at_once, turn_bytes))
         self.look()
         return frames
 
@@ -131,9 +166,10 @@ class Incoming:
         CLIENT.pack_into(self.pieces[0], 4, number)
         frames = Frames(self.pieces, 4 + length, [client << 8 | op], int(KINDS[op] != LIGHT))
         self.pieces = []
+        self.let_go()
         return frames
 
-    def take_small(self, number: int, long_at_once: int) -> Frames:
+    def take_small(self, number: int, long_at_once: int, turn_bytes: int) -> Frames:
         held, at, kind = self.held, 0, LIGHT
         end, most = len(held), self.most
         asked: List[int] = []
@@ -142,7 +178,7 @@ class Incoming:
             length, client, op = HEAD.unpack_from(held, at)
             after = at + 4 + length
             if after > end or not LEAST_LENGTH <= length <= most - 4 or (asked
-                                                                         and after > TURN_BYTES):
+                                                                         and after > turn_bytes):
                 break
             kind = KINDS[op]
             if kind:
@@ -161,3 +197,4 @@ class Incoming:
 
     def clear(self) -> None:
         self.held, self.size, self.pieces, self.left = bytearray(), None, [], 0
+        self.let_go()

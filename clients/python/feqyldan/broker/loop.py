@@ -1,24 +1,23 @@
 """The loop over the connections, the servers' pipes, new connections and signals."""
 
-import contextlib
 import signal
 import socket
 import time
-from collections import Counter, deque
+from collections import deque
 from functools import partial
-from typing import Any, Deque, Dict, Iterator, List, NamedTuple, Optional, Set
+from typing import Any, Deque, Dict, List, NamedTuple, Optional, Set
 
-from .connection import Connection, Limits, Owner, owner_of
-from .counts import Counts, memory_of
-from .events import READ, WRITE, Events
-from .lines import Lines
-from .listener import Listener, tell_manager
+from ..service.admission import ACCEPT_PAUSE, Owner
+from ..service.events import READ, WRITE
+from ..service.front import Front
+from ..service.listener import Listener
+from ..service.metrics import memory_of
+from ..service.signals import Signals
+from .connection import Connection, Limits
+from .counts import Counts, as_metrics
+from .incoming import Total, TotalReached
 from .server import Piece, Server, ServerFault, Turn
-from .visitors import StatusSocket, turned_away
 
-# How many connections are accepted at once; the seconds until that is tried again when the system
-# had no room for one.
-ACCEPTED_AT_ONCE, ACCEPT_PAUSE = 4, 1.0
 # A server that ends within so many seconds and has answered nothing has failed. So many such ends
 # in a row are one of the broker; in between there is a pause.
 EARLY_SECONDS, FAILURES, RESTART_PAUSE = 1.0, 3, 0.25
@@ -26,7 +25,6 @@ EARLY_SECONDS, FAILURES, RESTART_PAUSE = 1.0, 3, 0.25
 END_SECONDS = 1.0
 # Seconds between two looks at the clock while the broker stops, and while a turn is put off.
 STOP_LOOKS, PUT_OFF_LOOKS = 0.1, 0.001
-SIGNALS = (signal.SIGTERM, signal.SIGINT, signal.SIGHUP, signal.SIGCHLD)
 
 
 class Plan(NamedTuple):
@@ -37,52 +35,43 @@ class Plan(NamedTuple):
     memory: Optional[int]
 
 
-class Broker:
+class Broker(Front):
     """The connections and the servers, and who waits for what."""
 
     def __init__(self, listener: Listener, status: Optional[Listener], plan: Plan,
                  limits: Limits) -> None:
-        self.listener, self.plan, self.limits = listener, plan, limits
-        self.lines, self.counts, self.events = Lines(), Counts(), Events()
+        self.plan, self.limits, self.counts = plan, limits, Counts()
+        # Of each process and each user those connections count too whose context is being released.
+        super().__init__("broker", listener, status, self.counts, limits, as_metrics)
+        self.total = Total(limits.total_held)
         self.numbers: Deque[int] = deque(range(limits.connections))
         self.open: Set[Connection] = set()
         # Those that have asked while there was no server.
         self.homeless: Set[Connection] = set()
-        # How many connections each process and each user has, those among them whose context is
-        # being released; and which processes were turned away, which is said once a minute.
-        self.processes: "Counter[Owner]" = Counter()
-        self.users: "Counter[int]" = Counter()
-        self.told: Set[Owner] = set()
-        self.turned_away = turned_away(self.events)
         self.look_seconds = min(1.0, limits.patience / 4, limits.report)
-        self.now = self.began_at = time.monotonic()
-        self.looked_at = self.reported_at = self.accepts_from = self.now
-        self.reported = self.counts.told()
-        self.status = StatusSocket(status, self.events, self.state) if status else None
+        self.looked_at = self.now
         # All whose processes aren't gone. How often in a row one has failed; when the next may be
         # started; what went wrong.
         self.servers: List[Server] = []
         self.failures, self.starts_from, self.failure = 0, self.now, 0
-        self.is_listening = self.is_over = False
+        self.is_over = False
         # When the last replies and the servers are waited for no longer, once the broker is to end.
         self.stops_at: Optional[float] = None
         self.was_told = self.was_told_twice = False
-        self.signals, self.signalled = socket.socketpair()
-        self.signalled.setblocking(False)
-        self.events.watch(self.signals.fileno(), READ, self.take_signals)
+        self.signals = Signals(self.events, self.take_signals)
 
     # ---- the loop
 
     def run(self) -> int:
         """Serves until a signal, or until the servers fail; the exit status. Raises OSError where
         the first server can't be started."""
-        with self.signals_caught():
+        with self.signals:
             self.begin_servers()
             most = self.plan.memory
             memory = "" if most is None else f", of at most {most} bytes each"
             servers = "1 server" if self.plan.servers == 1 else f"{self.plan.servers} servers"
             self.lines.say(f"listening at {self.listener.path}, with {servers}{memory}")
-            tell_manager()
+            self.manager.is_listening()
             while not self.is_over:
                 self.listen_or_not()
                 ready = self.events.ready(self.timeout())
@@ -101,93 +90,43 @@ class Broker:
         if self.stops_at is not None:
             return STOP_LOOKS
         has_nobody = not (self.open or self.status
-                          or self.turned_away.present) and self.is_listening
+                          or self.admission.turned_away.present) and self.is_listening
         has_all = self.has_servers() and len(self.servers) == self.plan.servers
-        has_told = self.reported == self.counts.told()
-        return None if has_nobody and has_all and has_told else self.look_seconds
+        may_sleep = has_nobody and has_all and not self.has_news() and self.manager.pause is None
+        return None if may_sleep else self.look_seconds
 
     def has_servers(self) -> bool:
         return sum(server.takes_connections for server in self.servers) >= self.plan.servers
 
-    @contextlib.contextmanager
-    def signals_caught(self) -> Iterator[None]:
-        """Makes the signals readable that the broker takes."""
-        before = signal.set_wakeup_fd(self.signalled.fileno())
-        handlers = {which: signal.signal(which, lambda *_: None) for which in SIGNALS}
-        try:
-            yield
-        finally:
-            signal.set_wakeup_fd(before)
-            for which, handler in handlers.items():
-                signal.signal(which, handler)
-
     # ---- new connections
 
-    def listen_or_not(self) -> None:
+    def may_listen(self) -> bool:
         """Newcomers wait while a number is about to be free, and while there is no server; where
         all connections are there they are turned away."""
         has_answer = bool(self.numbers) or len(self.open) >= self.limits.connections
         can_serve = any(server.takes_connections for server in self.servers)
-        is_time = self.now >= self.accepts_from and self.stops_at is None
-        wanted = has_answer and can_serve and is_time
-        if wanted != self.is_listening:
-            self.is_listening = wanted
-            self.events.watch(self.listener.sock.fileno(), READ if wanted else 0, self.accept)
-
-    def accept(self, _mask: int) -> None:
-        for _ in range(ACCEPTED_AT_ONCE if self.is_listening else 0):
-            if not self.numbers and len(self.open) < self.limits.connections:
-                return
-            try:
-                sock, _ = self.listener.sock.accept()
-                owner = owner_of(sock)
-            except BlockingIOError:
-                return
-            except OSError as error:
-                self.lines.say(f"no connection is accepted for {ACCEPT_PAUSE:g} s: {error}")
-                self.accepts_from = self.now + ACCEPT_PAUSE
-                return
-            reason = self.reason_against(owner)
-            if reason is None:
-                self.begin(sock, owner)
-            else:
-                self.turn_away(sock, owner, reason)
+        return has_answer and can_serve and self.stops_at is None
 
     def begin(self, sock: socket.socket, owner: Owner) -> None:
         sock.setblocking(False)
-        connection = Connection(sock, self.numbers.popleft(), owner, self.limits, self.now)
-        self.counts.accepted += 1
-        self.processes[owner] += 1
-        self.users[owner.user] += 1
+        connection = Connection(sock, self.numbers.popleft(), owner, self.limits, self.total,
+                                self.descriptors, self.now)
+        self.admission.let_in(owner)
         self.open.add(connection)
         self.settle(connection)
 
     def reason_against(self, owner: Owner) -> Optional[str]:
-        """Why a process gets no connection, in words."""
-        if self.processes[owner] >= self.limits.per_process:
-            return f"it has {self.processes[owner]} connections (--per-process)"
-        if self.users[owner.user] >= self.limits.per_user:
-            return f"its user has {self.users[owner.user]} connections (--per-user)"
-        return None if self.numbers else f"{len(self.open)} connections are there (--connections)"
-
-    def turn_away(self, sock: socket.socket, owner: Owner, reason: str) -> None:
-        if owner not in self.told:
-            self.lines.say(f"{owner} is turned away: {reason}")
-        self.told.add(owner)
-        self.counts.turned_away += 1
-        self.turned_away.add(sock)
+        if not self.numbers:
+            return f"{len(self.open)} connections are there (--connections)"
+        return self.admission.reason_against(owner)
 
     def free(self, connection: Connection) -> None:
         """Its number may be given to another one: no server has a context of it."""
-        owner, server = connection.owner, connection.server
         self.numbers.append(connection.number)
-        self.processes[owner] -= 1
-        self.users[owner.user] -= 1
-        if not self.processes[owner]:
-            del self.processes[owner]
-        if not self.users[owner.user]:
-            del self.users[owner.user]
+        self.admission.let_out(connection.owner)
+        server = connection.server
         if server is not None:
+            server.line.forget(connection)
             server.members.discard(connection)
             self.close_if_left(server)
 
@@ -208,10 +147,19 @@ class Broker:
             connection.reads = False
             self.end(connection, connection.fault())
             return
+        except TotalReached:
+            self.end_greatest()
         except MemoryError:
-            self.end(connection, "the broker has no memory for its frame")
-            return
-        self.settle(connection)
+            # What was read may be lost.
+            self.end(connection, "the broker has no memory for its frame (--own-memory)")
+        if connection.is_open:
+            self.settle(connection)
+
+    def end_greatest(self) -> None:
+        """Ends the connection that has most of what the broker holds."""
+        greatest = max(self.open, key=lambda connection: connection.bytes_held)
+        self.end(greatest, f"{greatest.bytes_held} bytes of its frames or replies wait, the most "
+                           f"of {self.total.bytes} in all (--total-held)")
 
     def receive(self, connection: Connection) -> None:
         if connection.incoming.receive(connection.sock):
@@ -236,14 +184,16 @@ class Broker:
 
     def wait_for_turn(self, connection: Connection) -> None:
         """Has it wait for its server, which is the one with the fewest connections where it has
-        asked nothing yet; one that may end as others have is asked last."""
+        asked nothing yet; one that may end as others have, or may hang, is asked last."""
         if connection.server is None:
             servers = [server for server in self.servers if server.takes_connections]
             if not servers:
                 self.homeless.add(connection)
                 return
             min(servers, key=lambda server: (
-                self.failures > 0 and self.is_untried(server), len(server.members))).add(connection)
+                self.failures > 0 and self.is_untried(server),
+                server.seconds_at_request(self.now) > self.limits.patience,
+                len(server.members))).add(connection)
         assert connection.server is not None
         connection.server.line.add(connection)
 
@@ -267,7 +217,7 @@ class Broker:
         self.homeless.discard(connection)
         self.events.forget(connection.sock.fileno())
         connection.interest = 0
-        connection.sock.close()
+        self.descriptors.close(connection.sock)
         connection.clear()
         if connection.turn is None:
             self.release(connection)
@@ -336,7 +286,7 @@ class Broker:
         except OSError:
             self.end(connection)
         except MemoryError:
-            self.end(connection, "the broker has no memory for its replies")
+            self.end(connection, "the broker has no memory for its replies (--total-held)")
         else:
             if len(connection.outgoing) > connection.most_waiting:
                 self.end(connection,
@@ -407,7 +357,6 @@ class Broker:
         server.close(self.now)
         for connection in [*server.members]:
             connection.turn = None
-            connection.is_in_line = False
             if connection.is_open:
                 self.cut(connection)
             else:
@@ -473,38 +422,36 @@ class Broker:
         if self.now - self.looked_at < self.look_seconds:
             return
         self.looked_at = self.now
+        self.manager.is_alive()
+        self.end_hung()
         self.bury()
-        self.turned_away.end_late(self.now)
-        if self.status:
-            self.status.visitors.end_late(self.now)
+        self.end_late_visitors()
         for connection in [*self.open]:
             words = connection.stall(self.now)
             if words:
                 self.end(connection, words)
-        self.report()
+        self.report(len(self.open))
 
-    def report(self) -> None:
-        """Says what has happened since it was said last, once a minute unless told otherwise."""
-        if self.now - self.reported_at < self.limits.report:
+    def end_hung(self) -> None:
+        """Ends the servers that have been at one request for longer than a request may take."""
+        longest = self.limits.longest
+        if longest is None:
             return
-        if self.counts.told() != self.reported:
-            self.lines.say(f"{len(self.open)} connections are open; in "
-                           f"{self.now - self.reported_at:.0f} s "
-                           f"{self.counts.as_words(self.reported)}")
-        self.reported_at, self.reported = self.now, self.counts.told()
-        self.counts.longest_lately = 0.0
-        self.told.clear()
+        for server in self.servers:
+            if server.seconds_at_request(self.now) > longest and server.lost_at is None:
+                self.lines.say(f"{server} is killed: its request takes longer than {longest:g} s "
+                               "(--longest)")
+                server.process.kill()
 
     def state(self) -> Dict[str, Any]:
-        """What the status socket tells."""
         counts = self.counts
         return {
             "uptime_seconds": round(self.now - self.began_at, 3),
             "connections": {
-                "open": len(self.open), "releasing": sum(self.processes.values()) - len(self.open),
+                "open": len(self.open), "releasing": self.admission.present - len(self.open),
                 "accepted": counts.accepted, "turned_away": counts.turned_away},
             "requests": counts.requests, "bytes_in": counts.bytes_in, "bytes_out": counts.bytes_out,
-            "refusals": counts.refusals_by_name(),
+            "bytes_held": self.total.bytes, "refusals": counts.refusals_by_name(),
             "longest_request_seconds": round(counts.longest, 6),
             "servers_ended": counts.servers_ended,
             "servers": [self.state_of(server) for server in self.servers]}
@@ -514,11 +461,11 @@ class Broker:
         return {
             "process": server.process.pid, "connections": len(server.members),
             "requests": server.answers, "waiting": len(server.line),
-            "busy_seconds": round(self.now - server.moved_at, 6) if server.owed else 0.0,
+            "busy_seconds": round(server.seconds_at_request(self.now), 6),
             "memory_bytes": memory, "peak_memory_bytes": peak, "is_retiring": server.is_retiring}
 
     def take_signals(self, _mask: int) -> None:
-        for which in self.signals.recv(64):
+        for which in self.signals.taken():
             if which == signal.SIGCHLD:
                 self.bury()
             elif which == signal.SIGHUP:
@@ -529,7 +476,7 @@ class Broker:
                 # Whoever asks twice doesn't wait.
                 self.was_told_twice, self.stops_at = True, self.now
             else:
-                self.lines.say(f"ends by {signal.Signals(which).name}")
+                self.lines.say(f"ends by {which.name}")
                 self.was_told = True
                 self.stop()
 
@@ -539,13 +486,10 @@ class Broker:
         if self.stops_at is not None:
             return
         self.stops_at = self.now + self.limits.grace
-        self.listen_or_not()
-        self.listener.close()
-        self.turned_away.end_all()
+        self.stop_listening()
         for server in self.servers:
             server.line.clear()
         for connection in [*self.open]:
-            connection.is_in_line = False
             self.cut(connection)
         self.go_on_stopping()
 
@@ -570,10 +514,5 @@ class Broker:
             server.process.kill()
             server.close(self.now)
             server.process.wait()
-        self.listener.close()
-        if self.status:
-            self.status.close()
-        self.events.close()
-        self.signals.close()
-        self.signalled.close()
+        self.close()
         return 0 if self.was_told else self.failure

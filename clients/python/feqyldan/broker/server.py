@@ -1,20 +1,19 @@
 """A server's process, with the connections that wait for it, what is written to it and the replies
 that it owes."""
 
-import contextlib
 import heapq
 import itertools
 import os
-import resource
 import struct
 import subprocess
 from collections import deque
 from typing import Deque, Iterator, List, NamedTuple, Optional, Set, Tuple
 
 from ..pipes import enlarge
+from ..service.machine import limit_memory
 from .connection import TURN_SECONDS, Connection
 from .counts import Counts
-from .incoming import AHEAD, CHUNK, CLIENT, Frames
+from .incoming import AHEAD, CHUNK, CLIENT, SHARED_TURN_BYTES, TURN_BYTES, Frames
 
 # A reply's length, its client, its op and its code; the bytes of a reply before its body, and the
 # least length.
@@ -64,30 +63,51 @@ class Line:
     those of connections that take much."""
 
     def __init__(self) -> None:
-        self.waiting: List[Tuple[float, int, Connection]] = []
+        # A place is its connection's as long as that says so.
+        self.places: List[Tuple[float, int, Connection]] = []
         self.ticks = itertools.count()
+        self.waiting = 0
         # The time that the connection had had whose turn came last.
         self.now = 0.0
 
     def __len__(self) -> int:
-        return len(self.waiting)
+        return self.waiting
 
     def add(self, connection: Connection) -> None:
-        if not connection.is_in_line:
-            connection.is_in_line = True
+        if connection.place is None:
             connection.used = max(connection.used, self.now)
-            heapq.heappush(self.waiting, (connection.used, next(self.ticks), connection))
+            connection.place = connection.used, next(self.ticks), connection
+            heapq.heappush(self.places, connection.place)
+            self.waiting += 1
 
     @property
     def first(self) -> Connection:
-        return self.waiting[0][2]
+        while self.places[0] is not self.places[0][2].place:
+            heapq.heappop(self.places)
+        return self.places[0][2]
 
     def take(self) -> Connection:
-        self.now, _, connection = heapq.heappop(self.waiting)
+        connection = self.first
+        self.now, _, _ = heapq.heappop(self.places)
+        connection.place = None
+        self.waiting -= 1
         return connection
 
+    def forget(self, connection: Connection) -> None:
+        """It waits no longer. Its place goes with the next that are left, so that there are never
+        more of these than of others."""
+        if connection.place is not None:
+            connection.place = None
+            self.waiting -= 1
+            if len(self.places) > 2 * self.waiting + 16:
+                self.places = [place for place in self.places if place is place[2].place]
+                heapq.heapify(self.places)
+
     def clear(self) -> None:
-        self.waiting.clear()
+        for _, _, connection in self.places:
+            connection.place = None
+        self.places.clear()
+        self.waiting = 0
 
 
 class Piece(NamedTuple):
@@ -108,8 +128,7 @@ class Server:
         self.process = subprocess.Popen(
             command, stdin=subprocess.PIPE, stdout=subprocess.PIPE, bufsize=0,
             start_new_session=True)
-        if memory is not None:
-            limit_memory(self.process.pid, memory)
+        limit_memory(self.process.pid, memory)
         assert self.process.stdin is not None and self.process.stdout is not None
         self.input, self.output = self.process.stdin.fileno(), self.process.stdout.fileno()
         for pipe in (self.input, self.output):
@@ -166,11 +185,14 @@ class Server:
             self.puts_off = self.may_be_asked_first(now)
             if self.puts_off:
                 break
+            # No long turn begins beside what is quick: who is answered in a moment may ask again
+            # before it.
+            if self.owed and self.line.first.took >= LONG_TURN:
+                break
             connection = self.line.take()
-            frames = connection.next_frames()
-            if frames is not None:
-                self.ask(Turn(connection, frames, now), frames)
-                begun.append(connection)
+            frames = connection.next_frames(SHARED_TURN_BYTES if self.line else TURN_BYTES)
+            self.ask(Turn(connection, frames, now), frames)
+            begun.append(connection)
         return begun
 
     def may_be_asked_first(self, now: float) -> bool:
@@ -181,7 +203,7 @@ class Server:
             return False
         if now > self.turned_at + min(first.took * PART_PUT_OFF, MOST_PUT_OFF):
             return False
-        return last.reads and last.server is self and not last.is_in_line and last.used < first.used
+        return last.reads and last.server is self and last.place is None and last.used < first.used
 
     def counts_of(self, turn: Turn) -> Counts:
         return self.uncounted if turn.connection.is_leaving else self.counts
@@ -297,17 +319,11 @@ class Server:
         self.owed.clear()
         self.line.clear()
 
+    def seconds_at_request(self, now: float) -> float:
+        """How long it has been at its request; 0 where it has none."""
+        return now - self.moved_at if self.owed else 0.0
+
     def status(self) -> Optional[int]:
         """Its exit status, as a shell says it where a signal ended it; None while it runs."""
         status = self.process.poll()
         return status if status is None or status >= 0 else 128 - status
-
-
-def limit_memory(process: int, memory: int) -> None:
-    """Limits the address space of a process that was started, at most to what this one is
-    allowed."""
-    hard = resource.getrlimit(resource.RLIMIT_AS)[1]
-    limit = memory if hard == resource.RLIM_INFINITY else min(memory, hard)
-    # It may have ended.
-    with contextlib.suppress(ProcessLookupError):
-        resource.prlimit(process, resource.RLIMIT_AS, (limit, limit))

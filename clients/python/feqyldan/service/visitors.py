@@ -1,20 +1,24 @@
-"""Those who connect and get a short answer: who is turned away, and who asks for the broker's
-state."""
+"""Those who connect and get a short answer: who is turned away, and who asks for the state."""
 
-import contextlib
 import json
 import socket
+import struct
 import time
 from typing import Any, Callable, Dict, List, Optional
 
 from .. import wire
-from .counts import as_metrics
+from .descriptors import Descriptors
 from .events import READ, Events
-from .incoming import HEAD, LEAST_FRAME
 from .listener import Listener
+
+# A frame's length, its client and its op; the least bytes of a frame.
+HEAD = struct.Struct(">IHB")
+LEAST_FRAME = HEAD.size
 
 # How many there are at once of each kind, and how many seconds they have for what they ask.
 VISITORS_AT_ONCE, VISIT_SECONDS = 64, 5.0
+# The seconds until an accept is tried again that had no room.
+ACCEPT_PAUSE = 1.0
 # The longest first line of who asks for the state.
 LINE_BYTES = 4096
 PAGE = "HTTP/1.0 {}\r\nContent-Type: {}\r\nContent-Length: {}\r\nConnection: close\r\n\r\n"
@@ -27,8 +31,10 @@ Answer = Callable[[bytes, bool], Optional[bytes]]
 class Visitors:
     """Connections that are each answered once and closed."""
 
-    def __init__(self, events: Events, most: int, answer: Answer) -> None:
-        self.events, self.most, self.answer = events, most, answer
+    def __init__(self, events: Events, descriptors: Descriptors, most: int,
+                 answer: Answer) -> None:
+        self.events, self.descriptors = events, descriptors
+        self.most, self.answer = most, answer
         # Who came first is first.
         self.present: Dict[socket.socket, bytes] = {}
         self.until: Dict[socket.socket, float] = {}
@@ -45,7 +51,7 @@ class Visitors:
         if sock not in self.present:
             return
         try:
-            data = sock.recv(self.most - len(self.present[sock]))
+            data = self.descriptors.read(sock, self.most - len(self.present[sock]))
             self.present[sock] += data
             answer = self.answer(self.present[sock],
                                  not data or len(self.present[sock]) >= self.most)
@@ -61,7 +67,7 @@ class Visitors:
     def end(self, sock: socket.socket) -> None:
         self.events.forget(sock.fileno())
         del self.present[sock], self.until[sock]
-        sock.close()
+        self.descriptors.close(sock)
 
     def end_late(self, now: float) -> None:
         for sock in [sock for sock, until in self.until.items() if now > until]:
@@ -72,7 +78,7 @@ class Visitors:
             self.end(sock)
 
 
-def turned_away(events: Events) -> Visitors:
+def turned_away(events: Events, descriptors: Descriptors) -> Visitors:
     """Those whose first frame is answered NO_RESOURCES."""
 
     def answer(data: bytes, is_all: bool) -> Optional[bytes]:
@@ -81,22 +87,40 @@ def turned_away(events: Events) -> Visitors:
         _length, client, op = HEAD.unpack(data)
         return wire.reply_frame(client, op, wire.NO_RESOURCES)
 
-    return Visitors(events, LEAST_FRAME, answer)
+    return Visitors(events, descriptors, LEAST_FRAME, answer)
 
 
 class StatusSocket:
-    """A second socket, at which the broker tells its state: as JSON, or as Prometheus' text by
+    """A second socket, at which a program tells its state: as JSON, or as Prometheus' text by
     HTTP's GET /metrics."""
 
-    def __init__(self, listener: Listener, events: Events,
-                 state: Callable[[], Dict[str, Any]]) -> None:
-        self.listener, self.events, self.state = listener, events, state
-        self.visitors = Visitors(events, LINE_BYTES, self.answer)
-        events.watch(listener.sock.fileno(), READ, self.accept)
+    def __init__(self, listener: Listener, events: Events, descriptors: Descriptors,
+                 state: Callable[[], Dict[str, Any]],
+                 metrics: Callable[[Dict[str, Any]], str]) -> None:
+        self.listener, self.events, self.state, self.metrics = listener, events, state, metrics
+        self.descriptors = descriptors
+        self.visitors = Visitors(events, descriptors, LINE_BYTES, self.answer)
+        # When it accepts again, where there was no room for one more.
+        self.accepts_from: Optional[float] = None
+        self.listen()
+
+    def listen(self) -> None:
+        self.events.watch(self.listener.sock.fileno(), READ, self.accept)
 
     def accept(self, _mask: int) -> None:
-        with contextlib.suppress(OSError):
+        try:
             self.visitors.add(self.listener.sock.accept()[0])
+        except BlockingIOError:
+            pass
+        except OSError:
+            self.events.forget(self.listener.sock.fileno())
+            self.accepts_from = time.monotonic() + ACCEPT_PAUSE
+
+    def look_at_clock(self, now: float) -> None:
+        self.visitors.end_late(now)
+        if self.accepts_from is not None and now > self.accepts_from:
+            self.accepts_from = None
+            self.listen()
 
     def answer(self, data: bytes, is_all: bool) -> Optional[bytes]:
         line, newline, _ = data.partition(b"\n")
@@ -105,19 +129,18 @@ class StatusSocket:
         words: List[bytes] = line.split()
         if words[:1] != [b"GET"]:
             return json.dumps(self.state()).encode() + b"\n"
-        return page(words[1] if len(words) > 1 else b"/", self.state())
+        return self.page(words[1] if len(words) > 1 else b"/")
+
+    def page(self, path: bytes) -> bytes:
+        """HTTP's answer to GET."""
+        status, kind, body = "200 OK", "application/json", json.dumps(self.state()) + "\n"
+        if path == b"/metrics":
+            kind, body = "text/plain; version=0.0.4", self.metrics(self.state())
+        elif path not in (b"/", b"/status"):
+            status, kind, body = "404 Not Found", "text/plain", "There are /status and /metrics.\n"
+        return PAGE.format(status, kind, len(body)).encode() + body.encode()
 
     def close(self) -> None:
         self.events.forget(self.listener.sock.fileno())
         self.visitors.end_all()
-        self.listener.close()
-
-
-def page(path: bytes, state: Dict[str, Any]) -> bytes:
-    """HTTP's answer to GET."""
-    status, kind, body = "200 OK", "application/json", json.dumps(state) + "\n"
-    if path == b"/metrics":
-        kind, body = "text/plain; version=0.0.4", as_metrics(state)
-    elif path not in (b"/", b"/status"):
-        status, kind, body = "404 Not Found", "text/plain", "There are /status and /metrics.\n"
-    return PAGE.format(status, kind, len(body)).encode() + body.encode()
+        self.listener.close(self.descriptors)

@@ -7,7 +7,7 @@ from typing import Iterator, Optional
 
 from .lines import Unusable
 
-# Files of the broker's own: its sockets and pipes, and those of who is answered once.
+# Files of a program's own: its sockets, and those of who is answered once.
 OWN_FILES = 256
 # The control groups of the machine, and which of them this program is in.
 GROUPS, OWN_GROUPS = "/sys/fs/cgroup", "/proc/self/cgroup"
@@ -56,12 +56,23 @@ def number_in(path: str) -> Optional[int]:
     return None
 
 
-def raise_file_limit(connections: int) -> None:
-    """Sees to it that so many connections can be open, beside the broker's own files."""
-    wanted = connections + OWN_FILES
+def raise_file_limit(whose: str, files: int) -> None:
+    """Sees to it that so many files can be open, beside the program's own."""
+    wanted = files + OWN_FILES
     soft, hard = resource.getrlimit(resource.RLIMIT_NOFILE)
     if hard != resource.RLIM_INFINITY and hard < wanted:
-        raise Unusable(f"{connections} connections need {wanted} open files, and {hard} are "
-                       "allowed (ulimit -Hn)")
+        raise Unusable(f"{whose} need {wanted} open files, and {hard} are allowed (ulimit -Hn)")
     if soft != resource.RLIM_INFINITY and soft < wanted:
         resource.setrlimit(resource.RLIMIT_NOFILE, (wanted, hard))
+
+
+def limit_memory(process: int, memory: Optional[int]) -> None:
+    """Limits the address space of a process that was started, at most to what this one is
+    allowed; to nothing else where the memory is None."""
+    allowed = resource.getrlimit(resource.RLIMIT_AS)[1]
+    limits = [limit for limit in (memory, allowed)
+              if limit is not None and limit != resource.RLIM_INFINITY]
+    limit = min(limits, default=resource.RLIM_INFINITY)
+    # It may have ended.
+    with contextlib.suppress(ProcessLookupError):
+        resource.prlimit(process, resource.RLIMIT_AS, (limit, limit))

@@ -2,15 +2,20 @@
 hands over."""
 
 import contextlib
+import fcntl
 import os
 import socket
 import stat
-from typing import List, Optional, Tuple
+import time
+from typing import Iterator, List, Optional, Tuple
 
+from .descriptors import Descriptors, refuse
 from .lines import Unusable
 
 # The first descriptor that a service manager hands over (sd_listen_fds(3)).
 FIRST_HANDED = 3
+# How long another program may take to begin at the same path.
+LOCK_SECONDS = 5.0
 
 
 class Listener:
@@ -20,17 +25,63 @@ class Listener:
                  file: Optional[Tuple[int, int]] = None) -> None:
         self.sock, self.path, self.file = sock, path, file
         self.sock.setblocking(False)
+        self.refuses_descriptors = refuse(sock)
 
-    def close(self) -> None:
-        self.sock.close()
+    def close(self, descriptors: Descriptors) -> None:
+        if self.file is None:
+            # Who handed it over still has it.
+            self.sock.close()
+        else:
+            descriptors.close(self.sock)
         with contextlib.suppress(OSError):
-            # Another broker may have put its own file there.
+            # Another program may have put its own file there.
             if self.file is not None and file_of(self.path) == self.file:
                 os.unlink(self.path)
 
 
 def listen_at(path: str, mode: int) -> Listener:
-    """A socket of this broker's own, whose file has this mode."""
+    """A socket of this program's own, whose file has this mode."""
+    if not path:
+        raise Unusable("the path of a socket is empty")
+    with locked(path):
+        return bind(path, mode)
+
+
+@contextlib.contextmanager
+def locked(path: str) -> Iterator[None]:
+    """One program at a time looks who listens at a path and takes it, by a lock on a file of this
+    name with .lock after it."""
+    name, until = f"{path}.lock", time.monotonic() + LOCK_SECONDS
+    file = None
+    while file is None:
+        if time.monotonic() > until:
+            raise Unusable(f"another program begins at {path}: it holds {name}")
+        file = lock(name)
+    try:
+        yield
+    finally:
+        with contextlib.suppress(OSError):
+            os.unlink(name)
+        os.close(file)
+
+
+def lock(name: str) -> Optional[int]:
+    """The file of this name with its lock; None where another one has that, after a moment."""
+    try:
+        file = os.open(name, os.O_RDWR | os.O_CREAT | os.O_NOFOLLOW | os.O_CLOEXEC, 0o600)
+    except OSError as error:
+        raise Unusable(f"{name}: {error.strerror}") from error
+    with contextlib.suppress(BlockingIOError):
+        fcntl.flock(file, fcntl.LOCK_EX | fcntl.LOCK_NB)
+        # Who had the lock before may have removed the file.
+        if is_at(file, name):
+            return file
+    os.close(file)
+    time.sleep(0.01)
+    return None
+
+
+def bind(path: str, mode: int) -> Listener:
     remove_stale(path)
     sock = socket.socket(socket.AF_UNIX, socket.SOCK_STREAM)
     # The file has its mode from the first moment on.
@@ -47,11 +98,11 @@ def listen_at(path: str, mode: int) -> Listener:
 
 
 def handed_over() -> List[Listener]:
-    """The sockets that a service manager hands over, which goes on to listen when the broker
+    """The sockets that a service manager hands over, which goes on to listen when this program
     ends."""
-    if os.environ.get("LISTEN_PID") != str(os.getpid()):
+    process, count = os.environ.pop("LISTEN_PID", ""), os.environ.pop("LISTEN_FDS", "")
+    if process != str(os.getpid()):
         return []
-    count = os.environ.get("LISTEN_FDS", "")
     return [handed(FIRST_HANDED + k) for k in range(int(count) if count.isdigit() else 0)]
 
 
@@ -67,6 +118,13 @@ def handed(descriptor: int) -> Listener:
         raise Unusable(f"descriptor {descriptor}, which was handed over, is no Unix socket that "
                        "listens for streams")
     return Listener(sock, sock.getsockname() or "a socket that was handed over")
+
+
+def is_at(file: int, path: str) -> bool:
+    """Whether an open file is the one at a path."""
+    with contextlib.suppress(FileNotFoundError):
+        return os.path.samestat(os.fstat(file), os.lstat(path))
+    return False
 
 
 def file_of(path: str) -> Tuple[int, int]:
@@ -94,12 +152,3 @@ def remove_stale(path: str) -> None:
         except OSError as error:
             raise Unusable(f"{path}: {error.strerror}") from error
     raise Unusable(f"another program listens at {path}")
-
-
-def tell_manager() -> None:
-    """Tells systemd that the broker listens, where that asks for it (sd_notify(3))."""
-    address = os.environ.get("NOTIFY_SOCKET", "")
-    if address[:1] not in ("/", "@"):
-        return
-    with contextlib.suppress(OSError), socket.socket(socket.AF_UNIX, socket.SOCK_DGRAM) as sock:
-        sock.sendto(b"READY=1", address.replace("@", "\0", 1) if address[0] == "@" else address)

@@ -1,4 +1,4 @@
-"""What the broker waits for: descriptors that can be read or written."""
+"""What a loop waits for: descriptors that can be read or written."""
 
 import select
 from typing import Callable, Dict, List, Optional, Tuple
@@ -24,6 +24,11 @@ class Events:
             self.epoll.modify(descriptor, wanted)
         else:
             self.epoll.register(descriptor, wanted)
+        self.handlers[descriptor] = handler
+
+    def watch_end(self, descriptor: int, handler: Handler) -> None:
+        """Watches a connection for nothing but that both of its directions have ended."""
+        self.epoll.register(descriptor, 0)
         self.handlers[descriptor] = handler
 
     def forget(self, descriptor: int) -> None:

@@ -1,0 +1,220 @@
+"""The loop over new connections, ends of servers and signals."""
+
+import os
+import select
+import signal
+import socket
+import time
+from functools import partial
+from typing import Any, Dict, NamedTuple, Optional
+
+from ..service.admission import Owner
+from ..service.front import Front
+from ..service.lines import Unusable
+from ..service.listener import Listener
+from ..service.signals import Signals
+from .counts import USUAL, Counts, as_metrics, meaning_of
+from .server import Plan, Server, chosen
+
+# Seconds between two looks at the clock.
+LOOK_SECONDS = 1.0
+
+
+class Limits(NamedTuple):
+    """How many connections there are at once, of one process and of one user; seconds for what is
+    asked once a connection or the door ends, and between two lines of counts."""
+
+    connections: int
+    per_process: int
+    per_user: int
+    grace: float
+    report: float
+
+
+def has_ended(sock: socket.socket) -> bool:
+    """Whether nobody is at the other end any more."""
+    poll = select.poll()
+    poll.register(sock.fileno(), 0)
+    return bool(poll.poll(0))
+
+
+class Door(Front):
+    """The listening socket, and the servers that have a connection each."""
+
+    def __init__(self, listener: Listener, status: Optional[Listener], plan: Plan,
+                 limits: Limits) -> None:
+        self.plan, self.limits, self.counts = plan, limits, Counts()
+        self.words = plan.command
+        # By their process numbers.
+        self.servers: Dict[int, Server] = {}
+        super().__init__("door", listener, status, self.counts, limits, as_metrics)
+        self.looked_at = self.now
+        # When servers are waited for no longer, once the door is to end.
+        self.stops_at: Optional[float] = None
+        self.was_told_twice = False
+        self.signals = Signals(self.events, self.take_signals)
+
+    # ---- the loop
+
+    def run(self) -> int:
+        """Serves until a signal; the exit status. Raises Unusable where the program can't be
+        started."""
+        try:
+            self.words = chosen(self.plan.command)
+            with self.signals:
+                memory = "" if self.plan.memory is None else f", of {self.plan.memory} bytes each"
+                self.lines.say(f"listening at {self.listener.path}, with servers of "
+                               f"{self.words[0]}{memory}")
+                self.manager.is_listening()
+                while self.stops_at is None or (self.servers and self.now < self.stops_at):
+                    self.listen_or_not()
+                    ready = self.events.ready(self.timeout())
+                    self.now = time.monotonic()
+                    for handler, mask in ready:
+                        handler(mask)
+                    self.look_at_clock()
+                self.kill_all()
+        finally:
+            self.close()
+        return 0
+
+    def timeout(self) -> Optional[float]:
+        """Until the clock is looked at: for ever where nothing can be late."""
+        if self.stops_at is not None:
+            return max(0.0, min(LOOK_SECONDS, self.stops_at - self.now))
+        is_quiet = not (self.status or self.admission.turned_away.present
+                        or any(server.left_at is not None for server in self.servers.values()))
+        may_sleep = is_quiet and self.is_listening and not self.has_news()
+        return None if may_sleep and self.manager.pause is None else LOOK_SECONDS
+
+    # ---- connections
+
+    def may_listen(self) -> bool:
+        return self.stops_at is None
+
+    def reason_against(self, owner: Owner) -> Optional[str]:
+        count, memory, total = len(self.servers), self.plan.memory, self.plan.total
+        if count >= self.limits.connections:
+            return f"{count} connections are there (--connections)"
+        if memory is not None and total is not None and (count + 1) * memory > total:
+            return (f"{count} servers may have {count * memory} bytes, and one more would pass "
+                    f"{total} (--total-memory)")
+        return self.admission.reason_against(owner)
+
+    def begin(self, sock: socket.socket, owner: Owner) -> None:
+        """Starts a connection's server. The connection is watched for its end alone. One that has
+        ended by now gets none."""
+        if has_ended(sock):
+            self.counts.accepted += 1
+            self.descriptors.close(sock)
+            return
+        try:
+            server = Server(sock, owner, self.words, self.plan, self.now)
+        except (OSError, ValueError) as error:
+            self.admission.turn_away(sock, owner, f"no server is started: {error}")
+            return
+        self.admission.let_in(owner)
+        self.servers[server.process] = server
+        self.events.watch_end(sock.fileno(), partial(self.leave, server))
+
+    def leave(self, server: Server, _mask: int) -> None:
+        """The program has gone. Its server has the grace to see that."""
+        self.events.forget(server.sock.fileno())
+        server.left_at = self.now
+
+    # ---- servers that end
+
+    def bury(self) -> None:
+        """Takes note of all servers that have ended."""
+        while self.servers:
+            try:
+                process, status, usage = os.wait4(-1, os.WNOHANG)
+            except ChildProcessError:
+                return
+            if process == 0:
+                return
+            server = self.servers.pop(process, None)
+            if server is not None:
+                self.counts.processor_seconds += usage.ru_utime + usage.ru_stime
+                self.end(server, os.waitstatus_to_exitcode(status))
+
+    def end(self, server: Server, status: int) -> None:
+        self.events.forget(server.sock.fileno())
+        self.descriptors.close(server.sock)
+        self.admission.let_out(server.owner)
+        self.counts.ended += 1
+        # One that wrote to a program that had gone is ended by that.
+        if status not in USUAL and status != -signal.SIGPIPE:
+            self.counts.failed += 1
+            self.lines.say(f"{server} {meaning_of(status)}")
+
+    def kill(self, server: Server, why: str) -> None:
+        self.lines.say(f"{server} is killed: {why}")
+        os.kill(server.process, signal.SIGKILL)
+
+    def end_left(self) -> None:
+        """Ends the servers that go on though nobody waits for it."""
+        for server in self.servers.values():
+            if server.left_at is not None and self.now > server.left_at + self.limits.grace:
+                server.left_at = None
+                self.kill(server, f"{server.owner} has gone, and its request takes longer than "
+                                  f"{self.limits.grace:g} s (--grace)")
+
+    # ---- the clock, and the end
+
+    def look_at_clock(self) -> None:
+        if self.now - self.looked_at < LOOK_SECONDS:
+            return
+        self.looked_at = self.now
+        self.manager.is_alive()
+        self.bury()
+        self.end_left()
+        self.end_late_visitors()
+        self.report(len(self.servers))
+
+    def state(self) -> Dict[str, Any]:
+        counts = self.counts
+        return {
+            "uptime_seconds": round(self.now - self.began_at, 3), "program": self.words[0],
+            "connections": {"open": len(self.servers), "accepted": counts.accepted,
+                            "turned_away": counts.turned_away},
+            "servers_ended": counts.ended, "servers_failed": counts.failed,
+            "processor_seconds": round(counts.processor_seconds, 6),
+            "servers": [server.state(self.now) for server in self.servers.values()]}
+
+    def take_signals(self, _mask: int) -> None:
+        for which in self.signals.taken():
+            if which == signal.SIGCHLD:
+                self.bury()
+            elif which == signal.SIGHUP:
+                self.reload()
+            elif self.stops_at is not None:
+                # Whoever asks twice doesn't wait.
+                self.was_told_twice, self.stops_at = True, self.now
+            else:
+                self.lines.say(f"ends by {which.name}")
+                self.stop()
+
+    def reload(self) -> None:
+        """Chooses the program anew, for new connections."""
+        try:
+            self.words = chosen(self.plan.command)
+        except (Unusable, OSError) as reason:
+            self.lines.say(f"goes on with {self.words[0]}: {reason}")
+        else:
+            self.lines.say(f"starts {self.words[0]} from now on, by SIGHUP")
+
+    def stop(self) -> None:
+        """Accepts nothing more, and ends the servers' inputs."""
+        self.stops_at = self.now + self.limits.grace
+        self.stop_listening()
+        for server in self.servers.values():
+            server.end_input()
+
+    def kill_all(self) -> None:
+        why = ("the door was told twice to end" if self.was_told_twice else
+               f"its request takes longer than {self.limits.grace:g} s (--grace)")
+        for server in self.servers.values():
+            self.kill(server, why)
+        for process in self.servers:
+            os.waitpid(process, 0)

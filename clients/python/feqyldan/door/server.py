@@ -1,0 +1,157 @@
+"""A server that has a connection to itself."""
+
+import contextlib
+import os
+import shutil
+import socket
+import struct
+import subprocess
+from functools import partial
+from typing import Any, Dict, List, NamedTuple, Optional, Tuple
+
+from .. import program
+from ..service.admission import Owner
+from ..service.lines import Unusable
+from ..service.machine import limit_memory
+from ..service.metrics import memory_of
+
+# How much of its replies a server may have written that aren't taken yet, as far as the system
+# allows that: it is then woken up less often.
+SEND_BYTES = 1 << 20
+# The seconds that the program may take to end by itself where its input is empty.
+TRIAL_SECONDS = 10.0
+# Where a package has the programs that its starter chooses from.
+PROGRAMS = os.path.join("..", "lib", "feqyldan")
+TICKS = os.sysconf("SC_CLK_TCK")
+
+
+class Plan(NamedTuple):
+    """Which program is started; the bytes of addresses that each server may have, and that all may;
+    how nice they are; whether each runs as its connection's user; seconds for which replies may
+    wait to be taken, and requests to come."""
+
+    command: List[str]
+    memory: Optional[int]
+    total: Optional[int]
+    nice: int
+    is_of_peer: bool
+    patience: float
+    idle: Optional[float]
+
+
+def chosen(command: List[str]) -> List[str]:
+    """The command with the path of what it starts: so nothing is looked for at each start. In place
+    of a package's starter, which is a script, that is the program that this one would start.
+    Raises Unusable where the program isn't there, or doesn't serve."""
+    path = shutil.which(command[0])
+    if path is None:
+        raise Unusable(f"{command[0]} isn't there, or can't be run")
+    path = os.path.abspath(path)
+    folder = os.path.join(os.path.dirname(os.path.realpath(path)), PROGRAMS)
+    with open(path, "rb") as file:
+        is_script = file.read(2) == b"#!"
+    if is_script and os.path.isfile(os.path.join(folder, program.PLAIN)):
+        path = os.path.normpath(program.in_folder(folder)[0])
+    words = [path, *command[1:]]
+    check(words)
+    return words
+
+
+def check(words: List[str]) -> None:
+    """Raises Unusable where a server doesn't end well whose input is empty."""
+    try:
+        status = subprocess.run(words, stdin=subprocess.DEVNULL, stdout=subprocess.DEVNULL,
+                                timeout=TRIAL_SECONDS, check=False).returncode
+    except OSError as error:
+        raise Unusable(f"{words[0]}: {error.strerror}") from error
+    except subprocess.TimeoutExpired:
+        raise Unusable(f"{words[0]} doesn't end where its input does") from None
+    if status != 0:
+        raise Unusable(f"{' '.join(words)} ends with status {status} where its input is empty")
+
+
+def set_time(sock: socket.socket, option: int, seconds: float) -> None:
+    whole, part = divmod(seconds, 1)
+    sock.setsockopt(socket.SOL_SOCKET, option, struct.pack("@ll", int(whole), int(part * 1e6)))
+
+
+class Server:
+    """The process, and a copy of its connection: by it the door sees the program go, and ends the
+    server's input."""
+
+    def __init__(self, sock: socket.socket, owner: Owner, words: List[str], plan: Plan,
+                 now: float) -> None:
+        self.sock, self.owner, self.began_at = sock, owner, now
+        # Since when nobody is at the other end.
+        self.left_at: Optional[float] = None
+        sock.setblocking(True)
+        sock.setsockopt(socket.SOL_SOCKET, socket.SO_SNDBUF, SEND_BYTES)
+        set_time(sock, socket.SO_SNDTIMEO, plan.patience)
+        if plan.idle is not None:
+            set_time(sock, socket.SO_RCVTIMEO, plan.idle)
+        # In a session of its own: what ends the door from a terminal doesn't reach it. What it says
+        # is said of its status too.
+        started: Dict[str, Any] = {
+            "stdin": sock.fileno(), "stdout": sock.fileno(), "stderr": subprocess.DEVNULL,
+            "start_new_session": True}
+        if plan.is_of_peer:
+            # Another user's process isn't this one's to limit, once it runs.
+            started.update(user_of(sock), preexec_fn=partial(limit, 0, plan))
+        process = subprocess.Popen(words, **started)
+        self.process = process.pid
+        # The door waits for all of its children together.
+        process.returncode = 0
+        if not plan.is_of_peer:
+            limit(self.process, plan)
+
+    def __str__(self) -> str:
+        return f"the server of process {self.process} for {self.owner}"
+
+    def end_input(self) -> None:
+        """What was sent is still answered, and then the server ends."""
+        with contextlib.suppress(OSError):
+            self.sock.shutdown(socket.SHUT_RD)
+
+    def state(self, now: float) -> Dict[str, Any]:
+        memory, peak = memory_of(self.process)
+        bytes_in, bytes_out = bytes_of(self.process)
+        return {
+            "process": self.process, "of_process": self.owner.process, "of_user": self.owner.user,
+            "seconds": round(now - self.began_at, 3),
+            "processor_seconds": processor_seconds_of(self.process), "bytes_in": bytes_in,
+            "bytes_out": bytes_out, "memory_bytes": memory, "peak_memory_bytes": peak}
+
+
+def user_of(sock: socket.socket) -> Dict[str, Any]:
+    """What has a process run as the user and the group at the other end, and no other group."""
+    _process, user, group = struct.unpack("iII",
+                                          sock.getsockopt(socket.SOL_SOCKET, socket.SO_PEERCRED,
+                                                          12))
+    return {"user": user, "group": group, "extra_groups": ()}
+
+
+def limit(process: int, plan: Plan) -> None:
+    """Limits a process, or this one where the number is 0."""
+    limit_memory(process, plan.memory)
+    if plan.nice:
+        with contextlib.suppress(OSError):
+            os.setpriority(os.PRIO_PROCESS, process, plan.nice)
+            # Its session may be a group of its own to the scheduler, which is as nice by itself.
+            with open(f"/proc/{process or 'self'}/autogroup", "w") as file:
+                file.write(str(plan.nice))
+
+
+def processor_seconds_of(process: int) -> float:
+    """What a process has had of the processors; 0 where it has ended."""
+    with contextlib.suppress(OSError), open(f"/proc/{process}/stat") as file:
+        words = file.read().rpartition(")")[2].split()
+        return (int(words[11]) + int(words[12])) / TICKS
+    return 0.0
+
+
+def bytes_of(process: int) -> Tuple[int, int]:
+    """How many bytes a process has read and written; zeros where that isn't told."""
+    with contextlib.suppress(OSError), open(f"/proc/{process}/io") as file:
+        found = dict(line.split(": ") for line in file)
+        return int(found["rchar"]), int(found["wchar"])
+    return 0, 0

@@ -1,0 +1,147 @@
+"""Graphs drawn: in Graphviz's language, as SVG, and delays in a notebook."""
+
+from __future__ import annotations
+
+import base64
+import html
+import shutil
+import subprocess
+from typing import Any, Dict, Iterable, List, NamedTuple, Optional, Tuple
+
+from .verdicts import Cell, Member
+
+# How many seconds Graphviz may take.
+PATIENCE = 20
+# The sides of a box, and the gaps between boxes, in points.
+BOX_WIDTH, BOX_HEIGHT, ACROSS, DOWN, MARGIN = 150, 40, 50, 16, 10
+_STYLES = {"virtual": 'shape=ellipse style=dashed', "object": 'shape=box style=filled '
+           'fillcolor="#e8eef7"', "node": 'shape=cds style=filled fillcolor="#fdf0d5"'}
+
+
+class Box(NamedTuple):
+    """A node or an object in a drawing: its words in two lines, and its kind."""
+
+    key: str
+    title: str
+    about: str
+    kind: str
+
+
+class Drawing(NamedTuple):
+    """Boxes, and arrows between them by their keys."""
+
+    boxes: Dict[str, Box]
+    arrows: List[Tuple[str, str]]
+
+    @property
+    def dot(self) -> str:
+        """It in Graphviz's language."""
+        lines = ["digraph {", "  rankdir=LR; node [fontname=sans fontsize=10]"]
+        for box in self.boxes.values():
+            words = "\\n".join(_quoted(line) for line in (box.title, box.about) if line)
+            lines.append(f'  {box.key} [label="{words}" {_STYLES[box.kind]}]')
+        lines += [f"  {source} -> {target}" for source, target in self.arrows]
+        return "\n".join([*lines, "}", ""])
+
+    @property
+    def svg(self) -> str:
+        """It as SVG: by Graphviz's dot where that is installed, else in columns."""
+        return _by_graphviz(self.dot) or _in_columns(self)
+
+
+def drawing_of(members: Iterable[Member]) -> Drawing:
+    drawing = Drawing({}, [])
+    for member in members:
+        key = f"node{member.number}"
+        drawing.boxes[key] = Box(key, member.function, f"node {member.number}", "node")
+        for cell in member.inputs:
+            drawing.arrows.append((_key_of(drawing, cell), key))
+        for cell in member.outputs:
+            drawing.arrows.append((key, _key_of(drawing, cell)))
+    return drawing
+
+
+def _key_of(drawing: Drawing, cell: Cell) -> str:
+    """The key of an object, whose box is drawn once."""
+    key = f"object{cell.reference.hex()}"
+    title, _, about = cell.words.partition(" (")
+    slot, _, delay = title.partition(" of ")
+    label = _label_in(title) if not delay else f"{_label_in(delay)}[{slot.split()[1]}]"
+    drawing.boxes.setdefault(key, Box(key, label, about.rstrip(")"),
+                                      "virtual" if cell.is_virtual else "object"))
+    return key
+
+
+def _label_in(words: str) -> str:
+    """The label that the words of an object have; without one its kind and number."""
+    return words.split('"')[1] if '"' in words else words
+
+
+def _quoted(words: str) -> str:
+    return words.replace("\\", "\\\\").replace('"', '\\"')
+
+
+def _by_graphviz(text: str) -> Optional[str]:
+    if shutil.which("dot") is None:
+        return None
+    try:
+        run = subprocess.run(["dot", "-Tsvg"], input=text.encode(), stdout=subprocess.PIPE,
+                             stderr=subprocess.DEVNULL, timeout=PATIENCE, check=True)
+    except (OSError, subprocess.SubprocessError):
+        return None
+    return run.stdout.decode()
+
+
+def _in_columns(drawing: Drawing) -> str:
+    """Each box in the column after the last of those that it comes from."""
+    columns = _columns_of(drawing)
+    places: Dict[str, Tuple[int, int]] = {}
+    filled: Dict[int, int] = {}
+    for key, column in columns.items():
+        row = filled[column] = filled.get(column, -1) + 1
+        places[key] = (MARGIN + column * (BOX_WIDTH + ACROSS), MARGIN + row * (BOX_HEIGHT + DOWN))
+    width = MARGIN * 2 + (max(filled, default=0) + 1) * (BOX_WIDTH + ACROSS) - ACROSS
+    height = MARGIN * 2 + (max(filled.values(), default=0) + 1) * (BOX_HEIGHT + DOWN) - DOWN
+    lines = [f'<svg xmlns="http://www.w3.org/2000/svg" width="{width}" height="{height}" '
+             'font-family="sans-serif" font-size="11" text-anchor="middle">']
+    lines += [_arrow(places[source], places[target]) for source, target in drawing.arrows]
+    lines += [_box(box, *places[box.key]) for box in drawing.boxes.values()]
+    return "\n".join([*lines, "</svg>", ""])
+
+
+def _columns_of(drawing: Drawing) -> Dict[str, int]:
+    """The column of each box, which a cycle doesn't move for ever."""
+    columns = dict.fromkeys(drawing.boxes, 0)
+    for _ in drawing.boxes:
+        for source, target in drawing.arrows:
+            columns[target] = max(columns[target], min(columns[source] + 1, len(columns)))
+    return columns
+
+
+def _arrow(start: Tuple[int, int], end: Tuple[int, int]) -> str:
+    x0, y0 = start[0] + BOX_WIDTH, start[1] + BOX_HEIGHT // 2
+    x1, y1 = end[0], end[1] + BOX_HEIGHT // 2
+    bend = max(ACROSS, abs(x1 - x0) // 2)
+    return (f'<path d="M {x0} {y0} C {x0 + bend} {y0}, {x1 - bend} {y1}, {x1} {y1}" fill="none" '
+            f'stroke="#666"/><circle cx="{x1}" cy="{y1}" r="3" fill="#666"/>')
+
+
+def _box(box: Box, x: int, y: int) -> str:
+    fill = {"virtual": "#ffffff", "object": "#e8eef7", "node": "#fdf0d5"}[box.kind]
+    dashes = ' stroke-dasharray="4"' if box.kind == "virtual" else ""
+    middle = x + BOX_WIDTH // 2
+    return (f'<rect x="{x}" y="{y}" width="{BOX_WIDTH}" height="{BOX_HEIGHT}" rx="4" '
+            f'fill="{fill}" stroke="#666"{dashes}/>'
+            f'<text x="{middle}" y="{y + 17}">{html.escape(box.title)}</text>'
+            f'<text x="{middle}" y="{y + 32}" fill="#666">{html.escape(box.about)}</text>')
+
+
+def html_of(pictures: Iterable[Tuple[str, Optional[bytes]]]) -> str:
+    """Pictures, PNG, beside one another, each with its words below."""
+    figures: List[Any] = []
+    for words, png in pictures:
+        data = base64.b64encode(png or b"").decode()
+        figures.append('<figure style="display: inline-block; margin: 4px">'
+                       f'<img src="data:image/png;base64,{data}">'
+                       f'<figcaption>{html.escape(words)}</figcaption></figure>')
+    return "".join(figures)

@@ -1,0 +1,118 @@
+"""Pictures from files and to files: PGM and PNG by this package, .npy by NumPy, all others by
+OpenCV or PIL, where one of them is installed."""
+
+from __future__ import annotations
+
+import importlib
+import os
+from typing import Any
+
+from .errors import NotAPicture, WrongPicture
+from .pictures import HEADER, Path, read_bytes, size_of_pgm, write_npy, write_pgm, write_png
+from .samples import Format, Readable, needed_numpy, numpy_module
+
+
+def load(path: Path) -> Any:
+    """
+    The picture in a file, as OpenCV, PIL or NumPy have it: a grey array of uint8 or int16; colours
+    are made grey. Raises OSError where the file can't be read, BadPicture where it has no picture,
+    ImportError where nothing that reads such files is installed.
+    """
+    path = os.fspath(path)
+    # It says why a file can't be read; OpenCV doesn't.
+    with open(path, "rb"):
+        pass
+    if path.endswith(".npy"):
+        return needed_numpy(f"{path}: reading .npy").load(path)
+    cv2, pil = _module("cv2"), _module("PIL.Image")
+    if cv2 is None and pil is None and path.lower().endswith(".pgm"):
+        return pixels_of_pgm(read_bytes(path))
+    if cv2 is None and pil is None:
+        raise ImportError(f"{path}: reading this needs OpenCV or PIL, and neither is installed; "
+                          "PGM and .npy are read without them")
+    return _narrowed(path, _by_cv2(cv2, path) if cv2 is not None else _by_pil(pil, path))
+
+
+def pixels_of_pgm(text: bytes) -> memoryview:
+    """The samples of a PGM text of samples up to 255, of shape (height, width)."""
+    fmt, width, height = size_of_pgm(text)
+    header = HEADER.match(text)
+    assert header is not None
+    rest = text[header.end():]
+    content = rest[1:] if text[:2] == b"P5" else bytes(map(int, rest.split()))
+    if fmt != Format.U8 or len(content) < width * height:
+        raise WrongPicture("this PGM text has samples above 255, or fewer than it says: "
+                           "context.read_pgm(path) takes all PGM texts")
+    return memoryview(content[: width * height]).cast("B", (height, width))
+
+
+def _module(name: str) -> Any:
+    """A module, if it is installed, and NumPy is, which it needs here."""
+    try:
+        return importlib.import_module(name) if numpy_module() is not None else None
+    except ImportError:
+        return None
+
+
+def _by_cv2(cv2: Any, path: str) -> Any:
+    pixels = cv2.imread(path, cv2.IMREAD_UNCHANGED)
+    if pixels is None:
+        raise WrongPicture(f"{path} has no picture that OpenCV reads")
+    if pixels.ndim == 2:
+        return pixels
+    kinds = {3: cv2.COLOR_BGR2GRAY, 4: cv2.COLOR_BGRA2GRAY}
+    return cv2.cvtColor(pixels, kinds[pixels.shape[2]])
+
+
+def _by_pil(pil: Any, path: str) -> Any:
+    try:
+        with pil.open(path) as picture:
+            grey = picture if picture.mode in ("L", "I;16", "I", "F") else picture.convert("L")
+            pixels = needed_numpy(path).asarray(grey)
+    except pil.UnidentifiedImageError:
+        raise WrongPicture(f"{path} has no picture that PIL reads") from None
+    return pixels
+
+
+def _narrowed(path: str, pixels: Any) -> Any:
+    """Samples of 16 bits or more become int16 where they have room."""
+    numpy = numpy_module()
+    if pixels.dtype.kind in "iu" and pixels.dtype.itemsize > 1:
+        least, greatest = int(pixels.min()), int(pixels.max())
+        if least < -32768 or greatest > 32767:
+            raise NotAPicture(f"{path} has samples from {least} to {greatest}, which S16 has no "
+                              "room for: read it by cv2.imread(path, cv2.IMREAD_UNCHANGED), and "
+                              "write (array >> 1).astype(numpy.int16)")
+        return pixels.astype(numpy.int16)
+    return pixels
+
+
+def save(path: Path, picture: Any) -> None:
+    """Writes an image or an array to a file by the ending of its name."""
+    path = os.fspath(path)
+    pixels = picture.read() if isinstance(picture, Readable) else picture
+    ending = os.path.splitext(path)[1].lower()
+    if ending == ".pgm":
+        write_pgm(path, pixels)
+    elif ending == ".png":
+        write_png(path, pixels)
+    elif ending == ".npy":
+        write_npy(path, pixels)
+    else:
+        _save_by_others(path, ending, pixels)
+
+
+def _save_by_others(path: str, ending: str, pixels: Any) -> None:
+    cv2, pil = _module("cv2"), _module("PIL.Image")
+    if cv2 is None and pil is None:
+        raise ImportError(f"{path}: writing {ending or 'a file without an ending'} needs OpenCV or "
+                          "PIL, and neither is installed; .pgm, .png and .npy are written without")
+    if cv2 is None:
+        pil.fromarray(pixels).save(path)
+        return
+    try:
+        done = cv2.imwrite(path, pixels)
+    except cv2.error as error:
+        raise ValueError(f"{path}: OpenCV doesn't write this: {error}") from None
+    if not done:
+        raise OSError(f"{path}: OpenCV couldn't write it")

@@ -1,0 +1,378 @@
+"""
+Graphs as JSON files: the objects by their names, and the nodes by what their functions' parameters
+are called.
+
+    {"feqyldan": 1,
+     "objects": {
+       "camera": {"kind": "image", "format": "U8", "width": 640, "height": 480, "input": true},
+       "clean": {"kind": "image", "file": "reference.png"},
+       "away": {"kind": "virtual image", "format": "U8"},
+       "limit": {"kind": "threshold", "format": "U8", "above": 24},
+       "marks": {"kind": "image", "format": "U8", "width": 640, "height": 480}},
+     "nodes": [
+       {"function": "absdiff", "in1": "camera", "in2": "clean", "output": "away"},
+       {"function": "threshold", "input": "away", "threshold": "limit", "output": "marks"}]}
+
+A slot of a delay is written as `smooth[0]` or `smooth[-1]`.
+"""
+
+from __future__ import annotations
+
+import base64
+import inspect
+import json
+import os
+import re
+import zlib
+from typing import TYPE_CHECKING, Any, Dict, List, NamedTuple, Optional, Sequence
+
+from . import wire
+from .drawing import Box, Drawing
+from .errors import FeqyldanError
+from .functions import FUNCTIONS, REPLICATE, UNDEFINED, Border, Call, Functions, Policy, constant
+from .images import AnyImage, Delay, Image, Slot
+from .objects import Convolution, Distribution, Lut, MinMax, Named, Threshold
+from .pictures import Path
+from .samples import Format, samples_of
+
+if TYPE_CHECKING:
+    from .context import Context
+    from .graphs import Graph, VirtualImage
+
+VERSION = 1
+SLOT = re.compile(r"(.+)\[(0|-[0-9]+)\]")
+
+
+class GraphFileError(FeqyldanError, ValueError):
+    """A file isn't that of a graph. It says in which object or node, and what is wrong."""
+
+
+class GraphFile(NamedTuple):
+    """A graph that a file had, the images that get a picture before each run, what a run leaves
+    (images, distributions and extremes), and all objects, each by its name in the file."""
+
+    graph: Graph
+    inputs: Dict[str, AnyImage]
+    outputs: Dict[str, Any]
+    objects: Dict[str, Any]
+
+
+# ---- writing
+
+def write_graph(graph: Graph, path: Path, inputs: Optional[Sequence[AnyImage]]) -> None:
+    """Writes a graph with its objects, as Graph.save() says."""
+    written = {operand.reference for call in graph.calls.values() for operand in call.operands[2:]
+               if operand is not None}
+    names = Names(graph)
+    chosen = {image.reference for image in _inputs_of(graph, written, inputs)}
+    objects = {name: _description(thing, graph, written, chosen)
+               for name, thing in names.things.items()}
+    nodes = [_node(call, names) for call in graph.calls.values()]
+    text = json.dumps({"feqyldan": VERSION, "objects": objects, "nodes": nodes}, indent=1)
+    with open(path, "w", encoding="utf-8") as file:
+        file.write(text + "\n")
+
+
+def _inputs_of(graph: Graph, written: Any,
+               inputs: Optional[Sequence[AnyImage]]) -> Sequence[AnyImage]:
+    if inputs is not None:
+        return inputs
+    found = {operand.reference: operand for call in graph.calls.values()
+             for operand in call.operands[:2]
+             if isinstance(operand, Image) and operand.reference not in written}
+    if len(found) > 1:
+        raise ValueError(f"{graph} reads {len(found)} images that none of its nodes writes "
+                         f"({', '.join(map(str, found.values()))}): name those that get a picture "
+                         "before each run, as in save(path, inputs=[camera])")
+    return list(found.values())
+
+
+class Names:
+    """The objects that a graph's nodes use, by names of their own: their labels, or their kind and
+    number."""
+
+    def __init__(self, graph: Graph) -> None:
+        self.things: Dict[str, Named] = {}
+        self._names: Dict[int, str] = {}
+        for call in graph.calls.values():
+            for operand in call.operands:
+                if operand is not None:
+                    self._enter(operand.delay if isinstance(operand, Slot) else operand)
+
+    def _enter(self, thing: Any) -> None:
+        if thing.name not in self._names:
+            name = thing.label or f"{thing.kind.replace(' ', '_')}_{thing.name}"
+            if name in self.things or SLOT.fullmatch(name):
+                name = f"{name}_{thing.name}"
+            self.things[name] = thing
+            self._names[thing.name] = name
+
+    def of(self, operand: Any) -> str:
+        if isinstance(operand, Slot):
+            return f"{self._names[operand.delay.name]}[{operand.number}]"
+        return self._names[operand.name]
+
+
+def _description(thing: Any, graph: Graph, written: Any, inputs: Any) -> Dict[str, Any]:
+    described: Dict[str, Any] = {"kind": thing.kind}
+    if isinstance(thing, (Image, Delay)):
+        described.update(format=str(thing.fmt), width=thing.width, height=thing.height)
+    elif thing.is_virtual:
+        sides = {"width": thing.width, "height": thing.height}
+        described.update({"format": str(thing.fmt)} if thing.fmt else {})
+        described.update({side: value for side, value in sides.items() if value})
+    if isinstance(thing, Image) and thing.reference in inputs:
+        described["input"] = True
+    elif isinstance(thing, Image) and thing.reference not in written:
+        content = bytes(samples_of(thing.read()).content)
+        described["samples"] = base64.b64encode(zlib.compress(content)).decode()
+    elif isinstance(thing, Delay):
+        described.update(slots=len(thing), ages=thing.name in graph.aging)
+    else:
+        described.update(_parameters(thing))
+    return described
+
+
+def _parameters(thing: Any) -> Dict[str, Any]:
+    if isinstance(thing, Threshold):
+        limits: Dict[str, Any] = ({"above": thing.above} if thing.above is not None else
+                                  {"between": list(thing.between or ())})
+        return {"format": str(thing.fmt), **limits, "true_value": thing.true_value,
+                "false_value": thing.false_value}
+    if isinstance(thing, Lut):
+        return {"format": str(thing.fmt), "entries": list(thing.entries)}
+    if isinstance(thing, Convolution):
+        return {"rows": [list(row) for row in thing.coefficients], "scale": thing.scale}
+    if isinstance(thing, Distribution):
+        return {"bins": thing.bins, "offset": thing.offset, "range": thing.range}
+    return {}
+
+
+# Which operand of a call a parameter of its function is.
+OPERANDS = {"input": 0, "in1": 0, "in2": 1, "threshold": 1, "lut": 1, "convolution": 1, "output": 2,
+            "accum": 2, "distribution": 2, "extremes": 2, "output_x": 2, "output_y": 3}
+
+
+def _node(call: Call, names: Names) -> Dict[str, Any]:
+    node: Dict[str, Any] = {"function": call.name}
+    for parameter in parameters_of(call.name):
+        if parameter in OPERANDS:
+            operand = call.operands[OPERANDS[parameter]]
+            node[parameter] = None if operand is None else names.of(operand)
+        elif parameter == "policy":
+            node[parameter] = Policy(call.policy).name
+        elif parameter == "shift":
+            node[parameter] = call.amount
+        elif call.border != UNDEFINED:
+            node[parameter] = "REPLICATE" if call.border == REPLICATE else call.border.value
+    return node
+
+
+def parameters_of(function: str) -> List[str]:
+    """What the parameters of a function are called."""
+    return [*inspect.signature(getattr(Functions, function)).parameters][1:]
+
+
+# ---- drawing
+
+def drawing_of_file(path: Path) -> Drawing:
+    """The graph of a file, drawn without a server."""
+    told = told_by(path)
+    drawing = Drawing({}, [])
+    for number, node in enumerate(told["nodes"], 1):
+        function = node.get("function") if isinstance(node, dict) else None
+        if function not in FUNCTIONS:
+            raise GraphFileError(f"{path}: node {number}: there is no function {function!r}")
+        key = f"node{number}"
+        drawing.boxes[key] = Box(key, function, f"node {number}", "node")
+        for parameter in parameters_of(function):
+            if parameter in OPERANDS and node.get(parameter) is not None:
+                other = _entered(drawing, node[parameter], told["objects"])
+                drawing.arrows.append((other, key) if OPERANDS[parameter] < 2 else (key, other))
+    return drawing
+
+
+def _entered(drawing: Drawing, name: str, objects: Dict[str, Any]) -> str:
+    """The key of an object's box."""
+    slot = SLOT.fullmatch(name)
+    described = objects.get(slot[1] if slot else name, {})
+    fields = [str(described[field]) for field in ("format", "width", "height", "above", "bins")
+              if described.get(field) is not None]
+    kind = described.get("kind", "")
+    key = f"object{name.encode().hex()}"
+    drawing.boxes[key] = Box(key, name, " ".join([kind, *fields]),
+                             "virtual" if kind == "virtual image" else "object")
+    return key
+
+
+# ---- reading
+
+def told_by(path: Path) -> Dict[str, Any]:
+    """What a file says, which has objects and nodes."""
+    with open(path, "rb") as file:
+        text = file.read()
+    try:
+        told = json.loads(text)
+    except ValueError as error:
+        raise GraphFileError(f"{path}: no JSON: {error}") from None
+    if not isinstance(told, dict) or told.get("feqyldan") != VERSION:
+        raise GraphFileError(f'{path}: it has no "feqyldan": {VERSION}')
+    if not isinstance(told.get("objects"), dict) or not isinstance(told.get("nodes"), list):
+        raise GraphFileError(f'{path}: it has no "objects", by their names, or no "nodes", a list')
+    return told
+
+
+def read_graph(context: Context, path: Path) -> GraphFile:
+    """Makes the graph of a file, as Context.load_graph() says."""
+    return Reader(context, os.fspath(path)).read(told_by(path))
+
+
+class Reader:
+    """Makes what a file says, and says where it can't."""
+
+    def __init__(self, context: Context, path: str) -> None:
+        self._context, self._path = context, path
+        self._graph = context.graph(name=os.path.splitext(os.path.basename(path))[0])
+        self._things: Dict[str, Any] = {}
+
+    def read(self, told: Dict[str, Any]) -> GraphFile:
+        """The whole of it."""
+        objects = told["objects"]
+        for name, described in objects.items():
+            self._at(f'object "{name}"', self._make, name, described)
+        for number, node in enumerate(told["nodes"], 1):
+            self._at(f"node {number}", self._add, node)
+        for name, described in objects.items():
+            if described.get("ages"):
+                self._at(f'object "{name}"', self._graph.register_auto_aging, self._things[name])
+        inputs = {name: self._things[name] for name, described in objects.items()
+                  if described.get("input")}
+        return GraphFile(self._graph, inputs, self._outputs(), self._things)
+
+    def _outputs(self) -> Dict[str, Any]:
+        written = {operand.reference for call in self._graph.calls.values()
+                   for operand in call.operands[2:] if operand is not None}
+        return {name: thing for name, thing in self._things.items()
+                if isinstance(thing, (Image, Distribution, MinMax)) and thing.reference in written}
+
+    def _fault(self, words: str) -> GraphFileError:
+        return GraphFileError(f"{self._path}: {words}")
+
+    def _at(self, place: str, call: Any, *arguments: Any) -> None:
+        """Calls it, and says at which place it failed."""
+        try:
+            call(*arguments)
+        except KeyError as error:
+            raise self._fault(f"{place}: {error.args[0]!r} is missing") from None
+        except (TypeError, ValueError, OSError, FeqyldanError) as error:
+            raise self._fault(f"{place}: {error}") from None
+
+    def _make(self, name: str, told: Any) -> None:
+        if not isinstance(told, dict):
+            raise ValueError(f"an object is described by its kind and more, and not by {told!r}")
+        makers: Dict[str, Any] = {
+            "image": self._image, "virtual image": self._virtual_image, "delay": self._delay,
+            "threshold": self._threshold, "lookup table": self._lut,
+            "convolution": self._convolution, "distribution": self._distribution,
+            "extremes": lambda name, told: self._context.min_max(name=name)}
+        kind = told["kind"]
+        if kind not in makers:
+            raise ValueError(f"a kind is one of {', '.join(makers)}, and not {kind!r}")
+        self._things[name] = makers[kind](name, told)
+
+    def _image(self, name: str, told: Dict[str, Any]) -> Image:
+        if "file" in told:
+            return self._context.load(os.path.join(os.path.dirname(self._path), told["file"]),
+                                      name=name)
+        image = self._context.image(format_named(told["format"]), told["width"], told["height"],
+                                    name=name)
+        if "samples" in told:
+            content = zlib.decompress(base64.b64decode(told["samples"]))
+            if len(content) != image.size * image.fmt.sample_bytes:
+                raise ValueError(f"its samples have {len(content)} bytes")
+            self._context.tell(f"write samples to {image}", wire.write_image_head, image.reference,
+                               image.fmt, image.width, image.height, content=content)
+        return image
+
+    def _virtual_image(self, name: str, told: Dict[str, Any]) -> VirtualImage:
+        fmt = told.get("format")
+        return self._graph.virtual_image(None if fmt is None else format_named(fmt),
+                                         told.get("width"), told.get("height"), name=name)
+
+    def _delay(self, name: str, told: Dict[str, Any]) -> Delay:
+        with self._context.image(format_named(told["format"]), told["width"],
+                                 told["height"]) as exemplar:
+            return self._context.delay(exemplar, told["slots"], name=name)
+
+    def _threshold(self, name: str, told: Dict[str, Any]) -> Threshold:
+        return self._context.threshold(
+            format_named(told["format"]), told.get("above"), told.get("between"),
+            told.get("true_value", 255), told.get("false_value", 0), name=name)
+
+    def _lut(self, name: str, told: Dict[str, Any]) -> Lut:
+        return self._context.lut(format_named(told["format"]), told["entries"], name=name)
+
+    def _convolution(self, name: str, told: Dict[str, Any]) -> Convolution:
+        return self._context.convolution(told["rows"], told.get("scale", 1), name=name)
+
+    def _distribution(self, name: str, told: Dict[str, Any]) -> Distribution:
+        return self._context.distribution(told["bins"], told.get("offset", 0),
+                                          told.get("range", 256), name=name)
+
+    def _add(self, told: Any) -> None:
+        if not isinstance(told, dict):
+            raise ValueError(f"a node has a function and its operands, and isn't {told!r}")
+        function = told["function"]
+        if function not in FUNCTIONS:
+            raise ValueError(f"there is no function {function!r}; those are {', '.join(FUNCTIONS)}")
+        parameters = parameters_of(function)
+        unknown = [name for name in told if name not in ("function", *parameters)]
+        if unknown:
+            raise ValueError(f"{function} has no {unknown[0]!r}; it has {', '.join(parameters)}")
+        arguments = [self._argument(name, told.get(name) if name in ("border", "output_x",
+                                                                     "output_y") else told[name])
+                     for name in parameters]
+        getattr(self._graph, function)(*arguments)
+
+    def _argument(self, name: str, value: Any) -> Any:
+        if name in OPERANDS:
+            return None if value is None else self._operand(value)
+        if name == "policy":
+            return one_of(Policy, value, "a policy")
+        return border_named(value) if name == "border" else value
+
+    def _operand(self, name: Any) -> Any:
+        slot = SLOT.fullmatch(str(name))
+        thing = self._things.get(slot[1] if slot else str(name))
+        if thing is None:
+            raise ValueError(f"there is no object {name!r}")
+        if slot:
+            if not isinstance(thing, Delay):
+                raise ValueError(f"{slot[1]!r} is no delay, so it has no slots")
+            return thing[int(slot[2])]
+        return thing
+
+
+def format_named(name: Any) -> Format:
+    fmt: Format = one_of(Format, name, "a format")
+    return fmt
+
+
+def one_of(kind: Any, name: Any, what: str) -> Any:
+    """The member of an enumeration of that name."""
+    try:
+        return kind[name]
+    except KeyError:
+        names = ", ".join(member.name for member in kind)
+        raise ValueError(f"{what} is one of {names}, and not {name!r}") from None
+
+
+def border_named(value: Any) -> Border:
+    """UNDEFINED, REPLICATE, or the value that is everywhere."""
+    if value is None or value == "UNDEFINED":
+        return UNDEFINED
+    if value == "REPLICATE":
+        return REPLICATE
+    if isinstance(value, str):
+        raise ValueError(f"a border is UNDEFINED, REPLICATE or a number, and not {value!r}")
+    return constant(value)

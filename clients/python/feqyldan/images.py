@@ -1,0 +1,319 @@
+"""Images: by themselves, and in the slots of a delay."""
+
+from __future__ import annotations
+
+import struct
+from typing import TYPE_CHECKING, Any, Iterator, Optional, Tuple
+
+from . import wire
+from .connection import Body
+from .errors import FeqyldanError
+from .files import save
+from .objects import (
+    Asked, Description, Made, Named, Rectangle, description_of, in_words, sides_of_frame)
+from .pictures import Path, shown
+from .samples import (
+    Format, Picture, Readable, Size, dtype_of, needed_numpy, picture_of, samples_of)
+from .uncopied import Uncopied
+from .whole import UNSIGNED, whole, within
+
+if TYPE_CHECKING:
+    import numpy
+
+    from .context import Context
+
+
+class AnyImage(Readable):
+    """
+    An image of `width` by `height` samples of the format `fmt`, by itself or in a slot of a delay.
+    Its samples outside its valid rectangle are 0.
+    """
+
+    __slots__ = ()
+    is_virtual = False
+
+    @property
+    def context(self) -> Context:
+        raise NotImplementedError
+
+    @property
+    def fmt(self) -> Format:
+        raise NotImplementedError
+
+    @property
+    def width(self) -> int:
+        raise NotImplementedError
+
+    @property
+    def height(self) -> int:
+        raise NotImplementedError
+
+    @property
+    def reference(self) -> bytes:
+        """By which a frame names the image."""
+        raise NotImplementedError
+
+    @property
+    def shape(self) -> Tuple[int, int]:
+        """Height and width in samples, as NumPy has them."""
+        return self.height, self.width
+
+    @property
+    def dtype(self) -> Any:
+        """NumPy's type of the samples: uint8, int16 or uint32. Without NumPy its name."""
+        return dtype_of(self.fmt)
+
+    @property
+    def ndim(self) -> int:
+        """2, as NumPy has it."""
+        return 2
+
+    @property
+    def size(self) -> int:
+        """How many samples there are, as NumPy has it."""
+        return self.width * self.height
+
+    def write(self, samples: Any) -> None:
+        """
+        Replaces all samples, after which the image is wholly valid.
+
+        `samples` is a NumPy array of shape (height, width) and dtype uint8, int16 or uint32 by the
+        image's format; or bytes or another buffer of as many samples by rows, in this machine's
+        byte order; or rows of numbers. What is no such picture raises BadPicture.
+        """
+        fmt, width, height, content = samples_of(samples, Size(self.fmt, self.width, self.height))
+        words = f"write {width} by {height} {fmt} samples to {self}"
+        sides_of_frame(width, height)
+        self.context.tell(words, wire.write_image_head, self.reference, fmt, width, height,
+                          content=content,
+                          explain=lambda code: "" if code != wire.INVALID_DIMENSION else (
+                              f"The samples have the shape {(height, width)}, and the image "
+                              f"{self.shape}."))
+
+    def fill(self, value: int) -> None:
+        """Writes one value to all samples, after which the image is wholly valid."""
+        row = [whole(value, f"a sample of {self.fmt}")] * self.width
+        line = samples_of([row], Size(self.fmt, self.width, 1)).content
+        self.context.tell(f"fill {self} with {value}", wire.write_image_head, self.reference,
+                          self.fmt, self.width, self.height, content=bytes(line) * self.height)
+
+    def read(self) -> Picture:
+        """
+        All samples: a NumPy array of shape (height, width) and dtype uint8, int16 or uint32;
+        without NumPy a memoryview of that shape. It is the caller's own, and may be changed.
+        """
+        return self.context.ask(*self.reading())
+
+    def reading(self) -> Asked[Picture]:
+        """What read() asks, for a pipeline that asks it ahead."""
+        described = struct.pack(">BHH", self.fmt, self.width, self.height)
+        return (f"read {self}", lambda client: wire.read_image(client, self.reference), picture_of,
+                Body(len(described) + self.size * self.fmt.sample_bytes, described))
+
+    def copy(self) -> Image:
+        """A new image with these samples and this valid rectangle."""
+        image = self.context.image_from(self)
+        valid = self.valid
+        if valid != (0, 0, *self.shape[::-1]):
+            image.valid = valid
+        return image
+
+    def save(self, path: Path) -> None:
+        """
+        Writes the picture to a file by the ending of its name: .pgm, .png and NumPy's .npy by this
+        package, any other by OpenCV or PIL, where one of them is installed.
+        """
+        save(path, self)
+
+    def __array__(self, dtype: Any = None, copy: Optional[bool] = None) -> numpy.ndarray[Any, Any]:
+        """The samples, as numpy.asarray(image) asks for them. They come from the server, so they
+        are a copy."""
+        if copy is False:
+            raise ValueError(f"the samples of {self} come from its server, so they can't be there "
+                             "without a copy")
+        pixels: numpy.ndarray[Any, Any] = needed_numpy(f"{self} as an array").asarray(self.read(),
+                                                                                      dtype)
+        return pixels
+
+    def _repr_png_(self) -> Optional[bytes]:
+        """
+        The picture in a notebook, the valid rectangle framed where it isn't the whole image. S16
+        and U32 are scaled, so that the least sample is black and the greatest white. None where it
+        can't be read any more.
+        """
+        try:
+            return shown(self.read(), self.valid)
+        except FeqyldanError:
+            return None
+
+    def read_bytes(self) -> bytes:
+        """All samples by rows, in this machine's byte order."""
+        return bytes(self.read().tobytes())
+
+    def write_pgm(self, text: bytes) -> None:
+        """Replaces all samples by those of a PGM text, P5 or P2, of a picture of the image's format
+        and size."""
+        content = memoryview(text).cast("B")
+        self.context.tell(
+            "write a PGM text to "
+            f"{self}", wire.write_image_pgm_head, self.reference, len(content), content=content)
+
+    def read_pgm(self) -> bytes:
+        """The picture of a U8 image as a PGM text (P5)."""
+        return self.context.ask(*self.reading_pgm())
+
+    def reading_pgm(self) -> Asked[bytes]:
+        """What read_pgm() asks, for a pipeline that asks it ahead."""
+        head = f"P5\n{self.width} {self.height}\n255\n".encode()
+        return ("read a PGM text of "
+                f"{self}", lambda client: wire.read_image_pgm(client, self.reference),
+                lambda reply: bytes(wire.text_of(reply)), Body(len(head) + self.size, head))
+
+    def query(self) -> Description:
+        """The format, the sides and the valid rectangle, as the server has them."""
+        return self.context.ask(*self.querying())
+
+    def querying(self) -> Asked[Description]:
+        """What query() asks, for a pipeline that asks it ahead."""
+        return (f"query {self}", lambda client: wire.query_image(client, self.reference),
+                description_of, None)
+
+    @property
+    def valid(self) -> Rectangle:
+        """
+        The rectangle x0, y0, x1, y1 in which the samples mean something: it has its start and not
+        its end. Setting it makes each sample outside 0 for good: a greater rectangle that is set
+        later doesn't bring them back. A rectangle without pixels is 0, 0, 0, 0.
+        """
+        return self.query().valid
+
+    @valid.setter
+    def valid(self, rectangle: Tuple[int, int, int, int]) -> None:
+        sides = tuple(within(side, f"a side of {self}'s valid rectangle", UNSIGNED,
+                             f"a whole number up to {wire.GREATEST_SIDE}")
+                      for side in rectangle)
+        if len(sides) != 4:
+            raise ValueError(f"a rectangle is x0, y0, x1, y1, and not {rectangle!r}")
+        self.context.tell(f"make {sides} the valid rectangle of "
+                          f"{self}", wire.set_valid, self.reference, sides)
+
+
+class Image(Named, AnyImage):
+    """An image that stands by itself."""
+
+    __slots__ = ("_size",)
+    kind = "image"
+
+    def __init__(self, context: Context, made: Made, fmt: Format, width: int, height: int) -> None:
+        Named.__init__(self, context, made, in_words(fmt, width, height))
+        self._size = Size(fmt, width, height)
+
+    @property
+    def fmt(self) -> Format:
+        return self._size.fmt
+
+    @property
+    def width(self) -> int:
+        return self._size.width
+
+    @property
+    def height(self) -> int:
+        return self._size.height
+
+
+class Slot(Uncopied, AnyImage):
+    """The image that is in a slot of a delay when it is used: after the delay ages that is another
+    one."""
+
+    __slots__ = ("_delay", "_number", "_reference", "__weakref__")
+    _inner = Named._inner
+
+    def __init__(self, delay: Delay, number: int) -> None:
+        self._delay, self._number = delay, number
+        self._reference: bytes = wire.reference(delay.name, -number)
+
+    @property
+    def context(self) -> Context:
+        return self._delay.context
+
+    @property
+    def delay(self) -> Delay:
+        return self._delay
+
+    @property
+    def number(self) -> int:
+        return self._number
+
+    @property
+    def fmt(self) -> Format:
+        return self._delay.fmt
+
+    @property
+    def width(self) -> int:
+        return self._delay.width
+
+    @property
+    def height(self) -> int:
+        return self._delay.height
+
+    @property
+    def reference(self) -> bytes:
+        return self._reference
+
+    def __str__(self) -> str:
+        return f"slot {self.number} of {self.delay}"
+
+    def __repr__(self) -> str:
+        return f"<{self}>"
+
+
+class Delay(Named):
+    """Images of one format and size in slots: delay[0] is the newest, delay[-1] the one before it,
+    and so on."""
+
+    __slots__ = ("_size", "_slots")
+    kind = "delay"
+
+    def __init__(self, context: Context, made: Made, exemplar: AnyImage, slots: int) -> None:
+        super().__init__(context, made, in_words(exemplar.fmt, exemplar.width, exemplar.height))
+        self._size = Size(exemplar.fmt, exemplar.width, exemplar.height)
+        self._slots = slots
+
+    @property
+    def fmt(self) -> Format:
+        return self._size.fmt
+
+    @property
+    def width(self) -> int:
+        return self._size.width
+
+    @property
+    def height(self) -> int:
+        return self._size.height
+
+    def __len__(self) -> int:
+        return self._slots
+
+    def __getitem__(self, number: int) -> Slot:
+        number = whole(number, "the number of a slot")
+        if not -self._slots < number <= 0:
+            raise IndexError(f"a delay of {self._slots} slots has those from 0 down to "
+                             f"{1 - self._slots}")
+        return Slot(self, number)
+
+    def __iter__(self) -> Iterator[Slot]:
+        """The newest first."""
+        return (Slot(self, -k) for k in range(self._slots))
+
+    def _values(self) -> str:
+        return f", {self._slots} slots"
+
+    def _repr_html_(self) -> str:
+        """The pictures of all slots in a notebook, the newest first."""
+        from .drawing import html_of
+        return html_of((f"slot {slot.number}", slot._repr_png_()) for slot in self)
+
+    def age(self) -> None:
+        """Moves each image on by one slot: slot 0 to -1, and so on, and the last one to 0.
+        Graph.register_auto_aging() has that done after each run of a graph."""
+        self._context.tell(f"age {self}", wire.age_delay, self.name)

@@ -1,0 +1,57 @@
+"""Regions of pixels that are marked, by OpenCV or SciPy, where one of them is installed."""
+
+from __future__ import annotations
+
+from typing import Any, List, NamedTuple
+
+from .objects import Rectangle
+from .samples import Readable, needed_numpy
+
+
+class Region(NamedTuple):
+    """Pixels that touch, by sides or corners: how many, the least rectangle around them, and their
+    middle (x, y)."""
+
+    pixels: int
+    around: Rectangle
+    middle: Any
+
+
+def regions(marks: Any, least: int = 1) -> List[Region]:
+    """
+    The regions of samples that aren't 0 in an image or an array, those of `least` pixels or more,
+    the largest first. Needs NumPy, and OpenCV or SciPy.
+    """
+    numpy = needed_numpy("regions()")
+    pixels = numpy.asarray(marks.read() if isinstance(marks, Readable) else marks) != 0
+    try:
+        import cv2
+    except ImportError:
+        found = _by_scipy(numpy, pixels)
+    else:
+        found = _by_cv2(cv2, numpy, pixels)
+    return sorted((region for region in found if region.pixels >= least),
+                  key=lambda region: -region.pixels)
+
+
+def _by_cv2(cv2: Any, numpy: Any, pixels: Any) -> List[Region]:
+    count, _, stats, middles = cv2.connectedComponentsWithStats(pixels.astype(numpy.uint8))
+    return [Region(int(size), Rectangle(int(x), int(y), int(x + width), int(y + height)),
+                   tuple(map(float, middle)))
+            for (x, y, width, height, size), middle in zip(stats[1:count], middles[1:count])]
+
+
+def _by_scipy(numpy: Any, pixels: Any) -> List[Region]:
+    try:
+        from scipy import ndimage
+    except ImportError:
+        raise ImportError("regions() needs OpenCV or SciPy, and neither is installed") from None
+    labels, count = ndimage.label(pixels, numpy.ones((3, 3)))
+    numbers = range(1, count + 1)
+    sizes = numpy.bincount(labels.ravel(), minlength=count + 1)
+    middles = ndimage.center_of_mass(pixels, labels, numbers)
+    return [Region(int(sizes[number]),
+                   Rectangle(columns.start, rows.start, columns.stop, rows.stop),
+                   (float(x), float(y)))
+            for number, (rows, columns), (y, x) in zip(numbers, ndimage.find_objects(labels),
+                                                       middles)]

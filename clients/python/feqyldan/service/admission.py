@@ -1,0 +1,103 @@
+"""Who is let in: so many connections of each process and of each user."""
+
+import socket
+import struct
+from collections import Counter
+from typing import NamedTuple, Optional, Set, Tuple
+
+from .descriptors import Descriptors
+from .events import Events
+from .lines import Lines
+from .listener import Listener
+from .visitors import turned_away
+
+# How many connections are accepted before others have their turn; the seconds until that is tried
+# again when the system had no room for one.
+ACCEPTED_AT_ONCE, ACCEPT_PAUSE = 4, 1.0
+
+
+class Owner(NamedTuple):
+    """The process that made a connection, and its user."""
+
+    process: int
+    user: int
+
+    def __str__(self) -> str:
+        return f"process {self.process} of user {self.user}"
+
+
+def owner_of(sock: socket.socket) -> Owner:
+    process, user, _group = struct.unpack("iII",
+                                          sock.getsockopt(socket.SOL_SOCKET, socket.SO_PEERCRED,
+                                                          12))
+    return Owner(process, user)
+
+
+class Accepted:
+    """How many connections were accepted and turned away so far; and what else is counted."""
+
+    def __init__(self) -> None:
+        self.accepted = self.turned_away = 0
+
+    def told(self) -> Tuple[float, ...]:
+        """All counts."""
+        raise NotImplementedError
+
+    def as_words(self, before: Tuple[float, ...]) -> str:
+        """What has happened since the counts were these."""
+        raise NotImplementedError
+
+
+class Admission:
+    """Accepts connections and counts those that each process and each user has."""
+
+    def __init__(self, per_process: int, per_user: int, counts: Accepted, lines: Lines,
+                 events: Events, descriptors: Descriptors) -> None:
+        self.per_process, self.per_user, self.counts = per_process, per_user, counts
+        self.lines, self.descriptors = lines, descriptors
+        self.processes: "Counter[Owner]" = Counter()
+        self.users: "Counter[int]" = Counter()
+        # Which processes were turned away, which is said once a minute.
+        self.told: Set[Owner] = set()
+        self.turned_away = turned_away(events, descriptors)
+
+    def accept(self, listener: Listener) -> Optional[Tuple[socket.socket, Owner]]:
+        """The next connection; None where nobody waits. Raises OSError where the system has no room
+        for one."""
+        try:
+            sock, _ = listener.sock.accept()
+        except BlockingIOError:
+            return None
+        return sock, owner_of(sock)
+
+    def reason_against(self, owner: Owner) -> Optional[str]:
+        """Why a process gets no connection, in words."""
+        if self.processes[owner] >= self.per_process:
+            return f"it has {self.processes[owner]} connections (--per-process)"
+        if self.users[owner.user] >= self.per_user:
+            return f"its user has {self.users[owner.user]} connections (--per-user)"
+        return None
+
+    def let_in(self, owner: Owner) -> None:
+        self.counts.accepted += 1
+        self.processes[owner] += 1
+        self.users[owner.user] += 1
+
+    def let_out(self, owner: Owner) -> None:
+        self.processes[owner] -= 1
+        self.users[owner.user] -= 1
+        if not self.processes[owner]:
+            del self.processes[owner]
+        if not self.users[owner.user]:
+            del self.users[owner.user]
+
+    def turn_away(self, sock: socket.socket, owner: Owner, reason: str) -> None:
+        if owner not in self.told:
+            self.lines.say(f"{owner} is turned away: {reason}")
+        self.told.add(owner)
+        self.counts.turned_away += 1
+        self.turned_away.add(sock)
+
+    @property
+    def present(self) -> int:
+        return sum(self.processes.values())

@@ -1,0 +1,136 @@
+"""Descriptors that a program sends along with its bytes (SCM_RIGHTS). Nobody here wants them, and
+who closes the last copy of one may have to wait for as long as its sender likes: a TCP socket that
+lingers with unsent bytes waits for up to 2^15 seconds, and a message has 253 of them.
+
+Linux refuses them at the sender where a socket says so (SO_PASSRIGHTS, from 6.16 on). Before that
+they are closed in a process that does nothing else, together with the sockets in which unread ones
+may wait. That one is killed where it hangs: a process that exits waits for nothing.
+"""
+
+import array
+import contextlib
+import os
+import signal
+import socket
+from typing import Iterator, List, Optional, Tuple
+
+SO_PASSRIGHTS = 83
+# A message has at most so many descriptors.
+MOST_SENT = 253
+
+
+def refuse(sock: socket.socket) -> bool:
+    """Has a socket, and those that it accepts, be sent no descriptors; whether Linux can."""
+    with contextlib.suppress(OSError):
+        sock.setsockopt(socket.SOL_SOCKET, SO_PASSRIGHTS, 0)
+        return True
+    return False
+
+
+class Descriptors:
+    """Reads from and closes sockets, without ever closing what a program has sent."""
+
+    def __init__(self, are_refused: bool) -> None:
+        self.are_refused = are_refused
+        self.space = socket.CMSG_SPACE(MOST_SENT * array.array("i").itemsize)
+        self.closer: Optional[Closer] = None
+
+    def read(self, sock: socket.socket, most: int) -> bytes:
+        if self.are_refused:
+            return sock.recv(most)
+        data, sent, _, _ = sock.recvmsg(most, self.space, socket.MSG_CMSG_CLOEXEC)
+        self.close_sent(sent)
+        return data
+
+    def read_into(self, sock: socket.socket, room: memoryview) -> int:
+        if self.are_refused:
+            return sock.recv_into(room)
+        count, sent, _, _ = sock.recvmsg_into([room], self.space, socket.MSG_CMSG_CLOEXEC)
+        self.close_sent(sent)
+        return count
+
+    def close_sent(self, sent: List[Tuple[int, int, bytes]]) -> None:
+        for level, kind, data in sent:
+            if (level, kind) == (socket.SOL_SOCKET, socket.SCM_RIGHTS):
+                descriptors = array.array("i", data)
+                with self.held_elsewhere(list(descriptors)):
+                    for descriptor in descriptors:
+                        os.close(descriptor)
+
+    def close(self, sock: socket.socket) -> None:
+        """Closes a connection, in which descriptors may wait that nobody has read."""
+        if self.are_refused or sock.fileno() < 0:
+            sock.close()
+        else:
+            # The other end sees it now, whenever the last copy is closed.
+            with contextlib.suppress(OSError):
+                sock.shutdown(socket.SHUT_RDWR)
+            with self.held_elsewhere([sock.fileno()]):
+                sock.close()
+
+    @contextlib.contextmanager
+    def held_elsewhere(self, descriptors: List[int]) -> Iterator[None]:
+        """Descriptors that are closed within it are closed once more after it, by another process,
+        which has the last copy of each."""
+        if not self.hand_over(descriptors):
+            # It hangs, or has ended.
+            self.end()
+            self.hand_over(descriptors)
+        yield
+        if self.closer is not None and not self.closer.take([]):
+            self.end()
+
+    def hand_over(self, descriptors: List[int]) -> bool:
+        with contextlib.suppress(OSError):
+            self.closer = self.closer or Closer()
+        return self.closer is not None and self.closer.take(descriptors)
+
+    def end(self) -> None:
+        if self.closer is not None:
+            self.closer.kill()
+            self.closer = None
+
+
+class Closer:
+    """A process that closes what it is sent, once it is sent a message without descriptors."""
+
+    def __init__(self) -> None:
+        self.sock, theirs = socket.socketpair(socket.AF_UNIX, socket.SOCK_SEQPACKET)
+        self.sock.setblocking(False)
+        self.process = os.fork()
+        if self.process == 0:
+            try:
+                close_all_sent(theirs)
+            finally:
+                os._exit(0)
+        theirs.close()
+
+    def take(self, descriptors: List[int]) -> bool:
+        try:
+            socket.send_fds(self.sock, [b"\0"], descriptors)
+        except OSError:
+            return False
+        return True
+
+    def kill(self) -> None:
+        os.kill(self.process, signal.SIGKILL)
+        self.sock.close()
+        with contextlib.suppress(ChildProcessError):
+            os.waitpid(self.process, 0)
+
+
+def close_all_sent(source: socket.socket) -> None:
+    """Keeps nothing of the process that it is a copy of, and closes what comes."""
+    signal.set_wakeup_fd(-1)
+    for which in (signal.SIGTERM, signal.SIGINT, signal.SIGHUP):
+        signal.signal(which, signal.SIG_IGN)
+    commands = socket.socket(fileno=os.dup2(source.fileno(), 3))
+    os.closerange(4, os.sysconf("SC_OPEN_MAX"))
+    held: List[int] = []
+    while True:
+        data, descriptors, _, _ = socket.recv_fds(commands, 1, MOST_SENT)
+        if not data:
+            return
+        held += descriptors
+        while held and not descriptors:
+            os.close(held.pop())

@@ -1,0 +1,111 @@
+"""The side of a door or a broker that programs and operators see: it listens, lets in and turns
+away, tells its state and says what has happened."""
+
+import socket
+import time
+from typing import Any, Callable, Dict, Optional
+
+from .admission import ACCEPT_PAUSE, ACCEPTED_AT_ONCE, Accepted, Admission, Owner
+from .descriptors import Descriptors
+from .events import READ, Events
+from .lines import Lines
+from .listener import Listener
+from .manager import Manager
+from .visitors import StatusSocket
+
+
+class Front:
+    """What a door and a broker each fill in stands at the end."""
+
+    def __init__(self, name: str, listener: Listener, status: Optional[Listener], counts: Accepted,
+                 limits: Any, as_metrics: Callable[[Dict[str, Any]], str]) -> None:
+        self.listener, self.report_seconds = listener, limits.report
+        self.lines, self.events, self.manager = Lines(name), Events(), Manager()
+        self.descriptors = Descriptors(listener.refuses_descriptors)
+        self.admission = Admission(limits.per_process, limits.per_user, counts, self.lines,
+                                   self.events, self.descriptors)
+        self.now = self.began_at = time.monotonic()
+        self.reported_at = self.accepts_from = self.now
+        self.reported = counts.told()
+        self.status = (StatusSocket(status, self.events, self.descriptors, self.state, as_metrics)
+                       if status else None)
+        self.is_listening = False
+
+    def has_news(self) -> bool:
+        """Whether something has happened that wasn't said yet."""
+        return self.reported != self.admission.counts.told()
+
+    # ---- new connections
+
+    def listen_or_not(self) -> None:
+        wanted = self.now >= self.accepts_from and self.may_listen()
+        if wanted != self.is_listening:
+            self.is_listening = wanted
+            self.events.watch(self.listener.sock.fileno(), READ if wanted else 0, self.accept)
+
+    def accept(self, _mask: int) -> None:
+        for _ in range(ACCEPTED_AT_ONCE if self.is_listening else 0):
+            if not self.may_listen():
+                return
+            try:
+                newcomer = self.admission.accept(self.listener)
+            except OSError as error:
+                self.lines.say(f"no connection is accepted for {ACCEPT_PAUSE:g} s: {error}")
+                self.accepts_from = self.now + ACCEPT_PAUSE
+                return
+            if newcomer is None:
+                return
+            reason = self.reason_against(newcomer[1])
+            if reason is None:
+                self.begin(*newcomer)
+            else:
+                self.admission.turn_away(*newcomer, reason)
+
+    # ---- the clock, and the end
+
+    def end_late_visitors(self) -> None:
+        self.admission.turned_away.end_late(self.now)
+        if self.status:
+            self.status.look_at_clock(self.now)
+
+    def report(self, connections: int) -> None:
+        """Says what has happened since it was said last, once a minute unless told otherwise."""
+        if self.now - self.reported_at < self.report_seconds:
+            return
+        counts = self.admission.counts
+        if self.has_news():
+            self.lines.say(f"{connections} connections are open; in "
+                           f"{self.now - self.reported_at:.0f} s {counts.as_words(self.reported)}")
+        self.reported_at, self.reported = self.now, counts.told()
+        self.admission.told.clear()
+
+    def stop_listening(self) -> None:
+        self.listen_or_not()
+        self.listener.close(self.descriptors)
+        self.admission.turned_away.end_all()
+
+    def close(self) -> None:
+        """Closes what is open of it."""
+        self.listener.close(self.descriptors)
+        if self.status:
+            self.status.close()
+        self.descriptors.end()
+        self.events.close()
+
+    # ---- what each of them fills in
+
+    def may_listen(self) -> bool:
+        """Whether newcomers are let in or turned away, and don't wait."""
+        raise NotImplementedError
+
+    def reason_against(self, owner: Owner) -> Optional[str]:
+        """Why a process gets no connection, in words."""
+        raise NotImplementedError
+
+    def begin(self, sock: socket.socket, owner: Owner) -> None:
+        """Takes a connection that is let in."""
+        raise NotImplementedError
+
+    def state(self) -> Dict[str, Any]:
+        """What the status socket tells."""
+        raise NotImplementedError

@@ -1,0 +1,43 @@
+"""Lines on standard error."""
+
+import contextlib
+import select
+import sys
+import time
+
+# How many lines a second are written.
+LINES_A_SECOND = 20
+
+
+class Unusable(Exception):
+    """The program can't begin, for a reason in words."""
+
+
+class Lines:
+    """Lines on standard error, at most 20 a second: a connection that is ended again and again
+    doesn't fill a disk. No line waits for its reader: one that would is left out."""
+
+    def __init__(self, name: str) -> None:
+        self.name = name
+        self.second, self.count, self.left_out = 0, 0, 0
+
+    def say(self, words: str) -> None:
+        second = int(time.monotonic())
+        if second != self.second:
+            self.second, self.count = second, 0
+            if self.left_out and self.write(f"{self.left_out} lines are left out here"):
+                self.left_out = 0
+        self.count += 1
+        if self.count > LINES_A_SECOND or not self.write(words):
+            self.left_out += 1
+
+    def write(self, words: str) -> bool:
+        """Whether the line was written. Whoever reads standard error may have ended, or may read no
+        more: then a write to a full pipe would wait for ever."""
+        with contextlib.suppress(OSError, ValueError):
+            ready = select.poll()
+            ready.register(sys.stderr.fileno(), select.POLLOUT)
+            if ready.poll(0):
+                print(f"feqyldan {self.name}: {words}", file=sys.stderr, flush=True)
+                return True
+        return False

@@ -1,0 +1,38 @@
+"""What a service manager is told (sd_notify(3)), where it asks for that."""
+
+import contextlib
+import os
+import socket
+import time
+from typing import Optional
+
+
+class Manager:
+    """systemd, where this program is a service of it that notifies."""
+
+    def __init__(self) -> None:
+        # The servers have nothing to tell.
+        self.address = os.environ.pop("NOTIFY_SOCKET", "")
+        microseconds = os.environ.pop("WATCHDOG_USEC", "")
+        os.environ.pop("WATCHDOG_PID", None)
+        # How often it wants to hear that the loop goes round, with half of the time to spare.
+        self.pause: Optional[float] = int(microseconds) / 2e6 if microseconds.isdigit() else None
+        self.told_at = 0.0
+
+    def is_listening(self) -> None:
+        self.tell(b"READY=1")
+
+    def is_alive(self) -> None:
+        now = time.monotonic()
+        if self.pause is not None and now > self.told_at + self.pause:
+            self.told_at = now
+            self.tell(b"WATCHDOG=1")
+
+    def tell(self, words: bytes) -> None:
+        if self.address[:1] not in ("/", "@"):
+            return
+        address = "\0" + self.address[1:] if self.address[0] == "@" else self.address
+        with contextlib.suppress(OSError), socket.socket(socket.AF_UNIX,
+                                                         socket.SOCK_DGRAM) as sock:
+            sock.setblocking(False)
+            sock.sendto(words, address)

@@ -1,0 +1,55 @@
+"""The state in Prometheus' text format, and what of it the system knows of processes."""
+
+from typing import Any, Dict, Iterator, List, Sequence, Tuple
+
+# Of a program and of each of its servers: the name, its place in the state, whether it only grows,
+# and what it is.
+Metrics = Sequence[Tuple[str, str, str, str]]
+ACCEPTED = (
+    ("connections", "connections.open", "gauge", "Connections that are open"),
+    ("connections_total", "connections.accepted", "counter", "Connections that were accepted"),
+    ("turned_away_total", "connections.turned_away", "counter",
+     "Connections that were turned away"))
+MEMORY = (
+    ("server_memory_bytes", "memory_bytes", "gauge", "The memory that a server has"),
+    ("server_peak_memory_bytes", "peak_memory_bytes", "gauge",
+     "The most memory that a server has had"))
+
+
+def found(state: Dict[str, Any], path: str) -> Any:
+    for name in path.split("."):
+        state = state[name]
+    return state
+
+
+def metrics_of(state: Dict[str, Any], metrics: Metrics) -> Iterator[str]:
+    for name, path, kind, words in metrics:
+        yield from metric(name, kind, words, [("", found(state, path))])
+
+
+def metrics_of_servers(state: Dict[str, Any], metrics: Metrics) -> Iterator[str]:
+    for name, path, kind, words in metrics:
+        yield from metric(name, kind, words, [
+            (f'{{process="{server["process"]}"}}', server[path]) for server in state["servers"]])
+
+
+def metric(name: str, kind: str, words: str, values: List[Tuple[str, Any]]) -> Iterator[str]:
+    yield f"# HELP feqyldan_{name} {words}."
+    yield f"# TYPE feqyldan_{name} {kind}"
+    for labels, value in values:
+        yield f"feqyldan_{name}{labels} {value}"
+
+
+def memory_of(process: int) -> Tuple[int, int]:
+    """The bytes of memory that a process has, and the most that it has had; zeros where it has
+    ended."""
+    found = {"VmRSS": 0, "VmHWM": 0}
+    try:
+        with open(f"/proc/{process}/status") as file:
+            for line in file:
+                name, _, words = line.partition(":")
+                if name in found:
+                    found[name] = int(words.split()[0]) * 1024
+    except OSError:
+        pass
+    return found["VmRSS"], found["VmHWM"]

@@ -1,0 +1,96 @@
+"""What the command lines of the door and the broker have in common."""
+
+import argparse
+from functools import partial
+from typing import Optional, Tuple
+
+from .descriptors import Descriptors
+from .lines import Unusable
+from .listener import Listener, handed_over, listen_at
+from .machine import memory_bytes
+
+# Client numbers are 0 to 65,535.
+MOST_CONNECTIONS = 65_536
+LEAST_MEMORY, MOST_MEMORY = 2**24, 2**48
+CONNECTIONS, PER_PROCESS, PER_USER = 64, 8, MOST_CONNECTIONS
+PATIENCE, GRACE, REPORT = 30.0, 10.0, 60.0
+
+
+def number_from(least: int, greatest: int, words: str) -> int:
+    if not (words.isascii() and words.isdigit() and least <= int(words) <= greatest):
+        raise argparse.ArgumentTypeError(f"a number from {least} to {greatest}, not {words!r}")
+    return int(words)
+
+
+def mode_from(words: str) -> int:
+    is_octal = words.isascii() and words.isdigit() and set(words) <= set("01234567")
+    if not (is_octal and int(words, 8) <= 0o777):
+        raise argparse.ArgumentTypeError(f"an octal number up to 0777, not {words!r}")
+    return int(words, 8)
+
+
+def seconds_from(words: str) -> float:
+    try:
+        seconds = float(words)
+    except ValueError:
+        seconds = 0.0
+    if not 0 < seconds <= 1e6:
+        raise argparse.ArgumentTypeError(f"a number of seconds above 0, not {words!r}")
+    return seconds
+
+
+def memory_from(words: str) -> Optional[int]:
+    return None if words == "unlimited" else number_from(LEAST_MEMORY, MOST_MEMORY, words)
+
+
+def part_of_memory(part: float) -> int:
+    """A part of the machine's memory, or of what a control group allows."""
+    return max(LEAST_MEMORY, int(memory_bytes() * part))
+
+
+def parser(name: str, description: str, epilog: str) -> argparse.ArgumentParser:
+    """A parser with the options for the sockets and the server's program."""
+    made = argparse.ArgumentParser(
+        prog=name, formatter_class=argparse.RawDescriptionHelpFormatter,
+        usage="%(prog)s --socket PATH [OPTION ..] -- PROGRAM serve [WORD ..]",
+        description=description, epilog=epilog)
+    add = made.add_argument
+    add("--socket", metavar="PATH", help="where to listen")
+    add("--mode", type=mode_from, default=0o600, metavar="OCTAL",
+        help="who may connect: the mode of the sockets' files (0600, their owner alone)")
+    add("--status", metavar="PATH",
+        help="a second socket, which tells the state: a line of JSON to who sends a line or ends "
+             "its writing; by HTTP, the same at GET /status, and Prometheus' text at GET /metrics")
+    add("--report", type=seconds_from, default=REPORT, metavar="SECONDS",
+        help="how often a line on standard error says what has happened since the last one, where "
+             f"something has ({REPORT:g})")
+    add("command", nargs="+", metavar="PROGRAM serve ..",
+        help="the server's program, with its words")
+    return made
+
+
+def add_admission(made: argparse.ArgumentParser, among: str) -> None:
+    """Adds the limits on connections."""
+    connections = partial(number_from, 1, MOST_CONNECTIONS)
+    add = made.add_argument
+    add("--connections", type=connections, default=CONNECTIONS, metavar="N",
+        help=f"how many at once{among} ({CONNECTIONS})")
+    add("--per-process", type=connections, default=PER_PROCESS, metavar="N",
+        help=f"how many of them one process may have ({PER_PROCESS})")
+    add("--per-user", type=connections, default=PER_USER, metavar="N",
+        help="how many of them the processes of one user may have (all)")
+
+
+def listeners(told: argparse.Namespace) -> Tuple[Listener, Optional[Listener]]:
+    """The sockets that were handed over come first: that for programs, then that for the state."""
+    handed = handed_over()
+    if not handed and told.socket is None:
+        raise Unusable("where to listen isn't told (--socket), and no socket was handed over")
+    listener = handed[0] if handed else listen_at(told.socket, told.mode)
+    if len(handed) > 1:
+        return listener, handed[1]
+    try:
+        return listener, listen_at(told.status, told.mode) if told.status is not None else None
+    except Unusable:
+        listener.close(Descriptors(listener.refuses_descriptors))
+        raise

@@ -1,0 +1,39 @@
+"""Signals that can be waited for together with descriptors."""
+
+import signal
+import socket
+from typing import Dict, List
+
+from .events import READ, Events, Handler
+
+TAKEN = (signal.SIGTERM, signal.SIGINT, signal.SIGHUP, signal.SIGCHLD)
+
+
+class Signals:
+    """Within it the signals that end, renew and tell of a child's end are read in place of
+    interrupting."""
+
+    def __init__(self, events: Events, handler: Handler) -> None:
+        self.events, self.handler = events, handler
+        self.handlers: Dict[int, object] = {}
+
+    def __enter__(self) -> "Signals":
+        self.reader, self.writer = socket.socketpair()
+        for end in (self.reader, self.writer):
+            end.setblocking(False)
+        self.events.watch(self.reader.fileno(), READ, self.handler)
+        self.before = signal.set_wakeup_fd(self.writer.fileno(), warn_on_full_buffer=False)
+        self.handlers = {which: signal.signal(which, lambda *_: None) for which in TAKEN}
+        return self
+
+    def __exit__(self, *_: object) -> None:
+        signal.set_wakeup_fd(self.before)
+        for which, handler in self.handlers.items():
+            signal.signal(which, handler)  # type: ignore[arg-type]
+        self.events.forget(self.reader.fileno())
+        self.reader.close()
+        self.writer.close()
+
+    def taken(self) -> List[signal.Signals]:
+        """Those that have come, in order."""
+        return [signal.Signals(number) for number in self.reader.recv(4096)]

@@ -1,0 +1,71 @@
+"""How much of its limits a context uses, as the package counts it: the server has no request for
+that."""
+
+from __future__ import annotations
+
+import weakref
+from typing import TYPE_CHECKING, Dict, NamedTuple, Optional, Set
+
+if TYPE_CHECKING:
+    from .graphs import Graph
+    from .images import AnyImage
+
+# The most objects that a context may have.
+MOST_OBJECTS = 1024
+SPARE = 64
+
+
+class Usage(NamedTuple):
+    """How many objects there are, of how many that may be, and how many bytes of the quota images
+    take. The quota is None where it isn't known, as behind a socket."""
+
+    objects: int
+    most_objects: int
+    image_bytes: int
+    quota: Optional[int]
+
+
+class Used:
+    """The objects of a context, by their names on the server, each with its bytes of the quota."""
+
+    def __init__(self) -> None:
+        self._sizes: Dict[int, int] = {}
+        # Those among them that were released: they are there as long as a graph uses them.
+        self._released: Set[int] = set()
+        # How many of these there may be before it is seen which are gone.
+        self._most_released = SPARE
+        self.graphs: weakref.WeakSet[Graph] = weakref.WeakSet()
+
+    def add(self, name: int, size: int) -> None:
+        self._sizes[name] = size
+        if len(self._released) > self._most_released:
+            self._drop()
+            self._most_released = SPARE + 2 * len(self._released)
+
+    def release(self, name: int) -> None:
+        self._released.add(name)
+
+    def usage(self, quota: Optional[int]) -> Usage:
+        self._drop()
+        return Usage(len(self._sizes), MOST_OBJECTS, sum(self._sizes.values()), quota)
+
+    def fault(self, size: int, quota: Optional[int]) -> str:
+        """Which limit one more object of so many bytes doesn't keep."""
+        used = self.usage(quota)
+        if used.objects >= MOST_OBJECTS:
+            return f"The client has {used.objects:,} objects, which is the most."
+        of_quota = f"{used.image_bytes:,} are used" if quota is None else (
+            f"{used.image_bytes:,} of {quota:,} are used")
+        return f"It wants {size:,} bytes of the quota, and {of_quota}."
+
+    def _drop(self) -> None:
+        """Forgets what was released and no graph uses."""
+        in_graphs = {name for graph in self.graphs if not graph.closed for name in graph.uses}
+        for name in self._released - in_graphs:
+            self._sizes.pop(name, None)
+        self._released &= in_graphs
+
+
+def wanted_bytes(image: AnyImage) -> int:
+    """How many bytes of the quota an image takes."""
+    return image.width * image.height * image.fmt.sample_bytes

@@ -1,0 +1,442 @@
+"""What a hostile program, or a machine that has too little, can do to the broker and to the door:
+with a plain server (plain_server.py)."""
+
+import array
+import contextlib
+import fcntl
+import multiprocessing
+import os
+import select
+import signal
+import socket
+import struct
+import subprocess
+import sys
+import tempfile
+import time
+import unittest
+from typing import Any, List, Tuple
+from unittest import mock
+
+from broker_tools import (
+    LATE, PACKAGE, PLAIN, Broker, BrokerTest, Door, Program, files_of, peak_bytes,
+    plain, success)
+from feqyldan import wire
+from feqyldan.broker.incoming import SHARED_TURN_BYTES
+from feqyldan.service import descriptors, listener
+from feqyldan.service.lines import Unusable
+from plain_server import HOLD, MANY_BYTES, WAIT
+
+# Seconds for which a descriptor keeps whoever closes it waiting, and within which others have their
+# answers all the same.
+LINGER, SOON = 60, 20.0
+SHORT = wire.QUERY_IMAGE
+
+
+def refusing() -> bool:
+    """Whether this Linux can have a socket refuse descriptors."""
+    with socket.socket(socket.AF_UNIX) as sock:
+        return descriptors.refuse(sock)
+
+
+class Lingering:
+    """TCP sockets with unsent bytes, whose last close waits as long as nobody reads them."""
+
+    def __init__(self, count: int) -> None:
+        pairs = [self.pair() for _ in range(count)]
+        self.senders, self.peers = [one for one, _ in pairs], [other for _, other in pairs]
+
+    def pair(self) -> Tuple[socket.socket, socket.socket]:
+        with socket.socket() as here:
+            here.bind(("127.0.0.1", 0))
+            here.listen(1)
+            sender = socket.create_connection(here.getsockname())
+            peer, _ = here.accept()
+        peer.setsockopt(socket.SOL_SOCKET, socket.SO_RCVBUF, 4096)
+        sender.setblocking(False)
+        with contextlib.suppress(BlockingIOError):
+            while True:
+                sender.send(bytes(65536))
+        sender.setsockopt(socket.SOL_SOCKET, socket.SO_LINGER, struct.pack("ii", 1, LINGER))
+        sender.setblocking(True)
+        return sender, peer
+
+    def send(self, sock: socket.socket, data: bytes) -> None:
+        """Sends them, so that the last copies are on their way. Raises PermissionError where they
+        are refused."""
+        numbers = array.array("i", [sender.fileno() for sender in self.senders])
+        sock.sendmsg([data], [(socket.SOL_SOCKET, socket.SCM_RIGHTS, numbers)])
+        for sender in self.senders:
+            sender.close()
+
+    def close(self) -> None:
+        """Nobody waits for them from now on."""
+        for sock in self.senders:
+            with contextlib.suppress(OSError):
+                sock.setsockopt(socket.SOL_SOCKET, socket.SO_LINGER, struct.pack("ii", 1, 0))
+        for sock in self.senders + self.peers:
+            sock.close()
+
+
+class Descriptors(BrokerTest):
+    """Who sends descriptors along has nobody else wait for them to be closed."""
+
+    def attack(self, broker: Broker, path: str, data: bytes) -> socket.socket:
+        """Sends descriptors while the broker can't look, so that it has the last copies of them."""
+        sock = socket.socket(socket.AF_UNIX, socket.SOCK_STREAM)
+        self.addCleanup(sock.close)
+        sock.connect(path)
+        # It is accepted, and is let in or turned away.
+        self.assertEqual(broker.state()["uptime_seconds"] > 0, True)
+        broker.process.send_signal(signal.SIGSTOP)
+        lingering = Lingering(3)
+        self.addCleanup(lingering.close)
+        try:
+            lingering.send(sock, data)
+        finally:
+            broker.process.send_signal(signal.SIGCONT)
+        return sock
+
+    def test_they_are_refused_where_linux_can(self) -> None:
+        if not refusing():
+            self.skipTest("this Linux can't refuse descriptors")
+        for self.kind in (Broker, Door):
+            broker = self.begin(tells_state=True)
+            for path in (broker.path, broker.status_path):
+                with self.assertRaises(PermissionError):
+                    self.attack(broker, path, plain(1))
+
+    def test_they_are_closed_elsewhere_where_it_cant(self) -> None:
+        """Those of a connection, of one that is turned away, of one that asks for the state and of
+        one that is closed before it is read."""
+        for self.kind in (Broker, Door):
+            broker = self.begin("--connections", "3", tells_state=True, refuses_descriptors=False)
+            honest, first = self.connect(broker), self.connect(broker)
+            for program in (honest, first):
+                self.assertEqual(program.ask(plain(1)), success(1))
+            program = self.attack(broker, broker.path, plain(1) * 2)
+            away = self.attack(broker, broker.path, plain(1))
+            self.is_answered(broker, honest)
+            self.attack(broker, broker.status_path, b"x").close()
+            self.is_answered(broker, honest)
+            for sock in (program, away):
+                sock.close()
+            self.is_answered(broker, honest)
+            # Nothing is kept of them but the process that closes them.
+            files = files_of(broker.process.pid)
+            first.sock.close()
+            self.assertTrue(broker.wait_for(lambda: files_of(broker.process.pid) < files))
+            self.assertEqual(broker.stop(), 0)
+
+    def test_they_wait_in_a_connection_that_was_never_accepted(self) -> None:
+        """The end of a broker or a door isn't held up by them."""
+        for self.kind in (Broker, Door):
+            broker = self.begin(tells_state=True, refuses_descriptors=False)
+            broker.process.send_signal(signal.SIGSTOP)
+            with socket.socket(socket.AF_UNIX) as sock:
+                sock.connect(broker.path)
+                lingering = Lingering(3)
+                self.addCleanup(lingering.close)
+                lingering.send(sock, plain(1))
+                broker.process.terminate()
+                start = time.monotonic()
+                broker.process.send_signal(signal.SIGCONT)
+                self.assertEqual(broker.status(), 0)
+                self.assertLess(time.monotonic() - start, SOON)
+
+    def is_answered(self, broker: Broker, honest: Program) -> None:
+        start = time.monotonic()
+        self.assertEqual(honest.ask(plain(50)), success(50))
+        self.assertEqual(broker.state()["connections"]["open"] > 0, True)
+        self.assertLess(time.monotonic() - start, SOON)
+
+
+class StandardError(BrokerTest):
+    """Lines wait for nobody."""
+
+    def bad(self, broker: Broker) -> None:
+        with broker.program() as program:
+            program.send(bytes(8))
+            program.has_ended()
+
+    def test_a_pipe_that_nobody_reads(self) -> None:
+        for self.kind in (Broker, Door):
+            reader, writer = os.pipe()
+            self.addCleanup(os.close, reader)
+            broker = self.begin_any(stderr=writer)
+            self.assertIn(b"listening at", os.read(reader, 1000))
+            honest = self.connect(broker)
+            self.assertEqual(honest.ask(plain(1)), success(1))
+            os.set_blocking(writer, False)
+            with contextlib.suppress(BlockingIOError):
+                while True:
+                    os.write(writer, b"x" * 1024)
+            os.set_blocking(writer, True)
+            os.close(writer)
+            for _ in range(30):
+                self.bad(broker)
+            self.assertEqual(honest.ask(plain(50)), success(50))
+            os.read(reader, 65536)
+            self.bad(broker)
+            deadline = time.monotonic() + LATE
+            said = b""
+            while b"left out" not in said and time.monotonic() < deadline:
+                self.bad(broker)
+                said += os.read(reader, 65536) if select.select([reader], [], [], 0.2)[0] else b""
+            self.assertIn(b"lines are left out here", said)
+            self.assertEqual(broker.stop(), 0)
+
+    def test_a_full_disk(self) -> None:
+        for self.kind in (Broker, Door):
+            with open("/dev/full", "w") as full:
+                broker = self.begin_any(stderr=full, tells_state=True)
+            self.assertTrue(broker.wait_for(lambda: os.path.exists(broker.status_path)))
+            for _ in range(30):
+                self.bad(broker)
+            self.assertEqual(self.connect(broker).ask(plain(50)), success(50))
+            self.assertEqual(broker.stop(), 0)
+
+
+class Memory(BrokerTest):
+    """Half frames and replies of all connections together."""
+
+    def test_the_one_that_has_most_is_ended_where_there_would_be_too_much(self) -> None:
+        broker = self.begin("--total-held", "20000000", tells_state=True)
+        before, honest = peak_bytes(broker.process.pid), self.connect(broker)
+        self.assertEqual(honest.ask(plain(1)), success(1))
+        hostile = [self.connect(broker) for _ in range(8)]
+        halves = [memoryview(plain(50, bytes(10_000_000)))[:-1] for _ in hostile]
+        for program in hostile:
+            program.sock.setblocking(False)
+        ended, frame = 0, plain(50, bytes(1_000_000))
+        deadline = time.monotonic() + LATE
+        while any(halves) and time.monotonic() < deadline:
+            for k, program in enumerate(hostile):
+                try:
+                    halves[k] = halves[k][program.sock.send(halves[k][:500_000]) :]
+                except BlockingIOError:
+                    pass
+                except (BrokenPipeError, ConnectionResetError):
+                    halves[k], ended = halves[k][:0], ended + 1
+            self.assertEqual(honest.ask(frame), success(50))
+        self.assertGreaterEqual(ended, 6)
+        self.assertTrue(broker.says("(--total-held)"))
+        self.assertLessEqual(broker.state()["bytes_held"], 20_000_000)
+        for program in hostile:
+            program.sock.close()
+        self.assertTrue(broker.wait_for(lambda: broker.state()["bytes_held"] == 0))
+        self.assertLess(peak_bytes(broker.process.pid) - before, 40_000_000)
+
+    def test_replies_count_too(self) -> None:
+        broker = self.begin("--total-held", "5000000", tells_state=True)
+        deaf = [self.connect(broker) for _ in range(5)]
+        for program in deaf:
+            program.send(plain(MANY_BYTES, struct.pack(">I", 3_000_000)))
+        self.assertTrue(broker.says("the broker has no memory for its replies (--total-held)"))
+        self.assertLessEqual(broker.state()["bytes_held"], 5_000_000)
+        self.assertEqual(self.connect(broker).ask(plain(50)), success(50))
+
+    def test_the_broker_has_a_limit_of_its_own(self) -> None:
+        quarter = os.sysconf("SC_PAGE_SIZE") * os.sysconf("SC_PHYS_PAGES") // 4
+        for words, limit in ((("--own-memory", "300000000"), "300000000"),
+                             (("--own-memory", "unlimited"), "unlimited"), ((), str(quarter))):
+            broker = self.begin(*words)
+            with open(f"/proc/{broker.process.pid}/limits") as limits:
+                line = next(line for line in limits if line.startswith("Max address space"))
+            self.assertLessEqual(line.split()[3], limit)
+
+    def test_it_lives_where_its_own_memory_is_used_up(self) -> None:
+        broker = self.begin("--own-memory", "150000000", "--total-held", "100000000000")
+        honest = self.connect(broker)
+        self.assertEqual(honest.ask(plain(1)), success(1))
+        for _ in range(3):
+            program = self.connect(broker)
+            with contextlib.suppress(BrokenPipeError, ConnectionResetError):
+                program.send(plain(50, bytes(200_000_000))[:-1])
+            self.assertTrue(program.has_ended())
+            self.assertEqual(honest.ask(plain(50, bytes(1_000_000))), success(50))
+        self.assertEqual(broker.stop(), 0)
+
+
+class Turns(BrokerTest):
+    """Who waits for whom."""
+
+    def test_a_short_request_after_another_is_before_a_long_one(self) -> None:
+        """One long turn for three short requests or so, and not for each."""
+        broker, rounds = self.begin(), 30
+        slow, other = [self.connect(broker) for _ in range(4)], self.connect(broker)
+        for program in slow:
+            program.send(plain(WAIT, struct.pack(">H", 60)) * 40)
+        self.assertEqual(slow[0].reply(), success(WAIT))
+        for _ in range(rounds):
+            self.assertEqual(other.ask(plain(SHORT)), success(SHORT))
+        asked = other.who_asked()
+        own = [at for at, (client, op) in enumerate(asked) if op == SHORT]
+        waits = [op for _, op in asked[own[0] : own[-1]] if op == WAIT]
+        self.assertLess(len(waits), rounds * 2 // 3)
+
+    def test_floods_of_small_requests_share_the_broker_s_time(self) -> None:
+        broker = self.begin()
+        floods, other = [self.connect(broker) for _ in range(6)], self.connect(broker)
+        self.assertEqual(other.ask(plain(SHORT)), success(SHORT))
+        gate = self.gate(broker)
+        other.send(gate.frame)
+        self.assertTrue(broker.wait_for(gate.is_reached))
+        for flood in floods:
+            flood.send(plain(SHORT) * 9000)
+        other.send(plain(SHORT))
+        gate.let_go()
+        self.assertEqual([other.reply(), other.reply()], [success(HOLD), success(SHORT)])
+        asked = other.who_asked()
+        own = [at for at, (client, op) in enumerate(asked) if client == 6 and op == SHORT]
+        # A turn of each, and one more that had begun.
+        self.assertLess(own[1] - own[0], 8 * SHARED_TURN_BYTES // len(plain(SHORT)))
+
+    def test_those_that_asked_and_went_leave_the_line(self) -> None:
+        broker = self.begin("--connections", "64", tells_state=True)
+        busy, gate = self.connect(broker), self.gate(broker)
+        busy.send(gate.frame)
+        self.assertTrue(broker.wait_for(gate.is_reached))
+        before = peak_bytes(broker.process.pid)
+        for _ in range(3000):
+            with broker.program() as program:
+                program.send(plain(50))
+        self.assertTrue(broker.wait_for(
+            lambda: broker.state()["connections"]["accepted"] > 3000))
+        server, = broker.state()["servers"]
+        self.assertLessEqual(server["waiting"], 64)
+        self.assertLess(peak_bytes(broker.process.pid) - before, 2_000_000)
+        gate.let_go()
+        self.assertEqual(busy.reply(), success(HOLD))
+        self.assertEqual(self.connect(broker).ask(plain(50)), success(50))
+
+
+class Hangs(BrokerTest):
+    """A server that hangs."""
+
+    def test_one_that_takes_too_long_is_ended(self) -> None:
+        broker = self.begin("--longest", "1", "--servers", "2", tells_state=True)
+        hung, other = self.connect(broker), self.connect(broker)
+        for program in (hung, other):
+            self.assertEqual(program.ask(plain(1)), success(1))
+        os.kill(broker.state()["servers"][0]["process"], signal.SIGSTOP)
+        hung.send(plain(50))
+        self.assertTrue(hung.has_ended())
+        self.assertTrue(broker.says("is killed: its request takes longer than 1 s (--longest)"))
+        self.assertEqual(other.ask(plain(50)), success(50))
+        self.assertEqual(self.connect(broker).ask(plain(50)), success(50))
+
+    def test_one_that_may_hang_gets_no_newcomers(self) -> None:
+        broker = self.begin("--patience", "1", "--servers", "2", tells_state=True)
+        hung, others = self.connect(broker), []
+        self.assertEqual(hung.ask(plain(1)), success(1))
+        stopped = broker.state()["servers"][0]["process"]
+        os.kill(stopped, signal.SIGSTOP)
+        self.addCleanup(os.kill, stopped, signal.SIGCONT)
+        hung.send(plain(50))
+        self.assertTrue(broker.wait_for(
+            lambda: broker.state()["servers"][0]["busy_seconds"] > 1))
+        for _ in range(10):
+            others.append(self.connect(broker))
+            self.assertEqual(others[-1].ask(plain(1)), success(1))
+        os.kill(stopped, signal.SIGCONT)
+        self.assertEqual(hung.reply(), success(50))
+
+
+def listen_together(path: str, barrier: Any, heard: Any, is_over: Any) -> None:
+    barrier.wait()
+    try:
+        listening = listener.listen_at(path, 0o600)
+    except Unusable as reason:
+        heard.put(str(reason))
+    else:
+        heard.put("listens")
+        is_over.wait()
+        listening.close(descriptors.Descriptors(listening.refuses_descriptors))
+
+
+class Beginning(BrokerTest):
+    """Two at one path, and too few files."""
+
+    def test_of_those_that_begin_together_one_listens(self) -> None:
+        processes = multiprocessing.get_context("fork")
+        with tempfile.TemporaryDirectory() as folder:
+            for k in range(60):
+                path = os.path.join(folder, str(k))
+                with socket.socket(socket.AF_UNIX) as stale:
+                    stale.bind(path)
+                barrier, heard, is_over = processes.Barrier(3), processes.Queue(), processes.Event()
+                begun = [processes.Process(target=listen_together,
+                                           args=(path, barrier, heard, is_over)) for _ in range(3)]
+                for process in begun:
+                    process.start()
+                said = sorted(heard.get(timeout=LATE) for _ in begun)
+                # Whoever connects reaches the one that listens.
+                with socket.socket(socket.AF_UNIX) as sock:
+                    sock.connect(path)
+                is_over.set()
+                for process in begun:
+                    process.join()
+                self.assertEqual(said, [f"another program listens at {path}"] * 2 + ["listens"])
+            self.assertEqual(os.listdir(folder), [])
+
+    def test_a_lock_that_is_held(self) -> None:
+        with tempfile.TemporaryDirectory() as folder:
+            path = os.path.join(folder, "socket")
+            with open(f"{path}.lock", "w") as file, mock.patch.object(listener, "LOCK_SECONDS",
+                                                                      0.1):
+                fcntl.flock(file, fcntl.LOCK_EX)
+                with self.assertRaisesRegex(Unusable, "another program begins at"):
+                    listener.listen_at(path, 0o600)
+
+    def test_an_empty_path(self) -> None:
+        for module in ("feqyldan.broker", "feqyldan.door"):
+            ended = subprocess.run([sys.executable, "-m", module, "--socket", "", "--", *PLAIN],
+                                   stderr=subprocess.PIPE, timeout=LATE, check=False,
+                                   env={**os.environ, "PYTHONPATH": PACKAGE})
+            self.assertEqual(ended.returncode, 2)
+            self.assertIn(b"the path of a socket is empty", ended.stderr)
+            self.assertNotIn(b"Traceback", ended.stderr)
+
+    def test_servers_count_among_the_files(self) -> None:
+        broker = self.begin_any("--servers", "60", before=("prlimit", "--nofile=400:400"))
+        self.assertEqual(broker.status(), 2)
+        self.assertIn("64 connections and 60 servers need 680 open files, and 400 are allowed",
+                      broker.words())
+        broker = self.begin("--servers", "9", "--connections", "10", tells_state=True,
+                            before=("prlimit", "--nofile=320:320"))
+        programs = [self.connect(broker) for _ in range(10)]
+        self.assertEqual([program.ask(plain(1)) for program in programs], [success(1)] * 10)
+        broker.process.send_signal(signal.SIGHUP)
+        self.assertTrue(broker.wait_for(lambda: len(broker.state()["servers"]) == 18))
+        self.assertNotIn("Too many open files", broker.words())
+
+    def test_no_loop_spins_where_no_file_is_left(self) -> None:
+        """Not even where more ask for the state than there are files for."""
+        for self.kind in (Broker, Door):
+            broker = self.begin("--connections", "1", tells_state=True)
+            process = broker.process.pid
+            files = files_of(process)
+            subprocess.run(["prlimit", f"--pid={process}", f"--nofile={files + 3}:{files + 3}"],
+                           check=True)
+            silent = []
+            for _ in range(10):
+                silent.append(socket.socket(socket.AF_UNIX))
+                silent[-1].connect(broker.status_path)
+                self.addCleanup(silent[-1].close)
+            time.sleep(0.5)
+            before = self.processor_seconds(process)
+            time.sleep(2.0)
+            self.assertLess(self.processor_seconds(process) - before, 0.5)
+            for sock in silent:
+                sock.close()
+            self.assertTrue(broker.wait_for(lambda: broker.state()["connections"]["open"] == 0))
+
+    def processor_seconds(self, process: int) -> float:
+        with open(f"/proc/{process}/stat") as file:
+            words: List[str] = file.read().rpartition(")")[2].split()
+        return (int(words[11]) + int(words[12])) / os.sysconf("SC_CLK_TCK")
+
+
+if __name__ == "__main__":
+    unittest.main()

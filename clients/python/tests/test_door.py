@@ -1,0 +1,483 @@
+"""The door: a server for each connection, its limits, its ends and what it tells, with a plain
+server (plain_server.py), and where the environment variable FEQYLDAN_PROGRAM has the path of the
+server's program with that."""
+
+import os
+import re
+import signal
+import socket
+import stat
+import struct
+import subprocess
+import sys
+import tempfile
+import time
+import unittest
+from typing import Dict
+
+from broker_tools import (
+    CLIENT, LATE, PACKAGE, PLAIN, PROGRAM, Broker, BrokerTest, Door, Program, children_of, files_of,
+    plain, runs, success)
+from feqyldan import program, wire
+from feqyldan.door.server import chosen
+from feqyldan.service.lines import Unusable
+from plain_server import EXIT, HOLD, MANY_BYTES, MISTAKE, WHO_ASKED
+
+needs_program = unittest.skipUnless(PROGRAM, "FEQYLDAN_PROGRAM doesn't name the server's program")
+
+
+class DoorTest(BrokerTest):
+    kind = Door
+
+    def server_of(self, door: Broker, at: int = -1) -> int:
+        """The process of a server, by default of the one that began last."""
+        process: int = door.state()["servers"][at]["process"]
+        return process
+
+    def has_nothing(self, door: Broker) -> bool:
+        """Whether no server is left, and the door has no more files than one that has begun."""
+        return door.wait_for(lambda: not children_of(door.process.pid)
+                             and not door.state()["servers"])
+
+
+class Connections(DoorTest):
+    """Each has a server of its own, and the door is in nobody's way."""
+
+    def test_each_has_a_server_of_its_own(self) -> None:
+        door = self.begin(tells_state=True)
+        programs = [self.connect(door) for _ in range(3)]
+        for asked in programs:
+            self.assertEqual(asked.ask(plain(1)), success(1))
+        self.assertEqual([asked.who_asked() for asked in programs],
+                         [[(CLIENT, 1), (CLIENT, WHO_ASKED)]] * 3)
+        self.assertEqual(len({server["process"] for server in door.state()["servers"]}), 3)
+
+    def test_frames_and_replies_pass_as_they_are(self) -> None:
+        asker = self.connect(self.begin())
+        for client in (0, 7, 65_535):
+            self.assertEqual(asker.ask(plain(50, b"x", client)), success(50, b"", client))
+        frames = [plain(k % 90, bytes(k % 50)) for k in range(3000)]
+        self.assertEqual(asker.ask_ahead(frames), [success(k % 90) for k in range(3000)])
+        for size in (65_529, 1_000_003):
+            frames = [plain(50, bytes(size)), plain(MANY_BYTES, struct.pack(">I", size)), plain(51)]
+            self.assertEqual(asker.ask_ahead(frames * 2),
+                             [success(50), success(MANY_BYTES, bytes(size)), success(51)] * 2)
+        asker.send(plain(1) * 90)
+        asker.sock.shutdown(socket.SHUT_WR)
+        self.assertEqual([asker.reply() for _ in range(91)], [success(1)] * 90 + [b""])
+
+    def test_a_server_s_end_is_its_connection_s_alone(self) -> None:
+        door = self.begin()
+        one, other = self.connect(door), self.connect(door)
+        for asker in (one, other):
+            self.assertEqual(asker.ask(plain(1)), success(1))
+        for op, words in ((plain(EXIT, b"\3"), "has ended with status 3: its connection's frames"),
+                          (plain(EXIT, b"\x63"), "has ended with status 99")):
+            one.send(op)
+            self.assertTrue(one.has_ended())
+            self.assertTrue(door.says(words))
+            one = self.connect(door)
+            self.assertEqual(one.who_asked(), [(CLIENT, WHO_ASKED)])
+        self.assertEqual(other.ask(plain(50)), success(50))
+        self.assertIn(f"for process {os.getpid()} of user {os.getuid()} has ended", door.words())
+
+    def test_one_that_hangs_or_is_killed_is_nobody_else_s_affair(self) -> None:
+        door = self.begin(tells_state=True)
+        one, other = self.connect(door), self.connect(door)
+        for asker in (one, other):
+            self.assertEqual(asker.ask(plain(1)), success(1))
+        os.kill(self.server_of(door, 0), signal.SIGSTOP)
+        one.send(plain(50))
+        self.assertEqual(other.ask(plain(50)), success(50))
+        self.assertEqual(self.connect(door).ask(plain(1)), success(1))
+        os.kill(self.server_of(door, 0), signal.SIGKILL)
+        self.assertTrue(one.has_ended())
+        self.assertTrue(door.says("has been ended by signal 9"))
+        self.assertEqual(other.ask(plain(50)), success(50))
+
+    def test_who_lies_about_its_replies_lies_to_its_own_program(self) -> None:
+        asker = self.connect(self.begin())
+        self.assertEqual(asker.ask(plain(MISTAKE)), success(MISTAKE, b"", CLIENT + 1))
+
+
+class Ends(DoorTest):
+    """A connection that ends is a server that ends, and nothing of it is left."""
+
+    def test_nothing_is_left_of_those_that_came_and_went(self) -> None:
+        door = self.begin(tells_state=True)
+        self.assertTrue(self.has_nothing(door))
+        before = files_of(door.process.pid)
+        for _ in range(20):
+            askers = [self.connect(door) for _ in range(5)]
+            self.assertEqual([asker.ask(plain(1)) for asker in askers], [success(1)] * 5)
+            askers[0].send(plain(50)[:5])
+            for asker in askers:
+                asker.sock.close()
+        self.assertTrue(self.has_nothing(door))
+        self.assertEqual(files_of(door.process.pid), before)
+        state = door.state()
+        self.assertEqual(state["connections"], {"open": 0, "accepted": 100, "turned_away": 0})
+        self.assertEqual(state["servers_ended"], 100)
+
+    def test_one_that_has_ended_before_it_is_accepted_gets_no_server(self) -> None:
+        door = self.begin(tells_state=True)
+        door.process.send_signal(signal.SIGSTOP)
+        for _ in range(50):
+            self.connect(door).sock.close()
+        door.process.send_signal(signal.SIGCONT)
+        self.assertTrue(door.wait_for(lambda: door.state()["connections"]["accepted"] == 50))
+        self.assertEqual(door.state()["servers_ended"], 0)
+
+    def test_a_request_that_nobody_waits_for_is_ended_after_the_grace(self) -> None:
+        door = self.begin("--grace", "1", tells_state=True)
+        gate, asker = self.gate(door), self.connect(door)
+        asker.send(gate.frame)
+        self.assertTrue(door.wait_for(gate.is_reached))
+        asker.sock.close()
+        self.assertTrue(door.says("has gone, and its request takes longer than 1 s (--grace)"))
+        self.assertTrue(self.has_nothing(door))
+
+    def test_one_that_writes_no_more_but_reads_is_not_gone(self) -> None:
+        door = self.begin("--grace", "1")
+        gate, asker = self.gate(door), self.connect(door)
+        asker.send(gate.frame)
+        asker.sock.shutdown(socket.SHUT_WR)
+        self.assertTrue(door.wait_for(gate.is_reached))
+        time.sleep(2.5)
+        gate.let_go()
+        self.assertEqual(asker.reply(), success(HOLD))
+        self.assertTrue(asker.has_ended())
+
+    @needs_program
+    def test_who_takes_no_replies_is_ended_after_the_patience(self) -> None:
+        door = self.begin("--patience", "1", command=[str(PROGRAM), "serve"], tells_state=True)
+        deaf = self.connect(door)
+        deaf.send(wire.open_context(CLIENT) + wire.create_image(CLIENT, wire.U8, 4096, 4096)
+                  + wire.read_image(CLIENT, 1))
+        self.assertTrue(self.has_nothing(door))
+
+    @needs_program
+    def test_who_sends_nothing_is_ended_where_that_is_told(self) -> None:
+        door = self.begin("--idle", "1", command=[str(PROGRAM), "serve"])
+        idle, half = self.connect(door), self.connect(door)
+        self.assertEqual(wire.code_of(idle.ask(wire.open_context(CLIENT))), wire.SUCCESS)
+        half.send(wire.open_context(CLIENT)[:5])
+        self.assertTrue(idle.has_ended() and half.has_ended())
+
+    def test_what_was_sent_is_answered_when_the_door_is_told_to_end(self) -> None:
+        for which in (signal.SIGTERM, signal.SIGINT):
+            door = self.begin()
+            busy, idle, gate = self.connect(door), self.connect(door), self.gate(door)
+            self.assertEqual(idle.ask(plain(1)), success(1))
+            busy.send(gate.frame + plain(50))
+            self.assertTrue(door.wait_for(gate.is_reached))
+            # As a terminal does.
+            os.killpg(door.process.pid, which)
+            self.assertTrue(door.says(f"ends by {which.name}"))
+            self.assertTrue(idle.has_ended())
+            gate.let_go()
+            self.assertEqual([busy.reply(), busy.reply(), busy.reply()],
+                             [success(HOLD), success(50), b""])
+            self.assertEqual(door.status(), 0)
+            self.assertFalse(os.path.exists(door.path))
+
+    def test_it_ends_in_time(self) -> None:
+        for signals, grace, words in ((1, "1", "its request takes longer than 1 s (--grace)"),
+                                      (2, "1000", "the door was told twice to end")):
+            door = self.begin("--grace", grace, tells_state=True)
+            busy, gate = self.connect(door), self.gate(door)
+            busy.send(gate.frame)
+            self.assertTrue(door.wait_for(gate.is_reached))
+            server = self.server_of(door)
+            for _ in range(signals):
+                door.process.terminate()
+                self.assertTrue(door.says("ends by SIGTERM"))
+            self.assertEqual(door.status(), 0)
+            self.assertIn(words, door.words())
+            self.assertTrue(busy.has_ended())
+            self.assertFalse(runs(server))
+
+    def test_programs_go_on_where_the_door_is_killed(self) -> None:
+        door = self.begin(tells_state=True)
+        asker = self.connect(door)
+        self.assertEqual(asker.ask(plain(1)), success(1))
+        server = self.server_of(door)
+        door.process.kill()
+        door.process.wait()
+        for _ in range(100):
+            self.assertEqual(asker.ask(plain(50)), success(50))
+        # Another one takes the place of the first, and begins with no connection.
+        again = self.begin(path=door.path)
+        self.assertEqual(self.connect(again).ask(plain(1)), success(1))
+        self.assertEqual(asker.ask(plain(50)), success(50))
+        asker.sock.close()
+        self.assertTrue(again.wait_for(lambda: not runs(server)))
+
+
+class Limits(DoorTest):
+    """Connections and memory."""
+
+    def test_more_connections_than_allowed_are_turned_away(self) -> None:
+        for options, words in ((("--connections", "2"), "2 connections are there (--connections)"),
+                               (("--per-process", "2"), "it has 2 connections (--per-process)"),
+                               (("--per-user", "2"), "its user has 2 connections (--per-user)"),
+                               (("--memory", "100000000", "--total-memory", "250000000"),
+                                "2 servers may have 200000000 bytes, and one more would pass "
+                                "250000000 (--total-memory)")):
+            door = self.begin(*options)
+            askers = [self.connect(door) for _ in range(2)]
+            self.assertEqual([asker.ask(plain(1)) for asker in askers], [success(1)] * 2)
+            for _ in range(3):
+                self.assertTrue(self.connect(door).is_turned_away())
+            self.assertTrue(door.says(f"process {os.getpid()} of user {os.getuid()} is turned "
+                                      f"away: {words}"))
+            askers[0].sock.close()
+            self.assertTrue(door.wait_for(lambda: self.is_let_in(door)))
+            self.assertEqual(askers[1].ask(plain(50)), success(50))
+
+    def is_let_in(self, door: Broker) -> bool:
+        with door.program() as asker:
+            return asker.ask(plain(51)) == success(51)
+
+    def test_each_server_has_its_part_of_the_memory(self) -> None:
+        for words, limit in ((("--memory", "123456789"), "123456789"),
+                             (("--memory", "unlimited"), "unlimited"),
+                             (("--total-memory", "6400000000"), "100000000"),
+                             (("--total-memory", "unlimited"), "unlimited"),
+                             (("--total-memory", "900000000", "--connections", "3"), "300000000")):
+            door = self.begin(*words, tells_state=True)
+            self.assertEqual(self.connect(door).ask(plain(1)), success(1))
+            with open(f"/proc/{self.server_of(door)}/limits") as limits:
+                line = next(line for line in limits if line.startswith("Max address space"))
+            self.assertEqual(line.split()[3], limit)
+
+    @needs_program
+    def test_a_server_under_a_limit_answers_and_lives(self) -> None:
+        door = self.begin("--memory", "100000000", command=[str(PROGRAM), "serve"],
+                          tells_state=True)
+        great, other = self.connect(door), self.connect(door)
+        for asker in (great, other):
+            self.assertEqual(wire.code_of(asker.ask(wire.open_context(CLIENT))), wire.SUCCESS)
+        codes = [wire.code_of(great.ask(wire.create_image(CLIENT, wire.U8, 4096, 4096)))
+                 for _ in range(12)]
+        self.assertEqual({*codes}, {wire.SUCCESS, wire.NO_MEMORY})
+        # The other has all of its own.
+        self.assertEqual(wire.code_of(other.ask(wire.create_image(CLIENT, wire.U8, 4096, 4096))),
+                         wire.SUCCESS)
+        for server in door.state()["servers"]:
+            self.assertLessEqual(server["peak_memory_bytes"], 100_000_000)
+
+    def test_servers_that_are_nice(self) -> None:
+        door = self.begin("--nice", "7", tells_state=True)
+        self.assertEqual(self.connect(door).ask(plain(1)), success(1))
+        self.assertEqual(os.getpriority(os.PRIO_PROCESS, self.server_of(door)), 7)
+
+    @unittest.skipIf(os.geteuid(), "root alone starts servers as other users")
+    def test_each_server_runs_as_its_connection_s_user(self) -> None:
+        door = self.begin("--user-of-peer", "--mode", "0666", tells_state=True,
+                          command=["/bin/sh", "-c", "cat > /dev/null"])
+        os.chmod(door.folder.name, 0o755)
+        asks = ("import os, socket, sys\nos.setgroups([])\nos.setgid(4321)\nos.setuid(1234)\n"
+                "sock = socket.socket(socket.AF_UNIX)\nsock.connect(sys.argv[1])\n"
+                "print(flush=True)\nsys.stdin.read()")
+        other = subprocess.Popen([sys.executable, "-c", asks, door.path], stdin=subprocess.PIPE,
+                                 stdout=subprocess.PIPE)
+        self.addCleanup(other.communicate)
+        assert other.stdout is not None
+        other.stdout.readline()
+        self.assertTrue(door.wait_for(lambda: len(door.state()["servers"]) == 1))
+        server, = door.state()["servers"]
+        self.assertEqual((server["of_process"], server["of_user"]), (other.pid, 1234))
+        with open(f"/proc/{server['process']}/status") as file:
+            lines = dict(line.rstrip("\n").split(":\t", 1) for line in file if ":\t" in line)
+        self.assertEqual((lines["Uid"], lines["Gid"], lines["Groups"].strip()),
+                         ("1234\t" * 3 + "1234", "4321\t" * 3 + "4321", ""))
+
+    def test_so_many_files_as_connections(self) -> None:
+        """Under a low limit on open files it says so, or serves all of its connections."""
+        low = ("prlimit", "--nofile=300:300")
+        door = self.begin_any(before=low)
+        self.assertEqual(door.status(), 2)
+        self.assertIn("64 connections need 320 open files, and 300 are allowed (ulimit -Hn)",
+                      door.words())
+        door = self.begin("--connections", "44", before=low, tells_state=True)
+        askers = [self.connect(door) for _ in range(44)]
+        self.assertEqual([asker.ask(plain(1)) for asker in askers], [success(1)] * 44)
+        silent = [self.connect(door) for _ in range(70)]
+        self.assertTrue(silent[0].has_ended())
+        self.assertEqual([asker.ask(plain(1)) for asker in askers], [success(1)] * 44)
+
+
+class Programs(DoorTest):
+    """Which program is started."""
+
+    def write(self, path: str, text: str) -> None:
+        os.makedirs(os.path.dirname(path), exist_ok=True)
+        with open(path + ".new", "w") as file:
+            file.write(text)
+        os.chmod(path + ".new", 0o755)
+        os.replace(path + ".new", path)
+
+    def test_a_new_program_by_a_signal(self) -> None:
+        with tempfile.TemporaryDirectory() as folder:
+            path, link = os.path.join(folder, "first"), os.path.join(folder, "program")
+            self.write(path, f"#!/bin/sh\nexec {' '.join(PLAIN)}\n")
+            os.symlink(path, link)
+            door = self.begin(command=[link])
+            before = self.connect(door)
+            self.assertEqual(before.ask(plain(1)), success(1))
+            os.unlink(link)
+            door.process.send_signal(signal.SIGHUP)
+            self.assertTrue(door.says(f"goes on with {link}: {link} isn't there"))
+            self.write(link, "#!/bin/sh\nexit 7\n")
+            door.process.send_signal(signal.SIGHUP)
+            self.assertTrue(door.says(f"{link} ends with status 7 where its input is empty"))
+            self.write(link, f"#!/bin/sh\nexec {' '.join(PLAIN)}\n")
+            door.process.send_signal(signal.SIGHUP)
+            self.assertTrue(door.says("from now on, by SIGHUP"))
+            self.assertEqual(self.connect(door).ask(plain(1)), success(1))
+            self.assertEqual(before.ask(plain(50)), success(50))
+
+    def test_a_program_that_cant_be_started_turns_a_connection_away(self) -> None:
+        with tempfile.TemporaryDirectory() as folder:
+            path = os.path.join(folder, "program")
+            self.write(path, f"#!/bin/sh\nexec {' '.join(PLAIN)}\n")
+            door = self.begin(command=[path])
+            os.unlink(path)
+            self.assertTrue(self.connect(door).is_turned_away())
+            self.assertTrue(door.says("is turned away: no server is started"))
+            self.write(path, f"#!/bin/sh\nexec {' '.join(PLAIN)}\n")
+            self.assertEqual(self.connect(door).ask(plain(1)), success(1))
+
+    def test_a_package_s_starter_is_asked_once(self) -> None:
+        """The door starts what the starter would."""
+        with tempfile.TemporaryDirectory() as folder:
+            starter = os.path.join(folder, "bin", "feqyldan")
+            self.write(starter, "#!/bin/sh\nexit 9\n")
+            for name in (program.PLAIN, program.FASTER):
+                self.write(os.path.join(folder, "lib", "feqyldan", name), "#!/bin/sh\nexit 0\n")
+            link = os.path.join(folder, "link")
+            os.symlink(starter, link)
+            for words in (starter, link):
+                path, serve = chosen([words, "serve"])
+                self.assertEqual(serve, "serve")
+                self.assertIn(os.path.relpath(path, os.path.realpath(folder)),
+                              [os.path.relpath(each, folder) for each in program.in_folder(
+                                  os.path.join(folder, "lib", "feqyldan"))][:1])
+            with self.assertRaisesRegex(Unusable, "no/such/program isn't there"):
+                chosen(["/no/such/program"])
+
+    def test_what_cant_begin_ends_with_status_2(self) -> None:
+        for options in (("--mode", "0800"), ("--connections", "0"), ("--memory", "1000"),
+                        ("--grace", "0"), ("--idle", "0"), ("--nice", "20"), ("--servers", "2"),
+                        ("--status", "/no/such/folder/socket"), ("--total-memory", "none")):
+            with self.subTest(options=options):
+                self.assertEqual(self.begin_any(*options).status(), 2)
+        for keywords in ({"command": ["/no/such/program"]}, {"command": ["/bin/false"]},
+                         {"path": "/no/such/folder/socket"}, {"path": "/tmp/" + "x" * 200}):
+            with self.subTest(keywords=keywords):
+                self.assertEqual(self.begin_any(**keywords).status(), 2)
+
+
+class Telling(DoorTest):
+    """What an operator, and a service manager, are told."""
+
+    def test_the_state(self) -> None:
+        door = self.begin("--connections", "2", tells_state=True)
+        self.assertEqual(stat.S_IMODE(os.lstat(door.status_path).st_mode), 0o600)
+        self.assertEqual(stat.S_IMODE(os.lstat(door.path).st_mode), 0o600)
+        one, other = self.connect(door), self.connect(door)
+        for asker in (one, other):
+            self.assertEqual(asker.ask(plain(50, bytes(100_000))), success(50))
+        self.assertTrue(self.connect(door).is_turned_away())
+        state = door.state()
+        self.assertEqual(state["connections"], {"open": 2, "accepted": 2, "turned_away": 1})
+        self.assertEqual(state["program"], os.path.abspath(sys.executable))
+        for server in state["servers"]:
+            self.assertEqual((server["of_process"], server["of_user"]), (os.getpid(), os.getuid()))
+            self.assertTrue(0 < server["memory_bytes"] <= server["peak_memory_bytes"])
+            self.assertGreater(server["bytes_in"], 100_000)
+            self.assertGreaterEqual(server["processor_seconds"], 0)
+        other.send(plain(EXIT, b"\3"))
+        self.assertTrue(other.has_ended())
+        self.assertTrue(door.wait_for(lambda: door.state()["servers_failed"] == 1))
+        state = door.state()
+        self.assertEqual((state["servers_ended"], len(state["servers"])), (1, 1))
+        self.assertGreater(state["processor_seconds"], 0)
+        # Nobody sees requests.
+        self.assertNotIn("requests", state)
+
+    def test_prometheus_is_told_all_of_the_state(self) -> None:
+        door = self.begin(tells_state=True)
+        self.assertEqual(self.connect(door).ask(plain(1)), success(1))
+        told, state = self.metrics(door), door.state()
+        server, = state["servers"]
+        label = f'process="{server["process"]}"'
+        for name in ("seconds", "processor_seconds_total", "memory_bytes", "peak_memory_bytes"):
+            self.assertGreaterEqual(told.pop(f"server_{name}")[label], 0)
+        self.assertEqual(told.pop("server_user"), {label: os.getuid()})
+        self.assertEqual(told.pop("server_request_bytes_total"), {label: server["bytes_in"]})
+        self.assertEqual(told.pop("server_reply_bytes_total"), {label: server["bytes_out"]})
+        self.assertEqual(told, {name: {"": value} for name, value in (
+            ("connections", 1), ("connections_total", 1), ("turned_away_total", 0),
+            ("servers_ended_total", 0), ("servers_failed_total", 0),
+            ("processor_seconds_total", 0))})
+
+    def metrics(self, door: Broker) -> Dict[str, Dict[str, float]]:
+        with socket.socket(socket.AF_UNIX, socket.SOCK_STREAM) as sock:
+            sock.settimeout(LATE)
+            sock.connect(door.status_path)
+            sock.sendall(b"GET /metrics HTTP/1.0\r\n\r\n")
+            text = b"".join(iter(lambda: sock.recv(65536), b"")).decode()
+        found: Dict[str, Dict[str, float]] = {}
+        for name, label, value in re.findall(r"^feqyldan_([a-z_]+)(?:\{(.*)\})? (\S+)$", text,
+                                             re.M):
+            found.setdefault(name, {})[label] = float(value)
+        return found
+
+    def test_lines_say_how_much(self) -> None:
+        door = self.begin("--report", "1")
+        with door.program() as asker:
+            self.assertEqual(asker.ask(plain(1)), success(1))
+        self.assertTrue(door.says("1 accepted"))
+        self.assertTrue(door.wait_for(lambda: sum(map(
+            int, re.findall(r"(\d+) servers ended", door.words()))) == 1))
+
+    def test_a_service_manager_is_told_that_it_listens_and_lives(self) -> None:
+        for kind in (Door, Broker):
+            with tempfile.TemporaryDirectory() as folder, socket.socket(
+                    socket.AF_UNIX, socket.SOCK_DGRAM) as manager:
+                manager.bind(os.path.join(folder, "notify"))
+                manager.settimeout(LATE)
+                door = kind(environment={"NOTIFY_SOCKET": os.path.join(folder, "notify"),
+                                         "WATCHDOG_USEC": "1000000"})
+                self.addCleanup(door.close)
+                told = [manager.recv(100) for _ in range(3)]
+                self.assertEqual(told, [b"READY=1", b"WATCHDOG=1", b"WATCHDOG=1"])
+
+    def test_sockets_that_are_handed_over(self) -> None:
+        with tempfile.TemporaryDirectory() as folder:
+            held = []
+            for name in ("socket", "status"):
+                held.append(socket.socket(socket.AF_UNIX, socket.SOCK_STREAM))
+                held[-1].bind(os.path.join(folder, name))
+                held[-1].listen(5)
+                self.addCleanup(held[-1].close)
+            early = Program(os.path.join(folder, "socket"))
+            self.addCleanup(early.sock.close)
+            script = (f'exec 103<&{held[0].fileno()} 104<&{held[1].fileno()}; exec 3<&103 4<&104; '
+                      'LISTEN_FDS=2 LISTEN_PID=$$ exec "$@"')
+            door = subprocess.Popen(
+                ["/bin/bash", "-c", script, "sh", sys.executable, "-m", "feqyldan.door", "--",
+                 *PLAIN], pass_fds=[one.fileno() for one in held], stderr=subprocess.DEVNULL,
+                env={**os.environ, "PYTHONPATH": PACKAGE})
+            self.addCleanup(door.wait)
+            self.addCleanup(door.kill)
+            self.assertEqual(early.ask(plain(1)), success(1))
+            door.terminate()
+            self.assertEqual(door.wait(LATE), 0)
+            self.assertEqual(sorted(os.listdir(folder)), ["socket", "status"])
+
+
+if __name__ == "__main__":
+    unittest.main()

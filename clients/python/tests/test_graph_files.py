@@ -1,0 +1,335 @@
+"""Graphs in files, drawn, measured, and run from the command line; pictures in files; regions."""
+
+import csv
+import importlib.util
+import json
+import os
+import random
+import subprocess
+import sys
+import tempfile
+import unittest
+import xml.etree.ElementTree
+from unittest import mock
+
+from program import HERE, PROGRAM, ProgramTest, needs_program, vx
+from feqyldan import files, graph_files, samples
+from feqyldan.functions import FUNCTIONS
+
+numpy = samples.numpy_module()
+PACKAGE = os.path.realpath(os.path.join(HERE, ".."))
+
+
+def station(context):
+    """A graph of all kinds of objects, and its input."""
+    camera = context.image(vx.U8, 8, 6, name="camera")
+    clean = context.image_from([[x * y for x in range(8)] for y in range(6)], name="clean")
+    graph = context.graph(name="station")
+    smooth, away = context.delay(camera, 2, name="smooth"), graph.virtual_image(name="away")
+    bright, mixed = graph.virtual_image(vx.U8), graph.virtual_image(vx.S16, 8, 6, name="mixed")
+    graph.gaussian3x3(camera, smooth[0], border=vx.REPLICATE)
+    graph.absdiff(smooth[0], clean, away)
+    graph.table_lookup(away, context.lut(vx.U8, range(255, -1, -1), name="turned"), bright)
+    graph.add(bright, smooth[-1], vx.WRAP, mixed)
+    marks = context.image(vx.U8, 8, 6, name="marks")
+    graph.threshold(mixed, context.threshold(vx.S16, between=(100, 300), name="limit"), marks)
+    graph.sobel3x3(camera, None, context.image(vx.S16, 8, 6, name="down"), vx.constant(7))
+    graph.convolve(camera, context.convolution([[0, 1, 0], [1, -4, 1], [0, 1, 0]], scale=2),
+                   context.image(vx.S16, 8, 6, name="edges"))
+    graph.multiply(camera, clean, 3, vx.SATURATE, context.image(vx.S16, 8, 6, name="product"))
+    graph.accumulate(camera, context.image(vx.S16, 8, 6, name="sums"))
+    graph.histogram(marks, context.distribution(3, 0, 256, name="counts"))
+    graph.min_max_loc(marks, context.min_max(name="found"))
+    graph.register_auto_aging(smooth)
+    return graph, camera
+
+
+def pictures(count):
+    chance = random.Random(4)
+    return [[[chance.randrange(256) for _ in range(8)] for _ in range(6)] for _ in range(count)]
+
+
+def values_of(stream):
+    return [[value.tolist() if hasattr(value, "tolist") else value for value in values]
+            for _, values in stream]
+
+
+class FolderTest(unittest.TestCase):
+    def setUp(self):
+        super().setUp()
+        folder = tempfile.TemporaryDirectory()
+        self.addCleanup(folder.cleanup)
+        self.folder = folder.name
+
+    def path(self, name):
+        return os.path.join(self.folder, name)
+
+    def put(self, name, told):
+        with open(self.path(name), "w", encoding="utf-8") as file:
+            file.write(told if isinstance(told, str) else json.dumps(told))
+        return self.path(name)
+
+
+class TestFiles(FolderTest, ProgramTest):
+    def test_a_graph_comes_back(self):
+        graph, camera = station(self.context)
+        graph.save(self.path("a.json"), inputs=[camera])
+        names = ["marks", "down", "edges", "product", "sums", "counts", "found"]
+        with self.server.context() as other:
+            again = other.load_graph(self.path("a.json"))
+            self.assertEqual([*again.inputs], ["camera"])
+            self.assertEqual(sorted(again.outputs), sorted(names))
+            self.assertEqual(again.graph.label, "a")
+            things = {call.label: call for node in graph.calls.values()
+                      for call in node.operands if getattr(call, "label", "") in names}
+            ours = graph.stream(pictures(3), camera, [things[name] for name in names])
+            theirs = again.graph.stream(pictures(3), again.inputs["camera"],
+                                        [again.outputs[name] for name in names])
+            self.assertEqual(values_of(ours), values_of(theirs))
+            # What is saved of it is the same file.
+            again.graph.save(self.path("b.json"), inputs=[again.inputs["camera"]])
+        with open(self.path("a.json")) as one, open(self.path("b.json")) as two:
+            self.assertEqual(json.load(one), json.load(two))
+
+    def test_one_input_needs_no_word(self):
+        one, out, graph = self.context.image(vx.U8, 2, 1), self.context.image(
+            vx.U8, 2, 1), self.context.graph()
+        graph.not_(one, out)
+        graph.save(self.path("a.json"))
+        self.assertEqual([*self.context.load_graph(self.path("a.json")).inputs], ["image_1"])
+        other = self.context.image_from([[1, 2]])
+        graph.min(one, other, self.context.image(vx.U8, 2, 1))
+        with self.assertRaisesRegex(ValueError, r"reads 2 images that none of its nodes writes .*"
+                                    r"inputs=\[camera\]"):
+            graph.save(self.path("a.json"))
+
+    def test_each_function_can_be_said(self):
+        for function in FUNCTIONS:
+            for parameter in graph_files.parameters_of(function):
+                self.assertTrue(parameter in graph_files.OPERANDS
+                                or parameter in ("policy", "shift", "border"), parameter)
+
+    def test_a_picture_of_another_file(self):
+        vx.write_pgm(self.path("clean.pgm"), [[9, 8]])
+        path = self.put("a.json", {"feqyldan": 1, "nodes": [], "objects": {
+            "clean": {"kind": "image", "file": "clean.pgm"}}})
+        self.holds(self.context.load_graph(path).objects["clean"], [[9, 8]])
+
+    def test_what_is_wrong_and_where(self):
+        image = {"kind": "image", "format": "U8", "width": 2, "height": 1}
+        both = {"a": image, "b": image}
+        for objects, nodes, words in (
+                ({"a": {**image, "format": "U9"}}, [], 'object "a": a format is one of U8, S16, '
+                                                       "U32, and not 'U9'"),
+                ({"a": {"kind": "image", "format": "U8"}}, [], "object \"a\": 'width' is missing"),
+                ({"a": {**image, "width": 9000}}, [], 'object "a": create a U8 image of 9000 by 1'),
+                ({"a": {"kind": "film"}}, [], 'object "a": a kind is one of image, .*\'film\''),
+                ({"a": 7}, [], 'object "a": an object is described by'),
+                ({"a": {"kind": "image", "file": "none.pgm"}}, [], 'object "a": .*none.pgm'),
+                (both, [{"function": "not"}], "node 1: there is no function 'not'; those are and_"),
+                (both, [{"function": "not_", "input": "a", "output": "b"},
+                        {"function": "not_", "input": "a"}], "node 2: 'output' is missing"),
+                (both, [{"function": "not_", "input": "a", "output": "c"}],
+                 "node 1: there is no object 'c'"),
+                (both, [{"function": "not_", "input": "a[-1]", "output": "b"}],
+                 "node 1: 'a' is no delay"),
+                (both, [{"function": "not_", "input": "a", "output": "b", "policy": "WRAP"}],
+                 "node 1: not_ has no 'policy'; it has input, output"),
+                (both, [{"function": "add", "in1": "a", "in2": "a", "output": "b", "policy": "X"}],
+                 "node 1: a policy is one of WRAP, SATURATE, and not 'X'"),
+                (both, [{"function": "box3x3", "input": "a", "output": "b", "border": "X"}],
+                 "node 1: a border is UNDEFINED, REPLICATE or a number")):
+            path = self.put("a.json", {"feqyldan": 1, "objects": objects, "nodes": nodes})
+            with self.subTest(words), self.assertRaisesRegex(vx.GraphFileError,
+                                                             f"{path}: {words}"):
+                self.context.load_graph(path)
+        for text, words in (("{", "no JSON: "), ("[]", 'no "feqyldan": 1'),
+                            ('{"feqyldan": 1}', 'no "objects"')):
+            with self.assertRaisesRegex(vx.GraphFileError, words):
+                self.context.load_graph(self.put("a.json", text))
+
+
+class TestDrawings(ProgramTest):
+    def test_dot(self):
+        graph, _ = station(self.context)
+        text = graph.to_dot()
+        for words in ("camera", "smooth[0]", "smooth[-1]", "absdiff", "node 2", "shape=ellipse"):
+            self.assertIn(words, text)
+        self.assertEqual(text.count(" -> "), sum(
+            operand is not None for call in graph.calls.values() for operand in call.operands))
+
+    def test_svg_without_graphviz(self):
+        graph, _ = station(self.context)
+        with mock.patch("shutil.which", return_value=None):
+            drawn = xml.etree.ElementTree.fromstring(graph._repr_svg_())
+        texts = [text.text for text in drawn.iter("{http://www.w3.org/2000/svg}text")]
+        self.assertIn("camera", texts)
+        # A cycle has an end.
+        cycle = self.context.graph()
+        one, other = cycle.virtual_image(), cycle.virtual_image()
+        cycle.not_(one, other)
+        cycle.not_(other, one)
+        with mock.patch("shutil.which", return_value=None):
+            self.assertEqual(cycle._repr_svg_().count("<rect"), 4)
+            self.assertIn("<svg", self.context.graph()._repr_svg_())
+
+
+class TestProfiles(ProgramTest):
+    def test_each_node_is_measured_and_nothing_changes(self):
+        graph, camera = station(self.context)
+        camera.write(pictures(1)[0])
+        graph.process()
+        objects = [operand for call in graph.calls.values() for operand in call.operands
+                   if hasattr(operand, "read") and not operand.is_virtual]
+        before = [values_of([(None, [thing.read()])]) for thing in objects]
+        usage = self.context.usage()
+        profile = graph.profile(rounds=2)
+        self.assertEqual(sorted(one.node.number for one in profile), [*range(1, 12)])
+        self.assertTrue(all(one.seconds > 0 for one in profile))
+        self.assertIn("convolve", str(profile))
+        self.assertIn("<table>", profile._repr_html_())
+        self.assertEqual([values_of([(None, [thing.read()])]) for thing in objects], before)
+        self.assertEqual(self.context.usage(), usage)
+
+
+class TestHelpers(FolderTest, ProgramTest):
+    def test_fill_and_copy(self):
+        for fmt, value in ((vx.U8, 200), (vx.S16, -5), (vx.U32, 2**32 - 1)):
+            image = self.context.image(fmt, 5, 4)
+            image.fill(value)
+            image.valid = 1, 1, 3, 2
+            copied = image.copy()
+            self.holds(copied, image.read().tolist())
+            self.assertEqual((copied.valid, copied.fmt), ((1, 1, 3, 2), fmt))
+            self.assertRaises((TypeError, ValueError), image.fill, 0.5)
+        self.assertRaises(ValueError, self.context.image(vx.U8, 1, 1).fill, 256)
+
+    def test_pictures_in_files(self):
+        image = self.context.image_from([[0, 9, 255], [1, 2, 3]])
+        kinds = [".pgm"]
+        if numpy:
+            kinds.append(".npy")
+            if any(map(importlib.util.find_spec, ("cv2", "PIL"))):
+                kinds += [".png", ".tif"]
+        for kind in kinds:
+            image.save(self.path("a" + kind))
+            self.holds(self.context.load(self.path("a" + kind), name="b"), image.read().tolist())
+        if numpy:
+            for fmt, rows in ((vx.S16, [[-1, 300]]), (vx.U32, [[2**32 - 1] * 3] * 70)):
+                deep = self.context.image_from(rows, fmt)
+                deep.save(self.path("deep.npy"))
+                there = numpy.load(self.path("deep.npy"))
+                self.assertEqual((there.tolist(), there.dtype.itemsize), (rows, fmt.sample_bytes))
+            self.context.image_from([[-1, 300]], vx.S16).save(self.path("deep.npy"))
+            self.holds(self.context.load(self.path("deep.npy")), [[-1, 300]])
+        self.assertRaisesRegex(FileNotFoundError, "none.png", self.context.load,
+                               self.path("none.png"))
+
+    @unittest.skipUnless(numpy and importlib.util.find_spec("cv2")
+                         and importlib.util.find_spec("PIL"), "OpenCV or PIL isn't installed")
+    def test_by_either_reader(self):
+        import cv2
+        colours = numpy.random.default_rng(1).integers(0, 256, (6, 8, 3), numpy.uint8)
+        cv2.imwrite(self.path("colours.png"), colours)
+        wide = numpy.array([[0, 32767, 5]], numpy.uint16)
+        cv2.imwrite(self.path("wide.png"), wide)
+        cv2.imwrite(self.path("wider.png"), wide * 2)
+        self.put("text.png", "no picture")
+        for missing in ((), ("cv2",), ("PIL.Image",)):
+            importer = importlib.import_module
+            with mock.patch.object(files.importlib, "import_module", lambda name: (
+                    importer(name if name not in missing else "no_such_module"))):
+                grey = self.context.load(self.path("colours.png"))
+                wanted = cv2.cvtColor(colours, cv2.COLOR_BGR2GRAY).astype(int)
+                self.assertLessEqual(abs(grey.read().astype(int) - wanted).max(), 1)
+                self.holds(self.context.load(self.path("wide.png")), [[0, 32767, 5]])
+                with self.assertRaisesRegex(vx.BadPicture, r"0 to 65534, which S16 has no"):
+                    self.context.load(self.path("wider.png"))
+                with self.assertRaisesRegex(vx.BadPicture, "text.png has no picture"):
+                    self.context.load(self.path("text.png"))
+        with mock.patch.object(files, "_module", return_value=None):
+            with self.assertRaisesRegex(ImportError, "needs OpenCV or PIL"):
+                self.context.load(self.path("wide.png"))
+            with self.assertRaisesRegex(ImportError, "needs OpenCV or PIL"):
+                grey.save(self.path("a.jpg"))
+
+    @unittest.skipUnless(numpy and (importlib.util.find_spec("cv2")
+                                    or importlib.util.find_spec("scipy")), "no OpenCV, no SciPy")
+    def test_regions(self):
+        pixels = numpy.zeros((20, 30), numpy.uint8)
+        pixels[2:5, 3:9] = 255
+        pixels[10, 10] = pixels[11, 11] = 1
+        pixels[19, 29] = 255
+        marks = self.context.image_from(pixels)
+        for missing in ([], ["cv2"]):
+            if missing and not importlib.util.find_spec("scipy"):
+                continue
+            with mock.patch.dict(sys.modules, dict.fromkeys(missing)):
+                found = vx.regions(marks)
+                self.assertEqual([(one.pixels, one.around) for one in found],
+                                 [(18, (3, 2, 9, 5)), (2, (10, 10, 12, 12)),
+                                  (1, (29, 19, 30, 20))])
+                self.assertEqual(found[0].middle, (5.5, 3.0))
+                self.assertEqual(len(vx.regions(marks.read(), least=2)), 2)
+        with mock.patch.dict(sys.modules, {"cv2": None, "scipy": None}):
+            self.assertRaisesRegex(ImportError, "neither is installed", vx.regions, marks)
+
+
+@needs_program
+class TestCommandLine(FolderTest):
+    def run_command(self, *words, status=0):
+        run = subprocess.run([sys.executable, "-m", "feqyldan", *words], cwd=self.folder,
+                             env={**os.environ, "PYTHONPATH": PACKAGE, "FEQYLDAN_PROGRAM": PROGRAM,
+                                  "PYTHONDONTWRITEBYTECODE": "1"}, timeout=90,
+                             stdin=subprocess.DEVNULL, stdout=subprocess.PIPE,
+                             stderr=subprocess.PIPE, text=True)
+        self.assertEqual(run.returncode, status, run.stderr)
+        return run.stdout, run.stderr
+
+    def setUp(self):
+        super().setUp()
+        with vx.Server(PROGRAM) as server, server.context() as context:
+            graph, camera = station(context)
+            graph.save(self.path("station.json"), inputs=[camera])
+        for number, picture in enumerate(pictures(3)):
+            vx.write_pgm(self.path(f"part{number}.pgm"), picture)
+
+    def test_pictures_and_numbers(self):
+        self.run_command("run", "station.json", "--in", "part*.pgm", "--out", "marks/", "--csv",
+                         "found.csv")
+        with open(self.path("found.csv"), newline="") as file:
+            lines = [*csv.DictReader(file)]
+        self.assertEqual([line["picture"] for line in lines], [f"part{k}.pgm" for k in range(3)])
+        for line in lines:
+            self.assertEqual(sum(int(line[f"counts.{k}"]) for k in range(3)), 48)
+            self.assertEqual(line["marks.marked"], line["counts.2"])
+        left = os.listdir(self.path("marks"))
+        self.assertIn("part2.marks.png", left)
+        # PNG has no negative samples.
+        self.assertIn("part2.edges.npy", left)
+
+    def test_without_a_folder_numbers_are_printed(self):
+        said, _ = self.run_command("run", "station.json", "--in", "part1.pgm")
+        self.assertEqual(said.splitlines()[1].split(",")[0], "part1.pgm")
+
+    def test_drawings(self):
+        said, _ = self.run_command("draw", "station.json")
+        self.assertIn("<svg", said)
+        dot, _ = self.run_command("draw", "station.json", "--dot")
+        self.assertIn("smooth[-1]", dot)
+
+    def test_faults(self):
+        vx.write_pgm(self.path("short.pgm"), [[1, 2]])
+        for words, fault in (
+                (("run", "station.json", "--in", "none*.pgm"), "no file is none*.pgm"),
+                (("run", "none.json", "--in", "part1.pgm"), "none.json"),
+                (("run", "part1.pgm", "--in", "part1.pgm"), "part1.pgm"),
+                (("run", "station.json", "--in", "part1.pgm", "short.pgm"), "frame 2 of the str")):
+            _, said = self.run_command(*words, status=1)
+            self.assertIn(fault, said)
+            self.assertEqual(len(said.splitlines()), 1, said)
+        self.run_command("walk", status=2)
+
+
+if __name__ == "__main__":
+    unittest.main()

@@ -1,0 +1,291 @@
+"""
+Interruptions at any moment, as by Ctrl-C: no byte is lost, so the context goes on, or ends without
+a word.
+
+feqyldan promises that for an exception that any signal's handler raises. By hand:
+
+    FEQYLDAN_PROGRAM=PROGRAM python3 clients/python/tests/test_interruptions.py 1000
+"""
+
+import contextlib
+import fcntl
+import os
+import random
+import signal
+import sys
+import time
+import unittest
+
+from program import PROGRAM, ProgramTest, answering, needs_program, vx
+from feqyldan import wire
+from feqyldan.connection import Body, Connection, Request
+from feqyldan.pipes import enlarge
+from test_processes import ProcessTest
+
+OPENED = wire.reply_frame(0, wire.OPEN_CONTEXT)
+SIZES = (16, 16), (640, 480), (1280, 720)
+# How often a test interrupts for each size; and after how many seconds at most.
+TIMES, LATEST = 15, 0.004
+
+
+@contextlib.contextmanager
+def interrupting():
+    """A function that has SIGALRM raise KeyboardInterrupt after so many seconds."""
+    def interrupt(*_):
+        raise KeyboardInterrupt
+
+    before = signal.signal(signal.SIGALRM, interrupt)
+    try:
+        yield lambda seconds: signal.setitimer(signal.ITIMER_REAL, seconds)
+    finally:
+        signal.setitimer(signal.ITIMER_REAL, 0)
+        signal.signal(signal.SIGALRM, before)
+
+
+class Loop:
+    """What a station does, again and again."""
+
+    def __init__(self, context, width, height, in_pipeline):
+        self.context, self.in_pipeline = context, in_pipeline
+        self.part, self.out = (context.image(vx.U8, width, height) for _ in range(2))
+        self.graph = context.graph()
+        self.graph.not_(self.part, self.out)
+        self.pictures = [bytes([shade]) * (width * height) for shade in (10, 20, 30)]
+        # NumPy is imported by now: an import may swallow an interruption.
+        self.one(self.pictures[0])
+
+    def run(self):
+        while True:
+            for picture in self.pictures:
+                self.one(picture)
+
+    def one(self, picture):
+        if self.in_pipeline:
+            with self.context.pipeline() as ahead:
+                self.part.write(picture)
+                self.graph.process()
+                out = ahead.read(self.out)
+            out = out.value()
+        else:
+            self.part.write(picture)
+            self.graph.process()
+            out = self.out.read()
+        if out[0, 0] != 255 - picture[0] or out[-1, -1] != 255 - picture[0]:
+            raise AssertionError("this isn't what was asked for")
+
+
+def interrupt_often(times, width, height, in_pipeline, seed=1):
+    """Interrupts a loop at random moments; each time the same context goes on."""
+    chance = random.Random(seed)
+    with interrupting() as after, vx.Server(PROGRAM) as server, server.context() as context:
+        loop = Loop(context, width, height, in_pipeline)
+        for _ in range(times):
+            try:
+                after(chance.uniform(1e-6, LATEST))
+                loop.run()
+            except KeyboardInterrupt:
+                pass
+            loop.one(loop.pictures[0])
+        # Nothing is left over: what was made in between was given back.
+        assert context.usage().objects == 3, context.usage()
+
+
+@needs_program
+class TestAtRandom(unittest.TestCase):
+    def test_a_loop_goes_on(self):
+        for width, height in SIZES:
+            for in_pipeline in (False, True):
+                with self.subTest(size=(width, height), in_pipeline=in_pipeline):
+                    interrupt_often(TIMES, width, height, in_pipeline)
+
+    def test_what_is_made_is_released(self):
+        """An interruption may lose the name of an image, and not the image."""
+        chance = random.Random(2)
+        with interrupting() as after, vx.Server(PROGRAM, quota=500_000) as server:
+            with server.context() as context:
+                for _ in range(100):
+                    with contextlib.suppress(KeyboardInterrupt):
+                        after(chance.uniform(1e-6, LATEST))
+                        while True:
+                            context.image(vx.U8, 300, 300)
+                    # The reply to what was interrupted comes first.
+                    context.min_max()
+                    context.image(vx.U8, 600, 600)
+
+    def test_a_stream_goes_on(self):
+        chance = random.Random(3)
+        with interrupting() as after, vx.Server(PROGRAM) as server, server.context() as context:
+            loop = Loop(context, 300, 200, False)
+            for times in range(TIMES):
+                frames = [loop.pictures[number % 3] for number in range(10_000)]
+                with contextlib.suppress(KeyboardInterrupt):
+                    after(chance.uniform(1e-6, 2 * LATEST))
+                    for frame, out in loop.graph.stream(frames if times % 2 else iter(frames),
+                                                        loop.part, loop.out):
+                        self.assertEqual(out[0, 0], 255 - frame[0])
+                loop.one(loop.pictures[times % 3])
+
+
+class Everywhere:
+    """Raises KeyboardInterrupt before the n-th line of the package's connections that runs."""
+
+    def __init__(self, number):
+        self.left = number
+
+    def __call__(self, frame, event, _):
+        if not frame.f_code.co_filename.endswith(("connection.py", "pipeline.py")):
+            return None
+        if event == "line":
+            self.left -= 1
+            if self.left == 0:
+                raise KeyboardInterrupt
+        return self
+
+
+class TestEachLine(unittest.TestCase):
+    """An exception before each line of a connection's code in turn."""
+
+    def exchange(self, interrupted_at):
+        """Whether it was interrupted. Four requests of two lengths, whose replies differ, over
+        pipes that hold all requests, and a part of the replies."""
+        (theirs, writer), (reader, ours) = os.pipe(), os.pipe()
+        enlarge(writer)
+        connection = Connection(writer, reader, lambda _: vx.ServerEnded("ended"), lambda: None)
+        requests = [Request(f"request {number}", 7, number, body=Body(70_000 * (number % 2)))
+                    for number in range(1, 5)]
+        frames = [wire.frame(7, number, bytes([number]) * (9 if number % 2 else 40_000))
+                  for number in range(1, 5)]
+        replies = b"".join(wire.reply_frame(7, number, 0, bytes([number]) * (70_000 * (number % 2)))
+                           for number in range(1, 5))
+        # The server: it answers all as soon as something comes.
+        os.set_blocking(ours, False)
+        at = 0
+        is_interrupted = False
+        trace = Everywhere(interrupted_at)
+        taken = []
+        for number, request in enumerate(requests):
+            try:
+                sys.settrace(trace)
+                connection.send(request, [frames[number]])
+            except KeyboardInterrupt:
+                is_interrupted = True
+            finally:
+                sys.settrace(None)
+            taken.append(request.end > 0 and request in connection._line)
+            if not taken[-1]:
+                connection.send(request, [frames[number]])
+        while requests[-1].answer is None:
+            with contextlib.suppress(BlockingIOError):
+                at += os.write(ours, replies[at:])
+            try:
+                sys.settrace(trace)
+                connection.look()
+            except KeyboardInterrupt:
+                is_interrupted = True
+            finally:
+                sys.settrace(None)
+        os.close(writer)
+        with open(theirs, "rb") as sent:
+            self.assertEqual(sent.read(), b"".join(frames))
+        self.assertEqual(b"".join(bytes(request.reply) for request in requests), replies)
+        for descriptor in (reader, ours):
+            os.close(descriptor)
+        return is_interrupted
+
+    def test_what_has_no_room_is_sent_later(self):
+        """look() sends it, and changes to what it was taken from don't."""
+        (theirs, writer), (reader, ours) = os.pipe(), os.pipe()
+        fcntl.fcntl(writer, 1031, 4096)
+        connection = Connection(writer, reader, lambda _: vx.ServerEnded("ended"), lambda: None)
+        samples, got = bytearray(b"1" * 3000), b""
+        for number in range(5):
+            connection.send(Request("one", 7, number), [b"head", memoryview(samples)])
+            samples[:] = b"%d" % number * 3000
+        samples[:] = b"X" * 3000
+        while len(got) < 5 * 3004:
+            connection.look()
+            got += os.read(theirs, 1000)
+        self.assertEqual(got, b"".join(b"head" + one * 3000
+                                       for one in (b"1", b"0", b"1", b"2", b"3")))
+        for descriptor in (theirs, writer, reader, ours):
+            os.close(descriptor)
+
+    def test_nothing_is_lost(self):
+        number = 1
+        while self.exchange(number):
+            number += 1
+        self.assertGreater(number, 100)
+
+
+LOOP = """
+import sys
+import feqyldan as vx
+
+with vx.Server(sys.argv[1]) as server, server.context() as context:
+    part, out = (context.image(vx.U8, 1280, 720) for _ in range(2))
+    graph = context.graph()
+    graph.not_(part, out)
+    picture = bytes(1280 * 720)
+    # NumPy is imported by now: an import may swallow an interruption.
+    out.read()
+    try:
+        print(server._process.pid, flush=True)
+        while True:
+            part.write(picture)
+            graph.process()
+            out.read()
+    except KeyboardInterrupt:
+        print("interrupted", flush=True)
+print("ended well", flush=True)
+"""
+
+
+@needs_program
+class TestPrograms(ProcessTest):
+    def test_ctrl_c_in_the_plainest_loop(self):
+        """It ends well, and no server is left."""
+        chance = random.Random(5)
+        for _ in range(5):
+            client = self.start(LOOP)
+            server = int(self.line_of(client)[0])
+            time.sleep(chance.uniform(0.01, 0.05))
+            os.killpg(client.pid, signal.SIGINT)
+            self.assertEqual(self.line_of(client), ["interrupted"])
+            self.assertEqual(self.line_of(client), ["ended", "well"])
+            self.assertEqual(client.wait(60), 0)
+            self.ends(server)
+
+
+class TestQuietEnds(ProgramTest):
+    def test_a_server_that_is_gone(self):
+        """Who was told that it ended isn't told again, and who wasn't is."""
+        with self.server.context() as context, context.image(vx.U8, 1, 1):
+            os.kill(self.server._process.pid, signal.SIGKILL)
+            self.assertRaises(vx.ServerEnded, context.graph)
+            self.assertTrue(context.closed and self.server.closed)
+            self.assertRaises(vx.ServerEnded, context.graph)
+        self.context.close()
+        self.server.close()
+        with self.assertRaises(vx.ServerEnded):
+            with vx.Server() as server, server.context():
+                os.kill(server._process.pid, signal.SIGKILL)
+
+    def test_a_server_that_was_too_slow(self):
+        with vx.Server(answering(OPENED, 60.0), timeout=1) as server, server.context() as context:
+            self.assertRaises(vx.TimedOut, context.graph)
+
+
+def by_hand(times):
+    for width, height in SIZES:
+        for in_pipeline in (False, True):
+            seed = random.randrange(2**32)
+            interrupt_often(times // 2, width, height, in_pipeline, seed)
+            print(f"{width}x{height}, {'a pipeline each' if in_pipeline else 'each call waits'}: "
+                  f"{times // 2} interruptions, and the context goes on (seed {seed})", flush=True)
+
+
+if __name__ == "__main__":
+    if len(sys.argv) == 2 and sys.argv[1].isdigit():
+        by_hand(int(sys.argv[1]))
+    else:
+        unittest.main()

@@ -1,0 +1,202 @@
+"""What is said of pictures that aren't any, of formats, and of things that a call doesn't take."""
+
+import array
+import pathlib
+import unittest
+import unittest.mock
+import warnings
+
+from program import ProgramTest, vx
+from feqyldan import samples, verdicts
+from feqyldan.functions import FUNCTIONS
+
+numpy = samples.numpy_module()
+needs_numpy = unittest.skipUnless(numpy, "NumPy isn't installed")
+
+
+class TestPictures(ProgramTest):
+    def setUp(self):
+        super().setUp()
+        self.image = self.context.image(vx.U8, 4, 3)
+
+    def says(self, given, words, kind=vx.BadPicture):
+        for call in (self.image.write, self.context.image_from):
+            with self.subTest(words), self.assertRaisesRegex(kind, words):
+                call(given)
+
+    def test_what_is_no_picture(self):
+        self.says(None, r"None is no picture: cv2.imread\(\) gives it where it can't read a file",
+                  TypeError)
+        for path in ("part.png", pathlib.Path("part.png")):
+            self.says(path, r"a path is no picture, and this is 'part.png': context.load\(path\)",
+                      TypeError)
+        self.says(7, "rows of numbers, and no int", TypeError)
+        self.says([[1, 2], [3, 256]], "from 0 to 255, and not 256; it is in row 1, column 1",
+                  ValueError)
+        self.says([[1, 2, -1]], "and not -1; it is in row 0, column 2", ValueError)
+        self.says([[1, 1.5]], "a whole number, and not 1.5: scale and round it first", TypeError)
+        self.says([[1], [2, 3]], "rows of one length", ValueError)
+        self.says(memoryview(array.array("f", [1] * 12)).cast("B").cast("f", [3, 4]),
+                  "samples of the type 'f' ", TypeError)
+
+    @needs_numpy
+    def test_arrays_of_other_types(self):
+        zeros = numpy.zeros((3, 4), numpy.uint8)
+        for dtype, words in (
+                ("uint16", r"are array.astype\(numpy.int16\); of 16 bits \(array >> 1\).astype"),
+                ("bool", r"a mask of 0 and 255 is mask.astype\(numpy.uint8\) \* 255"),
+                ("float32", r"\(255 \* array\).round\(\).astype\(numpy.uint8\)"),
+                ("int32", r"numpy.clip\(array, 0, 255\).astype\(numpy.uint8\)"),
+                ("int64", r"astype\(\) alone would wrap"), ("complex64", "array of whole numbers")):
+            self.says(zeros.astype(dtype), f"uint8, int16 or uint32, and not {dtype}: .*{words}",
+                      TypeError)
+        self.says(numpy.zeros((3, 4, 3), numpy.uint8), r"\(3, 4, 3\): make a grey one", ValueError)
+        self.says(zeros[None], r"\(1, 3, 4\): that is a batch of one picture, which is array\[0\]",
+                  ValueError)
+        self.says(numpy.ma.masked_less(zeros, 1), "a picture has no mask", ValueError)
+
+    @needs_numpy
+    def test_the_recipes_are_right(self):
+        """What the messages advise gives the samples that were meant."""
+        mono12 = numpy.array([[0, 4095]], numpy.uint16)
+        self.holds(self.context.image_from(mono12.astype(numpy.int16)), [[0, 4095]])
+        mono16 = numpy.array([[0, 40000, 65535]], numpy.uint16)
+        self.holds(self.context.image_from((mono16 >> 1).astype(numpy.int16)), [[0, 20000, 32767]])
+        self.holds(self.context.image_from((mono16 >> 8).astype(numpy.uint8)), [[0, 156, 255]])
+        mask = numpy.array([[True, False]])
+        self.holds(self.context.image_from(mask.astype(numpy.uint8) * 255), [[255, 0]])
+
+    def test_one_class_for_a_wrong_frame(self):
+        """Whatever is wrong with it, and whoever says so."""
+        wrong = [[[1, 2]], b"123", None, "part.png", [[1.0] * 4] * 3,
+                 array.array("h", range(12)), memoryview(bytes(24)).cast("h", [3, 4])]
+        if numpy:
+            wrong += [numpy.zeros((3, 4), name) for name in ("int16", "float64", "uint16")]
+            wrong += [numpy.zeros((4, 3), "uint8"), numpy.zeros((3, 4, 3), "uint8")]
+        for given in wrong:
+            with self.subTest(type(given)):
+                self.assertRaises(vx.BadPicture, self.image.write, given)
+        for text in (b"P5 1 1 255\n1", b"P6", b"", b"P2 4 3 1 " + b"2 " * 12):
+            self.assertRaises(vx.BadPicture, self.image.write_pgm, text)
+        self.holds(self.image, [[0] * 4] * 3)
+
+    def test_sizes_in_the_order_of_shapes(self):
+        with self.assertRaisesRegex(vx.InvalidDimension,
+                                    r"The samples have the shape \(4, 3\), and the image \(3, 4\)"):
+            self.image.write([[1] * 3] * 4)
+
+    @needs_numpy
+    def test_pictures_that_stand_by_columns(self):
+        rows = numpy.arange(300 * 500).reshape(300, 500) % 251
+        for dtype in ("uint8", "int16", "uint32"):
+            pixels = rows.astype(dtype)
+            for given in (numpy.asfortranarray(pixels), numpy.asfortranarray(pixels)[::-1, ::-2],
+                          pixels.T, pixels.astype(pixels.dtype.newbyteorder(">")).T):
+                self.assertTrue((self.context.image_from(given).read() == given).all())
+
+    def test_texts(self):
+        for begin, words in ((b"\xff\xd8\xff", "a JPEG, which context.load"),
+                             (b"\x89PNG\r\n", "a PNG"), (b"P6 1 1", "a colour picture, PPM"),
+                             (b"", "there are none"), (b"abcd", "they begin with 61 62 63 64")):
+            with self.assertRaisesRegex(vx.BadPicture, words):
+                self.context.image_from_pgm(begin)
+
+
+class TestCalls(ProgramTest):
+    def test_formats_of_each_function(self):
+        self.assertEqual(set(verdicts.TAKEN), set(FUNCTIONS))
+        for function, words in (("max", "U8 and U8 to U8; S16 and S16 to S16"),
+                                ("not_", "U8 to U8"), ("histogram", "U8"),
+                                ("convolve", "U8 to U8; U8 to S16"),
+                                ("threshold", "U8 or S16 to U8, and a threshold of the input's "
+                                              "format"),
+                                ("add", "U8 and U8 to U8; each U8 or S16, to S16")):
+            self.assertEqual(verdicts.formats_in_words(function), words)
+
+    def test_immediate_mode_says_what_it_takes(self):
+        deep = self.context.image(vx.S16, 4, 3)
+        with self.assertRaisesRegex(vx.InvalidFormat, "median3x3 takes U8 to U8. The function"):
+            self.context.vxu.median3x3(deep, self.context.image_like(deep))
+
+    def test_an_open_image_that_became_s16(self):
+        one, out = self.context.image(vx.U8, 4, 3), self.context.image(vx.U8, 4, 3)
+        graph = self.context.graph()
+        difference, most = graph.virtual_image(name="difference"), graph.virtual_image()
+        graph.subtract(one, one, vx.SATURATE, difference)
+        graph.max(difference, one, most)
+        graph.not_(most, out)
+        with self.assertRaisesRegex(
+                vx.InvalidFormat,
+                r"Node 2, max\(.*\): max takes U8 and U8 to U8; S16 and S16 to S16. Virtual "
+                r'image 4 "difference" \(open\) is S16, 4 by 3, because node 1, subtract, writes '
+                r"it and its format is open; graph.virtual_image\(vx.U8\) has one. "):
+            graph.verify()
+
+    def test_none(self):
+        out = self.context.image(vx.U8, 4, 3)
+        for call, words in ((lambda f: f.not_(None, out), "not_: .*Its input is None."),
+                            (lambda f: f.min(out, None, out), "min: .*Its second input is None."),
+                            (lambda f: f.threshold(out, None, out), "Its threshold is None."),
+                            (lambda f: f.not_(out, None), "not_: .*It has no output"),
+                            (lambda f: f.sobel3x3(out, None, None), "sobel3x3: .*no output")):
+            for functions in (self.context.vxu, self.context.graph()):
+                with self.assertRaisesRegex(vx.InvalidParameters, words):
+                    call(functions)
+
+    def test_closed(self):
+        image = self.context.image(vx.U8, 4, 3)
+        image.close()
+        for call in (image.read, image.query, lambda: self.context.vxu.not_(image, image)):
+            with self.assertRaises(vx.Closed) as caught:
+                call()
+            self.assertIsInstance(caught.exception, vx.InvalidReference)
+
+    def test_virtual_images_have_no_samples(self):
+        virtual = self.context.graph().virtual_image(vx.U8, 4, 3)
+        calls = [virtual.read, lambda: virtual.write([[1]]), lambda: vx.png(virtual),
+                 lambda: self.context.image_from(virtual)]
+        if numpy:
+            calls.append(lambda: numpy.asarray(virtual))
+        for call in calls:
+            with self.assertRaisesRegex(vx.OptimizedAway, r"virtual image 2 \(U8, 4 by 3\)"):
+                call()
+        with self.context.pipeline() as ahead:
+            self.assertRaises(vx.OptimizedAway, ahead.read, virtual)
+        with self.assertRaisesRegex(TypeError, "image_like takes an image"):
+            self.context.image_like(virtual)
+
+    def test_without_numpy(self):
+        with unittest.mock.patch.object(samples, "numpy_module", return_value=None):
+            with self.assertRaisesRegex(ImportError, "as an array needs NumPy"):
+                self.context.image(vx.U8, 1, 1).__array__()
+
+    def test_a_node_that_overwrites_what_an_earlier_one_reads(self):
+        part, mean = self.context.image(vx.U8, 4, 3), self.context.image(vx.U8, 4, 3)
+        sums, zero = self.context.image(vx.S16, 4, 3), self.context.image(vx.S16, 4, 3)
+        part.fill(64)
+        for _ in range(2):
+            self.context.vxu.accumulate(part, sums)
+        graph = self.context.graph()
+        graph.convert_depth(sums, mean, vx.SATURATE, 1)
+        graph.subtract(zero, zero, vx.WRAP, sums)
+        with self.assertWarnsRegex(vx.OrderWarning, r"node 1, convert_depth\(.*\), reads image 3 "
+                                   r".*, which node 2, subtract\(.*\), writes. The node that "
+                                   "writes runs first") as caught:
+            graph.verify()
+        self.assertEqual(caught.filename, __file__)
+        with warnings.catch_warnings():
+            warnings.simplefilter("error")
+            graph.verify(warn=False)
+            graph.process()
+            # As OpenVX has it: the sums are 0 before their mean is taken.
+            self.assertEqual(mean.read()[0, 0], 0)
+            # Neither an order that needs no second thought, nor a virtual image warns.
+            graph = self.context.graph()
+            late = graph.virtual_image(vx.U8)
+            graph.not_(late, mean)
+            graph.not_(part, late)
+            graph.verify()
+
+
+if __name__ == "__main__":
+    unittest.main()

@@ -1,0 +1,251 @@
+"""Results that can't be of an older picture, results that are polled, and streams."""
+
+import itertools
+import threading
+import time
+import unittest
+from unittest import mock
+
+from program import ProgramTest, answering, vx
+from feqyldan import wire
+
+OPENED = wire.reply_frame(0, wire.OPEN_CONTEXT)
+PATIENCE = 60
+
+
+class StationTest(ProgramTest):
+    """A station that gives the pictures back."""
+
+    def setUp(self):
+        super().setUp()
+        self.part, self.out = (self.context.image(vx.U8, 6, 4) for _ in range(2))
+        self.graph = self.context.graph()
+        self.graph.median3x3(self.part, self.out, border=vx.REPLICATE)
+
+    def picture(self, number, columns=6):
+        return [[number] * columns for _ in range(4)]
+
+    def shades(self, stream):
+        return [(frame[0][0], result[0, 0]) for frame, result in stream]
+
+
+class TestResultsAfterRefusals(StationTest):
+    def camera(self):
+        """From the fourth picture on they have another size."""
+        return [self.picture(number, 6 if number < 3 else 7) for number in range(8)]
+
+    def test_no_result_is_of_an_older_picture(self):
+        told = []
+        with self.context.pipeline() as ahead:
+            asked = []
+            for picture in self.camera():
+                self.part.write(picture)
+                self.graph.process()
+                asked.append(ahead.read(self.out))
+            for result in asked:
+                try:
+                    told.append(result.value()[0, 0])
+                except vx.BadPicture as refused:
+                    self.assertIsInstance(refused, vx.InvalidDimension)
+                    self.assertIn("call 10 of the pipeline, test_streams.py", refused.place)
+                    told.append(None)
+        self.assertEqual(told, [0, 1, 2, *5 * [None]])
+        # What was told isn't told again at the end.
+        self.assertEqual(len(ahead.refusals), 5)
+        # Who wants the reply itself asks for it by name.
+        self.assertEqual(asked[5].raw()[0, 0], 2)
+
+    def test_what_is_asked_before_a_refusal(self):
+        with self.assertRaises(vx.InvalidDimension):
+            with self.context.pipeline() as ahead:
+                self.part.write(self.picture(5))
+                before = ahead.read(self.part)
+                self.part.write([[1]])
+                after = ahead.read(self.part)
+        self.assertEqual(before.value()[0, 0], 5)
+        self.assertRaises(vx.InvalidDimension, after.value)
+
+    def test_calls_that_wait(self):
+        counts = self.context.distribution(2)
+        with self.context.pipeline():
+            self.part.write([[1]])
+            for call in (self.part.read, self.part.read_bytes, self.part.query, counts.read,
+                         lambda: self.part.valid):
+                self.assertRaises(vx.InvalidDimension, call)
+            # An object that is made is no picture.
+            self.context.image(vx.U8, 1, 1)
+        self.assertEqual(self.part.read()[0, 0], 0)
+
+    def test_after_wait(self):
+        with self.context.pipeline() as ahead:
+            self.part.write([[1]])
+            before = ahead.read(self.part)
+            self.assertRaises(vx.InvalidDimension, ahead.wait)
+            self.part.write(self.picture(7))
+            after = ahead.read(self.part)
+            self.assertEqual(after.value()[0, 0], 7)
+            self.assertRaises(vx.InvalidDimension, before.value)
+
+    def test_wait_after_it_was_told(self):
+        with self.context.pipeline() as ahead:
+            self.part.write([[1]])
+            self.assertRaises(vx.InvalidDimension, ahead.read(self.part).value)
+            ahead.wait()
+            self.assertEqual(ahead.refusals, [])
+            self.assertEqual(ahead.read(self.part).value()[0, 0], 0)
+
+    def test_a_result_that_is_refused_itself(self):
+        deep = self.context.image(vx.S16, 1, 1)
+        with self.context.pipeline() as ahead:
+            result = ahead.read_pgm(deep)
+            for _ in range(2):
+                self.assertRaisesRegex(vx.InvalidFormat, "read a PGM text", result.value)
+                self.assertRaisesRegex(vx.InvalidFormat, "read a PGM text", result.raw)
+
+
+class TestPolling(StationTest):
+    def test_is_there_becomes_true_by_itself(self):
+        with self.context.pipeline() as ahead:
+            self.part.write(self.picture(9))
+            self.graph.process()
+            result, until = ahead.read(self.out), time.monotonic() + PATIENCE
+            while not result.is_there and time.monotonic() < until:
+                time.sleep(0.001)
+            self.assertTrue(result.is_there)
+            with mock.patch.object(self.context.connection, "_await") as waits:
+                self.assertEqual(result.value()[0, 0], 9)
+            waits.assert_not_called()
+
+    def test_a_value_that_isnt_there_in_time(self):
+        graph = wire.reply_frame(0, wire.READ_MIN_MAX, 0, bytes(20))
+        made = wire.reply_frame(0, wire.CREATE_MIN_MAX, 0, b"\0\0\0\1")
+        with vx.Server(answering(OPENED, made, 1.0, graph, wire.reply_frame(
+                0, wire.RELEASE_CONTEXT))) as server, server.context() as context:
+            found = context.min_max()
+            with context.pipeline() as ahead:
+                result = ahead.read(found)
+                with self.assertRaisesRegex(vx.NotYet, "read extremes 1: no reply in 0.01 seconds"):
+                    result.value(timeout=0.01)
+                self.assertIsInstance(vx.NotYet("x"), TimeoutError)
+                # It goes on, and so does the connection.
+                self.assertEqual(result.value(timeout=PATIENCE).max, 0)
+
+    def test_is_there_after_the_servers_end(self):
+        made = wire.reply_frame(0, wire.CREATE_MIN_MAX, 0, b"\0\0\0\1")
+        with vx.Server(answering(OPENED, made, status=3)) as server:
+            context = server.context()
+            found = context.min_max()
+            with self.assertRaises(vx.ServerEnded):
+                with context.pipeline() as ahead:
+                    result = ahead.read(found)
+                    while not result.is_there:
+                        pass
+                    result.value()
+
+
+class TestStreams(StationTest):
+    def test_results_come_in_order(self):
+        for ahead in (0, 1, 2, 10):
+            for kind in (list, iter):
+                pictures = kind([self.picture(number) for number in range(6)])
+                stream = self.graph.stream(pictures, self.part, self.out, ahead=ahead)
+                self.assertEqual(self.shades(stream), [(number, number) for number in range(6)])
+        self.assertEqual([*self.graph.stream([], self.part, self.out)], [])
+
+    def test_several_outputs(self):
+        extremes, counts = self.context.min_max(), self.context.distribution(1)
+        self.graph.min_max_loc(self.part, extremes)
+        self.graph.histogram(self.part, counts)
+        pictures = [self.picture(3), self.picture(4)]
+        outs = extremes, counts, self.out
+        found = [values for _, values in self.graph.stream(pictures, self.part, outs)]
+        self.assertEqual([(one.max, count, out[0, 0]) for one, count, out in found],
+                         [(3, (24,), 3), (4, (24,), 4)])
+        self.assertEqual([one.max for _, one in self.graph.stream(pictures, self.part, extremes)],
+                         [3, 4])
+
+    def test_it_raises_at_the_frame_that_failed(self):
+        for wrong, kind in ((self.picture(3, 7), vx.InvalidDimension), ([[1.5]], vx.BadPicture),
+                            (None, TypeError)):
+            for take in (list, iter):
+                pictures = [*map(self.picture, range(3)), wrong, self.picture(4)]
+                seen = []
+                with self.assertRaises(kind) as caught:
+                    for frame, result in self.graph.stream(take(pictures), self.part, self.out):
+                        seen.append((frame[0][0], result[0, 0]))
+                self.assertEqual(seen, [(0, 0), (1, 1), (2, 2)])
+                self.assertIsInstance(caught.exception, vx.BadPicture)
+        self.assertEqual(self.shades(self.graph.stream([self.picture(8)], self.part, self.out)),
+                         [(8, 8)])
+
+    def test_a_refusal_says_which_frame(self):
+        pictures = [self.picture(0), [[1]]]
+        with self.assertRaises(vx.InvalidDimension) as caught:
+            for _ in self.graph.stream(pictures, self.part, self.out):
+                pass
+        self.assertRegex(caught.exception.place, "^frame 2 of the stream, test_streams.py:")
+
+    def test_an_error_of_the_frames(self):
+        def camera():
+            yield self.picture(1)
+            raise KeyError("no camera")
+
+        seen = []
+        with self.assertRaisesRegex(KeyError, "no camera"):
+            for _, result in self.graph.stream(camera(), self.part, self.out):
+                seen.append(result[0, 0])
+        self.assertEqual(seen, [1])
+
+    def test_a_result_comes_before_the_next_frame(self):
+        """A camera that waits until somebody has seen what came before."""
+        seen = threading.Semaphore(1)
+
+        def camera():
+            for number in range(5):
+                self.assertTrue(seen.acquire(timeout=PATIENCE))
+                yield self.picture(number)
+
+        shades = []
+        for _, result in self.graph.stream(camera(), self.part, self.out, ahead=2):
+            shades.append(result[0, 0])
+            seen.release()
+        self.assertEqual(shades, list(range(5)))
+
+    def test_a_stream_that_is_left(self):
+        """Frames without an end; the context goes on."""
+        for take in (lambda: (self.picture(number % 256) for number in itertools.count()),):
+            for _, result in self.graph.stream(take(), self.part, self.out, ahead=5):
+                break
+        self.part.write(self.picture(77))
+        self.graph.process()
+        self.assertEqual(self.out.read()[0, 0], 77)
+
+    def test_other_calls_between(self):
+        """In the body of the loop each call waits, and raises its own refusal."""
+        other = self.context.image(vx.U8, 1, 1)
+        for frame, _ in self.graph.stream([*map(self.picture, range(4))], self.part, self.out):
+            other.write([[frame[0][0]]])
+            self.assertEqual(other.read()[0, 0], frame[0][0])
+            self.assertRaises(vx.InvalidDimension, other.write, [[1, 2]])
+
+    def test_servers_take_turns(self):
+        with vx.Server() as second, second.context() as context:
+            part, out = context.image(vx.U8, 6, 4), context.image(vx.U8, 6, 4)
+            graph = context.graph()
+            graph.not_(part, out)
+            stations = vx.Station(self.graph, self.part, self.out), vx.Station(graph, part, out)
+            found = self.shades(vx.stream([*map(self.picture, range(5))], stations))
+        self.assertEqual(found, [(0, 0), (1, 254), (2, 2), (3, 252), (4, 4)])
+
+    def test_what_is_no_stream(self):
+        for call in (lambda: self.graph.stream([], self.part, self.out, ahead=-1),
+                     lambda: vx.stream([], []),
+                     lambda: [*self.graph.stream([], self.part, [])]):
+            self.assertRaises(ValueError, call)
+        with self.server.context() as other:
+            with self.assertRaises(vx.InvalidScope):
+                next(self.graph.stream([[[1]]], other.image(vx.U8, 1, 1), self.out))
+
+
+if __name__ == "__main__":
+    unittest.main()

@@ -1,0 +1,148 @@
+#!/usr/bin/env python3
+"""What moves before a live camera, with a background that follows the light.
+
+    examples/live.py FOLDER [VIDEO | NUMBER]
+
+takes frames of a video, or of the camera of that number, by OpenCV; without either it makes some,
+30 a second. A graph adds each frame to sums, and marks what differs from the background and from
+the frame before. After 16 frames the mean of the sums is the new background. A stream yields each
+result as soon as it is there, while the camera is waited for. Ctrl-C ends it. It prints how many
+frames were seen and how long after its frame a result came, and writes FOLDER/live.png: the last
+frame in which something moved, and its marks.
+"""
+
+from __future__ import annotations
+
+import os
+import sys
+import time
+from typing import Iterator, List, Tuple
+
+import feqyldan as vx
+from sheet import folder_told
+
+try:
+    import cv2
+    import numpy
+    import numpy.typing
+except ImportError:
+    print("examples/live.py: OpenCV and NumPy aren't here, so there is nothing to show (Debian's "
+          "python3-opencv)")
+    sys.exit(0)
+
+Picture = numpy.typing.NDArray[numpy.uint8]
+# Frames, 2 to the shift, are in one background.
+SHIFT, ABOVE = 4, 24
+WIDTH, HEIGHT, FRAMES, RATE = 1280, 720, 60, 30
+
+
+class Camera:
+    """Grey frames, and when each of them came."""
+
+    def __init__(self, source: str) -> None:
+        self.times: List[float] = []
+        if source:
+            self._video = cv2.VideoCapture(int(source) if source.isdigit() else source)
+            self.width, self.height = (int(self._video.get(side)) for side in (
+                cv2.CAP_PROP_FRAME_WIDTH, cv2.CAP_PROP_FRAME_HEIGHT))
+            self._frames = self._of_video()
+        else:
+            self.width, self.height = WIDTH, HEIGHT
+            self._frames = self._made()
+
+    def __iter__(self) -> Iterator[Picture]:
+        for frame in self._frames:
+            self.times.append(time.perf_counter())
+            yield frame
+
+    def _of_video(self) -> Iterator[Picture]:
+        is_there, frame = self._video.read()
+        while is_there:
+            yield numpy.asarray(cv2.cvtColor(frame, cv2.COLOR_BGR2GRAY), numpy.uint8)
+            is_there, frame = self._video.read()
+
+    def _made(self) -> Iterator[Picture]:
+        """A box that crosses a noisy belt; the light grows weaker."""
+        chance = numpy.random.default_rng(1)
+        due = time.perf_counter()
+        for number in range(FRAMES):
+            frame = chance.integers(120 - number, 128 - number, (HEIGHT, WIDTH), numpy.uint8)
+            if number >= FRAMES // 2:
+                left = 40 * (number - FRAMES // 2)
+                frame[300:420, left:left + 160] = 220
+            due += 1 / RATE
+            time.sleep(max(0.0, due - time.perf_counter()))
+            yield frame
+
+
+class Watch:
+    """A graph that marks what moves, and one that renews the background."""
+
+    def __init__(self, context: vx.Context, width: int, height: int) -> None:
+        self.camera, self._background, self.marks = (
+            context.image(vx.U8, width, height, name=name)
+            for name in ("camera", "background", "marks"))
+        self._sums = context.image(vx.S16, width, height, name="sums")
+        smooth = context.delay(self.camera, 2, name="smooth")
+        self.graph = graph = context.graph(name="watch")
+        away, moved, far, fast, both, clean = (graph.virtual_image(vx.U8) for _ in range(6))
+        limit = context.threshold(vx.U8, above=ABOVE)
+        graph.accumulate(self.camera, self._sums)
+        graph.gaussian3x3(self.camera, smooth[0], border=vx.REPLICATE)
+        graph.absdiff(smooth[0], self._background, away)
+        graph.absdiff(smooth[0], smooth[-1], moved)
+        graph.threshold(away, limit, far)
+        graph.threshold(moved, limit, fast)
+        graph.and_(far, fast, both)
+        graph.erode3x3(both, clean, border=vx.REPLICATE)
+        graph.dilate3x3(clean, self.marks, border=vx.REPLICATE)
+        self.counts = context.distribution(2, name="counts")
+        graph.histogram(self.marks, self.counts)
+        graph.register_auto_aging(smooth)
+        graph.verify()
+        # A graph that reads the sums and one that resets them: in one graph the reset runs first.
+        self._mean = context.graph(name="mean")
+        self._mean.convert_depth(self._sums, self._background, vx.SATURATE, SHIFT)
+
+    def renew(self) -> None:
+        """The frames so far make the background of the next ones."""
+        self._mean.process()
+        self._sums.fill(0)
+
+    def look(self, frames: Camera) -> Iterator[Tuple[Picture, vx.Picture, int]]:
+        """Each frame with its marks, and how many samples are marked. No frame is sent ahead, so
+        each background has the frames that it should."""
+        for number, (frame, (marks, counts)) in enumerate(
+                self.graph.stream(frames, self.camera, [self.marks, self.counts], ahead=0), 1):
+            if number % (1 << SHIFT) == 0:
+                self.renew()
+            yield frame, marks, counts[1]
+
+
+def main() -> None:
+    folder = folder_told()
+    camera = Camera(sys.argv[2] if len(sys.argv) > 2 else "")
+    if not camera.width:
+        sys.exit("examples/live.py: OpenCV reads no such video or camera")
+    late: List[float] = []
+    moved = 0
+    with vx.Server() as server, server.context() as context:
+        watch = Watch(context, camera.width, camera.height)
+        try:
+            for frame, marks, count in watch.look(camera):
+                late.append(time.perf_counter() - camera.times[len(late)])
+                # The first background is 0 everywhere: nothing is known of the scene yet.
+                if count and len(late) > 1 << SHIFT:
+                    moved += 1
+                    shown = numpy.hstack([frame, marks])
+        except KeyboardInterrupt:
+            pass
+    print(f"    {len(late)} frames of {camera.width} by {camera.height}; something moved in "
+          f"{moved}")
+    print(f"    a result came {1000 * sorted(late)[len(late) // 2]:.1f} ms after its frame, in the "
+          "middle")
+    if moved:
+        vx.write_png(os.path.join(folder, "live.png"), shown)
+
+
+main()

@@ -1,0 +1,107 @@
+#!/usr/bin/env python3
+"""A robot whose programs share servers by a broker, and go on when the broker is restarted.
+
+    examples/robot.py
+
+starts a broker with two servers, and two programs, each with a graph and 10 pictures a second.
+After a second it kills the broker, and starts it again another second later. Each program connects
+again, builds its graph again, and does the same picture again: none is lost. It prints what each
+did.
+"""
+
+from __future__ import annotations
+
+import multiprocessing
+import os
+import random
+import subprocess
+import sys
+import tempfile
+import time
+from typing import Any, Callable, List, Tuple
+
+import feqyldan as vx
+from feqyldan import program
+
+WIDTH, HEIGHT, PICTURES, RATE = 320, 240, 40, 10
+Build = Callable[[vx.Context], Tuple[vx.Graph, vx.Image, vx.Image]]
+
+
+# ---- the graphs
+
+def outlines(context: vx.Context) -> Tuple[vx.Graph, vx.Image, vx.Image]:
+    """What a dilation has more than an erosion."""
+    camera, out = (context.image(vx.U8, WIDTH, HEIGHT, name=name) for name in ("camera", "out"))
+    graph = context.graph(name="outlines")
+    bright, dark = graph.virtual_image(vx.U8), graph.virtual_image(vx.U8)
+    graph.dilate3x3(camera, bright, border=vx.REPLICATE)
+    graph.erode3x3(camera, dark, border=vx.REPLICATE)
+    graph.subtract(bright, dark, vx.SATURATE, out)
+    graph.verify()
+    return graph, camera, out
+
+
+def clean(context: vx.Context) -> Tuple[vx.Graph, vx.Image, vx.Image]:
+    """Without specks."""
+    camera, out = (context.image(vx.U8, WIDTH, HEIGHT, name=name) for name in ("camera", "out"))
+    graph = context.graph(name="clean")
+    graph.median3x3(camera, out, border=vx.REPLICATE)
+    graph.verify()
+    return graph, camera, out
+
+
+# ---- a program
+
+def work(path: str, name: str, build: Build, told: Any) -> None:
+    """Does all pictures, one after another, whatever becomes of the broker."""
+    pictures = [random.Random(number).randbytes(WIDTH * HEIGHT) for number in range(PICTURES)]
+    done, built = 0, 0
+    while done < PICTURES:
+        try:
+            with vx.connect(path, retry=30, timeout=10) as server, server.context() as context:
+                graph, camera, out = build(context)
+                built += 1
+                while done < PICTURES:
+                    camera.write(pictures[done])
+                    graph.process()
+                    out.read()
+                    done += 1
+                    time.sleep(1 / RATE)
+        except (vx.ServerEnded, vx.TimedOut):
+            # The context is gone with its server: connect and build again.
+            continue
+    told.put(f"    {name}: {done} pictures, built {built} times")
+
+
+# ---- the robot
+
+def start_broker(path: str) -> "subprocess.Popen[bytes]":
+    return subprocess.Popen([sys.executable, "-m", "feqyldan.broker", "--socket", path, "--servers",
+                             "2", "--", program.find(), "serve"], stderr=subprocess.DEVNULL)
+
+
+def main() -> None:
+    with tempfile.TemporaryDirectory() as folder:
+        path = os.path.join(folder, "socket")
+        told: Any = multiprocessing.SimpleQueue()
+        broker = start_broker(path)
+        programs: List[multiprocessing.Process] = [
+            multiprocessing.Process(target=work, args=(path, name, build, told))
+            for name, build in (("front", outlines), ("belt", clean))]
+        for one in programs:
+            one.start()
+        time.sleep(1)
+        broker.kill()
+        broker.wait()
+        time.sleep(1)
+        broker = start_broker(path)
+        for line in sorted(told.get() for _ in programs):
+            print(line)
+        for one in programs:
+            one.join()
+        broker.terminate()
+        print(f"    the broker ended with status {broker.wait()}")
+
+
+if __name__ == "__main__":
+    main()

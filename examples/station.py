@@ -1,0 +1,172 @@
+#!/usr/bin/env python3
+"""An inspection station with a recipe for each type of part: NumPy, OpenCV and Feqyldan.
+
+    examples/station.py FOLDER
+
+inspects 5-megapixel pictures of two types of parts. OpenCV moves each part to where its reference
+is, by phase correlation. A graph finds what is brighter or darker than the reference may be within
+two pixels, so small shifts that are left over don't count. The regions that differ are found by
+OpenCV again, where the graph found any. A picture of another size is refused, and the station goes
+on. It prints what was found and how long each picture took, and writes FOLDER/station.png: a part
+with its regions framed.
+"""
+
+from __future__ import annotations
+
+import os
+import sys
+import time
+from typing import Any, List, Tuple
+
+import feqyldan as vx
+from sheet import folder_told
+
+try:
+    import cv2
+    import numpy
+    import numpy.typing
+except ImportError:
+    print("examples/station.py: OpenCV and NumPy aren't here, so there is nothing to show "
+          "(Debian's python3-opencv)")
+    sys.exit(0)
+
+Picture = numpy.typing.NDArray[numpy.uint8]
+WIDTH, HEIGHT = 2448, 2048
+# How many pixels of shift are tolerated; how much a sample may differ beyond that; and the least
+# defect, in pixels.
+TOLERANCE, ABOVE, LEAST = 2, 40, 40
+# Pictures are aligned on a quarter of their width and height.
+QUARTER = 4
+RED = (30, 30, 230)
+
+
+def bytes_of(pixels: Any) -> Picture:
+    """What OpenCV gives, with its type."""
+    picture: Picture = numpy.asarray(pixels, numpy.uint8)
+    return picture
+
+
+# ---- the pictures, as a camera would take them
+
+def part_of(kind: str) -> Picture:
+    """A clean picture of a part of some kind: holes in a plate, or a ring."""
+    picture = numpy.full((HEIGHT, WIDTH), 60, numpy.uint8)
+    middle = WIDTH // 2, HEIGHT // 2
+    if kind == "plate":
+        cv2.rectangle(picture, (500, 400), (1950, 1650), 160, -1)
+        for column in range(700, 1900, 350):
+            cv2.circle(picture, (column, 1000), 90, 60, -1)
+    else:
+        cv2.circle(picture, middle, 800, 170, -1)
+        cv2.circle(picture, middle, 350, 60, -1)
+    return bytes_of(cv2.GaussianBlur(picture, (0, 0), 2))
+
+
+def photograph(kind: str, seed: int, defects: int) -> Picture:
+    """The part moved by up to 30 pixels, with noise, and scratches of another brightness."""
+    chance = numpy.random.default_rng(seed)
+    picture = part_of(kind)
+    for _ in range(defects):
+        x, y = (int(chance.integers(700, side - 700)) for side in (WIDTH, HEIGHT))
+        cv2.line(picture, (x, y), (x + 60, y + 25), 255, 6)
+    move = numpy.array([[1, 0, chance.uniform(-30, 30)], [0, 1, chance.uniform(-30, 30)]])
+    moved = cv2.warpAffine(picture, move, (WIDTH, HEIGHT), borderMode=cv2.BORDER_REPLICATE)
+    noise = chance.integers(0, 6, moved.shape, numpy.uint8)
+    return bytes_of(cv2.add(moved, noise))
+
+
+# ---- the station
+
+class Recipe:
+    """Compares pictures with the reference of one type of part."""
+
+    def __init__(self, context: vx.Context, name: str, reference: Picture) -> None:
+        self._small = smaller(reference)
+        self._part = context.image(vx.U8, WIDTH, HEIGHT, name=f"{name}: part")
+        self._marks = context.image_like(self._part, name=f"{name}: marks")
+        self._extremes = context.min_max(name=f"{name}: extremes")
+        self._graph = graph = context.graph(name=name)
+        low, high = envelope(context, reference)
+        smooth, over, under, worst, mask, opened = (graph.virtual_image(vx.U8) for _ in range(6))
+        graph.median3x3(self._part, smooth, border=vx.REPLICATE)
+        graph.subtract(smooth, high, vx.SATURATE, over)
+        graph.subtract(low, smooth, vx.SATURATE, under)
+        graph.max(over, under, worst)
+        graph.threshold(worst, context.threshold(vx.U8, above=ABOVE), mask)
+        graph.erode3x3(mask, opened, border=vx.REPLICATE)
+        graph.dilate3x3(opened, self._marks, border=vx.REPLICATE)
+        graph.min_max_loc(self._marks, self._extremes)
+        graph.verify()
+
+    def inspect(self, picture: Picture) -> Tuple[Picture, List[vx.Region]]:
+        """The picture moved to where the reference is, and the regions that differ. Raises
+        vx.BadPicture for a wrong frame."""
+        aligned = self._align(picture)
+        self._part.write(aligned)
+        self._graph.process()
+        # Most parts are good, and their marks needn't be read.
+        if self._extremes.read().max == 0:
+            return aligned, []
+        return aligned, vx.regions(self._marks, least=LEAST)
+
+    def _align(self, picture: Picture) -> Picture:
+        if picture.shape != (HEIGHT, WIDTH):
+            return picture
+        (across, down), _ = cv2.phaseCorrelate(self._small, smaller(picture))
+        move = numpy.array([[1, 0, -round(QUARTER * across)], [0, 1, -round(QUARTER * down)]],
+                           numpy.float32)
+        return bytes_of(cv2.warpAffine(picture, move, (WIDTH, HEIGHT),
+                                       borderMode=cv2.BORDER_REPLICATE))
+
+
+def smaller(picture: Picture) -> numpy.typing.NDArray[numpy.float32]:
+    """A quarter of the width and the height, as phaseCorrelate wants it."""
+    small = cv2.resize(picture, None, fx=1 / QUARTER, fy=1 / QUARTER,
+                       interpolation=cv2.INTER_AREA)
+    floats: numpy.typing.NDArray[numpy.float32] = numpy.asarray(small, numpy.float32)
+    return floats
+
+
+def envelope(context: vx.Context, reference: Picture) -> Tuple[vx.Image, vx.Image]:
+    """The least and the greatest sample of the reference within TOLERANCE pixels of each."""
+    low, high = context.image_from(reference), context.image_from(reference)
+    for _ in range(TOLERANCE):
+        for function, image in ((context.vxu.erode3x3, low), (context.vxu.dilate3x3, high)):
+            with image.copy() as before:
+                function(before, image, border=vx.REPLICATE)
+    return low, high
+
+
+def drawn(picture: Picture, found: List[vx.Region]) -> Picture:
+    """A quarter of the picture, in colour, with the regions framed."""
+    coloured = cv2.cvtColor(picture, cv2.COLOR_GRAY2BGR)
+    for region in found:
+        x0, y0, x1, y1 = region.around
+        cv2.rectangle(coloured, (x0 - 20, y0 - 20), (x1 + 20, y1 + 20), RED, 8)
+    small = cv2.resize(coloured, None, fx=1 / QUARTER, fy=1 / QUARTER,
+                       interpolation=cv2.INTER_AREA)
+    return bytes_of(cv2.cvtColor(small, cv2.COLOR_BGR2RGB))
+
+
+def main() -> None:
+    folder = folder_told()
+    orders = [("plate", 1, 0), ("ring", 2, 3), ("plate", 3, 2), ("ring", 4, 0)]
+    with vx.Server() as server, server.context() as context:
+        recipes = {kind: Recipe(context, kind, part_of(kind)) for kind in ("plate", "ring")}
+        for kind, seed, defects in orders:
+            picture = photograph(kind, seed, defects)
+            start = time.perf_counter()
+            aligned, found = recipes[kind].inspect(picture)
+            seconds = time.perf_counter() - start
+            print(f"    {kind} {seed}: {defects} defects made, {len(found)} found, "
+                  f"{1000 * seconds:.0f} ms")
+            if found:
+                vx.write_png(os.path.join(folder, "station.png"), drawn(aligned, found))
+        try:
+            recipes["ring"].inspect(picture[:-8])
+        except vx.BadPicture as refused:
+            print(f"    a wrong frame: {refused}")
+        print(f"    {context.usage()}")
+
+
+main()
