@@ -11,7 +11,7 @@ from typing import Dict, Tuple
 import feqyldan
 from feqyldan import program
 
-from . import ROOT, debian, wheels
+from . import ROOT, debian, library, wheels
 
 KINDS = {"default": program.PLAIN, "x86-64-v3": program.FASTER}
 
@@ -69,3 +69,4 @@ def main() -> None:
         pure = wheels.pure(folder)
         print(wheels.with_programs(pure, programs, oldest, asked.folder))
         print(debian.build(pure, programs, oldest, asked.folder))
+    print(*library.build(asked.folder, c_library), sep="\n")

@@ -1,5 +1,5 @@
 """The package for Debian: the server for both kinds of processor, the Python package, the units of
-systemd, manual pages and documents; and the C library where it is in the tree."""
+systemd, manual pages and documents."""
 
 import glob
 import gzip
@@ -16,7 +16,6 @@ import feqyldan
 from . import ROOT, wheels
 
 NAME = "feqyldan"
-LIBRARY = os.path.join(ROOT, "clients", "c")
 # What a file holds.
 Data = Union[str, bytes]
 CONTROL = """\
@@ -26,7 +25,7 @@ Architecture: amd64
 Maintainer: Feqyldan maintainers <maintainers@users.noreply.feqyldan.example>
 Installed-Size: {size}
 Depends: libc6 (>= {c_library}), python3 (>= 3.9)
-Suggests: python3-numpy, python3-distributed
+Suggests: python3-numpy, python3-distributed, libfeqyldan-dev
 Section: science
 Priority: optional
 Description: vision server with the behaviour of OpenVX
@@ -40,7 +39,7 @@ Format: https://www.debian.org/doc/packaging-manuals/copyright-format/1.0/
 Upstream-Name: Feqyldan
 
 Files: *
-Copyright: the authors of Feqyldan
+Copyright: 2026 the authors of Feqyldan
 License: Apache-2.0
  On Debian systems the whole text of the Apache License, version 2.0, is in
  /usr/share/common-licenses/Apache-2.0.
@@ -158,17 +157,10 @@ def put(stage: str, files: Mapping[str, Data], mode: int) -> None:
         os.chmod(path, mode)
 
 
-def put_library(stage: str) -> None:
-    """Installs the C library, built from a copy of its sources, and has the loader's cache made
-    anew. Where the copy stands isn't seen in what is built."""
-    with tempfile.TemporaryDirectory() as folder:
-        copy = shutil.copytree(LIBRARY, os.path.join(folder, "c"),
-                               ignore=shutil.ignore_patterns("out"))
-        subprocess.run(["make", "-s", "-C", copy, "install", "PREFIX=/usr", f"DESTDIR={stage}",
-                        f"VERSION={feqyldan.__version__}",
-                        f"CFLAGS=-O2 -g -ffile-prefix-map={copy}=/usr/src/{NAME}"],
-                       stdout=sys.stderr, check=True)
-    put(stage, {"DEBIAN/triggers": "activate-noawait ldconfig\n"}, 0o644)
+def strip_programs(stage: str, names: Iterable[str]) -> None:
+    """Takes out of the programs what is for debuggers alone."""
+    paths = [os.path.join(stage, "usr", "lib", NAME, name) for name in names]
+    subprocess.run(["strip", "--strip-unneeded", *paths], check=True)
 
 
 def put_control(stage: str, c_library: Tuple[int, int]) -> None:
@@ -200,11 +192,10 @@ def build(wheel: str, programs: Dict[str, bytes], c_library: Tuple[int, int], fo
         os.chmod(stage, 0o755)
         put(stage, plain_files(wheel), 0o644)
         put(stage, {f"usr/lib/{NAME}/{name}": data for name, data in programs.items()}, 0o755)
+        strip_programs(stage, programs)
         put(stage, {"usr/bin/feqyldan": text_of("deploy", "starter"),
                     **{f"usr/bin/feqyldan-{module}": COMMAND.format(module=module)
                        for module in COMMANDS}}, 0o755)
-        if os.path.exists(os.path.join(LIBRARY, "Makefile")):
-            put_library(stage)
         put_control(stage, c_library)
         subprocess.run(["dpkg-deb", "--root-owner-group", "--build", stage, target],
                        stdout=subprocess.DEVNULL, check=True)

@@ -1,125 +1,258 @@
 /* Uses of functions: what each takes, and the bytes that a frame has of it. */
 #include "internal.h"
 
+#include <stdarg.h>
 #include <string.h>
 
+vx_uint32 scope_of(vx_reference about) {
+    if (about->type == VX_TYPE_NODE)
+        return ((vx_node)about)->graph->base.name;
+    return about->type == VX_TYPE_GRAPH ? about->name : 0;
+}
+
+/* Adds the log entry of a call that is refused, which begins with what the call is. */
+static vx_status refuse(vx_reference about, const struct call *call, vx_status status,
+                        const char *words, ...) {
+    char said[VX_MAX_LOG_MESSAGE_LEN / 2], what[VX_MAX_LOG_MESSAGE_LEN / 4];
+    const struct definition *definition = definition_of(call->function);
+    va_list list;
+    va_start(list, words);
+    vsnprintf(said, sizeof said, words, list);
+    va_end(list);
+    if (about->type == VX_TYPE_NODE)
+        describe_node((vx_node)about, what, sizeof what);
+    else
+        snprintf(what, sizeof what, "%s", about->type == VX_TYPE_GRAPH
+                                              ? definition->node_name
+                                              : definition->immediate_name);
+    tell(about, status, "%s: %s", what, said);
+    return status;
+}
+
+static const char *noun_of(vx_enum type) {
+    switch (type) {
+    case VX_TYPE_IMAGE:
+        return "an image";
+    case VX_TYPE_THRESHOLD:
+        return "a threshold";
+    case VX_TYPE_LUT:
+        return "a lookup table";
+    case VX_TYPE_CONVOLUTION:
+        return "a convolution";
+    case VX_TYPE_DISTRIBUTION:
+        return "a distribution";
+    case VX_TYPE_ARRAY:
+        return "an array";
+    default:
+        return "a scalar";
+    }
+}
+
+/* Checks a value that is given for a parameter: a reference of the right type and context. */
+vx_status check_value(vx_reference about, const struct call *call, const struct formal *formal,
+                      vx_reference value) {
+    vx_context context = about->context;
+    vx_status status = check(context, value, formal->type);
+    if (status == VX_SUCCESS)
+        return status;
+    if (value == NULL)
+        return refuse(about, call, status, "%s is NULL, and has to be %s", formal->name,
+                      noun_of(formal->type));
+    if (status == VX_ERROR_INVALID_SCOPE)
+        return refuse(about, call, status, "%s is of another context", formal->name);
+    if (check(context, value, VX_TYPE_ERROR) == VX_SUCCESS)
+        return refuse(about, call, status, "%s is an object that couldn't be made: status %d",
+                      formal->name, value->status);
+    return refuse(about, call, status, "%s isn't %s", formal->name, noun_of(formal->type));
+}
+
 /* At once no scalar has the amount, but that of AccumulateSquare. */
-static bool may_lack(const struct call *call, unsigned place, vx_uint32 scope) {
-    bool is_number = place == AMOUNT && scope == 0 && call->function != ACCUMULATE_SQUARE;
-    return is_number || is_optional(call->function, place);
+static bool may_lack(vx_reference about, const struct call *call, const struct formal *formal) {
+    bool is_number = formal->place == AMOUNT && about->type == VX_TYPE_CONTEXT &&
+                     call->function != ACCUMULATE_SQUARE;
+    return is_number || formal->state == VX_PARAMETER_STATE_OPTIONAL;
 }
 
 /* Each operand that has to be there or is there is a reference of the type that the function
    takes. */
-static vx_status check_references(vx_context context, const struct call *call, vx_uint32 scope) {
-    const struct signature *signature = signature_of(call->function);
+static vx_status check_references(vx_reference about, const struct call *call) {
+    const struct definition *definition = definition_of(call->function);
     vx_status status = VX_SUCCESS;
-    for (vx_uint32 i = 0; status == VX_SUCCESS && i < signature->count; i++) {
-        unsigned place = signature->places[i];
-        if (place < OPERANDS && !(call->operands[place] == NULL && may_lack(call, place, scope)))
-            status = check(context, call->operands[place], type_at(call->function, place));
+    for (vx_uint32 i = 0; status == VX_SUCCESS && i < definition->count; i++) {
+        const struct formal *formal = &definition->formals[i];
+        if (formal->place >= OPERANDS)
+            continue;
+        vx_reference operand = call->operands[formal->place];
+        if (operand != NULL || !may_lack(about, call, formal))
+            status = check_value(about, call, formal, operand);
     }
     return status;
 }
 
-/* A virtual image is an operand in its graph alone. */
-static vx_status check_scope(vx_reference operand, vx_uint32 scope) {
-    if (operand == NULL || operand->type != VX_TYPE_IMAGE || ((vx_image)operand)->scope == 0)
+/* A virtual image is an operand in its graph alone, and a uniform one is read alone. */
+static vx_status check_scope(vx_reference about, const struct call *call,
+                             const struct formal *formal) {
+    vx_image image = (vx_image)call->operands[formal->place];
+    if (formal->type != VX_TYPE_IMAGE || image == NULL)
         return VX_SUCCESS;
-    if (scope == 0)
-        return VX_ERROR_OPTIMIZED_AWAY;
-    return ((vx_image)operand)->scope == scope ? VX_SUCCESS : VX_ERROR_INVALID_SCOPE;
+    if (image->is_uniform && formal->direction != VX_INPUT)
+        return refuse(about, call, VX_ERROR_INVALID_PARAMETERS, "%s is a uniform image",
+                      formal->name);
+    if (image->scope == 0 || image->scope == scope_of(about))
+        return VX_SUCCESS;
+    if (about->type == VX_TYPE_CONTEXT)
+        return refuse(about, call, VX_ERROR_OPTIMIZED_AWAY, "%s is a virtual image", formal->name);
+    return refuse(about, call, VX_ERROR_INVALID_SCOPE, "%s is a virtual image of another graph",
+                  formal->name);
 }
 
 /* A scalar that is there is of one of two types. */
-static vx_status check_item(vx_reference operand, vx_enum first, vx_enum second) {
-    if (operand == NULL)
+static vx_status check_item(vx_reference about, const struct call *call,
+                            const struct formal *formal, vx_enum first, vx_enum second) {
+    vx_scalar scalar = (vx_scalar)call->operands[formal->place];
+    if (scalar == NULL || scalar->item == first || scalar->item == second)
         return VX_SUCCESS;
-    vx_enum item = ((vx_scalar)operand)->item;
-    return item == first || item == second ? VX_SUCCESS : VX_ERROR_INVALID_TYPE;
+    return refuse(about, call, VX_ERROR_INVALID_TYPE,
+                  "%s is a scalar of type 0x%03x and not 0x%03x", formal->name,
+                  (unsigned)scalar->item, (unsigned)first);
 }
 
-/* MinMaxLoc's scalars. */
-static vx_status check_extremes(const struct call *call) {
-    vx_df_image format = ((vx_image)call->operands[IN1])->format;
-    vx_enum u8 = format == VX_DF_IMAGE_S16 ? VX_TYPE_INT16 : VX_TYPE_UINT8;
-    vx_enum s16 = format == VX_DF_IMAGE_U8 ? VX_TYPE_UINT8 : VX_TYPE_INT16;
+/* The types of scalars that a place has: one, or the second of two. */
+static void items_of(const struct call *call, unsigned place, vx_enum *first, vx_enum *second) {
+    vx_image input = (vx_image)call->operands[IN1];
+    vx_df_image format = input == NULL ? VX_DF_IMAGE_VIRT : input->format;
+    *first = *second = VX_TYPE_UINT32;
+    if (place == MIN_VALUE || place == MAX_VALUE) {
+        *first = format == VX_DF_IMAGE_S16 ? VX_TYPE_INT16 : VX_TYPE_UINT8;
+        *second = format == VX_DF_IMAGE_U8 ? VX_TYPE_UINT8 : VX_TYPE_INT16;
+    } else if (place == MIN_COUNT || place == MAX_COUNT) {
+        *second = VX_TYPE_SIZE;
+    } else if (call->function != ACCUMULATE_SQUARE) {
+        *first = *second = call->function == MULTIPLY ? VX_TYPE_FLOAT32 : VX_TYPE_INT32;
+    }
+}
+
+static vx_status check_policy(vx_reference about, const struct call *call,
+                              const struct formal *formal) {
+    vx_enum value = call->policies[formal->place - OPERANDS];
+    bool is_rounding = formal->place == ROUNDING;
+    if (call->is_generic && value == 0)
+        return VX_SUCCESS;
+    if (is_rounding && value == VX_ROUND_POLICY_TO_NEAREST_EVEN)
+        return refuse(about, call, VX_ERROR_NOT_SUPPORTED,
+                      "%s has to be VX_ROUND_POLICY_TO_ZERO", formal->name);
+    if (is_rounding ? value == VX_ROUND_POLICY_TO_ZERO
+                    : value == VX_CONVERT_POLICY_WRAP || value == VX_CONVERT_POLICY_SATURATE)
+        return VX_SUCCESS;
+    return refuse(about, call, VX_ERROR_INVALID_VALUE, "%s is 0x%x, which is no policy",
+                  formal->name, (unsigned)value);
+}
+
+static vx_status check_formal(vx_reference about, const struct call *call,
+                              const struct formal *formal) {
+    vx_enum first, second;
+    if (formal->place >= OPERANDS)
+        return check_policy(about, call, formal);
+    vx_array array = (vx_array)call->operands[formal->place];
+    if (formal->type == VX_TYPE_ARRAY && array != NULL && array->item != VX_TYPE_COORDINATES2D)
+        return refuse(about, call, VX_ERROR_INVALID_TYPE,
+                      "%s is an array of type 0x%03x and not of VX_TYPE_COORDINATES2D",
+                      formal->name, (unsigned)array->item);
+    if (formal->type != VX_TYPE_SCALAR)
+        return check_scope(about, call, formal);
+    items_of(call, formal->place, &first, &second);
+    return check_item(about, call, formal, first, second);
+}
+
+vx_status check_values(vx_reference about, const struct call *call) {
+    const struct definition *definition = definition_of(call->function);
     vx_status status = VX_SUCCESS;
-    for (int i = MIN_VALUE; status == VX_SUCCESS && i <= MAX_VALUE; i++)
-        status = check_item(call->operands[i], u8, s16);
-    for (int i = MIN_COUNT; status == VX_SUCCESS && i <= MAX_COUNT; i++)
-        status = check_item(call->operands[i], VX_TYPE_UINT32, VX_TYPE_SIZE);
+    for (vx_uint32 i = 0; status == VX_SUCCESS && i < definition->count; i++)
+        status = check_formal(about, call, &definition->formals[i]);
+    if (status == VX_SUCCESS && call->function == SOBEL && !call->is_generic &&
+        call->operands[OUT1] == NULL && call->operands[OUT2] == NULL)
+        status = refuse(about, call, VX_ERROR_INVALID_PARAMETERS, "both outputs are NULL");
     return status;
 }
 
-/* What the functions take beside operands that are sent by name. */
-static vx_status check_numbers(const struct call *call) {
-    enum function function = call->function;
-    bool has_policy = function == ADD || function == SUBTRACT || function == MULTIPLY ||
-                      function == CONVERT_DEPTH;
-    if (has_policy && call->policy != VX_CONVERT_POLICY_WRAP &&
-        call->policy != VX_CONVERT_POLICY_SATURATE)
-        return VX_ERROR_INVALID_VALUE;
-    if (function == MULTIPLY && call->rounding == VX_ROUND_POLICY_TO_NEAREST_EVEN)
-        return VX_ERROR_NOT_SUPPORTED;
-    if (function == MULTIPLY && call->rounding != VX_ROUND_POLICY_TO_ZERO)
-        return VX_ERROR_INVALID_VALUE;
-    if (function == MIN_MAX_LOCATION)
-        return check_extremes(call);
-    vx_enum amount = function == MULTIPLY            ? VX_TYPE_FLOAT32
-                     : function == ACCUMULATE_SQUARE ? VX_TYPE_UINT32
-                                                     : VX_TYPE_INT32;
-    return check_item(call->operands[AMOUNT], amount, amount);
+vx_status check_outputs(vx_reference about, const struct call *call) {
+    for (unsigned place = MIN_VALUE; place < OPERANDS; place++)
+        for (unsigned other = MIN_VALUE; other < place; other++)
+            if (call->operands[place] != NULL && call->operands[place] == call->operands[other])
+                return refuse(about, call, VX_ERROR_MULTIPLE_WRITERS, "two outputs are one object");
+    return VX_SUCCESS;
 }
 
-vx_status check_values(const struct call *call, vx_uint32 scope) {
-    vx_status status = VX_SUCCESS;
-    for (int i = IN1; status == VX_SUCCESS && i <= OUT2; i++)
-        status = check_scope(call->operands[i], scope);
-    if (status != VX_SUCCESS)
-        return status;
+vx_status check_complete(vx_reference about, const struct call *call) {
+    const struct definition *definition = definition_of(call->function);
+    for (vx_uint32 i = 0; i < definition->count; i++) {
+        const struct formal *formal = &definition->formals[i];
+        bool is_there = formal->place < OPERANDS ? call->operands[formal->place] != NULL
+                                                 : call->policies[formal->place - OPERANDS] != 0;
+        if (!is_there && formal->state == VX_PARAMETER_STATE_REQUIRED)
+            return refuse(about, call, VX_ERROR_NOT_SUFFICIENT, "%s wasn't set", formal->name);
+    }
     if (call->function == SOBEL && call->operands[OUT1] == NULL && call->operands[OUT2] == NULL)
-        return VX_ERROR_INVALID_PARAMETERS;
-    return check_numbers(call);
+        return refuse(about, call, VX_ERROR_NOT_SUFFICIENT, "no output was set");
+    return VX_SUCCESS;
 }
 
-vx_status check_call(vx_context context, const struct call *call, vx_uint32 scope) {
-    vx_status status = check_references(context, call, scope);
-    return status == VX_SUCCESS ? check_values(call, scope) : status;
+vx_status check_call(vx_reference about, const struct call *call) {
+    vx_status status = check_references(about, call);
+    return status == VX_SUCCESS ? check_values(about, call) : status;
+}
+
+/* The exponent of a scale that is 1 / 2^n with n from 0 to 15; 16 for another one. */
+static uint8_t exponent_of(double scale) {
+    uint8_t exponent = 0;
+    for (double power = 1; exponent <= 15 && scale * power != 1; power *= 2)
+        exponent++;
+    return exponent;
 }
 
 /* The byte for a scale or a shift. */
-static vx_status amount_of(const struct call *call, uint8_t *amount) {
+static vx_status amount_of(vx_reference about, const struct call *call, uint8_t *amount) {
     vx_scalar scalar = (vx_scalar)call->operands[AMOUNT];
     *amount = 0;
     if (call->function == MULTIPLY) {
         double scale = scalar == NULL ? call->amount : scalar->value.f32;
+        *amount = exponent_of(scale);
         if (!(scale >= 0))
-            return VX_ERROR_INVALID_VALUE;
-        for (double power = 1; *amount <= 15; power *= 2, ++*amount)
-            if (scale * power == 1)
-                return VX_SUCCESS;
-        return VX_ERROR_NOT_SUPPORTED;
+            return refuse(about, call, VX_ERROR_INVALID_VALUE,
+                          "scale is %g, and has to be at least 0", scale);
+        if (*amount > 15)
+            return refuse(about, call, VX_ERROR_NOT_SUPPORTED,
+                          "scale is %.9g, and has to be 1 / 2^n with n from 0 to 15", scale);
+        return VX_SUCCESS;
     }
-    if (call->function == CONVERT_DEPTH) {
-        double shift = scalar == NULL ? call->amount : scalar->value.s32;
-        if (shift < 0 || shift > 7)
-            return VX_ERROR_INVALID_VALUE;
-        *amount = (uint8_t)shift;
-    }
-    if (call->function == ACCUMULATE_SQUARE) {
-        if (scalar->value.u32 > 15)
-            return VX_ERROR_INVALID_VALUE;
-        *amount = (uint8_t)scalar->value.u32;
-    }
+    bool is_square = call->function == ACCUMULATE_SQUARE;
+    if (call->function != CONVERT_DEPTH && !is_square)
+        return VX_SUCCESS;
+    double shift = call->amount;
+    if (scalar != NULL)
+        shift = is_square ? (double)scalar->value.u32 : (double)scalar->value.s32;
+    if (shift < 0 || shift > (is_square ? 15 : 7))
+        return refuse(about, call, VX_ERROR_INVALID_VALUE, "shift is %.0f, and has to be 0 to %d",
+                      shift, is_square ? 15 : 7);
+    *amount = (uint8_t)shift;
     return VX_SUCCESS;
 }
 
+static vx_status send_limits(vx_reference about, const struct call *call) {
+    vx_threshold threshold = (vx_threshold)call->operands[IN2];
+    if (threshold->kind == VX_THRESHOLD_TYPE_RANGE && threshold->upper < threshold->lower)
+        return refuse(about, call, VX_ERROR_INVALID_VALUE,
+                      "thresh has an upper limit of %d, below its lower one of %d",
+                      threshold->upper, threshold->lower);
+    return send_threshold(threshold);
+}
+
 /* Has what the call uses made on the server. */
-static vx_status send_used(vx_context context, struct call *call) {
+static vx_status send_used(vx_reference about, struct call *call) {
+    vx_context context = about->context;
     switch (call->function) {
     case THRESHOLD:
-        return send_threshold((vx_threshold)call->operands[IN2]);
+        return send_limits(about, call);
     case TABLE_LOOKUP:
         return send_lut((vx_lut)call->operands[IN2]);
     case CONVOLVE:
@@ -141,18 +274,18 @@ static uint8_t *put_operand(uint8_t *at, vx_reference operand) {
     return put_ref(at, operand->name, NO_SLOT);
 }
 
-vx_status encode_call(vx_context context, struct call *call, uint8_t *bytes) {
+vx_status encode_call(vx_reference about, struct call *call, uint8_t *bytes) {
     uint8_t amount, *at = bytes;
-    vx_status status = amount_of(call, &amount);
+    vx_status status = amount_of(about, call, &amount);
     if (status == VX_SUCCESS)
-        status = send_used(context, call);
+        status = send_used(about, call);
     if (status != VX_SUCCESS)
         return status;
     bool is_constant = call->border.mode == VX_BORDER_CONSTANT;
     at = put8(at, call->function);
     at = put8(at, (unsigned)(call->border.mode - VX_BORDER_UNDEFINED));
     at = put8(at, is_constant ? call->border.constant_value.U8 : 0);
-    at = put8(at, call->policy == VX_CONVERT_POLICY_SATURATE);
+    at = put8(at, call->policies[POLICY - OPERANDS] == VX_CONVERT_POLICY_SATURATE);
     at = put8(at, amount);
     at = put_operand(put_operand(at, call->operands[IN1]), call->operands[IN2]);
     if (call->function == MIN_MAX_LOCATION)
@@ -188,7 +321,8 @@ static void set_place(vx_reference operand, vx_uint32 count, const uint8_t *at) 
     if (array == NULL)
         return;
     array->count = count == 0 ? 0 : 1;
-    array->items[0] = (vx_coordinates2d_t){get16(at), get16(at + 2)};
+    const vx_coordinates2d_t place = {get16(at), get16(at + 2)};
+    memcpy(array->items, &place, sizeof place);
 }
 
 vx_status take_extremes(vx_context context, const struct call *call) {

@@ -17,6 +17,14 @@ static const char *const CODE_NAMES[] = {
     "INVALID_SCOPE",  "INVALID_FORMAT",    "INVALID_DIMENSION",  "INVALID_VALUE",
     "INVALID_TYPE",   "INVALID_GRAPH",     "INVALID_LINK",       "MULTIPLE_WRITERS",
     "OPTIMIZED_AWAY", "NO_RESOURCES"};
+
+const char *name_of_status(vx_status status) {
+    for (size_t code = 0; code < sizeof STATUS_OF_CODE / sizeof *STATUS_OF_CODE; code++)
+        if (STATUS_OF_CODE[code] == status)
+            return CODE_NAMES[code];
+    return "FAILURE";
+}
+
 static const char *const OP_NAMES[] = {[OPEN_CONTEXT] = "OpenContext",
                                        [CREATE_IMAGE] = "CreateImage",
                                        [QUERY_IMAGE] = "QueryImage",
@@ -42,28 +50,51 @@ static const char *const OP_NAMES[] = {[OPEN_CONTEXT] = "OpenContext",
                                        [AGE_DELAY] = "AgeDelay",
                                        [REGISTER_AUTO_AGING] = "RegisterAutoAging"};
 
-vx_status lost(vx_context context) {
+static vx_status lost(vx_context context) {
     char words[VX_MAX_LOG_MESSAGE_LEN];
     connection_epitaph(&context->connection, words, sizeof words);
     tell(REFERENCE(context), VX_FAILURE, "%s", words);
     return VX_FAILURE;
 }
 
-vx_status status_of(vx_context context, const struct request *request) {
+static vx_status status_of(vx_context context, const struct request *request) {
     vx_status status = STATUS_OF_CODE[request->code];
+    if (request->is_quiet)
+        return status;
     if (status != VX_SUCCESS)
         tell(REFERENCE(context), status, "the server refused %s: %s", OP_NAMES[request->op],
              CODE_NAMES[request->code]);
     return status;
 }
 
+void let_look(vx_context context) { pthread_mutex_unlock(&context->objects); }
+
+void end_look(vx_context context) { pthread_mutex_lock(&context->objects); }
+
+vx_status await_reply(vx_context context, struct request *request, bool is_sent) {
+    let_look(context);
+    bool is_answered = is_sent && connection_wait(&context->connection, request);
+    end_look(context);
+    return is_answered ? status_of(context, request) : lost(context);
+}
+
+static vx_status exchange(vx_context context, struct request *request, const uint8_t *body,
+                          size_t length) {
+    let_look(context);
+    bool is_sent = connection_send(&context->connection, request, body, length);
+    end_look(context);
+    return await_reply(context, request, is_sent);
+}
+
 vx_status ask(vx_context context, enum op op, const uint8_t *body, size_t length, uint8_t *reply,
               size_t room) {
     struct request request = {.op = (uint8_t)op, .body = reply, .room = room};
-    if (!connection_send(&context->connection, &request, body, length) ||
-        !connection_wait(&context->connection, &request))
-        return lost(context);
-    return status_of(context, &request);
+    return exchange(context, &request, body, length);
+}
+
+vx_status ask_quietly(vx_context context, enum op op, const uint8_t *body, size_t length) {
+    struct request request = {.op = (uint8_t)op, .is_quiet = true};
+    return exchange(context, &request, body, length);
 }
 
 vx_status ask_named(vx_context context, enum op op, vx_uint32 name) {
@@ -86,13 +117,17 @@ void forget(vx_context context, vx_uint32 name) {
         ask_named(context, RELEASE, name);
 }
 
-static bool make_mutex(vx_context context) {
+static bool make_mutexes(vx_context context) {
     pthread_mutexattr_t attributes;
     if (pthread_mutexattr_init(&attributes) != 0)
         return false;
     /* A log callback may call the library. */
     pthread_mutexattr_settype(&attributes, PTHREAD_MUTEX_RECURSIVE);
-    bool is_made = pthread_mutex_init(&context->mutex, &attributes) == 0;
+    bool is_made = pthread_mutex_init(&context->calls, &attributes) == 0;
+    if (is_made && pthread_mutex_init(&context->objects, &attributes) != 0) {
+        pthread_mutex_destroy(&context->calls);
+        is_made = false;
+    }
     pthread_mutexattr_destroy(&attributes);
     return is_made;
 }
@@ -105,36 +140,56 @@ static void make_base(vx_reference reference, vx_context context, vx_enum type, 
     register_reference(reference);
 }
 
+/* Reaches a server that opens a context; false with the reason where there is none. */
+static bool open_server(vx_context context, char *why, size_t room) {
+    if (!connection_open(&context->connection, why, room))
+        return false;
+    end_look(context);
+    vx_status status = ask(context, OPEN_CONTEXT, NULL, 0, NULL, 0);
+    let_look(context);
+    if (context->connection.has_ended)
+        connection_epitaph(&context->connection, why, room);
+    else
+        snprintf(why, room, "the server refused OpenContext: %s%s", name_of_status(status),
+                 status == VX_ERROR_NO_RESOURCES ? ": it has too many connections" : "");
+    return status == VX_SUCCESS;
+}
+
 PUBLIC vx_context VX_API_CALL vxCreateContext(void) {
     char why[VX_MAX_LOG_MESSAGE_LEN];
     vx_context context = calloc(1, sizeof *context);
     if (context == NULL)
         return NULL;
-    if (!make_mutex(context)) {
+    watch_forks_once();
+    if (!make_mutexes(context)) {
         free(context);
         return NULL;
     }
     context->base.context = context;
-    bool is_open = connection_open(&context->connection, why, sizeof why);
-    if (is_open && ask(context, OPEN_CONTEXT, NULL, 0, NULL, 0) != VX_SUCCESS) {
-        connection_epitaph(&context->connection, why, sizeof why);
-        is_open = false;
-    }
-    if (!is_open) {
+    context->border.mode = VX_BORDER_UNDEFINED;
+    context->border_policy = VX_BORDER_POLICY_DEFAULT_TO_UNDEFINED;
+    if (!open_server(context, why, sizeof why)) {
         fprintf(stderr, "vxCreateContext: %s\n", why);
         free_context(context);
         return NULL;
     }
-    context->border.mode = VX_BORDER_UNDEFINED;
     make_base(&context->base, context, VX_TYPE_CONTEXT, VX_SUCCESS);
     for (vx_status status = -1; status > VX_STATUS_MIN; status--)
         make_base(&context->errors[-status], context, VX_TYPE_ERROR, status);
     return context;
 }
 
+void leave_context(vx_context context) {
+    leave_to_parent(&context->connection);
+    context->users = 0;
+    make_mutexes(context);
+}
+
 void free_context(vx_context context) {
     connection_close(&context->connection);
-    pthread_mutex_destroy(&context->mutex);
+    free_spares(context);
+    pthread_mutex_destroy(&context->calls);
+    pthread_mutex_destroy(&context->objects);
     free(context);
 }
 
@@ -169,28 +224,65 @@ static vx_uint32 count_objects(vx_context context) {
     return count;
 }
 
+/* A row for each kernel of the server. */
+static vx_status give_kernels(void *ptr, vx_size size) {
+    vx_kernel_info_t *rows = ptr;
+    if (ptr == NULL || size != count_functions() * sizeof *rows)
+        return VX_ERROR_INVALID_PARAMETERS;
+    for (vx_uint32 function = 1; function <= count_functions(); function++) {
+        const struct definition *definition = definition_of((enum function)function);
+        vx_kernel_info_t row = {.enumeration = definition->kernel};
+        snprintf(row.name, sizeof row.name, "%s", definition->kernel_name);
+        memcpy(rows + function - 1, &row, sizeof row);
+    }
+    return VX_SUCCESS;
+}
+
+static vx_status query_context(vx_context context, vx_enum attribute, void *ptr, vx_size size) {
+    static const vx_char implementation[VX_MAX_IMPLEMENTATION_NAME] = "feqyldan";
+    static const vx_char extensions[1] = "";
+    const vx_uint16 vendor = VX_ID_DEFAULT, version = VX_VERSION;
+    const vx_size side = 9, none = 0, length = sizeof extensions;
+    const vx_uint32 count = count_objects(context), kernels = count_functions(), modules = 0;
+    switch (attribute) {
+    case VX_CONTEXT_VENDOR_ID:
+        return give(ptr, size, &vendor, sizeof vendor);
+    case VX_CONTEXT_VERSION:
+        return give(ptr, size, &version, sizeof version);
+    case VX_CONTEXT_UNIQUE_KERNELS:
+        return give(ptr, size, &kernels, sizeof kernels);
+    case VX_CONTEXT_UNIQUE_KERNEL_TABLE:
+        return give_kernels(ptr, size);
+    case VX_CONTEXT_MODULES:
+        return give(ptr, size, &modules, sizeof modules);
+    case VX_CONTEXT_REFERENCES:
+        return give(ptr, size, &count, sizeof count);
+    case VX_CONTEXT_IMPLEMENTATION:
+        return give(ptr, size, implementation, sizeof implementation);
+    case VX_CONTEXT_EXTENSIONS_SIZE:
+        return give(ptr, size, &length, sizeof length);
+    case VX_CONTEXT_EXTENSIONS:
+        return give(ptr, size, extensions, sizeof extensions);
+    case VX_CONTEXT_CONVOLUTION_MAX_DIMENSION:
+        return give(ptr, size, &side, sizeof side);
+    case VX_CONTEXT_OPTICAL_FLOW_MAX_WINDOW_DIMENSION:
+    case VX_CONTEXT_NONLINEAR_MAX_DIMENSION:
+    case VX_CONTEXT_MAX_TENSOR_DIMS:
+        return give(ptr, size, &none, sizeof none);
+    case VX_CONTEXT_IMMEDIATE_BORDER:
+        return give(ptr, size, &context->border, sizeof context->border);
+    case VX_CONTEXT_IMMEDIATE_BORDER_POLICY:
+        return give(ptr, size, &context->border_policy, sizeof context->border_policy);
+    default:
+        return VX_ERROR_NOT_SUPPORTED;
+    }
+}
+
 PUBLIC vx_status VX_API_CALL vxQueryContext(vx_context context, vx_enum attribute, void *ptr,
                                             vx_size size) {
-    static const vx_char implementation[VX_MAX_IMPLEMENTATION_NAME] = "feqyldan";
-    const vx_uint16 vendor = VX_ID_DEFAULT, version = VX_VERSION;
-    const vx_size side = 9;
-    if (enter(context, VX_TYPE_CONTEXT) == NULL)
+    if (look(context, VX_TYPE_CONTEXT) == NULL)
         return VX_ERROR_INVALID_REFERENCE;
-    vx_uint32 count = count_objects(context);
-    vx_status status = VX_ERROR_NOT_SUPPORTED;
-    if (attribute == VX_CONTEXT_VENDOR_ID)
-        status = give(ptr, size, &vendor, sizeof vendor);
-    if (attribute == VX_CONTEXT_VERSION)
-        status = give(ptr, size, &version, sizeof version);
-    if (attribute == VX_CONTEXT_REFERENCES)
-        status = give(ptr, size, &count, sizeof count);
-    if (attribute == VX_CONTEXT_IMPLEMENTATION)
-        status = give(ptr, size, implementation, sizeof implementation);
-    if (attribute == VX_CONTEXT_CONVOLUTION_MAX_DIMENSION)
-        status = give(ptr, size, &side, sizeof side);
-    if (attribute == VX_CONTEXT_IMMEDIATE_BORDER)
-        status = give(ptr, size, &context->border, sizeof context->border);
-    return leave(context, status);
+    return look_away(context, query_context(context, attribute, ptr, size));
 }
 
 bool is_border(const vx_border_t *border) {
@@ -198,18 +290,35 @@ bool is_border(const vx_border_t *border) {
            border->mode == VX_BORDER_REPLICATE;
 }
 
-PUBLIC vx_status VX_API_CALL vxSetContextAttribute(vx_context context, vx_enum attribute,
-                                                   const void *ptr, vx_size size) {
+static vx_status set_border(vx_context context, const void *ptr, vx_size size) {
     vx_border_t border;
-    if (enter(context, VX_TYPE_CONTEXT) == NULL)
-        return VX_ERROR_INVALID_REFERENCE;
-    if (attribute != VX_CONTEXT_IMMEDIATE_BORDER)
-        return leave(context, VX_ERROR_NOT_SUPPORTED);
     if (ptr == NULL || size != sizeof border)
-        return leave(context, VX_ERROR_INVALID_PARAMETERS);
+        return VX_ERROR_INVALID_PARAMETERS;
     memcpy(&border, ptr, sizeof border);
     if (!is_border(&border))
-        return leave(context, VX_ERROR_INVALID_VALUE);
+        return VX_ERROR_INVALID_VALUE;
     context->border = border;
-    return leave(context, VX_SUCCESS);
+    return VX_SUCCESS;
+}
+
+static vx_status set_border_policy(vx_context context, const void *ptr, vx_size size) {
+    vx_enum policy;
+    if (ptr == NULL || size != sizeof policy)
+        return VX_ERROR_INVALID_PARAMETERS;
+    memcpy(&policy, ptr, sizeof policy);
+    if (policy != VX_BORDER_POLICY_DEFAULT_TO_UNDEFINED && policy != VX_BORDER_POLICY_RETURN_ERROR)
+        return VX_ERROR_INVALID_VALUE;
+    context->border_policy = policy;
+    return VX_SUCCESS;
+}
+
+PUBLIC vx_status VX_API_CALL vxSetContextAttribute(vx_context context, vx_enum attribute,
+                                                   const void *ptr, vx_size size) {
+    if (enter(context, VX_TYPE_CONTEXT) == NULL)
+        return VX_ERROR_INVALID_REFERENCE;
+    if (attribute == VX_CONTEXT_IMMEDIATE_BORDER)
+        return leave(context, set_border(context, ptr, size));
+    if (attribute == VX_CONTEXT_IMMEDIATE_BORDER_POLICY)
+        return leave(context, set_border_policy(context, ptr, size));
+    return leave(context, VX_ERROR_NOT_SUPPORTED);
 }

@@ -69,22 +69,22 @@ PUBLIC vx_status VX_API_CALL vxSetConvolutionAttribute(vx_convolution conv, vx_e
 
 PUBLIC vx_status VX_API_CALL vxQueryConvolution(vx_convolution conv, vx_enum attribute, void *ptr,
                                                 vx_size size) {
-    vx_context context = enter(conv, VX_TYPE_CONVOLUTION);
+    vx_context context = look(conv, VX_TYPE_CONVOLUTION);
     if (context == NULL)
         return VX_ERROR_INVALID_REFERENCE;
     const vx_size length = length_of(conv);
     const vx_uint32 scale = (vx_uint32)1 << conv->exponent;
     switch (attribute) {
     case VX_CONVOLUTION_ROWS:
-        return leave(context, give(ptr, size, &conv->rows, sizeof conv->rows));
+        return look_away(context, give(ptr, size, &conv->rows, sizeof conv->rows));
     case VX_CONVOLUTION_COLUMNS:
-        return leave(context, give(ptr, size, &conv->columns, sizeof conv->columns));
+        return look_away(context, give(ptr, size, &conv->columns, sizeof conv->columns));
     case VX_CONVOLUTION_SCALE:
-        return leave(context, give(ptr, size, &scale, sizeof scale));
+        return look_away(context, give(ptr, size, &scale, sizeof scale));
     case VX_CONVOLUTION_SIZE:
-        return leave(context, give(ptr, size, &length, sizeof length));
+        return look_away(context, give(ptr, size, &length, sizeof length));
     default:
-        return leave(context, VX_ERROR_NOT_SUPPORTED);
+        return look_away(context, VX_ERROR_NOT_SUPPORTED);
     }
 }
 

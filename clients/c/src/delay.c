@@ -55,6 +55,7 @@ static vx_image slot_of(vx_delay delay, vx_size number) {
     image->width = delay->width;
     image->height = delay->height;
     image->format = delay->format;
+    image->found = (struct described){delay->width, delay->height, delay->format};
     image->delay = delay;
     image->slot = (uint8_t)number;
     delay->images[number] = image;
@@ -97,12 +98,12 @@ PUBLIC vx_status VX_API_CALL vxRegisterAutoAging(vx_graph graph, vx_delay delay)
 PUBLIC vx_status VX_API_CALL vxQueryDelay(vx_delay delay, vx_enum attribute, void *ptr,
                                           vx_size size) {
     const vx_enum item = VX_TYPE_IMAGE;
-    vx_context context = enter(delay, VX_TYPE_DELAY);
+    vx_context context = look(delay, VX_TYPE_DELAY);
     if (context == NULL)
         return VX_ERROR_INVALID_REFERENCE;
     if (attribute == VX_DELAY_TYPE)
-        return leave(context, give(ptr, size, &item, sizeof item));
+        return look_away(context, give(ptr, size, &item, sizeof item));
     if (attribute == VX_DELAY_SLOTS)
-        return leave(context, give(ptr, size, &delay->slots, sizeof delay->slots));
-    return leave(context, VX_ERROR_NOT_SUPPORTED);
+        return look_away(context, give(ptr, size, &delay->slots, sizeof delay->slots));
+    return look_away(context, VX_ERROR_NOT_SUPPORTED);
 }

@@ -3,6 +3,7 @@
 #include "internal.h"
 
 #include <string.h>
+#include <time.h>
 
 PUBLIC vx_graph VX_API_CALL vxCreateGraph(vx_context context) {
     if (enter(context, VX_TYPE_CONTEXT) == NULL)
@@ -28,33 +29,74 @@ void change(vx_graph graph) {
     graph->state = VX_GRAPH_STATE_UNVERIFIED;
 }
 
-vx_node add_node(vx_graph graph, struct call call) {
+/* A graph whose node couldn't be made isn't what the program meant: it is never verified. */
+static vx_node fail_node(vx_graph graph, vx_status status) {
+    graph->lacks_node = true;
+    change(graph);
+    return (vx_node)error_of(graph->base.context, status);
+}
+
+static bool is_missed(const struct _vx_graph *graph, const struct call *call) {
+    const struct call *missed = &graph->missed;
+    return graph->misses_node && missed->function == call->function &&
+           memcmp(missed->operands, call->operands, sizeof call->operands) == 0 &&
+           memcmp(missed->policies, call->policies, sizeof call->policies) == 0;
+}
+
+/* The same for want of memory, until the program makes the node anew. */
+static vx_node miss_node(vx_graph graph, const struct call *call) {
+    if (graph->misses_node && !is_missed(graph, call))
+        return fail_node(graph, VX_ERROR_NO_MEMORY);
+    graph->misses_node = true;
+    graph->missed = *call;
+    change(graph);
+    return (vx_node)error_of(graph->base.context, VX_ERROR_NO_MEMORY);
+}
+
+vx_node add_missing_node(vx_graph graph, const char *why) {
     vx_context context = enter(graph, VX_TYPE_GRAPH);
     if (context == NULL)
         return NULL;
-    vx_status status = check_call(context, &call, graph->base.name);
-    vx_node node = NULL;
-    if (status == VX_SUCCESS) {
-        node = make(context, VX_TYPE_NODE, sizeof *node);
-        status = node == NULL ? VX_ERROR_NO_MEMORY : VX_SUCCESS;
-    }
-    if (status != VX_SUCCESS) {
-        leave(context, status);
-        return (vx_node)error_of(context, status);
-    }
-    call.border.mode = VX_BORDER_UNDEFINED;
-    node->call = call;
+    tell(&graph->base, VX_ERROR_NOT_SUPPORTED, "%s", why);
+    vx_node failed = fail_node(graph, VX_ERROR_NOT_SUPPORTED);
+    leave(context, VX_SUCCESS);
+    return failed;
+}
+
+static void append_node(vx_graph graph, vx_node node) {
     node->graph = graph;
     node->base.holds = 1;
     for (int i = 0; i < OPERANDS; i++)
-        if (call.operands[i] != NULL)
-            hold(call.operands[i]);
+        if (node->call.operands[i] != NULL)
+            hold(node->call.operands[i]);
     vx_node *last = &graph->first;
     while (*last != NULL)
         last = &(*last)->next_node;
     *last = node;
     graph->nodes++;
     change(graph);
+}
+
+vx_node add_node(vx_graph graph, struct call call) {
+    vx_context context = enter(graph, VX_TYPE_GRAPH);
+    if (context == NULL)
+        return NULL;
+    vx_status status = call.is_generic ? VX_SUCCESS : check_call(&graph->base, &call);
+    vx_node node = NULL;
+    if (status == VX_SUCCESS) {
+        node = make(context, VX_TYPE_NODE, sizeof *node);
+        status = node == NULL ? VX_ERROR_NO_MEMORY : VX_SUCCESS;
+    }
+    if (status == VX_SUCCESS) {
+        call.border.mode = VX_BORDER_UNDEFINED;
+        node->call = call;
+        graph->misses_node = graph->misses_node && !is_missed(graph, &call);
+        append_node(graph, node);
+    } else if (status == VX_ERROR_NO_MEMORY) {
+        node = miss_node(graph, &call);
+    } else {
+        node = fail_node(graph, status);
+    }
     leave(context, status);
     return node;
 }
@@ -97,7 +139,7 @@ vx_status detach(vx_node node) {
 static vx_status send_node(vx_node node) {
     uint8_t body[4 + NODE_BYTES];
     vx_context context = node->base.context;
-    vx_status status = encode_call(context, &node->call, body + 4);
+    vx_status status = encode_call(&node->base, &node->call, body + 4);
     if (status != VX_SUCCESS)
         return status;
     if (node->number != 0 && memcmp(node->sent, body + 4, NODE_BYTES) == 0)
@@ -107,25 +149,77 @@ static vx_status send_node(vx_node node) {
         return status;
     put32(body, node->graph->base.name);
     status = create(context, ADD_NODE, body, sizeof body, &node->number);
-    if (status == VX_SUCCESS)
+    if (status == VX_SUCCESS) {
         memcpy(node->sent, body + 4, NODE_BYTES);
+        note_outputs(&node->call);
+    }
     return status;
 }
 
+/* Has the server have all nodes of a graph that may be one. */
 static vx_status send_nodes(vx_graph graph) {
+    if (graph->lacks_node || graph->misses_node) {
+        tell(&graph->base, VX_ERROR_INVALID_NODE, "a node of the graph couldn't be made");
+        return VX_ERROR_INVALID_NODE;
+    }
+    vx_status status = check_writers(graph);
+    for (vx_node node = graph->first; node != NULL; node = node->next_node) {
+        if (status == VX_SUCCESS && node->call.is_generic)
+            node->status = status = check_complete(&node->base, &node->call);
+        if (status == VX_SUCCESS)
+            node->status = status = send_node(node);
+    }
+    return status;
+}
+
+/* Sends the server what nodes read in the program's memory, or takes from it what they wrote. */
+static vx_status move_handles(vx_graph graph,
+                              vx_status (*move)(vx_reference about, const struct call *call)) {
     vx_status status = VX_SUCCESS;
     for (vx_node node = graph->first; node != NULL && status == VX_SUCCESS; node = node->next_node)
-        status = send_node(node);
+        status = move(&node->base, &node->call);
+    return status;
+}
+
+/* Verifies or runs a graph on the server. */
+static vx_status ask_verdict(vx_graph graph, enum op op) {
+    vx_status status = send_nodes(graph);
+    if (status == VX_SUCCESS && op == PROCESS_GRAPH)
+        status = move_handles(graph, send_images);
+    if (status != VX_SUCCESS)
+        return status;
+    uint8_t body[4];
+    put32(body, graph->base.name);
+    status = ask_quietly(graph->base.context, op, body, sizeof body);
+    if (status == VX_SUCCESS)
+        resolve_images(graph);
+    else if (!graph->base.context->connection.has_ended)
+        explain_verdict(graph, status);
     return status;
 }
 
 static vx_status verify(vx_graph graph) {
-    vx_status status = send_nodes(graph);
-    if (status == VX_SUCCESS)
-        status = ask_named(graph->base.context, VERIFY_GRAPH, graph->base.name);
+    vx_status status = ask_verdict(graph, VERIFY_GRAPH);
     graph->is_verified = status == VX_SUCCESS;
     graph->state = graph->is_verified ? VX_GRAPH_STATE_VERIFIED : VX_GRAPH_STATE_UNVERIFIED;
     return status;
+}
+
+static vx_uint64 now(void) {
+    struct timespec time;
+    clock_gettime(CLOCK_MONOTONIC, &time);
+    return (vx_uint64)time.tv_sec * 1000000000u + (vx_uint64)time.tv_nsec;
+}
+
+/* Counts a run that began when the graph says so. */
+static void count_time(vx_perf_t *times) {
+    times->end = now();
+    times->tmp = times->end - times->beg;
+    times->sum += times->tmp;
+    times->num++;
+    times->avg = times->sum / times->num;
+    times->min = times->num == 1 || times->tmp < times->min ? times->tmp : times->min;
+    times->max = times->tmp > times->max ? times->tmp : times->max;
 }
 
 /* After a run that ended with a status: what it means for the graph, and MinMaxLoc's outputs. */
@@ -133,8 +227,14 @@ static vx_status end_run(vx_graph graph, vx_status status) {
     for (vx_node node = graph->first; node != NULL && status == VX_SUCCESS; node = node->next_node)
         if (node->number != 0)
             status = take_extremes(graph->base.context, &node->call);
+    if (status == VX_SUCCESS)
+        status = move_handles(graph, take_images);
+    if (status == VX_SUCCESS)
+        count_time(&graph->performance);
     graph->is_verified = status == VX_SUCCESS;
-    graph->state = status == VX_SUCCESS ? VX_GRAPH_STATE_COMPLETED : VX_GRAPH_STATE_ABANDONED;
+    graph->state = status == VX_SUCCESS   ? VX_GRAPH_STATE_COMPLETED
+                   : status == VX_FAILURE ? VX_GRAPH_STATE_ABANDONED
+                                          : VX_GRAPH_STATE_UNVERIFIED;
     return status;
 }
 
@@ -142,9 +242,10 @@ static vx_status end_run(vx_graph graph, vx_status status) {
 static vx_status await_run(vx_graph graph) {
     vx_context context = graph->base.context;
     graph->is_scheduled = false;
-    if (!connection_wait(&context->connection, &graph->run))
-        return lost(context);
-    return status_of(context, &graph->run);
+    vx_status status = await_reply(context, &graph->run, true);
+    if (status != VX_SUCCESS && !context->connection.has_ended)
+        explain_verdict(graph, status);
+    return status;
 }
 
 void settle(vx_graph graph) {
@@ -167,23 +268,24 @@ PUBLIC vx_status VX_API_CALL vxProcessGraph(vx_graph graph) {
         return VX_ERROR_INVALID_REFERENCE;
     if (graph->is_scheduled)
         return leave(context, VX_ERROR_GRAPH_SCHEDULED);
-    vx_status status = send_nodes(graph);
+    graph->performance.beg = now();
     /* The server verifies it too. */
-    if (status == VX_SUCCESS)
-        status = ask_named(context, PROCESS_GRAPH, graph->base.name);
-    return leave(context, end_run(graph, status));
+    return leave(context, end_run(graph, ask_verdict(graph, PROCESS_GRAPH)));
 }
 
 static vx_status schedule(vx_graph graph) {
     uint8_t body[4];
     vx_context context = graph->base.context;
     vx_status status = graph->is_verified ? send_nodes(graph) : verify(graph);
+    if (status == VX_SUCCESS)
+        status = move_handles(graph, send_images);
     if (status != VX_SUCCESS)
         return status;
-    graph->run = (struct request){.op = PROCESS_GRAPH};
+    graph->performance.beg = now();
+    graph->run = (struct request){.op = PROCESS_GRAPH, .is_quiet = true};
     put32(body, graph->base.name);
     if (!connection_send(&context->connection, &graph->run, body, sizeof body))
-        return lost(context);
+        return await_reply(context, &graph->run, false);
     graph->is_scheduled = true;
     graph->state = VX_GRAPH_STATE_RUNNING;
     return VX_SUCCESS;
@@ -208,44 +310,49 @@ PUBLIC vx_status VX_API_CALL vxWaitGraph(vx_graph graph) {
 }
 
 PUBLIC vx_bool VX_API_CALL vxIsGraphVerified(vx_graph graph) {
-    vx_context context = enter(graph, VX_TYPE_GRAPH);
+    vx_context context = look(graph, VX_TYPE_GRAPH);
     if (context == NULL)
         return vx_false_e;
     vx_bool is_verified = graph->is_verified ? vx_true_e : vx_false_e;
-    leave(context, VX_SUCCESS);
+    look_away(context, VX_SUCCESS);
     return is_verified;
 }
 
 PUBLIC vx_status VX_API_CALL vxQueryGraph(vx_graph graph, vx_enum attribute, void *ptr,
                                           vx_size size) {
-    vx_context context = enter(graph, VX_TYPE_GRAPH);
+    vx_context context = look(graph, VX_TYPE_GRAPH);
     if (context == NULL)
         return VX_ERROR_INVALID_REFERENCE;
     const vx_uint32 nodes = (vx_uint32)graph->nodes;
     if (attribute == VX_GRAPH_NUMNODES)
-        return leave(context, give(ptr, size, &nodes, sizeof nodes));
+        return look_away(context, give(ptr, size, &nodes, sizeof nodes));
     if (attribute == VX_GRAPH_STATE)
-        return leave(context, give(ptr, size, &graph->state, sizeof graph->state));
+        return look_away(context, give(ptr, size, &graph->state, sizeof graph->state));
+    if (attribute == VX_GRAPH_PERFORMANCE)
+        return look_away(context,
+                         give(ptr, size, &graph->performance, sizeof graph->performance));
     if (attribute == VX_GRAPH_NUMPARAMETERS)
-        return leave(context, give(ptr, size, &graph->parameter_count,
+        return look_away(context, give(ptr, size, &graph->parameter_count,
                                    sizeof graph->parameter_count));
-    return leave(context, VX_ERROR_NOT_SUPPORTED);
+    return look_away(context, VX_ERROR_NOT_SUPPORTED);
 }
 
 PUBLIC vx_status VX_API_CALL vxQueryNode(vx_node node, vx_enum attribute, void *ptr,
                                          vx_size size) {
-    const vx_status status = VX_SUCCESS;
-    vx_context context = enter(node, VX_TYPE_NODE);
+    vx_context context = look(node, VX_TYPE_NODE);
     if (context == NULL)
         return VX_ERROR_INVALID_REFERENCE;
     if (attribute == VX_NODE_STATUS)
-        return leave(context, give(ptr, size, &status, sizeof status));
+        return look_away(context, give(ptr, size, &node->status, sizeof node->status));
+    if (attribute == VX_NODE_PERFORMANCE && node->graph != NULL)
+        return look_away(context, give(ptr, size, &node->graph->performance,
+                                       sizeof node->graph->performance));
     if (attribute == VX_NODE_BORDER)
-        return leave(context, give(ptr, size, &node->call.border, sizeof node->call.border));
-    const vx_uint32 *count = &signature_of(node->call.function)->count;
+        return look_away(context, give(ptr, size, &node->call.border, sizeof node->call.border));
+    const vx_uint32 *count = &definition_of(node->call.function)->count;
     if (attribute == VX_NODE_PARAMETERS)
-        return leave(context, give(ptr, size, count, sizeof *count));
-    return leave(context, VX_ERROR_NOT_SUPPORTED);
+        return look_away(context, give(ptr, size, count, sizeof *count));
+    return look_away(context, VX_ERROR_NOT_SUPPORTED);
 }
 
 PUBLIC vx_status VX_API_CALL vxSetNodeAttribute(vx_node node, vx_enum attribute, const void *ptr,

@@ -25,7 +25,7 @@ uint8_t *put_image(uint8_t *at, const struct _vx_image *image) {
 }
 
 /* Makes the server's image by a request whose body ends with a format and two sides. */
-static vx_reference create_image(vx_context context, struct _vx_image made) {
+vx_reference create_image(vx_context context, struct _vx_image made) {
     uint8_t body[9], *at = body;
     if (made.width > GREATEST_SIDE || made.height > GREATEST_SIDE)
         return error_of(context, VX_ERROR_INVALID_DIMENSION);
@@ -35,6 +35,7 @@ static vx_reference create_image(vx_context context, struct _vx_image made) {
     image->width = made.width;
     image->height = made.height;
     image->format = made.format;
+    image->found = (struct described){made.width, made.height, made.format};
     image->scope = made.scope;
     if (made.scope != 0)
         at = put32(at, made.scope);
@@ -82,14 +83,15 @@ PUBLIC vx_status VX_API_CALL vxReleaseImage(vx_image *image) {
 static vx_status query_image(vx_image image, vx_enum attribute, void *ptr, vx_size size) {
     const vx_size planes = 1;
     const vx_enum space = VX_COLOR_SPACE_NONE, range = VX_CHANNEL_RANGE_FULL;
-    const vx_enum memory = VX_MEMORY_TYPE_NONE;
+    const vx_enum memory = image->is_handle ? VX_MEMORY_TYPE_HOST : VX_MEMORY_TYPE_NONE;
+    const vx_bool is_uniform = image->is_uniform ? vx_true_e : vx_false_e;
     switch (attribute) {
     case VX_IMAGE_WIDTH:
-        return give(ptr, size, &image->width, sizeof image->width);
+        return give(ptr, size, &image->found.width, sizeof image->found.width);
     case VX_IMAGE_HEIGHT:
-        return give(ptr, size, &image->height, sizeof image->height);
+        return give(ptr, size, &image->found.height, sizeof image->found.height);
     case VX_IMAGE_FORMAT:
-        return give(ptr, size, &image->format, sizeof image->format);
+        return give(ptr, size, &image->found.format, sizeof image->found.format);
     case VX_IMAGE_PLANES:
         return give(ptr, size, &planes, sizeof planes);
     case VX_IMAGE_SPACE:
@@ -98,6 +100,11 @@ static vx_status query_image(vx_image image, vx_enum attribute, void *ptr, vx_si
         return give(ptr, size, &range, sizeof range);
     case VX_IMAGE_MEMORY_TYPE:
         return give(ptr, size, &memory, sizeof memory);
+    case VX_IMAGE_IS_UNIFORM:
+        return give(ptr, size, &is_uniform, sizeof is_uniform);
+    case VX_IMAGE_UNIFORM_VALUE:
+        return image->is_uniform ? give(ptr, size, &image->uniform, sizeof image->uniform)
+                                 : VX_ERROR_NOT_SUPPORTED;
     default:
         return VX_ERROR_NOT_SUPPORTED;
     }
@@ -105,14 +112,24 @@ static vx_status query_image(vx_image image, vx_enum attribute, void *ptr, vx_si
 
 PUBLIC vx_status VX_API_CALL vxQueryImage(vx_image image, vx_enum attribute, void *ptr,
                                           vx_size size) {
-    vx_context context = enter(image, VX_TYPE_IMAGE);
+    vx_context context = look(image, VX_TYPE_IMAGE);
     if (context == NULL)
         return VX_ERROR_INVALID_REFERENCE;
-    return leave(context, query_image(image, attribute, ptr, size));
+    return look_away(context, query_image(image, attribute, ptr, size));
+}
+
+vx_status query_valid(vx_image image, vx_rectangle_t *rect) {
+    uint8_t body[5], reply[13];
+    put_image(body, image);
+    vx_status status =
+        ask(image->base.context, QUERY_IMAGE, body, sizeof body, reply, sizeof reply);
+    if (status == VX_SUCCESS)
+        *rect = (vx_rectangle_t){get16(reply + 5), get16(reply + 7), get16(reply + 9),
+                                 get16(reply + 11)};
+    return status;
 }
 
 PUBLIC vx_status VX_API_CALL vxGetValidRegionImage(vx_image image, vx_rectangle_t *rect) {
-    uint8_t body[5], reply[13];
     vx_context context = enter(image, VX_TYPE_IMAGE);
     if (context == NULL)
         return VX_ERROR_INVALID_REFERENCE;
@@ -120,12 +137,33 @@ PUBLIC vx_status VX_API_CALL vxGetValidRegionImage(vx_image image, vx_rectangle_
         return leave(context, VX_ERROR_INVALID_PARAMETERS);
     if (image->scope != 0)
         return leave(context, VX_ERROR_OPTIMIZED_AWAY);
-    put_image(body, image);
-    vx_status status = ask(context, QUERY_IMAGE, body, sizeof body, reply, sizeof reply);
-    if (status == VX_SUCCESS)
-        *rect = (vx_rectangle_t){get16(reply + 5), get16(reply + 7), get16(reply + 9),
-                                 get16(reply + 11)};
-    return leave(context, status);
+    return leave(context, query_valid(image, rect));
+}
+
+static void note_computed(vx_image image) {
+    image->is_computed = true;
+    if (image->delay != NULL)
+        image->delay->is_computed = true;
+}
+
+bool may_be_partial(const struct _vx_image *image) {
+    return image->is_computed || (image->delay != NULL && image->delay->is_computed);
+}
+
+void note_outputs(const struct call *call) {
+    for (unsigned place = OUT1; place <= OUT2; place++) {
+        vx_reference output = call->operands[place];
+        if (output != NULL && output->type == VX_TYPE_IMAGE)
+            note_computed((vx_image)output);
+    }
+}
+
+vx_status set_valid(vx_image image, const vx_rectangle_t *rect) {
+    uint8_t body[13];
+    uint8_t *at = put16(put16(put_image(body, image), rect->start_x), rect->start_y);
+    put16(put16(at, rect->end_x), rect->end_y);
+    note_computed(image);
+    return ask(image->base.context, SET_VALID, body, sizeof body, NULL, 0);
 }
 
 /* Whether it is the empty rectangle, or one of an image's pixels. */
@@ -137,7 +175,6 @@ static bool is_rectangle(const vx_rectangle_t *rect, const struct _vx_image *ima
 }
 
 PUBLIC vx_status VX_API_CALL vxSetImageValidRectangle(vx_image image, const vx_rectangle_t *rect) {
-    uint8_t body[13];
     vx_context context = enter(image, VX_TYPE_IMAGE);
     if (context == NULL)
         return VX_ERROR_INVALID_REFERENCE;
@@ -148,7 +185,5 @@ PUBLIC vx_status VX_API_CALL vxSetImageValidRectangle(vx_image image, const vx_r
         valid = *rect;
     if (!is_rectangle(&valid, image))
         return leave(context, VX_ERROR_INVALID_PARAMETERS);
-    uint8_t *at = put16(put16(put_image(body, image), valid.start_x), valid.start_y);
-    put16(put16(at, valid.end_x), valid.end_y);
-    return leave(context, ask(context, SET_VALID, body, sizeof body, NULL, 0));
+    return leave(context, set_valid(image, &valid));
 }

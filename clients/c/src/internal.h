@@ -1,10 +1,12 @@
 /* What the files of the library share. Nothing here locks: a public function enters a context,
-   which locks it, and leaves it, which lets others in. */
+   which locks it, and leaves it, which lets others in; one that only reads objects looks at it,
+   which it may also while another call waits for the server. */
 #ifndef FEQYLDAN_INTERNAL_H
 #define FEQYLDAN_INTERNAL_H
 
 #include <VX/vx.h>
 #include <VX/vxu.h>
+#include "functions.h"
 #include <pthread.h>
 #include <stdbool.h>
 #include <stdio.h>
@@ -13,7 +15,8 @@
 #define PUBLIC __attribute__((visibility("default")))
 #define REFERENCE(object) ((vx_reference)(object))
 
-enum { GREATEST_SIDE = 8192, STATUSES = -VX_STATUS_MIN, NODE_BYTES = 25, NO_SLOT = 255 };
+enum { GREATEST_SIDE = 8192, STATUSES = -VX_STATUS_MIN, NODE_BYTES = 25, NO_SLOT = 255,
+       SPARES = 2 };
 
 /* What a request asks for, by its number in frames. */
 enum op {
@@ -49,18 +52,29 @@ enum op {
    as there is room, or its code isn't 0. */
 struct request {
     uint8_t op, code;
-    bool is_done;
+    /* Whether a refusal adds no log entry. */
+    bool is_done, is_quiet;
     uint8_t *body;
     size_t room;
+    /* Where the body goes on, for so many bytes: samples of so many bytes each, which are turned
+       into this machine's order as they come. */
+    uint8_t *samples;
+    size_t more, unit, turned;
     struct request *next;
 };
 
 struct connection {
-    int stream;
-    /* A program that was started, and what it says on standard error; 0 and NULL for a broker. */
+    /* What is read from, and written to: one socket for a broker; for a program another one's
+       output, and a pipe, whose other end is held. */
+    int stream, out, held;
+    /* A program that was started, and a file with what it says on standard error; 0 and -1 for a
+       broker. */
     pid_t process;
-    FILE *said;
-    bool has_ended;
+    int said;
+    /* How long the server may take, in milliseconds; -1 for as long as it likes. */
+    int patience;
+    /* Whether nothing more comes; since it took too long, or this is a child of its process. */
+    bool has_ended, is_late, is_inherited;
     /* Those without a reply, the oldest first. */
     struct request *first, **last;
     /* The head of the reply that is being read, how much of it is there, and how much of the body
@@ -79,6 +93,11 @@ void connection_epitaph(struct connection *connection, char *words, size_t room)
 /* Sends a request's frame; false where the server has ended. */
 bool connection_send(struct connection *connection, struct request *request, const uint8_t *body,
                      size_t length);
+/* Sends the head of a frame and a part of its body, of which so many bytes are to go on. */
+bool connection_begin(struct connection *connection, struct request *request, const uint8_t *body,
+                      size_t length, size_t more);
+/* Sends bytes that don't change before the reply has come. */
+bool connection_go_on(struct connection *connection, const uint8_t *bytes, size_t count);
 /* Waits for the reply; false where the server has ended. */
 bool connection_wait(struct connection *connection, struct request *request);
 
@@ -86,6 +105,8 @@ bool connection_wait(struct connection *connection, struct request *request);
 
 bool reach_server(struct connection *connection, char *why, size_t room);
 void end_server(struct connection *connection);
+/* In a child of a process: leaves the server to that. */
+void leave_to_parent(struct connection *connection);
 
 /* ---- reference.c ---- */
 
@@ -108,11 +129,16 @@ struct _vx_reference {
    VX_TYPE_REFERENCE is any. */
 vx_context enter(const void *reference, vx_enum type);
 vx_status leave(vx_context context, vx_status status);
+/* The same for a call that asks the server nothing, and changes nothing but a scalar's value. */
+vx_context look(const void *reference, vx_enum type);
+vx_status look_away(vx_context context, vx_status status);
 /* Whether an argument is a live reference of a type in a context: VX_SUCCESS, or why not. */
 vx_status check(vx_context context, const void *reference, vx_enum type);
 /* An object with one reference; NULL where there is no memory. */
 void *make(vx_context context, vx_enum type, size_t size);
 void register_reference(vx_reference reference);
+/* Has a child of this process leave all contexts to it. */
+void watch_forks_once(void);
 void unregister_reference(vx_reference reference);
 void hold(vx_reference reference);
 void drop(vx_reference reference);
@@ -128,10 +154,18 @@ bool is_copy(vx_enum usage, vx_enum memory);
 
 /* ---- context.c ---- */
 
+/* Memory for samples on their way. */
+struct buffer {
+    uint8_t *bytes;
+    size_t room;
+};
+
 struct _vx_context {
     struct _vx_reference base;
     struct connection connection;
-    pthread_mutex_t mutex;
+    /* Who has the first may change objects and use the connection, and has the second too but while
+       it waits for the server; who has the second alone reads objects. */
+    pthread_mutex_t calls, objects;
     /* Threads in it, under the registry's lock; and whether it was released. */
     unsigned users;
     bool is_closed;
@@ -139,45 +173,74 @@ struct _vx_context {
     vx_reference first;
     struct _vx_reference errors[STATUSES + 1];
     vx_border_t border;
+    vx_enum border_policy;
     /* The extremes of vxuMinMaxLoc on the server; 0 before the first. */
     vx_uint32 extremes;
     vx_log_callback_f callback;
     bool is_logging, is_in_callback;
+    /* Buffers that are kept for the next picture. */
+    struct buffer spares[SPARES];
 };
 
 void free_context(vx_context context);
+/* In a child of a process: the context has no server, and no thread is in it. */
+void leave_context(vx_context context);
 bool is_border(const vx_border_t *border);
 /* A request and its reply, whose body is of exactly so many bytes. */
 vx_status ask(vx_context context, enum op op, const uint8_t *body, size_t length, uint8_t *reply,
               size_t room);
 vx_status ask_named(vx_context context, enum op op, vx_uint32 name);
+/* The same without a log entry for a refusal, and of a reply without a body. */
+vx_status ask_quietly(vx_context context, enum op op, const uint8_t *body, size_t length);
 /* Makes an object on the server. */
 vx_status create(vx_context context, enum op op, const uint8_t *body, size_t length,
                  vx_uint32 *name);
 /* Has the server forget a name, unless that is 0 or the context is closed. */
 void forget(vx_context context, vx_uint32 name);
-vx_status status_of(vx_context context, const struct request *request);
-vx_status lost(vx_context context);
+/* Between the two a call waits for the server, and others may look at objects. */
+void let_look(vx_context context);
+void end_look(vx_context context);
+/* Waits for the reply to a request that was sent, or wasn't, since the server has ended. */
+vx_status await_reply(vx_context context, struct request *request, bool is_sent);
+/* As docs/wire.md calls it. */
+const char *name_of_status(vx_status status);
 
 /* ---- log.c ---- */
 
 void tell(vx_reference reference, vx_status status, const char *words, ...)
     __attribute__((format(printf, 3, 4)));
 
+struct call;
+
 /* ---- image.c and patch.c ---- */
+
+/* Where the first sample of some is, and how far it is to the next one in a row and in a column. */
+struct grid {
+    uint8_t *first;
+    ptrdiff_t column, row;
+};
 
 struct map {
     vx_map_id id;
     vx_rectangle_t rect;
     vx_enum usage;
-    uint8_t *samples;
+    struct grid grid;
+    /* What is freed with it; nothing where the program's memory is mapped. */
+    struct buffer samples;
     struct map *next;
+};
+
+struct described {
+    vx_uint32 width, height;
+    vx_df_image format;
 };
 
 struct _vx_image {
     struct _vx_reference base;
+    /* As declared, and of a virtual image as its graph's verification found out. */
     vx_uint32 width, height;
     vx_df_image format;
+    struct described found;
     /* The graph of a virtual one, by its name, which is never used again; else 0. */
     vx_uint32 scope;
     /* The delay that it stands in, and the number of its slot. */
@@ -185,12 +248,54 @@ struct _vx_image {
     uint8_t slot;
     struct map *maps;
     vx_map_id next_map;
+    /* Whether it may not be wholly valid, since a node may have written it. */
+    bool is_computed;
+    /* Of an image from a handle, the program's memory; of a uniform one, its samples. */
+    bool is_handle, is_uniform;
+    struct grid memory;
+    vx_pixel_value_t uniform;
 };
 
 vx_size sample_size(vx_df_image format);
 uint8_t format_number(vx_df_image format);
 uint8_t *put_image(uint8_t *at, const struct _vx_image *image);
+/* An image as described, or an error. */
+vx_reference create_image(vx_context context, struct _vx_image made);
+vx_status query_valid(vx_image image, vx_rectangle_t *rect);
+vx_status set_valid(vx_image image, const vx_rectangle_t *rect);
+/* Whether pixels may be outside an image's valid rectangle. */
+bool may_be_partial(const struct _vx_image *image);
+/* That a call writes its outputs. */
+void note_outputs(const struct call *call);
 void free_maps(vx_image image);
+/* Sends an image from a handle to the server, or takes it from there. */
+vx_status send_memory(vx_image image);
+vx_status take_memory(vx_image image);
+void free_spares(vx_context context);
+/* Turns samples of so many bytes from the order of frames into this machine's, or back; it may be
+   in place. */
+void turn_samples(uint8_t *to, const uint8_t *from, size_t bytes, size_t unit);
+
+/* ---- view.c ---- */
+
+/* A map of an object that is no image: what it has in place, or a copy that is freed with it. */
+struct view {
+    vx_map_id id;
+    vx_enum usage;
+    void *copy;
+    struct view *next;
+};
+
+struct views {
+    struct view *first;
+    vx_map_id last;
+};
+
+vx_status add_view(struct views *views, vx_enum usage, void *copy, vx_map_id *id);
+/* VX_ERROR_INVALID_PARAMETERS, there is no such map; else how it was made. */
+vx_status drop_view(struct views *views, vx_map_id id, vx_enum *usage);
+void free_views(struct views *views);
+bool is_map(vx_enum usage, vx_enum memory);
 
 /* ---- The other objects ---- */
 
@@ -200,6 +305,8 @@ struct _vx_delay {
     vx_uint32 width, height;
     vx_df_image format;
     vx_image images[16];
+    /* Whether a node may have written one of its images. */
+    bool is_computed;
 };
 
 struct _vx_threshold {
@@ -215,6 +322,7 @@ struct _vx_lut {
     vx_enum item;
     vx_size count;
     void *entries;
+    struct views views;
 };
 
 struct _vx_convolution {
@@ -229,6 +337,7 @@ struct _vx_distribution {
     vx_size bins;
     vx_int32 offset;
     vx_uint32 range;
+    struct views views;
 };
 
 struct _vx_scalar {
@@ -247,9 +356,14 @@ struct _vx_scalar {
 
 struct _vx_array {
     struct _vx_reference base;
-    vx_size capacity, count;
-    vx_coordinates2d_t *items;
+    vx_enum item;
+    vx_size size, capacity, count;
+    uint8_t *items;
+    struct views views;
 };
+
+/* The bytes of a number's type; 0 for a type that no scalar has. */
+vx_size size_of_type(vx_enum type);
 
 /* Each makes what is on the server as the object is now, unless it is there. */
 vx_status send_threshold(vx_threshold threshold);
@@ -260,44 +374,21 @@ void forget_parameter(vx_reference parameter);
 
 /* ---- call.c: a use of a function, in a node or at once ---- */
 
-enum function {
-    AND_BITS = 1,
-    OR_BITS,
-    XOR_BITS,
-    NOT_BITS,
-    ADD,
-    SUBTRACT,
-    MULTIPLY,
-    ABSOLUTE_DIFFERENCE,
-    MIN_PIXEL,
-    MAX_PIXEL,
-    THRESHOLD,
-    TABLE_LOOKUP,
-    CONVERT_DEPTH,
-    BOX,
-    GAUSSIAN,
-    MEDIAN,
-    ERODE,
-    DILATE,
-    SOBEL,
-    CONVOLVE,
-    HISTOGRAM,
-    INTEGRAL,
-    MIN_MAX_LOCATION,
-    ACCUMULATE,
-    ACCUMULATE_SQUARE
-};
+#define NUMBER_OF(NUMBER, ...) NUMBER,
+enum function { NO_FUNCTION, FUNCTIONS(NUMBER_OF) };
 
 enum { IN1, IN2, OUT1, OUT2, AMOUNT, MIN_VALUE, MAX_VALUE, MIN_PLACE, MAX_PLACE, MIN_COUNT,
        MAX_COUNT, OPERANDS };
 
-/* What a call has beside operands, where a node has scalars. */
-enum { POLICY = OPERANDS, ROUNDING };
+/* Places after the operands: policies, which a call holds by value. */
+enum { POLICY = OPERANDS, ROUNDING, PLACES };
 
 struct call {
     enum function function;
     vx_reference operands[OPERANDS];
-    vx_enum policy, rounding;
+    vx_enum policies[PLACES - OPERANDS];
+    /* Whether operands may still be NULL and policies 0, of a node that was made of a kernel. */
+    bool is_generic;
     /* The scale or the shift, where no scalar has it. */
     double amount;
     vx_border_t border;
@@ -305,30 +396,57 @@ struct call {
     vx_uint32 extremes;
 };
 
-/* Whether the operands are what the function has; the scope is a graph's name, 0 for none. */
-vx_status check_call(vx_context context, const struct call *call, vx_uint32 scope);
+/* In these, about is what a log entry is about, and where the call is made: a context at once, a
+   graph for a new node, or a node that is there. */
+
+/* Checks that the operands are what the function has. */
+vx_status check_call(vx_reference about, const struct call *call);
 /* The same of operands that are references of the right types, which the program may have given
    back meanwhile. */
-vx_status check_values(const struct call *call, vx_uint32 scope);
+vx_status check_values(vx_reference about, const struct call *call);
+/* Checks that no two outputs are one scalar or array. */
+vx_status check_outputs(vx_reference about, const struct call *call);
+/* Checks that nothing is missing that has to be there: VX_ERROR_NOT_SUFFICIENT. */
+vx_status check_complete(vx_reference about, const struct call *call);
 /* The bytes of a node, after what it uses was sent. */
-vx_status encode_call(vx_context context, struct call *call, uint8_t *bytes);
+vx_status encode_call(vx_reference about, struct call *call, uint8_t *bytes);
+/* The name of the graph in which a virtual image may be used; 0 for none. */
+vx_uint32 scope_of(vx_reference about);
 /* After a run: writes what MinMaxLoc found into the call's scalars and arrays. */
 vx_status take_extremes(vx_context context, const struct call *call);
 
-/* ---- signature.c ---- */
+/* ---- functions.c ---- */
 
-enum { MOST_PARAMETERS = 7 };
+enum { MOST_PARAMETERS = 7, RULES = 2 };
 
-/* A function's operands, its policies among them, in the order of its node's parameters. */
-struct signature {
-    vx_uint32 count;
-    uint8_t places[MOST_PARAMETERS];
+/* A parameter of a node: its place in a call, and what vxQueryParameter tells of it. */
+struct formal {
+    uint8_t place;
+    vx_enum type, direction, state;
+    const char *name;
 };
 
-const struct signature *signature_of(enum function function);
-vx_enum type_at(enum function function, unsigned place);
-vx_enum direction_of(enum function function, unsigned place);
-bool is_optional(enum function function, unsigned place);
+/* Formats that may stand together: a set for each image, a bit for each format's number. */
+struct rule {
+    uint8_t in1, in2, out;
+};
+
+struct definition {
+    const char *node_name, *immediate_name;
+    vx_enum kernel;
+    const char *kernel_name;
+    vx_uint32 count;
+    struct formal formals[MOST_PARAMETERS];
+    const char *expects;
+    struct rule rules[RULES];
+};
+
+const struct definition *definition_of(enum function function);
+/* Checks that a value for a parameter is a reference of the right type and context. */
+vx_status check_value(vx_reference about, const struct call *call, const struct formal *formal,
+                      vx_reference value);
+/* Their numbers are from 1 to this one. */
+vx_uint32 count_functions(void);
 
 /* ---- graph.c ---- */
 
@@ -338,6 +456,8 @@ struct _vx_node {
     vx_graph graph;
     vx_node next_node;
     struct call call;
+    /* Of the last verification or run. */
+    vx_status status;
     /* What the server has of it: its number in the graph, 0 for none, and its bytes. */
     vx_uint32 number;
     uint8_t sent[NODE_BYTES];
@@ -348,26 +468,63 @@ struct _vx_graph {
     vx_node first;
     vx_size nodes;
     vx_enum state;
+    /* Whether a node couldn't be made: then it can't be verified. One that found no memory may be
+       made anew, and is missed until then. */
+    bool lacks_node, misses_node;
+    struct call missed;
     bool is_verified, is_scheduled;
     struct request run;
+    /* How long runs took, and when the last one began, in nanoseconds. */
+    vx_perf_t performance;
     /* Those that the graph has itself, each of one of its nodes, and how many. */
     vx_parameter *parameters;
     vx_uint32 parameter_count;
 };
 
 vx_node add_node(vx_graph graph, struct call call);
+/* The error object of a node that can't be made, for which the graph is never verified. */
+vx_node add_missing_node(vx_graph graph, const char *why);
 /* Has the graph be verified anew. */
 void change(vx_graph graph);
 vx_status detach(vx_node node);
 void settle(vx_graph graph);
 
-/* ---- parameter.c ---- */
+/* ---- verdict.c ---- */
 
+/* A node's number in its graph in order of addition, from 0, its function and its name. */
+void describe_node(vx_node node, char *words, size_t room);
+/* Checks what the server doesn't: no two nodes write one scalar or array, and none reads a scalar
+   that one writes. */
+vx_status check_writers(vx_graph graph);
+/* Adds the log entry of a graph's verdict, with the node that it is about. */
+void explain_verdict(vx_graph graph, vx_status status);
+/* The same of a call at once. */
+void explain_call(vx_context context, const struct call *call, vx_status status);
+/* After a verification: gives virtual images the sizes and formats that were found out. */
+void resolve_images(vx_graph graph);
+
+/* ---- handle.c: before and after a run ---- */
+
+vx_status send_images(vx_reference about, const struct call *call);
+vx_status take_images(vx_reference about, const struct call *call);
+
+/* ---- kernel.c and parameter.c ---- */
+
+struct _vx_kernel {
+    struct _vx_reference base;
+    enum function function;
+};
+
+/* Of a node, or of a kernel's function without one. */
 struct _vx_parameter {
     struct _vx_reference base;
+    enum function function;
     vx_node node;
     vx_uint32 index;
 };
+
+vx_parameter make_parameter(vx_context context, enum function function, vx_node node,
+                            vx_uint32 index);
 
 /* ---- Big-endian bytes ---- */
 

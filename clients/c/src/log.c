@@ -3,6 +3,15 @@
 
 #include <stdarg.h>
 
+/* What the program can ask about: a node that it has given back is of a graph, and that of a
+   context. */
+static vx_reference known(vx_reference reference) {
+    if (!reference->is_live && reference->type == VX_TYPE_NODE &&
+        ((vx_node)reference)->graph != NULL)
+        reference = &((vx_node)reference)->graph->base;
+    return reference->is_live ? reference : &reference->context->base;
+}
+
 static void tell_list(vx_reference reference, vx_status status, const char *words, va_list list) {
     vx_context context = reference->context;
     if (context->callback == NULL || !context->is_logging || context->is_in_callback)
@@ -11,7 +20,7 @@ static void tell_list(vx_reference reference, vx_status status, const char *word
     vsnprintf(message, sizeof message, words, list);
     /* What the callback does is told to nobody: else it might never end. */
     context->is_in_callback = true;
-    context->callback(context, reference, status, message);
+    context->callback(context, known(reference), status, message);
     context->is_in_callback = false;
 }
 
@@ -48,8 +57,16 @@ PUBLIC vx_status VX_API_CALL vxDirective(vx_reference reference, vx_enum directi
     vx_context context = enter(reference, VX_TYPE_REFERENCE);
     if (context == NULL)
         return VX_ERROR_INVALID_REFERENCE;
-    if (directive != VX_DIRECTIVE_ENABLE_LOGGING && directive != VX_DIRECTIVE_DISABLE_LOGGING)
+    switch (directive) {
+    case VX_DIRECTIVE_ENABLE_LOGGING:
+    case VX_DIRECTIVE_DISABLE_LOGGING:
+        context->is_logging = directive == VX_DIRECTIVE_ENABLE_LOGGING;
+        return leave(context, VX_SUCCESS);
+    case VX_DIRECTIVE_ENABLE_PERFORMANCE:
+    case VX_DIRECTIVE_DISABLE_PERFORMANCE:
+        /* Runs are always timed. */
+        return leave(context, VX_SUCCESS);
+    default:
         return leave(context, VX_ERROR_NOT_SUPPORTED);
-    context->is_logging = directive == VX_DIRECTIVE_ENABLE_LOGGING;
-    return leave(context, VX_SUCCESS);
+    }
 }

@@ -3,37 +3,44 @@
 
 #include <stdlib.h>
 
+vx_parameter make_parameter(vx_context context, enum function function, vx_node node,
+                            vx_uint32 index) {
+    if (index >= definition_of(function)->count)
+        return (vx_parameter)error_of(context, VX_ERROR_INVALID_PARAMETERS);
+    vx_parameter made = make(context, VX_TYPE_PARAMETER, sizeof *made);
+    if (made == NULL)
+        return (vx_parameter)error_of(context, VX_ERROR_NO_MEMORY);
+    made->function = function;
+    made->node = node;
+    made->index = index;
+    if (node != NULL)
+        hold(&node->base);
+    return made;
+}
+
 PUBLIC vx_parameter VX_API_CALL vxGetParameterByIndex(vx_node node, vx_uint32 index) {
     vx_context context = enter(node, VX_TYPE_NODE);
     if (context == NULL)
         return NULL;
-    vx_status status = VX_ERROR_INVALID_PARAMETERS;
-    vx_parameter made = NULL;
-    if (index < signature_of(node->call.function)->count) {
-        made = make(context, VX_TYPE_PARAMETER, sizeof *made);
-        status = VX_ERROR_NO_MEMORY;
-    }
-    if (made != NULL) {
-        made->node = node;
-        made->index = index;
-        hold(&node->base);
-    }
-    leave(context, status);
-    return made != NULL ? made : (vx_parameter)error_of(context, status);
+    vx_parameter made = make_parameter(context, node->call.function, node, index);
+    leave(context, VX_SUCCESS);
+    return made;
 }
 
 PUBLIC vx_status VX_API_CALL vxReleaseParameter(vx_parameter *param) {
     return release(param, VX_TYPE_PARAMETER);
 }
 
-static unsigned place_of(const struct _vx_parameter *parameter) {
-    return signature_of(parameter->node->call.function)->places[parameter->index];
+static const struct formal *formal_of(const struct _vx_parameter *parameter) {
+    return &definition_of(parameter->function)->formals[parameter->index];
 }
 
 /* One more reference to what a node has; of a policy, which is no object, to a new scalar. */
 static vx_status refer(const struct _vx_parameter *parameter, vx_reference *value) {
+    if (parameter->node == NULL)
+        return VX_SUCCESS;
     const struct call *call = &parameter->node->call;
-    unsigned place = place_of(parameter);
+    unsigned place = formal_of(parameter)->place;
     if (place < OPERANDS) {
         *value = call->operands[place];
         return *value == NULL ? VX_SUCCESS : retain(*value);
@@ -42,7 +49,7 @@ static vx_status refer(const struct _vx_parameter *parameter, vx_reference *valu
     if (made == NULL)
         return VX_ERROR_NO_MEMORY;
     made->item = VX_TYPE_ENUM;
-    made->value.s32 = place == POLICY ? call->policy : call->rounding;
+    made->value.s32 = call->policies[place - OPERANDS];
     *value = &made->base;
     return VX_SUCCESS;
 }
@@ -52,22 +59,17 @@ PUBLIC vx_status VX_API_CALL vxQueryParameter(vx_parameter parameter, vx_enum at
     vx_context context = enter(parameter, VX_TYPE_PARAMETER);
     if (context == NULL)
         return VX_ERROR_INVALID_REFERENCE;
-    enum function function = parameter->node->call.function;
-    unsigned place = place_of(parameter);
-    const vx_enum direction = direction_of(function, place);
-    const vx_enum type = type_at(function, place);
-    const vx_enum state = is_optional(function, place) ? VX_PARAMETER_STATE_OPTIONAL
-                                                       : VX_PARAMETER_STATE_REQUIRED;
+    const struct formal *formal = formal_of(parameter);
     vx_reference value = NULL;
     vx_status status = VX_ERROR_NOT_SUPPORTED;
     if (attribute == VX_PARAMETER_INDEX)
         status = give(ptr, size, &parameter->index, sizeof parameter->index);
     if (attribute == VX_PARAMETER_DIRECTION)
-        status = give(ptr, size, &direction, sizeof direction);
+        status = give(ptr, size, &formal->direction, sizeof formal->direction);
     if (attribute == VX_PARAMETER_TYPE)
-        status = give(ptr, size, &type, sizeof type);
+        status = give(ptr, size, &formal->type, sizeof formal->type);
     if (attribute == VX_PARAMETER_STATE)
-        status = give(ptr, size, &state, sizeof state);
+        status = give(ptr, size, &formal->state, sizeof formal->state);
     if (attribute == VX_PARAMETER_REF) {
         status = give(ptr, size, &value, sizeof value);
         if (status == VX_SUCCESS)
@@ -78,37 +80,39 @@ PUBLIC vx_status VX_API_CALL vxQueryParameter(vx_parameter parameter, vx_enum at
     return leave(context, status);
 }
 
-/* A call with another value in a place, as far as that is a reference of the right type. */
-static vx_status put_value(vx_context context, struct call *call, unsigned place,
+/* A node's call with another value for a parameter, as far as that is a reference of the right
+   type. */
+static vx_status put_value(vx_node node, struct call *call, const struct formal *formal,
                            vx_reference value) {
+    bool may_lack = formal->place < OPERANDS && formal->state == VX_PARAMETER_STATE_OPTIONAL;
     vx_status status = VX_SUCCESS;
-    if (place >= OPERANDS || value != NULL || !is_optional(call->function, place))
-        status = check(context, value, type_at(call->function, place));
+    if (value != NULL || !may_lack)
+        status = check_value(&node->base, call, formal, value);
     if (status != VX_SUCCESS)
         return status;
-    if (place < OPERANDS) {
-        call->operands[place] = value;
+    if (formal->place < OPERANDS) {
+        call->operands[formal->place] = value;
         return VX_SUCCESS;
     }
     if (((vx_scalar)value)->item != VX_TYPE_ENUM)
         return VX_ERROR_INVALID_TYPE;
-    *(place == POLICY ? &call->policy : &call->rounding) = ((vx_scalar)value)->value.s32;
+    call->policies[formal->place - OPERANDS] = ((vx_scalar)value)->value.s32;
     return VX_SUCCESS;
 }
 
 static vx_status set_value(vx_node node, vx_uint32 index, vx_reference value) {
-    const struct signature *signature = signature_of(node->call.function);
+    const struct definition *definition = definition_of(node->call.function);
     if (node->graph == NULL)
         return VX_ERROR_INVALID_NODE;
     if (node->graph->is_scheduled)
         return VX_ERROR_GRAPH_SCHEDULED;
-    if (index >= signature->count)
+    if (index >= definition->count)
         return VX_ERROR_INVALID_PARAMETERS;
-    unsigned place = signature->places[index];
+    unsigned place = definition->formals[index].place;
     struct call call = node->call;
-    vx_status status = put_value(node->base.context, &call, place, value);
+    vx_status status = put_value(node, &call, &definition->formals[index], value);
     if (status == VX_SUCCESS)
-        status = check_values(&call, node->graph->base.name);
+        status = check_values(&node->base, &call);
     if (status != VX_SUCCESS)
         return status;
     vx_reference before = place < OPERANDS ? node->call.operands[place] : NULL;
@@ -133,6 +137,8 @@ PUBLIC vx_status VX_API_CALL vxSetParameterByReference(vx_parameter parameter, v
     vx_context context = enter(parameter, VX_TYPE_PARAMETER);
     if (context == NULL)
         return VX_ERROR_INVALID_REFERENCE;
+    if (parameter->node == NULL)
+        return leave(context, VX_ERROR_INVALID_NODE);
     return leave(context, set_value(parameter->node, parameter->index, value));
 }
 
@@ -140,7 +146,7 @@ static vx_status add_parameter(vx_graph graph, vx_parameter parameter) {
     vx_status status = check(graph->base.context, parameter, VX_TYPE_PARAMETER);
     if (status != VX_SUCCESS)
         return status;
-    if (parameter->node->graph != graph)
+    if (parameter->node == NULL || parameter->node->graph != graph)
         return VX_ERROR_INVALID_PARAMETERS;
     vx_parameter *grown =
         realloc(graph->parameters, (graph->parameter_count + 1) * sizeof(vx_parameter));

@@ -4,39 +4,134 @@
 #include <stdlib.h>
 #include <string.h>
 
-/* What a frame has of an image before its samples: in a request with a ref before it. */
-enum { DESCRIBED = 5, WRITE_HEAD = 10 };
+/* What a frame has of an image before its samples: in a request with a ref before it. A picture is
+   turned and sent in pieces, so that the server reads one while the next is turned. Buffers between
+   the two lengths are kept. */
+enum { DESCRIBED = 5, WRITE_HEAD = 10, PIECE = 1 << 17, LEAST_KEPT = 1 << 16,
+       GREATEST_KEPT = 1 << 26 };
 
 static vx_size samples_of(const struct _vx_image *image) {
     return (vx_size)image->width * image->height * sample_size(image->format);
 }
 
-/* Turns the bytes of a sample round where this machine has the least significant one first. */
-static void turn(uint8_t *to, const uint8_t *from, vx_size size) {
+/* ---- Buffers ---- */
+
+/* A buffer of at least so many bytes, which are 0 or what a picture had; NULL where there is no
+   memory. So nothing else of the program's memory goes out where a map isn't wholly written. */
+static struct buffer take_buffer(vx_context context, size_t length) {
+    struct buffer *best = NULL;
+    for (int i = 0; i < SPARES; i++) {
+        struct buffer *spare = &context->spares[i];
+        if (length >= LEAST_KEPT && spare->room >= length &&
+            (best == NULL || spare->room < best->room))
+            best = spare;
+    }
+    struct buffer taken = {NULL, length};
+    if (best == NULL) {
+        taken.bytes = calloc(1, length);
+        return taken;
+    }
+    taken = *best;
+    *best = (struct buffer){NULL, 0};
+    return taken;
+}
+
+/* Keeps the largest. */
+static void give_buffer(vx_context context, struct buffer given) {
+    for (int i = 0; i < SPARES && given.room >= LEAST_KEPT && given.room <= GREATEST_KEPT; i++)
+        if (context->spares[i].room < given.room) {
+            struct buffer smaller = context->spares[i];
+            context->spares[i] = given;
+            given = smaller;
+        }
+    free(given.bytes);
+}
+
+void free_spares(vx_context context) {
+    for (int i = 0; i < SPARES; i++)
+        free(context->spares[i].bytes);
+}
+
+/* ---- The order of bytes ---- */
+
+/* Sixteen bytes, as samples of two bytes or of four. */
+typedef vx_uint16 words __attribute__((vector_size(16)));
+typedef vx_uint32 longs __attribute__((vector_size(16)));
+
+static bool is_big_endian(void) {
     const vx_uint16 one = 1;
     uint8_t first;
     memcpy(&first, &one, 1);
-    for (vx_size i = 0; i < size; i++)
-        to[i] = from[first ? size - 1 - i : i];
+    return first == 0;
 }
 
-/* The two ends of a copy: where the first sample is, and its strides. */
-struct grid {
-    uint8_t *first;
-    ptrdiff_t column, row;
-};
-
-static void copy_grid(struct grid to, struct grid from, const vx_rectangle_t *rect, vx_size size) {
-    vx_uint32 width = rect->end_x - rect->start_x;
-    for (vx_uint32 y = 0; y < rect->end_y - rect->start_y; y++) {
-        uint8_t *target = to.first + y * to.row;
-        const uint8_t *source = from.first + y * from.row;
-        if (size == 1 && to.column == 1 && from.column == 1)
-            memcpy(target, source, width);
-        else
-            for (vx_uint32 x = 0; x < width; x++)
-                turn(target + x * to.column, source + x * from.column, size);
+/* Turns as many whole vectors as there are; how many bytes that is. */
+static size_t turn_vectors(uint8_t *to, const uint8_t *from, size_t bytes, size_t unit) {
+    size_t at = 0;
+    for (; unit == 2 && at + sizeof(words) <= bytes; at += sizeof(words)) {
+        words some;
+        memcpy(&some, from + at, sizeof some);
+        some = some << 8 | some >> 8;
+        memcpy(to + at, &some, sizeof some);
     }
+    for (; unit == 4 && at + sizeof(longs) <= bytes; at += sizeof(longs)) {
+        longs some;
+        memcpy(&some, from + at, sizeof some);
+        some = some << 24 | (some << 8 & 0xFF0000) | (some >> 8 & 0xFF00) | some >> 24;
+        memcpy(to + at, &some, sizeof some);
+    }
+    return at;
+}
+
+static void turn(uint8_t *to, const uint8_t *from, vx_size size) {
+    uint8_t sample[4];
+    memcpy(sample, from, size);
+    for (vx_size i = 0; i < size; i++)
+        to[i] = sample[is_big_endian() ? i : size - 1 - i];
+}
+
+void turn_samples(uint8_t *to, const uint8_t *from, size_t bytes, size_t unit) {
+    if (unit == 1 || is_big_endian()) {
+        memmove(to, from, bytes);
+        return;
+    }
+    for (size_t at = turn_vectors(to, from, bytes, unit); at < bytes; at += unit)
+        turn(to + at, from + at, unit);
+}
+
+static void copy_row(struct grid to, struct grid from, vx_uint32 width, ptrdiff_t size) {
+    if (to.column == size && from.column == size) {
+        turn_samples(to.first, from.first, width * (size_t)size, (size_t)size);
+        return;
+    }
+    for (vx_uint32 x = 0; x < width; x++)
+        turn(to.first + x * to.column, from.first + x * from.column, (vx_size)size);
+}
+
+static void copy_grid(struct grid to, struct grid from, vx_uint32 width, vx_uint32 height,
+                      vx_size size) {
+    for (vx_uint32 y = 0; y < height; y++) {
+        copy_row(to, from, width, (ptrdiff_t)size);
+        to.first += to.row;
+        from.first += from.row;
+    }
+}
+
+/* The same without turning. */
+static void copy_plain(struct grid to, struct grid from, vx_uint32 width, vx_uint32 height,
+                       vx_size size) {
+    bool is_row = to.column == (ptrdiff_t)size && from.column == (ptrdiff_t)size;
+    for (vx_uint32 y = 0; y < height; y++) {
+        for (vx_uint32 x = 0; x < (is_row ? 1 : width); x++)
+            memcpy(to.first + x * to.column, from.first + x * from.column,
+                   is_row ? width * size : size);
+        to.first += to.row;
+        from.first += from.row;
+    }
+}
+
+static void copy_part(struct grid to, struct grid from, const vx_rectangle_t *rect, vx_size size) {
+    copy_grid(to, from, rect->end_x - rect->start_x, rect->end_y - rect->start_y, size);
 }
 
 /* The part of an image's samples as a frame has them. */
@@ -46,53 +141,240 @@ static struct grid part_of(const struct _vx_image *image, const vx_rectangle_t *
     return (struct grid){samples + rect->start_y * row + rect->start_x * size, size, row};
 }
 
-static vx_status read_image(vx_image image, uint8_t *reply) {
-    uint8_t body[5];
-    put_image(body, image);
-    return ask(image->base.context, READ_IMAGE, body, sizeof body, reply,
-               DESCRIBED + samples_of(image));
-}
-
-static vx_status read_part(vx_image image, const vx_rectangle_t *rect, struct grid to) {
-    uint8_t *reply = malloc(DESCRIBED + samples_of(image));
-    if (reply == NULL)
-        return VX_ERROR_NO_MEMORY;
-    vx_status status = read_image(image, reply);
-    if (status == VX_SUCCESS)
-        copy_grid(to, part_of(image, rect, reply + DESCRIBED), rect, sample_size(image->format));
-    free(reply);
-    return status;
-}
-
 static bool is_whole(const struct _vx_image *image, const vx_rectangle_t *rect) {
     return rect->start_x == 0 && rect->start_y == 0 && rect->end_x == image->width &&
            rect->end_y == image->height;
 }
 
-static vx_status write_part(vx_image image, const vx_rectangle_t *rect, struct grid from) {
-    vx_size length = WRITE_HEAD + samples_of(image);
-    uint8_t *body = malloc(length);
-    if (body == NULL)
+/* Whether rows of an image's width stand in memory without gaps. */
+static bool is_flat(const struct _vx_image *image, struct grid grid) {
+    ptrdiff_t size = (ptrdiff_t)sample_size(image->format);
+    return grid.column == size && grid.row == size * (ptrdiff_t)image->width;
+}
+
+/* ---- Reading ---- */
+
+/* Reads an image's samples by rows, turned by their unit. */
+static vx_status read_image(vx_image image, uint8_t *samples, size_t unit) {
+    uint8_t body[5], described[DESCRIBED];
+    vx_context context = image->base.context;
+    struct request request = {.op = READ_IMAGE, .body = described, .room = DESCRIBED,
+                              .samples = samples, .more = samples_of(image), .unit = unit};
+    put_image(body, image);
+    let_look(context);
+    bool is_sent = connection_send(&context->connection, &request, body, sizeof body);
+    end_look(context);
+    return await_reply(context, &request, is_sent);
+}
+
+static vx_status read_part(vx_image image, const vx_rectangle_t *rect, struct grid to) {
+    vx_size size = sample_size(image->format);
+    if (is_whole(image, rect) && is_flat(image, to))
+        return read_image(image, to.first, size);
+    struct buffer buffer = take_buffer(image->base.context, samples_of(image));
+    if (buffer.bytes == NULL)
         return VX_ERROR_NO_MEMORY;
-    vx_status status = VX_SUCCESS;
-    /* The reply's samples stand where the request's are to be. */
-    if (!is_whole(image, rect))
-        status = read_image(image, body + WRITE_HEAD - DESCRIBED);
-    uint8_t *at = put8(put_image(body, image), format_number(image->format));
-    put16(put16(at, image->width), image->height);
-    if (status == VX_SUCCESS) {
-        copy_grid(part_of(image, rect, body + WRITE_HEAD), from, rect, sample_size(image->format));
-        status = ask(image->base.context, WRITE_IMAGE, body, length, NULL, 0);
-    }
-    free(body);
+    vx_status status = read_image(image, buffer.bytes, 1);
+    if (status == VX_SUCCESS)
+        copy_part(to, part_of(image, rect, buffer.bytes), rect, size);
+    give_buffer(image->base.context, buffer);
     return status;
 }
 
+/* ---- Writing ---- */
+
+/* Where the samples of an image are that is written: in the program's memory, from which a buffer
+   gets them as frames have them; or there already, without a buffer. */
+struct source {
+    struct grid users;
+    uint8_t *bytes;
+    bool is_ready;
+};
+
+/* Sends the rows of an image, some of them at a time. */
+static bool send_rows(vx_image image, struct source source) {
+    struct connection *connection = &image->base.context->connection;
+    size_t size = sample_size(image->format), row = size * image->width;
+    if (source.is_ready)
+        return connection_go_on(connection, source.bytes, samples_of(image));
+    vx_uint32 some = (vx_uint32)(PIECE / row) + 1;
+    for (vx_uint32 y = 0; y < image->height; y += some) {
+        vx_uint32 rows = image->height - y < some ? image->height - y : some;
+        struct grid from = source.users, to = {source.bytes + y * row, (ptrdiff_t)size,
+                                               (ptrdiff_t)row};
+        from.first += (ptrdiff_t)y * from.row;
+        copy_grid(to, from, image->width, rows, size);
+        if (!connection_go_on(connection, to.first, rows * row))
+            return false;
+    }
+    return true;
+}
+
+static vx_status write_image(vx_image image, struct source source) {
+    uint8_t head[WRITE_HEAD], *at = put8(put_image(head, image), format_number(image->format));
+    vx_context context = image->base.context;
+    struct request request = {.op = WRITE_IMAGE};
+    put16(put16(at, image->width), image->height);
+    let_look(context);
+    bool is_sent = connection_begin(&context->connection, &request, head, sizeof head,
+                                    samples_of(image)) &&
+                   send_rows(image, source);
+    end_look(context);
+    return await_reply(context, &request, is_sent);
+}
+
+/* Writes a part of an image that becomes wholly valid. */
+static vx_status replace_part(vx_image image, const vx_rectangle_t *rect, struct grid from) {
+    vx_size size = sample_size(image->format);
+    bool is_all = is_whole(image, rect);
+    if (is_all && size == 1 && is_flat(image, from))
+        return write_image(image, (struct source){.bytes = from.first, .is_ready = true});
+    struct buffer buffer = take_buffer(image->base.context, samples_of(image));
+    if (buffer.bytes == NULL)
+        return VX_ERROR_NO_MEMORY;
+    vx_status status = VX_SUCCESS;
+    if (!is_all) {
+        status = read_image(image, buffer.bytes, 1);
+        if (status == VX_SUCCESS)
+            copy_part(part_of(image, rect, buffer.bytes), from, rect, size);
+    }
+    if (status == VX_SUCCESS)
+        status = write_image(image, (struct source){from, buffer.bytes, !is_all});
+    give_buffer(image->base.context, buffer);
+    return status;
+}
+
+static vx_rectangle_t whole_of(const struct _vx_image *image) {
+    return (vx_rectangle_t){0, 0, image->width, image->height};
+}
+
+/* The smallest rectangle around two, of which the first may be empty. */
+static vx_rectangle_t around(vx_rectangle_t first, const vx_rectangle_t *second) {
+    if (first.end_x == 0)
+        return *second;
+    if (second->start_x < first.start_x)
+        first.start_x = second->start_x;
+    if (second->start_y < first.start_y)
+        first.start_y = second->start_y;
+    if (second->end_x > first.end_x)
+        first.end_x = second->end_x;
+    if (second->end_y > first.end_y)
+        first.end_y = second->end_y;
+    return first;
+}
+
+/* Writes a part of an image, whose valid rectangle becomes the smallest around itself and that. */
+static vx_status write_part(vx_image image, const vx_rectangle_t *rect, struct grid from) {
+    vx_rectangle_t valid = whole_of(image);
+    vx_status status = VX_SUCCESS;
+    if (!is_whole(image, rect) && may_be_partial(image))
+        status = query_valid(image, &valid);
+    if (status == VX_SUCCESS)
+        status = replace_part(image, rect, from);
+    valid = around(valid, rect);
+    if (status == VX_SUCCESS && !is_whole(image, &valid))
+        status = set_valid(image, &valid);
+    return status;
+}
+
+/* ---- Images from handles, and images of one value ---- */
+
+vx_status send_memory(vx_image image) {
+    vx_rectangle_t whole = whole_of(image), valid = whole;
+    vx_status status = may_be_partial(image) ? query_valid(image, &valid) : VX_SUCCESS;
+    if (status == VX_SUCCESS)
+        status = replace_part(image, &whole, image->memory);
+    if (status == VX_SUCCESS && !is_whole(image, &valid))
+        status = set_valid(image, &valid);
+    return status;
+}
+
+vx_status take_memory(vx_image image) {
+    const vx_rectangle_t whole = whole_of(image);
+    return read_part(image, &whole, image->memory);
+}
+
+/* Where the first pixel of a part is in an image's memory. */
+static struct grid memory_of(const struct _vx_image *image, const vx_rectangle_t *rect) {
+    struct grid part = image->memory;
+    if (part.first != NULL)
+        part.first += rect->start_y * part.row + rect->start_x * part.column;
+    return part;
+}
+
+static vx_status fill(vx_image image, const vx_pixel_value_t *value) {
+    const vx_rectangle_t whole = whole_of(image);
+    vx_size size = sample_size(image->format);
+    uint8_t *row = malloc(image->width * size);
+    if (row == NULL)
+        return VX_ERROR_NO_MEMORY;
+    for (vx_uint32 x = 0; x < image->width; x++)
+        memcpy(row + x * size, value, size);
+    /* One row in place of all. */
+    const struct grid rows = {row, (ptrdiff_t)size, 0};
+    vx_status status = VX_SUCCESS;
+    if (!image->is_handle)
+        status = write_part(image, &whole, rows);
+    else
+        copy_plain(image->memory, rows, image->width, image->height, size);
+    free(row);
+    return status;
+}
+
+PUBLIC vx_status VX_API_CALL vxSetImagePixelValues(vx_image image,
+                                                   const vx_pixel_value_t *pixel_value) {
+    vx_context context = enter(image, VX_TYPE_IMAGE);
+    if (context == NULL)
+        return VX_ERROR_INVALID_REFERENCE;
+    if (pixel_value == NULL || image->is_uniform ||
+        (image->is_handle && image->memory.first == NULL))
+        return leave(context, VX_ERROR_INVALID_PARAMETERS);
+    if (image->scope != 0)
+        return leave(context, VX_ERROR_OPTIMIZED_AWAY);
+    return leave(context, fill(image, pixel_value));
+}
+
+static vx_reference make_uniform(vx_context context, struct _vx_image described) {
+    vx_reference made = create_image(context, described);
+    if (made->type != VX_TYPE_IMAGE)
+        return made;
+    vx_image image = (vx_image)made;
+    vx_status status = fill(image, &described.uniform);
+    image->is_uniform = true;
+    image->uniform = described.uniform;
+    if (status == VX_SUCCESS)
+        return made;
+    release(&made, VX_TYPE_IMAGE);
+    return error_of(context, status);
+}
+
+PUBLIC vx_image VX_API_CALL vxCreateUniformImage(vx_context context, vx_uint32 width,
+                                                 vx_uint32 height, vx_df_image color,
+                                                 const vx_pixel_value_t *value) {
+    if (enter(context, VX_TYPE_CONTEXT) == NULL)
+        return NULL;
+    vx_reference made = error_of(context, value == NULL ? VX_ERROR_INVALID_PARAMETERS
+                                                        : VX_ERROR_NOT_SUPPORTED);
+    if (value != NULL && format_number(color) != 0)
+        made = make_uniform(context, (struct _vx_image){.width = width,
+                                                        .height = height,
+                                                        .format = color,
+                                                        .uniform = *value});
+    leave(context, VX_SUCCESS);
+    return (vx_image)made;
+}
+
+/* ---- Parts ---- */
+
 /* Whether a part of an image may be copied. */
 static vx_status check_part(const struct _vx_image *image, const vx_rectangle_t *rect,
-                            vx_uint32 plane) {
+                            vx_uint32 plane, vx_enum usage) {
     if (image->scope != 0)
         return VX_ERROR_OPTIMIZED_AWAY;
+    if (image->is_uniform && usage != VX_READ_ONLY)
+        return VX_ERROR_NOT_SUPPORTED;
+    if (image->is_handle && image->memory.first == NULL)
+        return VX_ERROR_NOT_ALLOCATED;
     bool is_part = rect != NULL && plane == 0 && rect->start_x < rect->end_x &&
                    rect->start_y < rect->end_y && rect->end_x <= image->width &&
                    rect->end_y <= image->height;
@@ -109,6 +391,19 @@ static bool has_room(const vx_imagepatch_addressing_t *addr, const vx_rectangle_
            (vx_int64)addr->stride_y >= (vx_int64)addr->stride_x * (vx_int64)addr->dim_x;
 }
 
+/* Copies a part between an image and the program's memory. */
+static vx_status copy_users(vx_image image, const vx_rectangle_t *rect, struct grid users,
+                            vx_enum usage) {
+    struct grid images = memory_of(image, rect);
+    if (!image->is_handle)
+        return usage == VX_READ_ONLY ? read_part(image, rect, users)
+                                     : write_part(image, rect, users);
+    bool is_read = usage == VX_READ_ONLY;
+    copy_plain(is_read ? users : images, is_read ? images : users, rect->end_x - rect->start_x,
+               rect->end_y - rect->start_y, sample_size(image->format));
+    return VX_SUCCESS;
+}
+
 PUBLIC vx_status VX_API_CALL vxCopyImagePatch(vx_image image, const vx_rectangle_t *image_rect,
                                               vx_uint32 image_plane_index,
                                               const vx_imagepatch_addressing_t *user_addr,
@@ -117,7 +412,7 @@ PUBLIC vx_status VX_API_CALL vxCopyImagePatch(vx_image image, const vx_rectangle
     vx_context context = enter(image, VX_TYPE_IMAGE);
     if (context == NULL)
         return VX_ERROR_INVALID_REFERENCE;
-    vx_status status = check_part(image, image_rect, image_plane_index);
+    vx_status status = check_part(image, image_rect, image_plane_index, usage);
     if (status == VX_SUCCESS &&
         (user_ptr == NULL || !is_copy(usage, user_mem_type) ||
          !has_room(user_addr, image_rect, sample_size(image->format))))
@@ -125,22 +420,14 @@ PUBLIC vx_status VX_API_CALL vxCopyImagePatch(vx_image image, const vx_rectangle
     if (status != VX_SUCCESS)
         return leave(context, status);
     struct grid users = {user_ptr, user_addr->stride_x, user_addr->stride_y};
-    if (usage == VX_READ_ONLY)
-        return leave(context, read_part(image, image_rect, users));
-    return leave(context, write_part(image, image_rect, users));
-}
-
-static struct grid grid_of(const struct map *map, vx_size size) {
-    ptrdiff_t row = (ptrdiff_t)size * (ptrdiff_t)(map->rect.end_x - map->rect.start_x);
-    return (struct grid){map->samples, (ptrdiff_t)size, row};
+    return leave(context, copy_users(image, image_rect, users, usage));
 }
 
 static vx_imagepatch_addressing_t address_of(const struct map *map, vx_size size) {
-    vx_uint32 width = map->rect.end_x - map->rect.start_x;
-    return (vx_imagepatch_addressing_t){.dim_x = width,
+    return (vx_imagepatch_addressing_t){.dim_x = map->rect.end_x - map->rect.start_x,
                                         .dim_y = map->rect.end_y - map->rect.start_y,
-                                        .stride_x = (vx_int32)size,
-                                        .stride_y = (vx_int32)(size * width),
+                                        .stride_x = (vx_int32)map->grid.column,
+                                        .stride_y = (vx_int32)map->grid.row,
                                         .scale_x = VX_SCALE_UNITY,
                                         .scale_y = VX_SCALE_UNITY,
                                         .step_x = 1,
@@ -148,22 +435,26 @@ static vx_imagepatch_addressing_t address_of(const struct map *map, vx_size size
                                         .stride_x_bits = (vx_uint16)(8 * size)};
 }
 
-/* A map whose samples are 0; NULL where there is no memory. */
+/* A map: of an image from a handle in place, else of memory, whatever it holds. NULL where there is
+   no memory. */
 static struct map *make_map(vx_image image, const vx_rectangle_t *rect, vx_enum usage) {
     struct map *map = calloc(1, sizeof *map);
-    vx_size count = (vx_size)(rect->end_x - rect->start_x) * (rect->end_y - rect->start_y);
-    uint8_t *samples = calloc(count, sample_size(image->format));
-    if (map == NULL || samples == NULL) {
-        free(map);
-        free(samples);
+    if (map == NULL)
         return NULL;
-    }
-    *map = (struct map){.rect = *rect, .usage = usage, .samples = samples};
-    return map;
+    *map = (struct map){.rect = *rect, .usage = usage, .grid = memory_of(image, rect)};
+    if (image->is_handle)
+        return map;
+    vx_size size = sample_size(image->format), row = size * (rect->end_x - rect->start_x);
+    map->samples = take_buffer(image->base.context, row * (rect->end_y - rect->start_y));
+    map->grid = (struct grid){map->samples.bytes, (ptrdiff_t)size, (ptrdiff_t)row};
+    if (map->samples.bytes != NULL)
+        return map;
+    free(map);
+    return NULL;
 }
 
-static void free_map(struct map *map) {
-    free(map->samples);
+static void free_map(vx_context context, struct map *map) {
+    give_buffer(context, map->samples);
     free(map);
 }
 
@@ -173,10 +464,10 @@ static vx_status map_part(vx_image image, const vx_rectangle_t *rect, vx_enum us
     if (map == NULL)
         return VX_ERROR_NO_MEMORY;
     vx_status status = VX_SUCCESS;
-    if (usage != VX_WRITE_ONLY)
-        status = read_part(image, rect, grid_of(map, sample_size(image->format)));
+    if (usage != VX_WRITE_ONLY && !image->is_handle)
+        status = read_part(image, rect, map->grid);
     if (status != VX_SUCCESS) {
-        free_map(map);
+        free_map(image->base.context, map);
         return status;
     }
     map->id = ++image->next_map;
@@ -190,11 +481,12 @@ PUBLIC vx_status VX_API_CALL vxMapImagePatch(vx_image image, const vx_rectangle_
                                              vx_uint32 plane_index, vx_map_id *map_id,
                                              vx_imagepatch_addressing_t *addr, void **ptr,
                                              vx_enum usage, vx_enum mem_type, vx_uint32 flags) {
+    /* VX_NOGAP_X: what is mapped has no gaps but those of the program's own memory. */
     (void)flags;
     vx_context context = enter(image, VX_TYPE_IMAGE);
     if (context == NULL)
         return VX_ERROR_INVALID_REFERENCE;
-    vx_status status = check_part(image, rect, plane_index);
+    vx_status status = check_part(image, rect, plane_index, usage);
     bool is_usage = is_copy(usage, mem_type) ||
                     (usage == VX_READ_AND_WRITE && mem_type == VX_MEMORY_TYPE_HOST);
     if (status == VX_SUCCESS && (map_id == NULL || addr == NULL || ptr == NULL || !is_usage))
@@ -205,7 +497,7 @@ PUBLIC vx_status VX_API_CALL vxMapImagePatch(vx_image image, const vx_rectangle_
     if (status == VX_SUCCESS) {
         *map_id = map->id;
         *addr = address_of(map, sample_size(image->format));
-        *ptr = map->samples;
+        *ptr = map->grid.first;
     }
     return leave(context, status);
 }
@@ -221,13 +513,13 @@ PUBLIC vx_status VX_API_CALL vxUnmapImagePatch(vx_image image, vx_map_id map_id)
     if (map == NULL)
         return leave(context, VX_ERROR_INVALID_PARAMETERS);
     vx_status status = VX_SUCCESS;
-    if (map->usage != VX_READ_ONLY)
-        status = write_part(image, &map->rect, grid_of(map, sample_size(image->format)));
+    if (map->usage != VX_READ_ONLY && !image->is_handle)
+        status = write_part(image, &map->rect, map->grid);
     /* What couldn't be written for want of memory can be tried again. */
     if (status == VX_ERROR_NO_MEMORY)
         return leave(context, status);
     *place = map->next;
-    free_map(map);
+    free_map(context, map);
     return leave(context, status);
 }
 
@@ -235,7 +527,7 @@ void free_maps(vx_image image) {
     while (image->maps != NULL) {
         struct map *map = image->maps;
         image->maps = map->next;
-        free_map(map);
+        free_map(image->base.context, map);
     }
 }
 

@@ -2,6 +2,7 @@
 #define _GNU_SOURCE
 #include "internal.h"
 
+#include <dirent.h>
 #include <errno.h>
 #include <fcntl.h>
 #include <poll.h>
@@ -9,7 +10,9 @@
 #include <spawn.h>
 #include <stdlib.h>
 #include <string.h>
+#include <sys/mman.h>
 #include <sys/socket.h>
+#include <sys/time.h>
 #include <sys/un.h>
 #include <sys/wait.h>
 #include <time.h>
@@ -17,12 +20,44 @@
 
 extern char **environ;
 
-/* How long a server may take to end once its input has, in milliseconds. */
-enum { PATIENCE = 10000 };
+/* How long a server may take to end once its input has, in milliseconds: it has nothing to lose. And
+   how much a pipe has room for: a user's pipes have 64 MiB in all. */
+enum { PATIENCE = 1000, PIPE_BYTES = 1 << 19, GREATEST_TIMEOUT = 1000000 };
 
 static bool no_server(char *why, size_t room, const char *what, const char *path, int error) {
     snprintf(why, room, "%s %s: %s", what, path, strerror(error));
     return false;
+}
+
+/* A variable of the environment; NULL where it is empty or the program has more rights than its
+   user. */
+static const char *setting(const char *name) {
+    const char *value = secure_getenv(name);
+    return value != NULL && *value != '\0' ? value : NULL;
+}
+
+/* Sets how long the server may take to take or give a byte. */
+static bool set_patience(struct connection *connection, char *why, size_t room) {
+    const char *said = setting("FEQYLDAN_TIMEOUT");
+    connection->patience = -1;
+    if (said == NULL)
+        return true;
+    char *rest;
+    double seconds = strtod(said, &rest);
+    if (*rest != '\0' || !(seconds >= 0.001 && seconds <= GREATEST_TIMEOUT)) {
+        snprintf(why, room, "FEQYLDAN_TIMEOUT is %s, and has to be seconds from 0.001 to %d", said,
+                 GREATEST_TIMEOUT);
+        return false;
+    }
+    connection->patience = (int)(seconds * 1000);
+    return true;
+}
+
+static void limit_reads(struct connection *connection) {
+    const int patience = connection->patience;
+    const struct timeval limit = {patience / 1000, patience % 1000 * 1000};
+    if (patience > 0)
+        setsockopt(connection->stream, SOL_SOCKET, SO_RCVTIMEO, &limit, sizeof limit);
 }
 
 static bool reach_socket(struct connection *connection, const char *path, char *why, size_t room) {
@@ -41,12 +76,45 @@ static bool reach_socket(struct connection *connection, const char *path, char *
         connection->stream = -1;
         return no_server(why, room, "connect to", path, error);
     }
-    fcntl(connection->stream, F_SETFL, O_NONBLOCK);
+    connection->out = connection->stream;
+    limit_reads(connection);
     return true;
 }
 
+/* A program's descriptors: its input, its output and what it says on standard error. */
+struct ends {
+    int input, output, said;
+};
+
+/* Has all other descriptors closed: else what the program has open would stay open until the server
+   ends. */
+static int plan_closing(posix_spawn_file_actions_t *actions) {
+#if defined(__GLIBC__) && (__GLIBC__ > 2 || __GLIBC_MINOR__ >= 34)
+    return posix_spawn_file_actions_addclosefrom_np(actions, 3);
+#else
+    /* Those that are open now, where there is no better way. */
+    int error = 0;
+    DIR *open = opendir("/proc/self/fd");
+    for (struct dirent *entry; open != NULL && (entry = readdir(open)) != NULL;) {
+        int end = atoi(entry->d_name);
+        if (end > 2 && error == 0)
+            error = posix_spawn_file_actions_addclose(actions, end);
+    }
+    if (open != NULL)
+        closedir(open);
+    return error;
+#endif
+}
+
+static int plan_descriptors(posix_spawn_file_actions_t *actions, struct ends theirs) {
+    int error = posix_spawn_file_actions_adddup2(actions, theirs.input, 0);
+    error = error ? error : posix_spawn_file_actions_adddup2(actions, theirs.output, 1);
+    error = error ? error : posix_spawn_file_actions_adddup2(actions, theirs.said, 2);
+    return error ? error : plan_closing(actions);
+}
+
 /* In a session of its own, so that Ctrl-C doesn't end it, and with signals as by default. */
-static int spawn(const char *program, int theirs, int said, pid_t *process) {
+static int spawn(const char *program, struct ends theirs, pid_t *process) {
     posix_spawn_file_actions_t actions;
     posix_spawnattr_t attributes;
     sigset_t none, all;
@@ -60,14 +128,14 @@ static int spawn(const char *program, int theirs, int said, pid_t *process) {
         posix_spawn_file_actions_destroy(&actions);
         return ENOMEM;
     }
-    int error = posix_spawn_file_actions_adddup2(&actions, theirs, 0);
-    error = error ? error : posix_spawn_file_actions_adddup2(&actions, theirs, 1);
-    error = error ? error : posix_spawn_file_actions_adddup2(&actions, said, 2);
     posix_spawnattr_setsigmask(&attributes, &none);
     posix_spawnattr_setsigdefault(&attributes, &all);
     posix_spawnattr_setflags(
         &attributes, POSIX_SPAWN_SETSID | POSIX_SPAWN_SETSIGMASK | POSIX_SPAWN_SETSIGDEF);
-    char *words[] = {(char *)program, "serve", NULL};
+    const char *quota = setting("FEQYLDAN_QUOTA");
+    char *words[] = {(char *)program, "serve", quota == NULL ? NULL : "--quota", (char *)quota,
+                     NULL};
+    int error = plan_descriptors(&actions, theirs);
     error = error ? error : posix_spawnp(process, program, &actions, &attributes, words, environ);
     posix_spawnattr_destroy(&attributes);
     posix_spawn_file_actions_destroy(&actions);
@@ -75,64 +143,101 @@ static int spawn(const char *program, int theirs, int said, pid_t *process) {
 }
 
 /* The first program of those that may be meant which can be started. */
-static int spawn_found(int theirs, int said, pid_t *process) {
-    const char *told = getenv("FEQYLDAN_PROGRAM");
-    if (told != NULL && *told != '\0')
-        return spawn(told, theirs, said, process);
-    int error = spawn("feqyldan", theirs, said, process);
-    return error == 0 ? 0 : spawn("vx_main", theirs, said, process);
+static int spawn_found(struct ends theirs, pid_t *process) {
+    const char *told = setting("FEQYLDAN_PROGRAM");
+    if (told != NULL)
+        return spawn(told, theirs, process);
+    int error = spawn("feqyldan", theirs, process);
+    return error == 0 ? 0 : spawn("vx_main", theirs, process);
+}
+
+static void close_all(int *ends, int count) {
+    for (int i = 0; i < count; i++)
+        if (ends[i] >= 0)
+            close(ends[i]);
+}
+
+/* Moves a descriptor out of the way of the three that a program has; 0 or an error. */
+static int move_up(int *end) {
+    if (*end >= 3)
+        return 0;
+    int moved = fcntl(*end, F_DUPFD_CLOEXEC, 3);
+    if (moved < 0)
+        return errno;
+    close(*end);
+    *end = moved;
+    return 0;
+}
+
+/* Makes a pipe, a pair of sockets and a file in memory: 0, or an error and none of them. */
+static int make_ends(int ends[5]) {
+    for (int i = 0; i < 5; i++)
+        ends[i] = -1;
+    int error = 0;
+    if (pipe2(ends, O_CLOEXEC) != 0 ||
+        socketpair(AF_UNIX, SOCK_STREAM | SOCK_CLOEXEC, 0, ends + 2) != 0 ||
+        (ends[4] = memfd_create("feqyldan", MFD_CLOEXEC)) < 0)
+        error = errno;
+    for (int i = 0; i < 5 && error == 0; i++)
+        error = move_up(&ends[i]);
+    if (error != 0)
+        close_all(ends, 5);
+    return error;
 }
 
 static bool start(struct connection *connection, char *why, size_t room) {
-    int ends[2];
-    if (socketpair(AF_UNIX, SOCK_STREAM | SOCK_CLOEXEC, 0, ends) != 0)
-        return no_server(why, room, "start", "a server", errno);
-    connection->said = tmpfile();
-    int error = ENOMEM;
-    if (connection->said != NULL) {
-        fcntl(fileno(connection->said), F_SETFD, FD_CLOEXEC);
-        error = spawn_found(ends[1], fileno(connection->said), &connection->process);
+    int ends[5];
+    const char *told = setting("FEQYLDAN_PROGRAM");
+    const char *program = told != NULL ? told : "feqyldan or vx_main";
+    int error = make_ends(ends);
+    if (error != 0)
+        return no_server(why, room, "start", program, error);
+    error = spawn_found((struct ends){ends[0], ends[3], ends[4]}, &connection->process);
+    if (error != 0) {
+        connection->process = 0;
+        close_all(ends, 5);
+        return no_server(why, room, "start", program, error);
     }
-    close(ends[1]);
-    if (error == 0) {
-        connection->stream = ends[0];
-        fcntl(ends[0], F_SETFL, O_NONBLOCK);
-        return true;
-    }
-    connection->process = 0;
-    close(ends[0]);
-    if (connection->said != NULL)
-        fclose(connection->said);
-    connection->said = NULL;
-    const char *told = getenv("FEQYLDAN_PROGRAM");
-    return no_server(why, room, "start", told && *told ? told : "feqyldan or vx_main", error);
+    close(ends[3]);
+    /* The pipe's other end is held too: so a write never finds it closed, which would be a signal.
+       That the server has ended is seen at the socket. */
+    connection->held = ends[0];
+    connection->out = ends[1];
+    connection->stream = ends[2];
+    connection->said = ends[4];
+    fcntl(connection->out, F_SETFL, O_NONBLOCK);
+    /* Where that much isn't allowed it goes on with less. */
+    fcntl(connection->out, F_SETPIPE_SZ, PIPE_BYTES);
+    limit_reads(connection);
+    return true;
 }
 
 bool reach_server(struct connection *connection, char *why, size_t room) {
-    const char *path = getenv("FEQYLDAN_SOCKET");
-    if (path != NULL && *path != '\0')
-        return reach_socket(connection, path, why, room);
-    return start(connection, why, room);
+    const char *path = setting("FEQYLDAN_SOCKET");
+    if (!set_patience(connection, why, room))
+        return false;
+    return path != NULL ? reach_socket(connection, path, why, room) : start(connection, why, room);
 }
 
-/* Reads until the server closes its end; false where it doesn't within the patience. */
-static bool drains(int stream) {
+/* Reads until the server closes its end, or for as long as the patience is. */
+static void drain(int stream) {
     uint8_t unread[4096];
     struct pollfd wanted = {.fd = stream, .events = POLLIN};
     for (;;) {
         int ready = poll(&wanted, 1, PATIENCE);
         if (ready == 0)
-            return false;
+            return;
         ssize_t count = recv(stream, unread, sizeof unread, MSG_DONTWAIT);
         if (count == 0 || (count < 0 && errno != EINTR && errno != EAGAIN))
-            return true;
+            return;
     }
 }
 
-/* Waits until a process has ended, and ends it where that takes longer than the patience. */
+/* Waits until a process has ended, and ends it where that takes longer than a tenth of the
+   patience. */
 static void await_process(pid_t process) {
     const struct timespec pause = {.tv_nsec = 1000000};
-    for (int waited = 0; waited < PATIENCE; waited++) {
+    for (int waited = 0; waited < PATIENCE / 10; waited++) {
         if (waitpid(process, NULL, WNOHANG) != 0)
             return;
         nanosleep(&pause, NULL);
@@ -142,17 +247,30 @@ static void await_process(pid_t process) {
         ;
 }
 
+static void close_descriptors(struct connection *connection) {
+    int ends[] = {connection->stream, connection->said, connection->held,
+                  connection->out == connection->stream ? -1 : connection->out};
+    close_all(ends, sizeof ends / sizeof *ends);
+    connection->stream = connection->said = connection->held = connection->out = -1;
+}
+
 void end_server(struct connection *connection) {
-    if (connection->stream < 0)
-        return;
-    shutdown(connection->stream, SHUT_WR);
     if (connection->process > 0) {
-        if (!drains(connection->stream))
+        close(connection->held);
+        close(connection->out);
+        connection->held = connection->out = -1;
+        /* One that was late wouldn't be in time now. */
+        if (connection->is_late)
             kill(connection->process, SIGKILL);
+        drain(connection->stream);
         await_process(connection->process);
     }
-    close(connection->stream);
-    connection->stream = -1;
-    if (connection->said != NULL)
-        fclose(connection->said);
+    close_descriptors(connection);
+    connection->process = 0;
+}
+
+void leave_to_parent(struct connection *connection) {
+    close_descriptors(connection);
+    connection->process = 0;
+    connection->has_ended = connection->is_inherited = true;
 }

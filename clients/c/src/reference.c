@@ -48,17 +48,71 @@ static bool is_a(vx_reference found, vx_enum type) {
     return found != NULL && (type == VX_TYPE_REFERENCE || found->type == type);
 }
 
-vx_context enter(const void *reference, vx_enum type) {
+static void lock_registry(void) { pthread_mutex_lock(&registry.mutex); }
+
+static void unlock_registry(void) { pthread_mutex_unlock(&registry.mutex); }
+
+/* In a child of the process: its contexts stay the parent's, and their servers too. */
+static void leave_contexts(void) {
+    for (int i = 0; i < BUCKETS; i++)
+        for (vx_reference found = registry.buckets[i]; found != NULL; found = found->chain)
+            if (found->type == VX_TYPE_CONTEXT)
+                leave_context((vx_context)found);
+    unlock_registry();
+}
+
+static void watch_forks(void) { pthread_atfork(lock_registry, unlock_registry, leave_contexts); }
+
+void watch_forks_once(void) {
+    static pthread_once_t once = PTHREAD_ONCE_INIT;
+    pthread_once(&once, watch_forks);
+}
+
+/* The context of a live reference, which then has one user more; NULL where it isn't live or isn't
+   of the type. */
+static vx_context use(const void *reference, vx_enum type) {
     pthread_mutex_lock(&registry.mutex);
     vx_reference found = find(reference);
     vx_context context = is_a(found, type) ? found->context : NULL;
     if (context != NULL)
         context->users++;
     pthread_mutex_unlock(&registry.mutex);
+    return context;
+}
+
+/* One user less; the last one frees what was released. */
+static void unuse(vx_context context) {
+    pthread_mutex_lock(&registry.mutex);
+    bool is_over = --context->users == 0 && context->is_closed;
+    pthread_mutex_unlock(&registry.mutex);
+    if (is_over)
+        free_context(context);
+}
+
+vx_context look(const void *reference, vx_enum type) {
+    vx_context context = use(reference, type);
     if (context == NULL)
         return NULL;
-    pthread_mutex_lock(&context->mutex);
+    pthread_mutex_lock(&context->objects);
     /* Another thread may have released it meanwhile. */
+    if (check(context, reference, type) == VX_SUCCESS)
+        return context;
+    look_away(context, VX_SUCCESS);
+    return NULL;
+}
+
+vx_status look_away(vx_context context, vx_status status) {
+    pthread_mutex_unlock(&context->objects);
+    unuse(context);
+    return status;
+}
+
+vx_context enter(const void *reference, vx_enum type) {
+    vx_context context = use(reference, type);
+    if (context == NULL)
+        return NULL;
+    pthread_mutex_lock(&context->calls);
+    pthread_mutex_lock(&context->objects);
     if (check(context, reference, type) == VX_SUCCESS)
         return context;
     leave(context, VX_SUCCESS);
@@ -66,12 +120,9 @@ vx_context enter(const void *reference, vx_enum type) {
 }
 
 vx_status leave(vx_context context, vx_status status) {
-    pthread_mutex_unlock(&context->mutex);
-    pthread_mutex_lock(&registry.mutex);
-    bool is_over = --context->users == 0 && context->is_closed;
-    pthread_mutex_unlock(&registry.mutex);
-    if (is_over)
-        free_context(context);
+    pthread_mutex_unlock(&context->objects);
+    pthread_mutex_unlock(&context->calls);
+    unuse(context);
     return status;
 }
 
@@ -110,10 +161,16 @@ void free_memory(vx_reference reference) {
     unregister_reference(reference);
     if (reference->type == VX_TYPE_IMAGE)
         free_maps((vx_image)reference);
-    if (reference->type == VX_TYPE_LUT)
+    if (reference->type == VX_TYPE_LUT) {
+        free_views(&((vx_lut)reference)->views);
         free(((vx_lut)reference)->entries);
-    if (reference->type == VX_TYPE_ARRAY)
+    }
+    if (reference->type == VX_TYPE_ARRAY) {
+        free_views(&((vx_array)reference)->views);
         free(((vx_array)reference)->items);
+    }
+    if (reference->type == VX_TYPE_DISTRIBUTION)
+        free_views(&((vx_distribution)reference)->views);
     if (reference->type == VX_TYPE_GRAPH)
         free(((vx_graph)reference)->parameters);
     free(reference);
@@ -145,7 +202,7 @@ static void destroy_parts(vx_reference reference) {
         for (vx_uint32 i = 0; i < ((vx_graph)reference)->parameter_count; i++)
             drop(REFERENCE(((vx_graph)reference)->parameters[i]));
     }
-    if (reference->type == VX_TYPE_PARAMETER)
+    if (reference->type == VX_TYPE_PARAMETER && ((vx_parameter)reference)->node != NULL)
         drop(REFERENCE(((vx_parameter)reference)->node));
     if (reference->type == VX_TYPE_NODE)
         forget(reference->context, ((vx_node)reference)->call.extremes);
@@ -243,34 +300,34 @@ bool is_copy(vx_enum usage, vx_enum memory) {
 PUBLIC vx_status VX_API_CALL vxGetStatus(vx_reference reference) {
     if (reference == NULL)
         return VX_ERROR_NO_RESOURCES;
-    vx_context context = enter(reference, VX_TYPE_REFERENCE);
+    vx_context context = look(reference, VX_TYPE_REFERENCE);
     if (context == NULL)
         return VX_ERROR_INVALID_REFERENCE;
-    return leave(context, reference->status);
+    return look_away(context, reference->status);
 }
 
 PUBLIC vx_context VX_API_CALL vxGetContext(vx_reference reference) {
-    vx_context context = enter(reference, VX_TYPE_REFERENCE);
+    vx_context context = look(reference, VX_TYPE_REFERENCE);
     if (context != NULL)
-        leave(context, VX_SUCCESS);
+        look_away(context, VX_SUCCESS);
     return context;
 }
 
 PUBLIC vx_status VX_API_CALL vxQueryReference(vx_reference ref, vx_enum attribute, void *ptr,
                                               vx_size size) {
-    vx_context context = enter(ref, VX_TYPE_REFERENCE);
+    vx_context context = look(ref, VX_TYPE_REFERENCE);
     if (context == NULL)
         return VX_ERROR_INVALID_REFERENCE;
     const char *name = ref->label;
     switch (attribute) {
     case VX_REFERENCE_COUNT:
-        return leave(context, give(ptr, size, &ref->count, sizeof ref->count));
+        return look_away(context, give(ptr, size, &ref->count, sizeof ref->count));
     case VX_REFERENCE_TYPE:
-        return leave(context, give(ptr, size, &ref->type, sizeof ref->type));
+        return look_away(context, give(ptr, size, &ref->type, sizeof ref->type));
     case VX_REFERENCE_NAME:
-        return leave(context, give(ptr, size, &name, sizeof name));
+        return look_away(context, give(ptr, size, &name, sizeof name));
     default:
-        return leave(context, VX_ERROR_NOT_SUPPORTED);
+        return look_away(context, VX_ERROR_NOT_SUPPORTED);
     }
 }
 
@@ -291,8 +348,8 @@ PUBLIC vx_status VX_API_CALL vxSetReferenceName(vx_reference ref, const vx_char 
     vx_context context = enter(ref, VX_TYPE_REFERENCE);
     if (context == NULL)
         return VX_ERROR_INVALID_REFERENCE;
-    if (name == NULL || strlen(name) >= sizeof ref->label)
+    if (name != NULL && strlen(name) >= sizeof ref->label)
         return leave(context, VX_ERROR_INVALID_PARAMETERS);
-    strcpy(ref->label, name);
+    strcpy(ref->label, name == NULL ? "" : name);
     return leave(context, VX_SUCCESS);
 }

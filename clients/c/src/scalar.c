@@ -3,8 +3,7 @@
 
 #include <string.h>
 
-/* 0 for a type that no scalar has. */
-static vx_size size_of_type(vx_enum type) {
+vx_size size_of_type(vx_enum type) {
     switch (type) {
     case VX_TYPE_CHAR:
     case VX_TYPE_INT8:
@@ -32,46 +31,78 @@ static vx_size size_of_type(vx_enum type) {
     }
 }
 
+/* A scalar, or the error of the status where that isn't VX_SUCCESS. */
+static vx_reference make_scalar(vx_context context, vx_enum type, const void *ptr,
+                                vx_status status) {
+    vx_scalar made = status == VX_SUCCESS ? make(context, VX_TYPE_SCALAR, sizeof *made) : NULL;
+    if (made == NULL)
+        return error_of(context, status == VX_SUCCESS ? VX_ERROR_NO_MEMORY : status);
+    made->item = type;
+    if (ptr != NULL)
+        memcpy(&made->value, ptr, size_of_type(type));
+    return REFERENCE(made);
+}
+
 PUBLIC vx_scalar VX_API_CALL vxCreateScalar(vx_context context, vx_enum data_type,
                                             const void *ptr) {
-    vx_size size = size_of_type(data_type);
     if (enter(context, VX_TYPE_CONTEXT) == NULL)
         return NULL;
-    vx_scalar made = size == 0 ? NULL : make(context, VX_TYPE_SCALAR, sizeof *made);
-    if (made != NULL) {
-        made->item = data_type;
-        if (ptr != NULL)
-            memcpy(&made->value, ptr, size);
-    }
+    vx_status status = size_of_type(data_type) == 0 ? VX_ERROR_INVALID_TYPE : VX_SUCCESS;
+    vx_reference made = make_scalar(context, data_type, ptr, status);
     leave(context, VX_SUCCESS);
-    vx_status status = size == 0 ? VX_ERROR_INVALID_TYPE : VX_ERROR_NO_MEMORY;
-    return made != NULL ? made : (vx_scalar)error_of(context, status);
+    return (vx_scalar)made;
+}
+
+PUBLIC vx_scalar VX_API_CALL vxCreateScalarWithSize(vx_context context, vx_enum data_type,
+                                                    const void *ptr, vx_size size) {
+    if (enter(context, VX_TYPE_CONTEXT) == NULL)
+        return NULL;
+    vx_status status = size_of_type(data_type) == 0 ? VX_ERROR_INVALID_TYPE : VX_SUCCESS;
+    if (status == VX_SUCCESS && size != size_of_type(data_type))
+        status = VX_ERROR_INVALID_PARAMETERS;
+    vx_reference made = make_scalar(context, data_type, ptr, status);
+    leave(context, VX_SUCCESS);
+    return (vx_scalar)made;
 }
 
 PUBLIC vx_status VX_API_CALL vxReleaseScalar(vx_scalar *scalar) {
     return release(scalar, VX_TYPE_SCALAR);
 }
 
-PUBLIC vx_status VX_API_CALL vxCopyScalar(vx_scalar scalar, void *user_ptr, vx_enum usage,
-                                          vx_enum user_mem_type) {
-    vx_context context = enter(scalar, VX_TYPE_SCALAR);
-    if (context == NULL)
-        return VX_ERROR_INVALID_REFERENCE;
-    if (user_ptr == NULL || !is_copy(usage, user_mem_type))
-        return leave(context, VX_ERROR_INVALID_PARAMETERS);
+static vx_status copy_scalar(vx_scalar scalar, void *user_ptr, vx_enum usage, vx_enum memory) {
+    if (user_ptr == NULL || !is_copy(usage, memory))
+        return VX_ERROR_INVALID_PARAMETERS;
     if (usage == VX_READ_ONLY)
         memcpy(user_ptr, &scalar->value, size_of_type(scalar->item));
     else
         memcpy(&scalar->value, user_ptr, size_of_type(scalar->item));
-    return leave(context, VX_SUCCESS);
+    return VX_SUCCESS;
+}
+
+PUBLIC vx_status VX_API_CALL vxCopyScalar(vx_scalar scalar, void *user_ptr, vx_enum usage,
+                                          vx_enum user_mem_type) {
+    vx_context context = look(scalar, VX_TYPE_SCALAR);
+    if (context == NULL)
+        return VX_ERROR_INVALID_REFERENCE;
+    return look_away(context, copy_scalar(scalar, user_ptr, usage, user_mem_type));
+}
+
+PUBLIC vx_status VX_API_CALL vxCopyScalarWithSize(vx_scalar scalar, vx_size size, void *user_ptr,
+                                                  vx_enum usage, vx_enum user_mem_type) {
+    vx_context context = look(scalar, VX_TYPE_SCALAR);
+    if (context == NULL)
+        return VX_ERROR_INVALID_REFERENCE;
+    if (size != size_of_type(scalar->item))
+        return look_away(context, VX_ERROR_INVALID_PARAMETERS);
+    return look_away(context, copy_scalar(scalar, user_ptr, usage, user_mem_type));
 }
 
 PUBLIC vx_status VX_API_CALL vxQueryScalar(vx_scalar scalar, vx_enum attribute, void *ptr,
                                            vx_size size) {
-    vx_context context = enter(scalar, VX_TYPE_SCALAR);
+    vx_context context = look(scalar, VX_TYPE_SCALAR);
     if (context == NULL)
         return VX_ERROR_INVALID_REFERENCE;
     if (attribute != VX_SCALAR_TYPE)
-        return leave(context, VX_ERROR_NOT_SUPPORTED);
-    return leave(context, give(ptr, size, &scalar->item, sizeof scalar->item));
+        return look_away(context, VX_ERROR_NOT_SUPPORTED);
+    return look_away(context, give(ptr, size, &scalar->item, sizeof scalar->item));
 }

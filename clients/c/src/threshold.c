@@ -109,7 +109,7 @@ PUBLIC vx_status VX_API_CALL vxCopyThresholdOutput(vx_threshold thresh,
 PUBLIC vx_status VX_API_CALL vxQueryThreshold(vx_threshold thresh, vx_enum attribute, void *ptr,
                                               vx_size size) {
     const vx_df_image output = VX_DF_IMAGE_U8;
-    vx_context context = enter(thresh, VX_TYPE_THRESHOLD);
+    vx_context context = look(thresh, VX_TYPE_THRESHOLD);
     if (context == NULL)
         return VX_ERROR_INVALID_REFERENCE;
     vx_status status = VX_ERROR_NOT_SUPPORTED;
@@ -119,7 +119,7 @@ PUBLIC vx_status VX_API_CALL vxQueryThreshold(vx_threshold thresh, vx_enum attri
         status = give(ptr, size, &thresh->format, sizeof thresh->format);
     if (attribute == VX_THRESHOLD_OUTPUT_FORMAT)
         status = give(ptr, size, &output, sizeof output);
-    return leave(context, status);
+    return look_away(context, status);
 }
 
 vx_status send_threshold(vx_threshold threshold) {

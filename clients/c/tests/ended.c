@@ -65,6 +65,7 @@ static void fail_functions(void) {
     vx_lut lut = vxCreateLUT(context, VX_TYPE_UINT8, 256);
     vx_convolution kernel = vxCreateConvolution(context, 3, 3);
     vx_scalar byte = vxCreateScalar(context, VX_TYPE_UINT8, NULL);
+    vx_scalar other = vxCreateScalar(context, VX_TYPE_UINT8, NULL);
     EXPECT(VX_SUCCESS, STATUS(threshold));
     EXPECT(VX_SUCCESS, STATUS(lut));
     EXPECT(VX_SUCCESS, STATUS(kernel));
@@ -90,7 +91,7 @@ static void fail_functions(void) {
     FAILS(vxuSobel3x3(context, a, s, t));
     FAILS(vxuConvolve(context, a, kernel, c));
     FAILS(vxuIntegralImage(context, a, u));
-    FAILS(vxuMinMaxLoc(context, a, byte, byte, NULL, NULL, NULL, NULL));
+    FAILS(vxuMinMaxLoc(context, a, byte, other, NULL, NULL, NULL, NULL));
 }
 
 /* What the server had is lost; what the library has alone stays. */

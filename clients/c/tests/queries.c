@@ -106,17 +106,18 @@ static void ask_parameters(void) {
 static void ask_array_and_node(void) {
     vx_image image = vxCreateImage(context, 4, 4, VX_DF_IMAGE_U8);
     vx_scalar least = vxCreateScalar(context, VX_TYPE_UINT8, NULL);
+    vx_scalar greatest = vxCreateScalar(context, VX_TYPE_UINT8, NULL);
     vx_array places = vxCreateArray(context, VX_TYPE_COORDINATES2D, 3);
     vx_graph graph = vxCreateGraph(context);
     TELLS(vxQueryArray, places, VX_ARRAY_CAPACITY, vx_size, 3);
     TELLS(vxQueryArray, places, VX_ARRAY_ITEMTYPE, vx_enum, VX_TYPE_COORDINATES2D);
     TELLS(vxQueryArray, places, VX_ARRAY_ITEMSIZE, vx_size, sizeof(vx_coordinates2d_t));
-    EXPECT(VX_SUCCESS, vxuMinMaxLoc(context, image, least, least, places, NULL, NULL, NULL));
+    EXPECT(VX_SUCCESS, vxuMinMaxLoc(context, image, least, greatest, places, NULL, NULL, NULL));
     TELLS(vxQueryArray, places, VX_ARRAY_NUMITEMS, vx_size, 1);
     EXPECT(VX_ERROR_INVALID_PARAMETERS, vxTruncateArray(places, 2));
     EXPECT(VX_SUCCESS, vxTruncateArray(places, 0));
     TELLS(vxQueryArray, places, VX_ARRAY_NUMITEMS, vx_size, 0);
-    vx_node node = vxMinMaxLocNode(graph, image, least, least, places, NULL, NULL, NULL);
+    vx_node node = vxMinMaxLocNode(graph, image, least, greatest, places, NULL, NULL, NULL);
     TELLS(vxQueryNode, node, VX_NODE_STATUS, vx_status, VX_SUCCESS);
     TELLS(vxQueryGraph, graph, VX_GRAPH_STATE, vx_enum, VX_GRAPH_STATE_UNVERIFIED);
     EXPECT(VX_SUCCESS, vxProcessGraph(graph));
@@ -127,6 +128,7 @@ static void ask_array_and_node(void) {
     EXPECT(VX_SUCCESS, vxReleaseNode(&node));
     EXPECT(VX_SUCCESS, vxReleaseGraph(&graph));
     EXPECT(VX_SUCCESS, vxReleaseScalar(&least));
+    EXPECT(VX_SUCCESS, vxReleaseScalar(&greatest));
     EXPECT(VX_SUCCESS, vxReleaseImage(&image));
 }
 

@@ -22,10 +22,14 @@ import feqyldan as vx  # noqa: E402
 FLAGS = ["-std=c11", "-Wall", "-Wextra", "-Werror", "-pedantic", "-D_POSIX_C_SOURCE=200809L", "-g",
          "-O1", "-fno-sanitize-recover=all", "-pthread", "-I" + os.path.join(HOME, "include")]
 MEMORY, THREADS = "address,undefined", "thread"
-HEADERS = ("VX/vx.h", "VX/vxu.h")
+HEADERS = tuple(f"VX/{name}" for name in sorted(os.listdir(os.path.join(HOME, "include/VX"))))
+STANDARDS = (("cc", "c89"), ("cc", "c99"), ("cc", "c11"), ("cc", "c2x"), ("c++", "c++98"),
+             ("c++", "c++11"), ("c++", "c++17"), ("c++", "c++23"))
+ALL_WARNINGS = ["-Wall", "-Wextra", "-Werror", "-pedantic", "-Wconversion", "-Wsign-conversion",
+                "-Wshadow", "-Wundef", "-Wno-long-long"]
 WIDTH, HEIGHT = 13, 9
 # What the library calls that may find no memory.
-TAKING_MEMORY = ("malloc", "calloc", "realloc", "tmpfile", "posix_spawn_file_actions_adddup2")
+TAKING_MEMORY = ("malloc", "calloc", "realloc", "posix_spawn_file_actions_adddup2")
 # Longer than any test program runs, in seconds.
 PATIENCE = 300
 folder = ""
@@ -199,6 +203,28 @@ def expected_lines(context):
 
 class Library(unittest.TestCase):
 
+    def test_a_graph_with_a_fault_is_refused_and_the_log_names_the_node(self):
+        run("verdicts")
+
+    def test_programs_in_the_style_of_published_ones(self):
+        run("published")
+
+    def test_other_processes_descriptors_and_time(self):
+        run("processes", env=self.server_to_kill())
+
+    def test_valgrind_is_silent(self):
+        if shutil.which("valgrind") is None:
+            self.skipTest("valgrind isn't installed")
+        prefix = installed()
+        for name in ("published", "verdicts"):
+            program = os.path.join(folder, f"{name}-plain")
+            subprocess.run(["cc", "-std=c11", "-g", "-I" + os.path.join(prefix, "include"),
+                            os.path.join(HERE, name + ".c"),
+                            os.path.join(prefix, "lib/libfeqyldan.a"), "-o", program], check=True)
+            subprocess.run(["valgrind", "-q", "--error-exitcode=9", "--leak-check=full",
+                            "--child-silent-after-fork=yes", program], timeout=PATIENCE,
+                           stderr=subprocess.DEVNULL, check=True)
+
     def test_functions_at_once_and_in_graphs_give_what_they_give_in_python(self):
         with vx.Server() as server, server.context() as context:
             expected = expected_lines(context)
@@ -232,9 +258,10 @@ class Library(unittest.TestCase):
     def test_the_sanitizer_of_threads_is_silent(self):
         if not has_thread_sanitizer():
             self.skipTest("cc has no sanitizer of threads")
-        for name in ("threads", "programs"):
+        for name in ("threads", "programs", "published"):
             run(name, sanitizer=THREADS)
-        run("ended", sanitizer=THREADS, env=self.server_to_kill())
+        for name in ("ended", "processes"):
+            run(name, sanitizer=THREADS, env=self.server_to_kill())
 
     def server_after(self, line):
         """The environment of a server before which a line of shell is run."""
@@ -290,6 +317,19 @@ class Library(unittest.TestCase):
         os.killpg(program.pid, signal.SIGKILL)
         self.assertTrue(self.ends(server))
 
+    def test_the_server_ends_with_a_program_whose_child_lives_on(self):
+        environment = self.server_to_kill()
+        program = subprocess.Popen([build("orphan")], stdout=subprocess.PIPE, text=True,
+                                   env={**os.environ, **environment})
+        self.addCleanup(program.stdout.close)
+        child = int(program.stdout.readline())
+        self.addCleanup(os.kill, child, signal.SIGKILL)
+        with open(environment["SERVER_PROCESS"], encoding="utf-8") as text:
+            server = int(text.read())
+        program.kill()
+        program.wait(PATIENCE)
+        self.assertTrue(self.ends(server))
+
     def test_a_server_that_finds_no_memory_is_told_from_one_that_ended(self):
         run("scarce", env=self.server_after("ulimit -v 65536"))
 
@@ -318,18 +358,22 @@ class Library(unittest.TestCase):
             self.assertEqual(ended.returncode, 3, program)
             self.assertIn("vxCreateContext: the server has ended", ended.stderr)
 
-    def test_a_broker_answers_as_a_server_of_ones_own(self):
-        path = os.path.join(folder, "socket")
-        words = [sys.executable, "-m", "feqyldan.broker", "--socket", path, "--",
+    def started_broker(self, *options):
+        """The path of the socket of a broker, which ends with the test."""
+        path = os.path.join(tempfile.mkdtemp(dir=folder), "socket")
+        words = [sys.executable, "-m", "feqyldan.broker", "--socket", path, *options, "--",
                  os.environ["FEQYLDAN_PROGRAM"], "serve"]
         package = os.path.join(HOME, "..", "python")
         broker = subprocess.Popen(words, env={**os.environ, "PYTHONPATH": package})
-        try:
-            vx.connect(path, retry=30).close()
-            run("programs", env={"FEQYLDAN_SOCKET": path, "FEQYLDAN_PROGRAM": "/nowhere"})
-        finally:
-            broker.terminate()
-            broker.wait()
+        self.addCleanup(broker.wait)
+        self.addCleanup(broker.terminate)
+        vx.connect(path, retry=30).close()
+        return path
+
+    def test_a_broker_answers_as_a_server_of_ones_own(self):
+        socket = self.started_broker()
+        for name in ("programs", "published"):
+            run(name, env={"FEQYLDAN_SOCKET": socket, "FEQYLDAN_PROGRAM": "/nowhere"})
 
     def test_installed_it_serves_c_and_cxx(self):
         prefix = installed()
@@ -350,21 +394,59 @@ class Library(unittest.TestCase):
         declared = []
         for header in HEADERS:
             with open(os.path.join(HOME, "include", header), encoding="utf-8") as text:
-                declared += re.findall(r"VX_API_CALL (vx\w+)\(", text.read())
-        self.assertGreater(len(declared), 100)
-        listed = subprocess.run(["nm", "-D", "--defined-only",
-                                 os.path.join(installed(), "lib/libfeqyldan.so")],
-                                stdout=subprocess.PIPE, text=True, check=True).stdout
-        self.assertEqual(sorted(line.split()[-1] for line in listed.splitlines()),
-                         sorted(declared))
+                declared += re.findall(r"VX_API_CALL\s+(vx\w+)\(", text.read())
+        self.assertGreater(len(declared), 250)
+        for name, words in (("libfeqyldan.so", ["-D"]), ("libfeqyldan.a", ["-g"])):
+            listed = subprocess.run(["nm", *words, "--defined-only",
+                                     os.path.join(installed(), "lib", name)],
+                                    stdout=subprocess.PIPE, text=True, check=True).stdout
+            self.assertEqual(sorted(line.split()[-1] for line in listed.splitlines()
+                                    if len(line.split()) == 3), sorted(declared), name)
 
-    def test_each_header_compiles_alone(self):
-        for words in (("cc", "-std=c11"), ("c++", "-std=c++11"), ("c++", "-std=c++20")):
-            for header in HEADERS:
-                subprocess.run([*words, "-Wall", "-Wextra", "-Werror", "-pedantic", "-c", "-x",
-                                "c" if words[0] == "cc" else "c++", "-o", os.devnull,
+    def test_a_program_may_have_names_of_its_own(self):
+        prefix, program = installed(), os.path.join(folder, "names")
+        subprocess.run(["cc", *FLAGS, os.path.join(HERE, "names.c"),
+                        os.path.join(prefix, "lib/libfeqyldan.a"), "-o", program], check=True)
+        subprocess.run([program], check=True)
+
+    def test_each_header_compiles_alone_without_a_warning(self):
+        everything = "".join(f"#include <{header}>\n" for header in HEADERS)
+        for compiler, standard in STANDARDS:
+            for text in [everything] + ([f"#include <{header}>\n" for header in HEADERS]
+                                        if standard in ("c99", "c++11") else []):
+                subprocess.run([compiler, "-std=" + standard, *ALL_WARNINGS, "-c", "-x",
+                                "c" if compiler == "cc" else "c++", "-o", os.devnull,
                                 "-I" + os.path.join(HOME, "include"), "-"],
-                               input=f"#include <{header}>\n", text=True, check=True)
+                               input=text, text=True, check=True)
+
+    def test_a_program_of_each_standard_compiles_without_a_warning_and_runs(self):
+        library, program = os.path.join(installed(), "lib"), os.path.join(folder, "sample")
+        for compiler, standard in STANDARDS:
+            subprocess.run([compiler, "-std=" + standard, *ALL_WARNINGS, "-x",
+                            "c" if compiler == "cc" else "c++", os.path.join(HERE, "sample.c"),
+                            "-x", "none", "-I" + os.path.join(installed(), "include"),
+                            os.path.join(library, "libfeqyldan.a"), "-o", program], check=True)
+            subprocess.run([program], check=True)
+
+    def test_the_document_lists_the_names(self):
+        said = subprocess.run([os.path.join(HOME, "names")], stdout=subprocess.PIPE, text=True,
+                              check=True).stdout
+        with open(os.path.join(HOME, "../../docs/from_openvx.md"), encoding="utf-8") as text:
+            self.assertIn(said, text.read(), "run clients/c/names --write")
+
+    def test_a_refused_context_says_why(self):
+        broker = self.started_broker("--per-process", "1")
+        said = subprocess.run([build("crowd")], capture_output=True, text=True, check=True,
+                              env={**os.environ, "FEQYLDAN_SOCKET": broker})
+        self.assertEqual(said.stdout, "1\n")
+        self.assertIn("the server refused OpenContext: NO_RESOURCES: it has too many connections",
+                      said.stderr)
+
+    def test_too_few_descriptors_are_told_from_too_little_memory(self):
+        said = subprocess.run(["sh", "-c", f"ulimit -n 7; exec {build('crowd')}"],
+                              capture_output=True, text=True, check=True)
+        self.assertEqual(said.stdout, "0\n")
+        self.assertIn("Too many open files", said.stderr)
 
     def test_the_example_writes_a_picture(self):
         subprocess.run(["make", "-s", "-C", HOME, "out/edges"], check=True)

@@ -9,7 +9,7 @@ static vx_image a, b;
 static int entries;
 
 static void on_entry(vx_context of, vx_reference ref, vx_status status, const vx_char string[]) {
-    CHECK(of == context && ref == (vx_reference)context && string[0] != '\0');
+    CHECK(of == context && ref != NULL && string[0] != '\0');
     CHECK(status == VX_ERROR_NO_MEMORY);
     entries++;
 }

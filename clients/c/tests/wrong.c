@@ -1,6 +1,7 @@
 /* Random calls with wrong arguments, references that are NULL, were released or are of another
    context among them: each ends in a status, and a right call does what it should after them. What
-   is printed is how many calls ended in each status. */
+   is printed is how many calls ended in each status. Words of the command line are another number of
+   sequences and another seed. */
 #include "testing.h"
 
 enum { SEQUENCES = 1000, CALLS = 25, POOL = 48 };
@@ -41,6 +42,7 @@ static vx_array array(void) { return (vx_array)some(VX_TYPE_ARRAY); }
 static vx_parameter parameter(void) { return (vx_parameter)some(VX_TYPE_PARAMETER); }
 static vx_threshold threshold(void) { return (vx_threshold)some(VX_TYPE_THRESHOLD); }
 static vx_convolution convolution(void) { return (vx_convolution)some(VX_TYPE_CONVOLUTION); }
+static vx_kernel kernel(void) { return (vx_kernel)some(VX_TYPE_KERNEL); }
 static vx_distribution distribution(void) { return (vx_distribution)some(VX_TYPE_DISTRIBUTION); }
 
 static vx_enum any_enum(void) {
@@ -67,9 +69,37 @@ static vx_df_image any_format(void) {
     return values[below(6)];
 }
 
+/* Memory of the program that images and items are in. */
+static vx_uint8 memory[1 << 18];
+
+static vx_reference make_of_memory(vx_context context) {
+    const vx_imagepatch_addressing_t addr = by_rows(below(5), below(5), (int)below(3));
+    void *planes[] = {below(5) ? memory : NULL};
+    vx_pixel_value_t value = {.U8 = 4};
+    switch (below(5)) {
+    case 0:
+        return (vx_reference)vxCreateUniformImage(context, below(4), below(4), any_format(),
+                                                  below(9) ? &value : NULL);
+    case 1:
+        return (vx_reference)vxGetKernelByEnum(context, (vx_enum)below(70));
+    case 2:
+        return (vx_reference)vxGetKernelByName(context, below(9) ? "org.khronos.openvx.not"
+                                                                 : NULL);
+    case 3:
+        return (vx_reference)vxCreateScalarWithSize(context, any_enum(), memory, below(9));
+    default:
+        return (vx_reference)vxCreateImageFromHandle(context, any_format(), &addr, planes,
+                                                     below(9) ? VX_MEMORY_TYPE_HOST : any_enum());
+    }
+}
+
 /* A new object, or what isn't one, in a place of the pool. */
 static vx_reference make_any(vx_context context) {
-    switch (below(11)) {
+    switch (below(14)) {
+    case 11:
+    case 12:
+    case 13:
+        return make_of_memory(context);
     case 0:
     case 1:
         return (vx_reference)vxCreateImage(context, below(4), below(4), any_format());
@@ -109,7 +139,11 @@ static vx_node make_node_of_images(vx_graph to, vx_image in, vx_image in2, vx_im
 static vx_node make_node(void) {
     vx_graph to = graph();
     vx_image in = image(), in2 = image(), out = image();
-    switch (below(13)) {
+    switch (below(15)) {
+    case 13:
+        return vxCreateGenericNode(to, kernel());
+    case 14:
+        return below(8) ? vxNotNode(to, in, out) : vxPhaseNode(to, in, in2, out);
     case 0:
         return vxAddNode(to, in, in2, any_enum(), out);
     case 1:
@@ -148,8 +182,42 @@ static vx_reference get_any(void) {
     }
 }
 
+/* What is mapped but images, and what else changes objects. */
+static vx_status use_more(void) {
+    vx_map_id map = below(3);
+    vx_size stride;
+    void *where = below(9) ? memory : NULL;
+    const vx_pixel_value_t value = {.U8 = 4};
+    switch (below(12)) {
+    case 0:
+        return vxMapLUT(lut(), &map, &where, any_enum(), VX_MEMORY_TYPE_HOST, 0);
+    case 1:
+        return vxUnmapLUT(lut(), map);
+    case 2:
+        return vxMapDistribution(distribution(), &map, &where, any_enum(), VX_MEMORY_TYPE_HOST, 0);
+    case 3:
+        return vxUnmapDistribution(distribution(), map);
+    case 4:
+        return vxAddArrayItems(array(), below(4), memory, below(40));
+    case 5:
+        return vxMapArrayRange(array(), below(3), below(3), &map, &stride, &where, any_enum(),
+                               VX_MEMORY_TYPE_HOST, 0);
+    case 6:
+        return vxUnmapArrayRange(array(), map);
+    case 7:
+        return vxSetImagePixelValues(image(), &value);
+    case 8:
+        return vxSwapImageHandle(image(), &where, NULL, below(3));
+    case 9:
+        return vxSetReferenceName(any(), below(2) ? NULL : "some");
+    case 10:
+        return vxTruncateArray(array(), below(3));
+    default:
+        return vxHint(any(), any_enum(), NULL, 0);
+    }
+}
+
 static vx_status use_object(void) {
-    static vx_uint8 memory[1 << 18];
     vx_rectangle_t rect = {below(3), below(3), below(9), below(9)};
     const vx_imagepatch_addressing_t addr = by_rows(below(9), below(9), (int)below(5));
     vx_imagepatch_addressing_t mapped;
@@ -217,6 +285,8 @@ static vx_status query_any(void) {
     const vx_enum attribute = VX_ATTRIBUTE_BASE(VX_ID_KHRONOS, type) + (vx_enum)below(11);
     vx_reference object = some(type);
     switch (type) {
+    case VX_TYPE_KERNEL:
+        return vxQueryKernel((vx_kernel)object, attribute, value, size);
     case VX_TYPE_CONTEXT:
         return vxQueryContext((vx_context)object, attribute, value, size);
     case VX_TYPE_GRAPH:
@@ -328,7 +398,9 @@ static vx_status keep(vx_reference object) {
 }
 
 static vx_status call_any(vx_context context) {
-    switch (below(10)) {
+    switch (below(11)) {
+    case 8:
+        return use_more();
     case 0:
     case 1:
         return keep(make_any(context));
@@ -352,7 +424,7 @@ static vx_status call_any(vx_context context) {
 /* No call ends the server, which an entry would tell. */
 static void on_entry(vx_context context, vx_reference ref, vx_status status,
                      const vx_char string[]) {
-    CHECK((vx_reference)context == ref && string[0] != '\0' && status != VX_FAILURE);
+    CHECK(vxGetContext(ref) == context && string[0] != '\0' && status != VX_FAILURE);
 }
 
 /* Gives back all that the pool still has, and begins anew. */
@@ -377,9 +449,11 @@ static void work(vx_context context) {
     CHECK(samples[8] == 255);
 }
 
-int main(void) {
+int main(int count, char **words) {
     int counts[-VX_STATUS_MIN] = {0};
-    for (int sequence = 0; sequence < SEQUENCES; sequence++) {
+    int sequences = count > 1 ? atoi(words[1]) : SEQUENCES;
+    state = count > 2 ? (vx_uint32)atoi(words[2]) : state;
+    for (int sequence = 0; sequence < sequences; sequence++) {
         if (sequence % 50 == 0)
             begin();
         for (int i = 0; i < CALLS; i++) {

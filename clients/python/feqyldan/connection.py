@@ -536,7 +536,7 @@ class Connection:
                 if frame is None:
                     break
                 self._waited = 0.0
-                self._line[1].arrive(frame, at + len(frame))
+                line[1].arrive(frame, at + len(frame))
                 at = self._answered
         except UnexpectedReply as fault:
             self._fault = fault

@@ -226,6 +226,8 @@ with vx.Server(sys.argv[1]) as server, server.context() as context:
     graph = context.graph()
     graph.not_(part, out)
     picture = bytes(1280 * 720)
+    # NumPy is imported by now: an import may swallow an interruption.
+    out.read()
     try:
         print(server._process.pid, flush=True)
         while True:

@@ -18,6 +18,7 @@ from test_packaging import files_of, missing
 
 ROOT = os.path.realpath(os.path.join(TOOLS, ".."))
 FIRST = os.path.join(ROOT, "examples", "first.py")
+MULTIARCH = "usr/lib/x86_64-linux-gnu"
 # What these tests need that not every machine has.
 ABSENT = [*missing("pip", "setuptools", "wheel", "venv"),
           *(name for name in ("dpkg", "dpkg-deb") if shutil.which(name) is None),
@@ -115,7 +116,7 @@ class TestPackages(unittest.TestCase):
     def setUpClass(cls):
         folder = tempfile.TemporaryDirectory()
         cls.addClassCleanup(folder.cleanup)
-        cls.wheel, cls.debian = cls.packages(folder.name)
+        cls.wheel, cls.debian, *cls.library = cls.packages(folder.name)
 
     @staticmethod
     def packages(folder):
@@ -140,8 +141,9 @@ class TestPackages(unittest.TestCase):
         return run.stdout
 
     def unpack(self):
-        """The package for Debian in a folder of its own, found before all else."""
-        self.run_there("dpkg", "-x", self.debian, self.root)
+        """The packages for Debian in a folder of their own, found before all else."""
+        for package in (self.debian, *self.library):
+            self.run_there("dpkg", "-x", package, self.root)
         self.environment["PATH"] = f"{self.root}/usr/bin:{self.environment['PATH']}"
         self.environment["PYTHONPATH"] = f"{self.root}/usr/lib/python3/dist-packages"
 
@@ -177,8 +179,8 @@ class TestPackages(unittest.TestCase):
 
     def test_the_example_in_c_with_the_debian_package(self):
         self.unpack()
-        example = f"{self.root}/usr/share/doc/feqyldan/clients/c/examples/edges.c"
-        library, made = f"{self.root}/usr/lib", os.path.join(self.folder, "edges")
+        example = f"{self.root}/usr/share/doc/libfeqyldan-dev/examples/edges.c"
+        library, made = f"{self.root}/{MULTIARCH}", os.path.join(self.folder, "edges")
         self.run_there("cc", f"-I{self.root}/usr/include", example, f"-L{library}", "-lfeqyldan",
                        "-o", made)
         # It runs where there is no compiler, nor anything else that the starter doesn't need.
@@ -260,11 +262,11 @@ class TestPackages(unittest.TestCase):
                 pass
         dpkg = ("dpkg", f"--root={self.root}", f"--log={self.folder}/log",
                 "--force-script-chrootless", "--force-depends")
-        self.run_there(*dpkg, "--install", self.debian)
+        self.run_there(*dpkg, "--install", self.debian, *self.library)
         library = os.path.join(self.root, "usr/lib/python3/dist-packages/feqyldan")
         # What Python would have left there.
         os.mkdir(os.path.join(library, "__pycache__"))
-        self.run_there(*dpkg, "--purge", "feqyldan")
+        self.run_there(*dpkg, "--purge", "feqyldan", "libfeqyldan-dev", "libfeqyldan0")
         self.assertEqual(os.listdir(self.root), ["var"])
         self.assertEqual(os.listdir(os.path.join(self.root, "var")), ["lib"])
         self.assertFalse([path for path in files_of(kept) if "feqyldan" in path])
@@ -279,7 +281,10 @@ class TestPackages(unittest.TestCase):
         self.assertEqual(self.run_there("feqyldan", "--version"), f"feqyldan {vx.__version__}\n")
         for name in ("feqyldan.1", "feqyldan-door.1", "feqyldan-broker.1"):
             self.assertIn(f'"feqyldan {vx.__version__}"', self.manual(name))
-        library = f"{self.root}/usr/lib/pkgconfig/feqyldan.pc"
+        for package in self.library:
+            said = self.run_there("dpkg-deb", "--field", package, "Version")
+            self.assertEqual(said.strip(), vx.__version__)
+        library = f"{self.root}/{MULTIARCH}/pkgconfig/feqyldan.pc"
         with open(library, encoding="utf-8") as file:
             self.assertIn(f"Version: {vx.__version__}\n", file.read())
 
@@ -302,16 +307,16 @@ class TestPackages(unittest.TestCase):
                 self.assertIn(word, self.manual(name))
 
     def test_the_same_tree_gives_the_same_bytes(self):
-        for path, again in zip((self.wheel, self.debian), self.packages(self.folder)):
+        for path, again in zip((self.wheel, self.debian, *self.library),
+                               self.packages(self.folder)):
             with open(path, "rb") as first, open(again, "rb") as second:
                 self.assertEqual(first.read(), second.read(), path)
 
     def test_the_library_says_nothing_of_where_it_was_built(self):
         self.unpack()
         for name in ("libfeqyldan.a", "libfeqyldan.so.0"):
-            with open(f"{self.root}/usr/lib/{name}", "rb") as file:
+            with open(f"{self.root}/{MULTIARCH}/{name}", "rb") as file:
                 data = file.read()
-            self.assertIn(b"/usr/src/feqyldan", data)
             for folder in (ROOT, tempfile.gettempdir()):
                 self.assertNotIn(folder.encode() + b"/", data)
 

@@ -109,12 +109,7 @@ impl Runtime {
     }
 
     /// Answers a request of a client, as `apply` does.
-    fn answer(
-        &mut self,
-        alloc: Global,
-        client: u16,
-        request: &Request,
-    ) -> Result<Reply, NoMemory>
+    fn answer(&mut self, alloc: Global, client: u16, request: &Request) -> Result<Reply, NoMemory>
         ensures applies { Applies client request.now self.old self.new result }
         ensures kept { AppliesToKept client request.now self.old self.new result }
     {

@@ -73,7 +73,7 @@ planned_sum p f =
     sum_by-append (λ (r : Format × ℕ). one_of r.0 f) (rooms_for p U8 ++ rooms_for p S16) (rooms_for p U32)
     ∙ ap (λ n. n + each U32) (sum_by-append (λ (r : Format × ℕ). one_of r.0 f) (rooms_for p U8) (rooms_for p S16))
     ∙ by_formats p f (each U8) (each S16) (each U32) (rooms_count U8 f (p.slot_samples U8) 0 (p.slot_count U8))
-      (rooms_count S16 f (p.slot_samples S16) 0 (p.slot_count S16)) (rooms_count U32 f (p.slot_samples U32) 0 (p.slot_count U32))
+    (rooms_count S16 f (p.slot_samples S16) 0 (p.slot_count S16)) (rooms_count U32 f (p.slot_samples U32) 0 (p.slot_count U32))
 
 -- are as many blocks of a format as it has slots of that format
 pub planned_blocks : (slots : List Slot) (p : PlanValue) → map room_of slots ≡ planned_rooms p → (f : Format) → slot_blocks slots f ≡ p.slot_count f

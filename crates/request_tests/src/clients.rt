@@ -100,11 +100,11 @@ pub fn with_a_graph(alloc: Global, limits: Limits) -> Result<Runtime, Fail> {
     Ok(runtime)
 }
 
-/// The request that adds Not of an image to another to graph 3.
-fn adding_not(input: u32, output: u32) -> Result<Request, Fail> {
+/// The request that adds a node of a function from an image to another to graph 3.
+fn adding(function: Function, input: u32, output: u32) -> Result<Request, Fail> {
     let node = NodeSpec::new(Node {
-        function: Function::NotBits,
-        border: Border::Undefined,
+        function,
+        border: Border::Replicate,
         policy: Policy::Wrap,
         amount: 0,
         in1: ObjRef::new(input, None),
@@ -117,11 +117,22 @@ fn adding_not(input: u32, output: u32) -> Result<Request, Fail> {
 }
 
 /// Adds such a node, and gives its number.
-pub fn add_not(alloc: Global, runtime: &mut Runtime, input: u32, output: u32) -> Result<u32, Fail> {
-    match reply(alloc, runtime, &adding_not(input, output)?)? {
+pub fn add(
+    alloc: Global,
+    runtime: &mut Runtime,
+    function: Function,
+    input: u32,
+    output: u32,
+) -> Result<u32, Fail> {
+    match reply(alloc, runtime, &adding(function, input, output)?)? {
         Reply::Node(number) => Ok(number),
         _ => Err("no node".into()),
     }
+}
+
+/// Adds Not of an image to another to graph 3, and gives the node's number.
+pub fn add_not(alloc: Global, runtime: &mut Runtime, input: u32, output: u32) -> Result<u32, Fail> {
+    add(alloc, runtime, Function::NotBits, input, output)
 }
 
 /// Writes a sample to image 1.
@@ -171,7 +182,7 @@ fn a_graph_runs(rt: HostRuntime) -> Result<(), Fail> {
 /// it, what it is charged is charged still, and the graph runs on it.
 fn is_held(alloc: Global, runtime: &mut Runtime, making: &Request) -> Result<bool, Fail> {
     succeed(alloc, runtime, &Request::Release(1))?;
-    let adding = adding_not(1, 4)?;
+    let adding = adding(Function::NotBits, 1, 4)?;
     let is_gone = is_refused(alloc, runtime, &adding, Code::InvalidReference)?;
     let is_charged = is_refused(alloc, runtime, making, Code::NoResources)?;
     succeed(alloc, runtime, &Request::ProcessGraph(3))?;

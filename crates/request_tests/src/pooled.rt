@@ -1,11 +1,11 @@
 //! The blocks in which the clients' images have their samples: that they are used again and given
 //! back, and that no samples come to who is next.
-use crate::clients::{add_not, create, holds, reply, succeed, with_a_graph, write_sample};
+use crate::clients::{add, add_not, create, holds, reply, succeed, with_a_graph, write_sample};
 use client_contexts::Runtime;
 use client_model::{Limits, Reply, Request};
 use std::alloc::Global;
 use std::test::Fail;
-use vx_base::{Desc, Format, ObjRef, Outline, Picture, Samples, SlotCount};
+use vx_base::{Desc, Format, Function, ObjRef, Outline, Picture, Samples, SlotCount};
 
 /// Whether so many blocks of U8, of S16 and of U32 are lent, of so many that there are.
 fn has(runtime: &Runtime, lent: [usize; 3], blocks: [usize; 3]) -> bool {
@@ -172,14 +172,14 @@ fn a_released_context_has_given_all_blocks_back(rt: HostRuntime) -> Result<(), F
     Ok(())
 }
 
-/// Links images 1 and 2 of graph 3 by a chain of nodes through five virtual images.
+/// Links images 1 and 2 of graph 3 by a chain of six nodes of Box through five virtual images.
 fn add_chain(alloc: Global, runtime: &mut Runtime) -> Result<(), Fail> {
     let open = Outline::new(None, None, None).ok_or("nothing is declared")?;
     for _ in 5..9 {
         create(alloc, runtime, &Request::CreateVirtualImage(3, open))?;
     }
     for (input, output) in [(1, 4), (4, 5), (5, 6), (6, 7), (7, 8), (8, 2)] {
-        add_not(alloc, runtime, input, output)?;
+        add(alloc, runtime, Function::Box, input, output)?;
     }
     Ok(())
 }

@@ -1,0 +1,80 @@
+/* Images in the program's memory. That has their samples between runs: the server gets what nodes
+   read before a run, and what they wrote comes back after it. */
+#include "internal.h"
+
+#include <string.h>
+
+static bool is_layout(const vx_imagepatch_addressing_t *addr, vx_size size) {
+    return addr->dim_x > 0 && addr->dim_y > 0 && addr->stride_x == (vx_int32)size &&
+           (addr->dim_y == 1 ||
+            (vx_int64)addr->stride_y >= (vx_int64)addr->stride_x * (vx_int64)addr->dim_x);
+}
+
+PUBLIC vx_image VX_API_CALL vxCreateImageFromHandle(vx_context context, vx_df_image color,
+                                                    const vx_imagepatch_addressing_t addrs[],
+                                                    void *const ptrs[], vx_enum memory_type) {
+    if (enter(context, VX_TYPE_CONTEXT) == NULL)
+        return NULL;
+    vx_status status = VX_SUCCESS;
+    if (format_number(color) == 0 || memory_type != VX_MEMORY_TYPE_HOST)
+        status = VX_ERROR_NOT_SUPPORTED;
+    else if (addrs == NULL || ptrs == NULL || ptrs[0] == NULL ||
+             !is_layout(&addrs[0], sample_size(color)))
+        status = VX_ERROR_INVALID_PARAMETERS;
+    vx_reference made = error_of(context, status);
+    if (status == VX_SUCCESS)
+        made = create_image(context, (struct _vx_image){.width = addrs[0].dim_x,
+                                                        .height = addrs[0].dim_y,
+                                                        .format = color});
+    if (made->type == VX_TYPE_IMAGE) {
+        vx_image image = (vx_image)made;
+        image->is_handle = true;
+        image->memory = (struct grid){ptrs[0], addrs[0].stride_x, addrs[0].stride_y};
+    }
+    leave(context, VX_SUCCESS);
+    return (vx_image)made;
+}
+
+PUBLIC vx_status VX_API_CALL vxSwapImageHandle(vx_image image, void *const new_ptrs[],
+                                               void *prev_ptrs[], vx_size num_planes) {
+    vx_context context = enter(image, VX_TYPE_IMAGE);
+    if (context == NULL)
+        return VX_ERROR_INVALID_REFERENCE;
+    if (!image->is_handle || num_planes != 1 || image->maps != NULL)
+        return leave(context, VX_ERROR_INVALID_PARAMETERS);
+    if (prev_ptrs != NULL)
+        prev_ptrs[0] = image->memory.first;
+    image->memory.first = new_ptrs == NULL ? NULL : new_ptrs[0];
+    return leave(context, VX_SUCCESS);
+}
+
+/* What a parameter has that is an image in the program's memory; NULL where it isn't. */
+static vx_image handle_of(const struct call *call, const struct formal *formal) {
+    vx_reference operand = formal->place < OPERANDS ? call->operands[formal->place] : NULL;
+    bool is_image = operand != NULL && operand->type == VX_TYPE_IMAGE;
+    return is_image && ((vx_image)operand)->is_handle ? (vx_image)operand : NULL;
+}
+
+static vx_status move_images(vx_reference about, const struct call *call, vx_enum left_out,
+                             vx_status (*move)(vx_image image)) {
+    const struct definition *definition = definition_of(call->function);
+    vx_status status = VX_SUCCESS;
+    for (vx_uint32 i = 0; status == VX_SUCCESS && i < definition->count; i++) {
+        vx_image image = handle_of(call, &definition->formals[i]);
+        if (image == NULL || definition->formals[i].direction == left_out)
+            continue;
+        status = image->memory.first == NULL ? VX_ERROR_NOT_ALLOCATED : move(image);
+        if (image->memory.first == NULL)
+            tell(about, status, "%s is an image from a handle that was taken away",
+                 definition->formals[i].name);
+    }
+    return status;
+}
+
+vx_status send_images(vx_reference about, const struct call *call) {
+    return move_images(about, call, VX_OUTPUT, send_memory);
+}
+
+vx_status take_images(vx_reference about, const struct call *call) {
+    return move_images(about, call, VX_INPUT, take_memory);
+}

@@ -1,0 +1,273 @@
+/* A graph that isn't what the program meant is never verified, and the log says which node is at
+   fault and why. */
+#include "testing.h"
+
+enum { WIDTH = 8, HEIGHT = 6 };
+
+static vx_context context;
+static vx_image u8, v8, s16;
+static int entries;
+static vx_reference about;
+static char said[VX_MAX_LOG_MESSAGE_LEN];
+
+static void on_entry(vx_context of, vx_reference ref, vx_status status, const vx_char string[]) {
+    CHECK(of == context && status != VX_SUCCESS);
+    entries++;
+    about = ref;
+    snprintf(said, sizeof said, "%s", string);
+}
+
+/* A call gives a status, with one log entry, which begins so. */
+#define SAYS(status, call, words)                                                                  \
+    do {                                                                                           \
+        int before = entries;                                                                      \
+        EXPECT(status, call);                                                                      \
+        if (entries != before + 1 || strncmp(said, words, strlen(words)) != 0)                     \
+            fprintf(stderr, "%d entries: %s\n", entries - before, said);                           \
+        CHECK(entries == before + 1 && strncmp(said, words, strlen(words)) == 0);                  \
+    } while (0)
+
+/* A node that couldn't be made: the graph is refused, however it is used. */
+static void refuse_holes(void) {
+    vx_image error = vxCreateImage(context, WIDTH, HEIGHT, VX_DF_IMAGE_RGB);
+    vx_graph graph = vxCreateGraph(context);
+    EXPECT(VX_SUCCESS, STATUS(vxNotNode(graph, u8, v8)));
+    EXPECT(VX_SUCCESS, vxVerifyGraph(graph));
+    SAYS(VX_ERROR_INVALID_REFERENCE, STATUS(vxBox3x3Node(graph, error, v8)),
+         "vxBox3x3Node: input is an object that couldn't be made: status -3");
+    CHECK(!vxIsGraphVerified(graph) && about == (vx_reference)graph);
+    SAYS(VX_ERROR_INVALID_NODE, vxVerifyGraph(graph), "a node of the graph couldn't be made");
+    SAYS(VX_ERROR_INVALID_NODE, vxProcessGraph(graph), "a node of the graph couldn't be made");
+    SAYS(VX_ERROR_INVALID_NODE, vxScheduleGraph(graph), "a node of the graph couldn't be made");
+    vx_enum state;
+    EXPECT(VX_SUCCESS, vxQueryGraph(graph, VX_GRAPH_STATE, &state, sizeof state));
+    CHECK(state == VX_GRAPH_STATE_UNVERIFIED);
+    EXPECT(VX_SUCCESS, vxReleaseGraph(&graph));
+}
+
+#define LACKS(words, wrong, call)                                                                  \
+    do {                                                                                           \
+        vx_graph graph = vxCreateGraph(context);                                                   \
+        SAYS(wrong, STATUS(call), words);                                                          \
+        EXPECT(VX_ERROR_INVALID_NODE, vxVerifyGraph(graph));                                       \
+        EXPECT(VX_SUCCESS, vxReleaseGraph(&graph));                                                \
+    } while (0)
+
+static void tell_operands(void) {
+    vx_scalar word = vxCreateScalar(context, VX_TYPE_INT16, NULL);
+    vx_scalar shift = vxCreateScalar(context, VX_TYPE_INT32, NULL);
+    vx_array numbers = vxCreateArray(context, VX_TYPE_UINT8, 4);
+    vx_scalar byte = vxCreateScalar(context, VX_TYPE_UINT8, NULL);
+    LACKS("vxBox3x3Node: input is NULL, and has to be an image", VX_ERROR_INVALID_REFERENCE,
+          vxBox3x3Node(graph, NULL, v8));
+    LACKS("vxAddNode: policy is 0x7, which is no policy", VX_ERROR_INVALID_VALUE,
+          vxAddNode(graph, u8, u8, 7, v8));
+    LACKS("vxConvertDepthNode: shift is a scalar of type 0x004", VX_ERROR_INVALID_TYPE,
+          vxConvertDepthNode(graph, u8, s16, VX_CONVERT_POLICY_WRAP, word));
+    LACKS("vxTableLookupNode: lut isn't a lookup table", VX_ERROR_INVALID_REFERENCE,
+          vxTableLookupNode(graph, u8, (vx_lut)shift, v8));
+    LACKS("vxMinMaxLocNode: minLoc is an array of type 0x003", VX_ERROR_INVALID_TYPE,
+          vxMinMaxLocNode(graph, u8, byte, byte, numbers, NULL, NULL, NULL));
+    LACKS("vxMagnitudeNode: the server has no such function", VX_ERROR_NOT_SUPPORTED,
+          vxMagnitudeNode(graph, s16, s16, s16));
+    vx_kernel phase = vxGetKernelByEnum(context, VX_KERNEL_PHASE);
+    EXPECT(VX_ERROR_NOT_SUPPORTED, STATUS(phase));
+    LACKS("vxCreateGenericNode: ", VX_ERROR_NOT_SUPPORTED, vxCreateGenericNode(graph, phase));
+    SAYS(VX_ERROR_NOT_SUPPORTED, vxuMagnitude(context, s16, s16, s16), "vxuMagnitude: ");
+    SAYS(VX_ERROR_NOT_SUPPORTED, STATUS(vxCreatePyramid(context, 3, 0.5f, 8, 8, VX_DF_IMAGE_U8)),
+         "vxCreatePyramid: ");
+    EXPECT(VX_ERROR_INVALID_REFERENCE, vxuMagnitude(NULL, s16, s16, s16));
+    CHECK(vxMagnitudeNode(NULL, s16, s16, s16) == NULL);
+}
+
+static void tell_numbers(void) {
+    const vx_float32 third = 1.0f / 3;
+    vx_pixel_value_t lower = {.U8 = 9}, upper = {.U8 = 8};
+    vx_threshold range = vxCreateThresholdForImage(context, VX_THRESHOLD_TYPE_RANGE,
+                                                   VX_DF_IMAGE_U8, VX_DF_IMAGE_U8);
+    vx_scalar scale = vxCreateScalar(context, VX_TYPE_FLOAT32, &third);
+    vx_graph graph = vxCreateGraph(context);
+    EXPECT(VX_SUCCESS,
+           vxCopyThresholdRange(range, &lower, &upper, VX_WRITE_ONLY, VX_MEMORY_TYPE_HOST));
+    SAYS(VX_ERROR_INVALID_VALUE, vxuThreshold(context, u8, range, v8),
+         "vxuThreshold: thresh has an upper limit of 8, below its lower one of 9");
+    EXPECT(VX_SUCCESS, STATUS(vxMultiplyNode(graph, u8, u8, scale, VX_CONVERT_POLICY_WRAP,
+                                             VX_ROUND_POLICY_TO_ZERO, v8)));
+    SAYS(VX_ERROR_NOT_SUPPORTED, vxVerifyGraph(graph),
+         "node 0 (vxMultiplyNode): scale is 0.333333343, and has to be 1 / 2^n with n from 0 to 15");
+    EXPECT(VX_SUCCESS, vxReleaseGraph(&graph));
+}
+
+static vx_status status_of(vx_node node) {
+    vx_status status;
+    EXPECT(VX_SUCCESS, vxQueryNode(node, VX_NODE_STATUS, &status, sizeof status));
+    return status;
+}
+
+/* The verdict is about the fourth of five nodes, and nothing is wrong with it once it is gone. */
+static void tell_nodes(void) {
+    vx_node nodes[5];
+    vx_graph graph = vxCreateGraph(context);
+    vx_image last = u8;
+    for (int i = 0; i < 5; i++) {
+        vx_image next = vxCreateVirtualImage(graph, 0, 0, VX_DF_IMAGE_VIRT);
+        nodes[i] = i == 2 ? vxSobel3x3Node(graph, last, next, NULL)
+                          : vxBox3x3Node(graph, last, next);
+        last = next;
+    }
+    EXPECT(VX_SUCCESS, vxSetReferenceName((vx_reference)nodes[3], "smooth"));
+    SAYS(VX_ERROR_INVALID_FORMAT, vxVerifyGraph(graph),
+         "node 3 (vxBox3x3Node, \"smooth\"): the formats have to be U8 to U8: input is S16, 8 x 6; "
+         "output is U8, 8 x 6");
+    CHECK(about == (vx_reference)nodes[3]);
+    CHECK(status_of(nodes[3]) == VX_ERROR_INVALID_FORMAT && status_of(nodes[2]) == VX_SUCCESS);
+    EXPECT(VX_SUCCESS, vxRemoveNode(&nodes[4]));
+    EXPECT(VX_SUCCESS, vxRemoveNode(&nodes[3]));
+    EXPECT(VX_SUCCESS, vxVerifyGraph(graph));
+    EXPECT(VX_SUCCESS, vxReleaseGraph(&graph));
+}
+
+static void tell_links(void) {
+    vx_graph graph = vxCreateGraph(context);
+    vx_image between = vxCreateVirtualImage(graph, 0, 0, VX_DF_IMAGE_VIRT);
+    vx_image other = vxCreateVirtualImage(graph, 4, 4, VX_DF_IMAGE_U8);
+    vx_node first = vxNotNode(graph, between, v8);
+    SAYS(VX_ERROR_INVALID_LINK, vxVerifyGraph(graph),
+         "node 0 (vxNotNode): input is a virtual image that no node writes");
+    vx_node second = vxNotNode(graph, v8, between);
+    SAYS(VX_ERROR_INVALID_GRAPH, vxVerifyGraph(graph),
+         "node 0 (vxNotNode): it reads, also by other nodes, what it writes");
+    vx_node third = vxNotNode(graph, u8, v8);
+    SAYS(VX_ERROR_MULTIPLE_WRITERS, vxVerifyGraph(graph),
+         "node 0 (vxNotNode) writes output, which node 2 (vxNotNode) writes too");
+    CHECK(status_of(third) == VX_ERROR_MULTIPLE_WRITERS);
+    EXPECT(VX_SUCCESS, vxRemoveNode(&first));
+    EXPECT(VX_SUCCESS, vxRemoveNode(&second));
+    first = vxNotNode(graph, v8, other);
+    SAYS(VX_ERROR_INVALID_DIMENSION, vxVerifyGraph(graph),
+         "node 1 (vxNotNode): the images have to be of one size: input is U8, 8 x 6; output is U8, "
+         "4 x 4");
+    EXPECT(VX_SUCCESS, vxReleaseGraph(&graph));
+}
+
+/* Scalars and arrays are data of a graph too. */
+static void refuse_two_writers(void) {
+    vx_scalar one = vxCreateScalar(context, VX_TYPE_UINT8, NULL);
+    vx_scalar two = vxCreateScalar(context, VX_TYPE_UINT8, NULL);
+    vx_scalar three = vxCreateScalar(context, VX_TYPE_UINT8, NULL);
+    vx_array places = vxCreateArray(context, VX_TYPE_COORDINATES2D, 1);
+    vx_graph graph = vxCreateGraph(context);
+    vx_node node = vxMinMaxLocNode(graph, u8, one, one, NULL, NULL, NULL, NULL);
+    SAYS(VX_ERROR_MULTIPLE_WRITERS, vxVerifyGraph(graph),
+         "node 0 (vxMinMaxLocNode) writes minVal, which node 0 (vxMinMaxLocNode) writes too");
+    EXPECT(VX_SUCCESS, vxSetParameterByIndex(node, 2, (vx_reference)two));
+    EXPECT(VX_SUCCESS, vxSetParameterByIndex(node, 3, (vx_reference)places));
+    EXPECT(VX_SUCCESS, vxVerifyGraph(graph));
+    vx_node other = vxMinMaxLocNode(graph, v8, three, two, NULL, NULL, NULL, NULL);
+    SAYS(VX_ERROR_MULTIPLE_WRITERS, vxProcessGraph(graph), "node 0 (vxMinMaxLocNode) writes maxVal");
+    EXPECT(VX_SUCCESS, vxSetParameterByIndex(node, 2, (vx_reference)one));
+    EXPECT(VX_ERROR_MULTIPLE_WRITERS, vxVerifyGraph(graph));
+    EXPECT(VX_SUCCESS, vxRemoveNode(&other));
+    EXPECT(VX_ERROR_MULTIPLE_WRITERS, vxVerifyGraph(graph));
+    EXPECT(VX_SUCCESS, vxReleaseGraph(&graph));
+}
+
+/* What the server couldn't have in time is refused, and not taken from the run before. */
+static void refuse_late_scalars(void) {
+    vx_scalar least = vxCreateScalar(context, VX_TYPE_UINT8, NULL);
+    vx_scalar greatest = vxCreateScalar(context, VX_TYPE_UINT8, NULL);
+    vx_scalar count = vxCreateScalar(context, VX_TYPE_UINT32, NULL);
+    vx_graph graph = vxCreateGraph(context);
+    vx_node node = vxAccumulateSquareImageNode(graph, u8, count, s16);
+    EXPECT(VX_SUCCESS, vxVerifyGraph(graph));
+    EXPECT(VX_SUCCESS,
+           STATUS(vxMinMaxLocNode(graph, v8, least, greatest, NULL, NULL, count, NULL)));
+    SAYS(VX_ERROR_NOT_SUPPORTED, vxProcessGraph(graph),
+         "node 0 (vxAccumulateSquareImageNode) reads a scalar that node 1 (vxMinMaxLocNode) writes "
+         "by minCount");
+    EXPECT(VX_SUCCESS, vxRemoveNode(&node));
+    EXPECT(VX_SUCCESS, vxProcessGraph(graph));
+    EXPECT(VX_SUCCESS, vxReleaseGraph(&graph));
+}
+
+/* What a virtual image's graph found out of it. */
+static void ask_virtual_images(void) {
+    vx_uint32 width, height;
+    vx_df_image format;
+    vx_graph graph = vxCreateGraph(context);
+    vx_image first = vxCreateVirtualImage(graph, 0, 0, VX_DF_IMAGE_VIRT);
+    vx_image second = vxCreateVirtualImage(graph, 0, HEIGHT, VX_DF_IMAGE_VIRT);
+    vx_image third = vxCreateVirtualImage(graph, 0, 0, VX_DF_IMAGE_VIRT);
+    EXPECT(VX_SUCCESS, STATUS(vxIntegralImageNode(graph, second, third)));
+    EXPECT(VX_SUCCESS, STATUS(vxConvertDepthNode(graph, first, second, VX_CONVERT_POLICY_WRAP,
+                                                 vxCreateScalar(context, VX_TYPE_INT32, NULL))));
+    EXPECT(VX_SUCCESS, STATUS(vxSobel3x3Node(graph, u8, first, NULL)));
+    EXPECT(VX_SUCCESS, vxQueryImage(second, VX_IMAGE_WIDTH, &width, sizeof width));
+    CHECK(width == 0);
+    EXPECT(VX_SUCCESS, vxVerifyGraph(graph));
+    EXPECT(VX_SUCCESS, vxQueryImage(second, VX_IMAGE_WIDTH, &width, sizeof width));
+    EXPECT(VX_SUCCESS, vxQueryImage(third, VX_IMAGE_HEIGHT, &height, sizeof height));
+    CHECK(width == WIDTH && height == HEIGHT);
+    EXPECT(VX_SUCCESS, vxQueryImage(first, VX_IMAGE_FORMAT, &format, sizeof format));
+    CHECK(format == VX_DF_IMAGE_S16);
+    EXPECT(VX_SUCCESS, vxQueryImage(second, VX_IMAGE_FORMAT, &format, sizeof format));
+    CHECK(format == VX_DF_IMAGE_U8);
+    EXPECT(VX_SUCCESS, vxQueryImage(third, VX_IMAGE_FORMAT, &format, sizeof format));
+    CHECK(format == VX_DF_IMAGE_U32);
+    EXPECT(VX_SUCCESS, vxReleaseGraph(&graph));
+}
+
+/* Nodes of kernels, whose parameters are set one by one. */
+static void make_of_kernels(void) {
+    const vx_enum wrap = VX_CONVERT_POLICY_WRAP;
+    vx_scalar policy = vxCreateScalar(context, VX_TYPE_ENUM, &wrap);
+    vx_graph graph = vxCreateGraph(context);
+    vx_kernel add = vxGetKernelByName(context, "org.khronos.openvx.add");
+    vx_uint32 count;
+    vx_enum number;
+    vx_char name[VX_MAX_KERNEL_NAME];
+    EXPECT(VX_SUCCESS, vxQueryKernel(add, VX_KERNEL_PARAMETERS, &count, sizeof count));
+    EXPECT(VX_SUCCESS, vxQueryKernel(add, VX_KERNEL_ENUM, &number, sizeof number));
+    EXPECT(VX_SUCCESS, vxQueryKernel(add, VX_KERNEL_NAME, name, sizeof name));
+    CHECK(count == 4 && number == VX_KERNEL_ADD && strcmp(name, "org.khronos.openvx.add") == 0);
+    vx_node node = vxCreateGenericNode(graph, add);
+    EXPECT(VX_SUCCESS, STATUS(node));
+    SAYS(VX_ERROR_NOT_SUFFICIENT, vxVerifyGraph(graph), "node 0 (vxAddNode): in1 wasn't set");
+    EXPECT(VX_SUCCESS, vxSetParameterByIndex(node, 0, (vx_reference)u8));
+    EXPECT(VX_SUCCESS, vxSetParameterByIndex(node, 1, (vx_reference)u8));
+    EXPECT(VX_SUCCESS, vxSetParameterByIndex(node, 3, (vx_reference)v8));
+    SAYS(VX_ERROR_NOT_SUFFICIENT, vxVerifyGraph(graph), "node 0 (vxAddNode): policy wasn't set");
+    EXPECT(VX_SUCCESS, vxSetParameterByIndex(node, 2, (vx_reference)policy));
+    EXPECT(VX_SUCCESS, vxProcessGraph(graph));
+    vx_parameter parameter = vxGetKernelParameterByIndex(add, 3);
+    vx_enum direction;
+    EXPECT(VX_SUCCESS, vxQueryParameter(parameter, VX_PARAMETER_DIRECTION, &direction,
+                                        sizeof direction));
+    CHECK(direction == VX_OUTPUT);
+    EXPECT(VX_ERROR_INVALID_NODE, vxSetParameterByReference(parameter, (vx_reference)v8));
+    EXPECT(VX_SUCCESS, vxReleaseParameter(&parameter));
+    EXPECT(VX_ERROR_INVALID_PARAMETERS, STATUS(vxGetKernelParameterByIndex(add, 4)));
+    EXPECT(VX_SUCCESS, vxReleaseKernel(&add));
+    EXPECT(VX_ERROR_NOT_SUPPORTED, STATUS(vxGetKernelByName(context, "org.khronos.openvx.phase")));
+    EXPECT(VX_SUCCESS, vxReleaseGraph(&graph));
+}
+
+int main(void) {
+    context = vxCreateContext();
+    EXPECT(VX_SUCCESS, STATUS(context));
+    vxRegisterLogCallback(context, on_entry, vx_false_e);
+    u8 = vxCreateImage(context, WIDTH, HEIGHT, VX_DF_IMAGE_U8);
+    v8 = vxCreateImage(context, WIDTH, HEIGHT, VX_DF_IMAGE_U8);
+    s16 = vxCreateImage(context, WIDTH, HEIGHT, VX_DF_IMAGE_S16);
+    refuse_holes();
+    tell_operands();
+    tell_numbers();
+    tell_nodes();
+    tell_links();
+    refuse_two_writers();
+    refuse_late_scalars();
+    ask_virtual_images();
+    make_of_kernels();
+    EXPECT(VX_SUCCESS, vxReleaseContext(&context));
+    return 0;
+}
