@@ -1,6 +1,6 @@
 """OpenCV's calls for the graphs of bench/clients on one thread, as JSON, in seconds: python3
-clients_peer.py. "motion" is a frame of 1280x720, "station" a picture of 2448x2048. Each call writes
-to an array that is there already."""
+clients_peer.py. "motion" is a frame of 1280x720, "station" a picture of 2448x2048; of each the time
+where the calls write to arrays that are there already, and where each makes a new one."""
 
 import json
 import sys
@@ -16,48 +16,50 @@ chance = numpy.random.default_rng(1)
 REPLICATE = cv2.BORDER_REPLICATE
 
 
-def arrays(count, shape):
-    return [numpy.empty(shape, numpy.uint8) for _ in range(count)]
+def outputs(count, shape, are_kept):
+    """Arrays for the outputs of calls; None for each that the call makes."""
+    return [numpy.empty(shape, numpy.uint8) if are_kept else None for _ in range(count)]
 
 
-def motion(height=720, width=1280):
+def motion(are_kept, height=720, width=1280):
     """The ten nodes of clients.motion()."""
-    frame, background = (chance.integers(0, 256, (height, width), numpy.uint8) for _ in range(2))
-    smooth, before, away, moved, one, other, mask, clean = arrays(8, frame.shape)
+    frame, background, before = (chance.integers(0, 256, (height, width), numpy.uint8)
+                                 for _ in range(3))
+    to = outputs(8, frame.shape, are_kept)
     sums = numpy.zeros(frame.shape, numpy.float32)
 
     def run():
         cv2.accumulate(frame, sums)
-        cv2.GaussianBlur(frame, (3, 3), 0, smooth, borderType=REPLICATE)
-        cv2.absdiff(smooth, background, away)
-        cv2.absdiff(smooth, before, moved)
-        cv2.threshold(away, 24, 255, cv2.THRESH_BINARY, one)
-        cv2.threshold(moved, 24, 255, cv2.THRESH_BINARY, other)
-        cv2.bitwise_or(one, other, mask)
-        cv2.erode(mask, None, clean)
-        cv2.dilate(clean, None, mask)
+        smooth = cv2.GaussianBlur(frame, (3, 3), 0, to[0], borderType=REPLICATE)
+        away = cv2.absdiff(smooth, background, to[1])
+        moved = cv2.absdiff(smooth, before, to[2])
+        _, one = cv2.threshold(away, 24, 255, cv2.THRESH_BINARY, to[3])
+        _, other = cv2.threshold(moved, 24, 255, cv2.THRESH_BINARY, to[4])
+        both = cv2.bitwise_or(one, other, to[5])
+        clean = cv2.erode(both, None, to[6])
+        mask = cv2.dilate(clean, None, to[7])
         cv2.calcHist([mask], [0], None, [2], [0, 256])
         before[:] = smooth
 
     return best_seconds(run, 30)
 
 
-def station(height=2048, width=2448):
+def station(are_kept, height=2048, width=2448):
     """The eight nodes of clients.station()."""
     part, low, high = (chance.integers(0, 256, (height, width), numpy.uint8) for _ in range(3))
-    smooth, over, under, marks = arrays(4, part.shape)
+    to = outputs(7, part.shape, are_kept)
 
     def run():
-        cv2.medianBlur(part, 3, smooth)
-        cv2.subtract(smooth, high, over)
-        cv2.subtract(low, smooth, under)
-        cv2.max(over, under, over)
-        cv2.threshold(over, 40, 255, cv2.THRESH_BINARY, under)
-        cv2.erode(under, None, over)
-        cv2.dilate(over, None, marks)
+        smooth = cv2.medianBlur(part, 3, to[0])
+        over = cv2.subtract(smooth, high, to[1])
+        under = cv2.subtract(low, smooth, to[2])
+        worst = cv2.max(over, under, to[3])
+        _, mask = cv2.threshold(worst, 40, 255, cv2.THRESH_BINARY, to[4])
+        marks = cv2.dilate(cv2.erode(mask, None, to[5]), None, to[6])
         cv2.minMaxLoc(marks)
 
     return best_seconds(run, 10)
 
 
-print(json.dumps({"motion": motion(), "station": station()}))
+print(json.dumps({function.__name__: [function(True), function(False)]
+                  for function in (motion, station)}))

@@ -22,7 +22,7 @@ import time
 from collections import deque
 from itertools import islice
 from typing import (
-    Any, Callable, Deque, List, NamedTuple, Optional, Sequence, Tuple, Union)
+    Any, Callable, Deque, Dict, List, NamedTuple, Optional, Sequence, Tuple, Union)
 
 from .errors import Closed, FeqyldanError, Refused, ServerEnded, TimedOut, UnexpectedReply, refusal
 from .wire import BODY_BYTES, CODES, GREATEST_LENGTH, GREATEST_SIDE
@@ -39,6 +39,8 @@ KEPT = 4
 CHUNK = 1 << 16
 # A reply has so many bytes before its body: its length, its client, its op and its code.
 HEAD = struct.Struct(">IHBB")
+# A reply that has no samples, and is copied as it is.
+HEAD_AND_NAME = 12
 # A reply stands in its buffer from here on: so its samples, 13 bytes after its start, begin at a
 # multiple of 16.
 LEAD = 3
@@ -76,6 +78,10 @@ class Body(NamedTuple):
     begin: bytes = b""
 
 
+NO_BODY = Body(0)
+BODIES: Dict[int, Body] = {op: Body(size) for op, size in BODY_BYTES.items()}
+
+
 class Request:
     """
     A request that was sent or is about to be: itself in words, its place in its pipeline, and its
@@ -89,7 +95,7 @@ class Request:
     def __init__(self, words: str, client: int, op: int, explain: Optional[Explain] = None,
                  body: Optional[Body] = None) -> None:
         self.words, self.client, self.op, self.explain = words, client, op, explain
-        self.body = body or Body(BODY_BYTES.get(op, 0))
+        self.body: Body = BODIES.get(op, NO_BODY) if body is None else body
         self.place: Optional[Place] = None
         self.answer: Optional[Tuple[memoryview, int]] = None
         # Called with this request, whose reply is there by then: when that is a refusal, and in
@@ -134,7 +140,7 @@ class Request:
     def arrive(self, reply: memoryview, end: int) -> None:
         """Takes its reply, which ends there among all replies."""
         code, begin = reply[7], self.body.begin
-        if code == 0 and reply[HEAD.size : HEAD.size + len(begin)] != begin:
+        if begin and code == 0 and reply[HEAD.size : HEAD.size + len(begin)] != begin:
             raise UnexpectedReply(f"{self.words}: the reply is of another object")
         if self.on_answer is not None:
             self.on_answer(reply)
@@ -232,12 +238,12 @@ class Replies:
             self._counts = [sum(self._counts)]
         return self._counts[0]
 
-    def frame_at(self, at: int, request: Optional[Request]) -> Optional[memoryview]:
-        """Returns the whole frame that begins there, where the last one ended and something was
-        read, and that answers the request; None while it isn't whole, and then there is room to
-        read on."""
+    def frame_at(self, at: int, received: int,
+                 request: Optional[Request]) -> Optional[memoryview]:
+        """Returns the whole frame that begins there, where the last one ended, and that answers the
+        request, of what was received up to there; None while it isn't whole, and then there is room
+        to read on."""
         buffer, base, is_frame = self._into
-        received = self.received
         if not is_frame:
             return self._split(buffer, base, at, received, request)
         return buffer if received - base == len(buffer) else None
@@ -255,6 +261,8 @@ class Replies:
             raise UnexpectedReply("there is a reply without a request")
         # No memory is taken for what is no reply.
         request.look_at(chunk)
+        if length <= HEAD_AND_NAME and length <= there:
+            return memoryview(bytes(chunk[:length]))
         frame = memoryview(self._buffers.take(LEAD + length))[LEAD:]
         if len(frame) <= there:
             frame[:] = chunk[: len(frame)]
@@ -326,8 +334,11 @@ class Connection:
         all is sent with that. After an interruption a frame was taken whole, or not at all.
         """
         with self._lock:
-            self._refuse_if_ended()
+            if self._fault is not None:
+                self._refuse_if_ended()
             try:
+                if not is_followed and not self._unsent and self._send_whole(request, parts):
+                    return
                 self._take(request, parts)
                 if is_followed:
                     return
@@ -349,8 +360,10 @@ class Connection:
         with self._lock:
             if request is not None and request.answer is not None:
                 return True
-            self._refuse_if_ended()
-            self._mend()
+            if self._fault is not None:
+                self._refuse_if_ended()
+            if self._line[-1].end > self._counts[0]:
+                self._mend()
             while (request or self._line[-1]).answer is None:
                 if self._read() or self._unsent and self._write():
                     continue
@@ -406,6 +419,27 @@ class Connection:
         request.end = last.end + sum(map(len, parts))
         self._line.append(request)
         self._unsent.append(request)
+
+    def _send_whole(self, request: Request, parts: List[Part]) -> bool:
+        """Takes and sends a short frame, before which all was sent. Returns whether it was taken;
+        then what the server hasn't taken of it is unsent."""
+        last = self._line[-1]
+        start = last.end
+        end = start + sum(map(len, parts))
+        if self._sent != start or end - start > SMALL:
+            return False
+        request.parts, request.start, request.end = parts, start, end
+        self._line.append(request)
+        try:
+            moved(self._counts, os.writev, self._writer, parts)
+        except (BlockingIOError, BrokenPipeError, ConnectionResetError):
+            pass
+        if self._sent == end:
+            request.parts = ()
+        else:
+            request.own()
+            self._mend()
+        return True
 
     def _mend(self) -> None:
         """Where an interruption came just after a request was taken, it has to be sent yet."""
@@ -529,15 +563,15 @@ class Connection:
     def _deliver(self) -> None:
         """Gives each frame that was read to its request."""
         try:
-            at = self._answered
-            while at < self._replies.received:
-                line = self._line
-                frame = self._replies.frame_at(at, line[1] if len(line) > 1 else None)
+            at, line, received = self._answered, self._line, self._replies.received
+            while at < received:
+                frame = self._replies.frame_at(at, received, line[1] if len(line) > 1 else None)
                 if frame is None:
                     break
                 self._waited = 0.0
                 line[1].arrive(frame, at + len(frame))
-                at = self._answered
+                line.popleft()
+                at += len(frame)
         except UnexpectedReply as fault:
             self._fault = fault
             raise
