@@ -56,7 +56,7 @@ static vx_node miss_node(vx_graph graph, const struct call *call) {
 vx_node add_missing_node(vx_graph graph, const char *why) {
     vx_context context = enter(graph, VX_TYPE_GRAPH);
     if (context == NULL)
-        return NULL;
+        return (vx_node)pass_error(graph);
     tell(&graph->base, VX_ERROR_NOT_SUPPORTED, "%s", why);
     vx_node failed = fail_node(graph, VX_ERROR_NOT_SUPPORTED);
     leave(context, VX_SUCCESS);
@@ -80,7 +80,7 @@ static void append_node(vx_graph graph, vx_node node) {
 vx_node add_node(vx_graph graph, struct call call) {
     vx_context context = enter(graph, VX_TYPE_GRAPH);
     if (context == NULL)
-        return NULL;
+        return (vx_node)pass_error(graph);
     vx_status status = call.is_generic ? VX_SUCCESS : check_call(&graph->base, &call);
     vx_node node = NULL;
     if (status == VX_SUCCESS) {

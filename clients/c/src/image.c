@@ -65,7 +65,7 @@ PUBLIC vx_image VX_API_CALL vxCreateVirtualImage(vx_graph graph, vx_uint32 width
                                                  vx_df_image color) {
     vx_context context = enter(graph, VX_TYPE_GRAPH);
     if (context == NULL)
-        return NULL;
+        return (vx_image)pass_error(graph);
     vx_reference made = error_of(context, VX_ERROR_NOT_SUPPORTED);
     if (format_number(color) != 0 || color == VX_DF_IMAGE_VIRT)
         made = create_image(context, (struct _vx_image){.width = width,

@@ -145,6 +145,8 @@ void drop(vx_reference reference);
 /* One more reference for the program, which may have given back all that it had. */
 vx_status retain(vx_reference reference);
 vx_reference error_of(vx_context context, vx_status status);
+/* An object that couldn't be made, for what is made of it; NULL where it is none. */
+vx_reference pass_error(const void *reference);
 vx_status release(void *pointer, vx_enum type);
 /* Frees an object's memory and nothing else. */
 void free_memory(vx_reference reference);

@@ -85,7 +85,7 @@ PUBLIC vx_parameter VX_API_CALL vxGetKernelParameterByIndex(vx_kernel kernel, vx
 PUBLIC vx_node VX_API_CALL vxCreateGenericNode(vx_graph graph, vx_kernel kernel) {
     vx_context context = enter(graph, VX_TYPE_GRAPH);
     if (context == NULL)
-        return NULL;
+        return (vx_node)pass_error(graph);
     vx_node made;
     if (check(context, kernel, VX_TYPE_KERNEL) == VX_SUCCESS)
         made = add_node(graph, (struct call){.function = kernel->function, .is_generic = true});

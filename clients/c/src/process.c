@@ -20,8 +20,9 @@
 
 extern char **environ;
 
-/* How long a server may take to end once its input has, in milliseconds: it has nothing to lose. And
-   how much a pipe has room for: a user's pipes have 64 MiB in all. */
+/* How long a server may take to end once its input has, in milliseconds: it has nothing to lose.
+   How much a pipe has room for, in bytes: a user's pipes have 64 MiB in all. The most seconds that
+   FEQYLDAN_TIMEOUT may say. */
 enum { PATIENCE = 1000, PIPE_BYTES = 1 << 19, GREATEST_TIMEOUT = 1000000 };
 
 static bool no_server(char *why, size_t room, const char *what, const char *path, int error) {

@@ -126,6 +126,14 @@ vx_status leave(vx_context context, vx_status status) {
     return status;
 }
 
+vx_reference pass_error(const void *reference) {
+    vx_context context = look(reference, VX_TYPE_ERROR);
+    if (context == NULL)
+        return NULL;
+    look_away(context, VX_SUCCESS);
+    return (vx_reference)reference;
+}
+
 vx_status check(vx_context context, const void *reference, vx_enum type) {
     pthread_mutex_lock(&registry.mutex);
     vx_reference found = find(reference);

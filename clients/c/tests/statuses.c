@@ -200,8 +200,8 @@ static void log_entries(void) {
     vxRegisterLogCallback(context, on_entry, vx_true_e);
     EXPECT(VX_ERROR_INVALID_FORMAT, vxuNot(context, u8, s16));
     CHECK(entries == 1 && told == VX_ERROR_INVALID_FORMAT);
-    CHECK(strcmp(said, "vxuNot: the formats have to be U8 to U8: input is U8, 8 x 6; output is S16, "
-                       "8 x 6") == 0);
+    CHECK(strcmp(said, "vxuNot: the formats have to be U8 to U8: input is U8, 8 x 6; "
+                       "output is S16, 8 x 6") == 0);
     vx_graph graph = vxCreateGraph(context);
     vx_image unwritten = vxCreateVirtualImage(graph, 0, 0, VX_DF_IMAGE_VIRT);
     EXPECT(VX_SUCCESS, STATUS(vxNotNode(graph, unwritten, v8)));

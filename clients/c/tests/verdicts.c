@@ -94,7 +94,8 @@ static void tell_numbers(void) {
     EXPECT(VX_SUCCESS, STATUS(vxMultiplyNode(graph, u8, u8, scale, VX_CONVERT_POLICY_WRAP,
                                              VX_ROUND_POLICY_TO_ZERO, v8)));
     SAYS(VX_ERROR_NOT_SUPPORTED, vxVerifyGraph(graph),
-         "node 0 (vxMultiplyNode): scale is 0.333333343, and has to be 1 / 2^n with n from 0 to 15");
+         "node 0 (vxMultiplyNode): scale is 0.333333343, and has to be 1 / 2^n with n from 0 to "
+         "15");
     EXPECT(VX_SUCCESS, vxReleaseGraph(&graph));
 }
 
@@ -102,6 +103,15 @@ static vx_status status_of(vx_node node) {
     vx_status status;
     EXPECT(VX_SUCCESS, vxQueryNode(node, VX_NODE_STATUS, &status, sizeof status));
     return status;
+}
+
+/* What is made of an object that couldn't be made has its status. */
+static void pass_errors(void) {
+    vx_graph error = (vx_graph)vxCreateImage(context, WIDTH, HEIGHT, VX_DF_IMAGE_RGB);
+    EXPECT(VX_ERROR_NOT_SUPPORTED, STATUS(vxNotNode(error, u8, v8)));
+    EXPECT(VX_ERROR_NOT_SUPPORTED, STATUS(vxPhaseNode(error, s16, s16, u8)));
+    EXPECT(VX_ERROR_NOT_SUPPORTED, STATUS(vxCreateVirtualImage(error, 0, 0, VX_DF_IMAGE_VIRT)));
+    EXPECT(VX_ERROR_INVALID_REFERENCE, vxVerifyGraph(error));
 }
 
 /* The verdict is about the fourth of five nodes, and nothing is wrong with it once it is gone. */
@@ -164,7 +174,8 @@ static void refuse_two_writers(void) {
     EXPECT(VX_SUCCESS, vxSetParameterByIndex(node, 3, (vx_reference)places));
     EXPECT(VX_SUCCESS, vxVerifyGraph(graph));
     vx_node other = vxMinMaxLocNode(graph, v8, three, two, NULL, NULL, NULL, NULL);
-    SAYS(VX_ERROR_MULTIPLE_WRITERS, vxProcessGraph(graph), "node 0 (vxMinMaxLocNode) writes maxVal");
+    SAYS(VX_ERROR_MULTIPLE_WRITERS, vxProcessGraph(graph),
+         "node 0 (vxMinMaxLocNode) writes maxVal");
     EXPECT(VX_SUCCESS, vxSetParameterByIndex(node, 2, (vx_reference)one));
     EXPECT(VX_ERROR_MULTIPLE_WRITERS, vxVerifyGraph(graph));
     EXPECT(VX_SUCCESS, vxRemoveNode(&other));
@@ -262,6 +273,7 @@ int main(void) {
     refuse_holes();
     tell_operands();
     tell_numbers();
+    pass_errors();
     tell_nodes();
     tell_links();
     refuse_two_writers();

@@ -1,7 +1,7 @@
 /* Random calls with wrong arguments, references that are NULL, were released or are of another
    context among them: each ends in a status, and a right call does what it should after them. What
-   is printed is how many calls ended in each status. Words of the command line are another number of
-   sequences and another seed. */
+   is printed is how many calls ended in each status. Words of the command line are another number
+   of sequences and another seed. */
 #include "testing.h"
 
 enum { SEQUENCES = 1000, CALLS = 25, POOL = 48 };

@@ -37,6 +37,11 @@ pub room_one : 1 ≡ class_room 1
 unfolding class_room
 room_one = refl
 
+-- the last class has room for the largest image
+pub largest_room : class_room 192 ≡ 67108864
+unfolding class_room
+largest_room = refl
+
 less_or : (a b : ℕ) → (a ≤ b) ⊎ (b ≤ a)
 less_or zero b = inl (omega arith)
 less_or (suc a) zero = inr (omega arith)

@@ -1,7 +1,6 @@
 //! What the contracts of the pool's calls mean together.
 ghost use Rattle.std.specs.Prelude.{◌≡◌, ◌≤◌, ◌+◌, length, max, IfOk, OnOk};
 ghost use Rattle.vx_base.specs.Picture.{values, samples_format};
-ghost use Rattle.pixel_pool.specs.Classes.{class_room};
 ghost use Rattle.pixel_pool.specs.Free.{HasRoom};
 ghost use Rattle.pixel_pool.specs.Pool.{lent_of, free_of, blocks_of, Lends, KeepsLent};
 
@@ -12,7 +11,7 @@ use vx_base::Format;
 
 /// What is given back is taken again: that takes no memory, and adds no block.
 pub fn taken_again(pool: &mut Pool, format: Format, count: usize) -> Result<Block, AllocError>
-    requires { count ≤ class_room 192 }
+    requires { count ≤ 67108864 }
     ensures format { IfOk result (λ taken. samples_format taken ≡ format) }
     ensures count { IfOk result (λ taken. length (values taken) ≡ count) }
     ensures lends { OnOk result (Lends pool.old pool.new format) }
@@ -29,7 +28,7 @@ pub fn taken_again(pool: &mut Pool, format: Format, count: usize) -> Result<Bloc
 /// A block that is taken and given back leaves as many lent, of each format, as there were. Then a
 /// free one has room for as many samples.
 pub fn taken_and_given_back(pool: &mut Pool, format: Format, count: usize) -> Result<(), AllocError>
-    requires { count ≤ class_room 192 }
+    requires { count ≤ 67108864 }
     ensures lent { KeepsLent pool.old pool.new }
     ensures blocks { OnOk result (blocks_of pool.new format ≡
         max (blocks_of pool.old format) (lent_of pool.old format + 1)) }

@@ -16,7 +16,8 @@
  * context; VX_ERROR_INVALID_PARAMETERS, another argument that has to be given is NULL;
  * VX_ERROR_NO_MEMORY, there is no memory, and nothing has changed; VX_FAILURE, the server has
  * ended, which a log entry tells. A function that makes an object gives one that isn't NULL and of
- * which vxGetStatus tells the error; without a context to ask, it gives NULL.
+ * which vxGetStatus tells the error. Of an object that couldn't be made it gives that object;
+ * without a context to ask, NULL.
  */
 #ifndef VX_VX_H
 #define VX_VX_H

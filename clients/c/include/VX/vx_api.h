@@ -348,7 +348,8 @@ VX_API_ENTRY vx_status VX_API_CALL vxReleaseGraph(vx_graph *graph);
 /* Whether the graph as it is now can run; if not, a log entry names the node.
    VX_ERROR_INVALID_NODE, a node of it couldn't be made, after which it is never verified;
    VX_ERROR_NOT_SUFFICIENT, a node of a kernel lacks a parameter; VX_ERROR_MULTIPLE_WRITERS;
-   VX_ERROR_INVALID_GRAPH, it has a cycle; VX_ERROR_INVALID_LINK, a virtual image that is read isn't written, or is added to;
+   VX_ERROR_INVALID_GRAPH, it has a cycle; VX_ERROR_INVALID_LINK, a virtual image that is read isn't
+   written, or is added to;
    VX_ERROR_INVALID_FORMAT and VX_ERROR_INVALID_DIMENSION, of a node's images;
    VX_ERROR_INVALID_VALUE, a node's threshold, scale or shift; VX_ERROR_NOT_SUPPORTED, a scale but
    1 / 2^n; VX_ERROR_NO_RESOURCES, the virtual images are too large, or a graph has more than 256
