@@ -6,7 +6,6 @@ are skipped.
 """
 
 import contextlib
-import itertools
 import json
 import multiprocessing
 import os
@@ -297,8 +296,8 @@ class ThePackage(BrokerTest):
 
     def test_a_context_that_is_built_again(self) -> None:
         """By the programs in docs/deploying.md and docs/python.md: each picture is answered once
-        and in order, also where its server, or the broker, ends in between. The second ends with
-        its pictures."""
+        and in order, also where its server, or the broker, ends in between. They end with their
+        pictures."""
         program: Dict[str, Any] = {"vx": vx, "Callable": Callable, "Iterable": Iterable,
                                    "Iterator": Iterator}
         exec(programs_in("docs", "deploying.md")["When a server ends"][0], program)
@@ -307,7 +306,7 @@ class ThePackage(BrokerTest):
 
         def station(path: str, build: Any, pictures: Any) -> Iterator[Any]:
             program["build"] = build
-            return itertools.islice(program["station"](path, pictures), 8)
+            return iter(program["station"](path, pictures))
 
         for run in (station, program["robot"]):
             self.run_through_ends(run)
