@@ -5,8 +5,7 @@ from typing import Iterator, List, Tuple
 
 MOST_WORDS = 40
 # Documents that aren't held to this yet; those that are new are.
-NOT_YET = {"bench/README.md", "clients/python/README.md", "docs/deploying.md",
-           "docs/from_opencv.md", "docs/from_openvx.md", "docs/python.md"}
+NOT_YET = {"bench/README.md", "docs/deploying.md", "docs/from_opencv.md", "docs/from_openvx.md"}
 # What to write in place of these.
 PLAINER = {
     "beside": "next to, beyond, besides; of a window: halo",
