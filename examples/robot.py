@@ -1,12 +1,12 @@
 #!/usr/bin/env python3
-"""A robot whose programs share servers by a broker, and go on when the broker is restarted.
+"""A robot whose programs each have a server of their own, and go on when the servers are restarted.
 
     examples/robot.py
 
-starts a broker with two servers, and two programs, each with a graph and 10 pictures a second.
-After a second it kills the broker, and starts it again another second later. Each program connects
-again, builds its graph again, and does the same picture again: none is lost. It prints what each
-did.
+starts a door, which gives each connection a server, and two programs, each with a graph and 10
+pictures a second. After a second it ends the door with its servers, and starts it again another
+second later. Each program connects again, builds its graph again, and does the same picture again:
+none is lost. It prints what each did.
 """
 
 from __future__ import annotations
@@ -53,7 +53,7 @@ def clean(context: vx.Context) -> Tuple[vx.Graph, vx.Image, vx.Image]:
 # ---- a program
 
 def work(path: str, name: str, build: Build, told: Any) -> None:
-    """Does all pictures, one after another, whatever becomes of the broker."""
+    """Does all pictures, one after another, whatever becomes of the server."""
     pictures = [random.Random(number).randbytes(WIDTH * HEIGHT) for number in range(PICTURES)]
     done, built = 0, 0
     while done < PICTURES:
@@ -75,32 +75,32 @@ def work(path: str, name: str, build: Build, told: Any) -> None:
 
 # ---- the robot
 
-def start_broker(path: str) -> "subprocess.Popen[bytes]":
-    return subprocess.Popen([sys.executable, "-m", "feqyldan.broker", "--socket", path, "--servers",
-                             "2", "--", program.find(), "serve"], stderr=subprocess.DEVNULL)
+def start_door(path: str) -> "subprocess.Popen[bytes]":
+    return subprocess.Popen([sys.executable, "-m", "feqyldan.door", "--socket", path, "--",
+                             program.find(), "serve"], stderr=subprocess.DEVNULL)
 
 
 def main() -> None:
     with tempfile.TemporaryDirectory() as folder:
         path = os.path.join(folder, "socket")
         told: Any = multiprocessing.SimpleQueue()
-        broker = start_broker(path)
+        door = start_door(path)
         programs: List[multiprocessing.Process] = [
             multiprocessing.Process(target=work, args=(path, name, build, told))
             for name, build in (("front", outlines), ("belt", clean))]
         for one in programs:
             one.start()
         time.sleep(1)
-        broker.kill()
-        broker.wait()
+        door.terminate()
+        door.wait()
         time.sleep(1)
-        broker = start_broker(path)
+        door = start_door(path)
         for line in sorted(told.get() for _ in programs):
             print(line)
         for one in programs:
             one.join()
-        broker.terminate()
-        print(f"    the broker ended with status {broker.wait()}")
+        door.terminate()
+        print(f"    the door ended with status {door.wait()}")
 
 
 if __name__ == "__main__":

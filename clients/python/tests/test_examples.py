@@ -152,7 +152,7 @@ class Examples(unittest.TestCase):
         *programs, end = self.run_example("robot.py").splitlines()
         self.assertEqual(programs, ["    belt: 40 pictures, built 2 times",
                                     "    front: 40 pictures, built 2 times"])
-        self.assertEqual(end, "    the broker ended with status 0")
+        self.assertEqual(end, "    the door ended with status 0")
 
     def test_bounds_of_any_size(self):
         sys.path.insert(0, EXAMPLES)
