@@ -104,7 +104,9 @@ impl Runtime {
         ensures kept { AppliesToKept client request.now self.old self.new result }
     {
         let result = self.answer(alloc, client, request);
-        self.pool.trim();
+        if self.pool.has_new_free() {
+            self.pool.trim();
+        }
         result
     }
 

@@ -61,11 +61,14 @@ pub fn largest(stacks: &[Stack; CLASSES]) -> Option<usize>
 }
 
 /// Whether the free blocks, which are so many, are not too many and haven't too much room together.
-#[tactic(auto, using(crate::proofs::FreeLemmas::few_times, crate::proofs::FreeLemmas::too_much, crate::proofs::FreeLemmas::below_zero, crate::proofs::FreeLemmas::below_more, crate::proofs::FreeLemmas::length_at, crate::proofs::ClassLemmas::room_more, crate::proofs::ClassLemmas::room_small, crate::proofs::ClassLemmas::room_zero))]
+#[tactic(auto, using(crate::proofs::FreeLemmas::none_is_trim, crate::proofs::FreeLemmas::few_times, crate::proofs::FreeLemmas::too_much, crate::proofs::FreeLemmas::below_zero, crate::proofs::FreeLemmas::below_more, crate::proofs::FreeLemmas::length_at, crate::proofs::ClassLemmas::room_more, crate::proofs::ClassLemmas::room_small, crate::proofs::ClassLemmas::room_zero))]
 pub fn are_trim(stacks: &[Stack; CLASSES], blocks: usize) -> bool
     requires { blocks ≡ free_count (lengths stacks.now) }
     ensures { IsTrue result ↔ IsTrim (lengths stacks.now) }
 {
+    if blocks == 0 {
+        return true;
+    }
     if blocks > KEPT_BLOCKS {
         return false;
     }
