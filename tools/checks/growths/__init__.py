@@ -56,7 +56,8 @@ def check_lost(program: str, library: str, counts: str) -> Iterator[str]:
     lost: Set[int] = set()
     for words, quota, stream in streams():
         command = [program, "serve", f"--quota={quota}", f"--work={DEFAULT}"]
-        refused = refuse_each(Refusing(command, library, counts), stream)
+        refusing = Refusing(command, library, counts)
+        refused = refuse_each(refusing, stream, True)
         served = [each for each in refused if each.frame != NOT_STARTED]
         # The growths before the stream come first; the program may do without some of them.
         first = next(at for at, each in enumerate(refused) if each in served and each.is_lost)
@@ -64,7 +65,10 @@ def check_lost(program: str, library: str, counts: str) -> Iterator[str]:
         check(not without, f"{words}: growths of frames {without} are done without")
         seen.update(map(op_of, stream))
         lost.update(op_of(stream[each.frame]) for each in refused[first:])
-        yield f"{words} {first} growths before the stream, {len(refused) - first} in it"
+        # Refused once, most are asked for again, with success, once free blocks are given up.
+        kept = [each for each in refuse_each(refusing, stream, False)[first:] if not each.is_lost]
+        yield (f"{words} {first} growths before the stream, {len(refused) - first} in it, of which "
+               f"{len(kept)} are found when they are asked for again")
     ops = set(map(int, wire.Op))
     check(seen >= ops, f"no frame of op {ops - seen}")
     kept = ops - NEVER_LOST - lost

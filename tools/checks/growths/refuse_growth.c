@@ -1,6 +1,6 @@
 /* Refuses growths: preloaded before the C library's allocator, the call with the number in
- * REFUSE_GROWTH (from 1) finds no memory, and nor does the next call that asks for as much again,
- * or for less, before the program writes a reply. The file that GROWTHS names is written when the
+ * REFUSE_GROWTH (from 1) finds no memory. Where REFUSE_AGAIN is set, nor does the next call that
+ * asks for as much again, or for less, before the program writes a reply. The file that GROWTHS names is written when the
  * program ends: the number of calls, and how many bytes of replies were written before the one that
  * was refused. */
 #include <errno.h>
@@ -27,7 +27,7 @@ static int is_refused(size_t size) {
   }
   calls += 1;
   if (calls == refused) {
-    asked = size;
+    asked = getenv("REFUSE_AGAIN") ? size : 0;
     written_before = written;
   } else if (asked > 0 && size <= asked) {
     asked = 0;

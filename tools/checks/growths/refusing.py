@@ -24,10 +24,11 @@ class Refusing(NamedTuple):
     # The file to which the library writes what it counted.
     counts: str
 
-    def run(self, stream: bytes, refused: int = 0) -> Ended:
-        """Runs the program on a stream, refusing the growth of this number (0: none)."""
+    def run(self, stream: bytes, refused: int = 0, again: bool = False) -> Ended:
+        """Runs the program on a stream, refusing the growth of this number (0: none), and the
+        second asking for it where that is to be refused again."""
         environment = dict(os.environ, LD_PRELOAD=self.library, REFUSE_GROWTH=str(refused),
-                           GROWTHS=self.counts)
+                           GROWTHS=self.counts, **({"REFUSE_AGAIN": "1"} if again else {}))
         return subprocess.run(self.command, input=stream, capture_output=True, env=environment,
                               timeout=60)
 
@@ -65,11 +66,12 @@ def answers(program: Refusing, stream: List[bytes]) -> List[bytes]:
     return wire.replies(ended.stdout)
 
 
-def refuse(program: Refusing, stream: List[bytes], whole: List[bytes], number: int) -> Refused:
-    """Refuses one growth, and the second asking for it: exactly one reply is NO_MEMORY, and all
+def refuse(program: Refusing, stream: List[bytes], whole: List[bytes], number: int,
+           again: bool) -> Refused:
+    """Refuses one growth, or the second asking for it too: exactly one reply is NO_MEMORY, and all
     others are those of the stream without that frame; or the growth is done without, and all
     replies are those of the stream."""
-    ended = program.run(b"".join(stream), number)
+    ended = program.run(b"".join(stream), number, again)
     if ended.returncode == 5:
         check(ended.stdout == b"" and ended.stderr == b"NO_MEMORY\n",
               f"growth {number}: status 5 with {ended.stderr!r}")
@@ -87,19 +89,19 @@ def refuse(program: Refusing, stream: List[bytes], whole: List[bytes], number: i
           f"growth {number}: frame {k} is lost, which takes no memory")
     check(got[:k] + got[k + 1 :] == answers(program, stream[:k] + stream[k + 1 :]),
           f"growth {number}: frame {k} left a trace")
-    again = program.run(b"".join(stream[: k + 1] + stream[k:]), number)
-    check(wire.replies(again.stdout) == got[: k + 1] + whole[k:],
+    resent = program.run(b"".join(stream[: k + 1] + stream[k:]), number, again)
+    check(wire.replies(resent.stdout) == got[: k + 1] + whole[k:],
           f"growth {number}: frame {k} sent again")
     return Refused(k, True)
 
 
-def refuse_each(program: Refusing, stream: List[bytes]) -> List[Refused]:
+def refuse_each(program: Refusing, stream: List[bytes], again: bool) -> List[Refused]:
     """Refuses each growth of a stream in turn, from the program's start on."""
     whole = answers(program, stream)
     check(all(wire.code_of(reply) != wire.NO_MEMORY for reply in whole),
           "with ample memory: a reply is NO_MEMORY")
     growths = program.counted()[0]
-    return [refuse(program, stream, whole, number) for number in range(1, growths + 1)]
+    return [refuse(program, stream, whole, number, again) for number in range(1, growths + 1)]
 
 
 def refuse_in_apply(program: Refusing) -> Tuple[int, int]:
