@@ -66,9 +66,9 @@ def check_lost(program: str, library: str, counts: str) -> Iterator[str]:
         seen.update(map(op_of, stream))
         lost.update(op_of(stream[each.frame]) for each in refused[first:])
         # Refused once, most are asked for again, with success, once free blocks are given up.
-        kept = [each for each in refuse_each(refusing, stream, False)[first:] if not each.is_lost]
+        found = [each for each in refuse_each(refusing, stream, False)[first:] if not each.is_lost]
         yield (f"{words} {first} growths before the stream, {len(refused) - first} in it, of which "
-               f"{len(kept)} are found when they are asked for again")
+               f"{len(found)} are found when they are asked for again")
     ops = set(map(int, wire.Op))
     check(seen >= ops, f"no frame of op {ops - seen}")
     kept = ops - NEVER_LOST - lost
