@@ -65,7 +65,7 @@ def check_lost(program: str, library: str, counts: str) -> Iterator[str]:
         check(not without, f"{words}: growths of frames {without} are done without")
         seen.update(map(op_of, stream))
         lost.update(op_of(stream[each.frame]) for each in refused[first:])
-        # Refused once, most are asked for again, with success, once free blocks are given up.
+        # Refused alone, some are asked for again, with success, once free blocks are given up.
         found = [each for each in refuse_each(refusing, stream, False)[first:] if not each.is_lost]
         yield (f"{words} {first} growths before the stream, {len(refused) - first} in it, of which "
                f"{len(found)} are found when they are asked for again")
