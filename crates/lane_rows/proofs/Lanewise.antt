@@ -1,5 +1,5 @@
 -- What straight code makes of the lanes of two vectors: all of them, and one at a place.
-use Rattle.std.proofs.Common.{◌≡◌, ℕ, List, [], ◌∷◌, length, map, Bool, cond, replicate, refl, ap, ◌∙◌, sym, subst, arith, zero, suc}
+use Rattle.std.proofs.Common.{◌≡◌, ℕ, List, [], ◌∷◌, length, map, Bool, cond, replicate, refl, ap, ◌∙◌, sym, subst, arith, zero, suc, map-id}
 use Rattle.lane_rows.proofs.Common.{zip2, Each1, sel_l}
 
 pub record Lanewise (A B C : Type 0) : Type 0 where
@@ -105,6 +105,11 @@ one_alike P u v g f (x ∷ xs) ps at = cc (at x ps.0, one_alike P u v g f xs ps.
 pub items_are : {A C D F : Type 0} (e : Lanewise A A C) (P : A → Type 0) (u : C → F) (v : A → D) (f : D → F) (n : ℕ) (xs : List A)
     → length xs ≡ n → Each1 P xs → ((a : A) → P a → u (e.at a a) ≡ f (v a)) → map u (e.all n xs xs) ≡ map f (map v xs)
 items_are e P u v f n xs p ps at = ap (map u) (e.same n xs xs p p) ∙ one_alike P u v e.at f xs ps at
+
+-- of one vector of numbers, which are what the code reads
+pub numbers_are : {A C F : Type 0} (e : Lanewise A A C) (P : A → Type 0) (u : C → F) (f : A → F) (n : ℕ) (xs : List A)
+    → length xs ≡ n → Each1 P xs → ((a : A) → P a → u (e.at a a) ≡ f a) → map u (e.all n xs xs) ≡ map f xs
+numbers_are e P u f n xs p ps at = items_are e P u (λ a. a) f n xs p ps at ∙ ap (map f) (map-id xs)
 
 pub each_of : {A B C : Type 0} (P : A → Type 0) (Q : B → Type 0) (R : C → Type 0) (g : A → B → C) (xs : List A) (ys : List B)
     → Each1 P xs → Each1 Q ys → ((a : A) (b : B) → P a → Q b → R (g a b)) → Each1 R (zip2 g xs ys)

@@ -2,8 +2,8 @@ mod Common
 mod RowLaws
 mod BlockLaws
 mod LaneLaws
-mod ScaleLaws
 mod Lanewise
+mod ScaleLaws
 mod ByteLaws
 mod DigitLaws
 mod QuarterLaws

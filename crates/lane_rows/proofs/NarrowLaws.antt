@@ -1,102 +1,87 @@
--- Numbers of 32 bits in lanes, scaled and narrowed.
-use Rattle.std.proofs.Common.{rules, ◌≡◌, Bool, true, false, cond, inl, inr, ℕ, ℤ, pos, negsuc, zero, suc, ◌+◌, ◌-◌, ◌*◌, ◌/◌, ◌%◌, ◌^◌, ◌<◌, ◌≤◌, ◌+ℤ◌, ◌-ℤ◌, int_lt, int_div, unsigned_abs, List, [], ◌∷◌, map, length, replicate, refl, ap, ◌∙◌, sym, subst, arith, w16, w32, FitsSigned, to_z, of_z, ◌*ℤ◌, pow_pos}
-use Rattle.lane_rows.proofs.Common.{shr_z, zip2, Each1, sel_l, cases_lt, nat_tests, ints, clamps, to_z-of_z, to_z_pos, int_wrap_fits, fits_signed_from_abs, pow-le-pow_right, S16, Policy, Wrap, Saturate, narrow, product, top}
-use Rattle.std.specs.Int.{int_rem_euclid}
-use Rattle.std.proofs.lemmas.Int.{wrapping_add_is, quot_fits}
-use Rattle.vx_base.specs.Sample.{signed_of}
-use Rattle.lane_rows.proofs.ScaleLaws.{shift_fits, sum_fits, below_zero, from_zero, ones_below}
-use Rattle.lane_rows.proofs.ShortLaws.{of_bits, told, products_fit}
+-- Numbers in lanes, narrowed.
+use Rattle.std.proofs.Common.{◌≡◌, Bool, true, false, cond, inl, inr, ℕ, ℤ, pos, negsuc, suc, ◌+◌, ◌-◌, ◌*◌, ◌/◌, ◌%◌, ◌^◌, ◌<◌, ◌≤◌, int_lt, int_div, unsigned_abs, List, [], ◌∷◌, map, length, refl, ap, ◌∙◌, sym, subst, arith, w8, w16, w32, Fits, FitsSigned, to_z, of_z, ◌*ℤ◌, pow_pos}
+use Rattle.lane_rows.proofs.Common.{shr_z, zip2, Each1, cases_lt, nat_tests, ints, clamps, to_z-of_z, to_z_pos, U8, S16, Policy, Wrap, Saturate, narrow, product, top, Width}
+use Rattle.std.specs.Int.{int_rem_euclid, int_min, int_max}
+use Rattle.std.proofs.lemmas.Int.{quot_fits}
+use Rattle.vx_base.specs.Sample.{signed_of, clamp, least, greatest}
+use Rattle.lane_rows.proofs.Lanewise.{Lanewise, one, constant, each, both, chosen, numbers_are, each_is, each_of, map-zip2}
+use Rattle.lane_rows.proofs.ShortLaws.{of_bits, told, products_fit, wider}
+use lib.Dec.{T}
+use lib.Signed.{non_neg}
 
--- ---- over a power of two
+-- ---- the nearest numbers of a range, from the bits of its ends
 
--- a lane that another is chosen for where a test holds
-abbrev chosen : Bool → ℕ → ℕ → ℕ
-chosen t x y = cond (top 31 (cond t 4294967295 0)) x y
+abbrev less : Width → ℕ → ℕ → ℕ → ℕ
+less w ones a b = cond (int_lt (to_z w a) (to_z w b)) ones 0
 
-summed : (x y : ℤ) (p : ℕ) → FitsSigned w32 x → FitsSigned w32 y → FitsSigned w32 (x +ℤ y)
-    → to_z w32 (of_z w32 (shr_z (to_z w32 ((of_z w32 x + of_z w32 y) % 4294967296)) p)) ≡ shr_z (x +ℤ y) p
-summed x y p f g h = rw (wrapping_add_is w32 x y f g, int_wrap_fits w32 (x +ℤ y) h) (to_z-of_z w32 (shr_z (x +ℤ y) p) (shift_fits (x +ℤ y) p h))
+abbrev raised : Width → (ℕ → Bool) → ℕ → ℕ → Lanewise ℤ ℤ ℕ → Lanewise ℤ ℤ ℕ
+raised w t ones lo e = chosen t (both (less w ones) e (constant lo)) (constant lo) e
 
-abbrev ones : ℕ → ℕ
-ones k = of_z w32 (to_z w32 (1 * 2 ^ k % 4294967296) -ℤ pos 1)
+abbrev pub nearest : Width → (ℕ → Bool) → ℕ → ℕ → ℕ → Lanewise ℤ ℤ ℕ → Lanewise ℤ ℤ ℕ
+nearest w t ones lo hi e = chosen t (both (less w ones) (raised w t ones lo e) (constant hi)) (raised w t ones lo e) (constant hi)
 
-scaled_by : (b : Bool) (z : ℤ) (k : ℕ) → int_lt z (pos 0) ≡ b → unsigned_abs z ≤ 1073741824 → k ≤ 15
-    → to_z w32 (of_z w32 (shr_z (to_z w32 ((of_z w32 z + chosen b (ones k) 0) % 4294967296)) (2 ^ k))) ≡ int_div z (pos (2 ^ k))
-scaled_by true z k below size few =
-    let power : 2 ^ k ≤ 32768 = pow-le-pow_right (omega arith) few in
-    let some : 0 < 2 ^ k = pow_pos k in
-    ap (λ m. to_z w32 (of_z w32 (shr_z (to_z w32 ((of_z w32 z + of_z w32 m) % 4294967296)) (2 ^ k)))) (ones_below k few)
-    ∙ summed z (pos (2 ^ k - 1)) (2 ^ k) (fits_signed_from_abs w32 z (omega (arith, size))) (record { sfits = omega (arith, power) }) (sum_fits z (2 ^ k - 1) size (omega (arith, power, some)))
-    ∙ below_zero z (2 ^ k) below some
-scaled_by false z k above size few =
-    summed z (pos 0) (2 ^ k) (fits_signed_from_abs w32 z (omega (arith, size))) (record { sfits = omega arith }) (sum_fits z 0 size (omega arith))
-    ∙ from_zero z (2 ^ k) above
+module _ (w : Width) (t : ℕ → Bool) (ones : ℕ) (picks : (b : Bool) (x y : ℕ) → cond (t (cond b ones 0)) x y ≡ cond b x y) where
+  greater_at : (b : Bool) (x lo : ℕ) → int_lt (to_z w x) (to_z w lo) ≡ b → to_z w (cond (t (cond b ones 0)) lo x) ≡ int_max (to_z w lo) (to_z w x)
+  greater_at true x lo h = ap (to_z w) (picks true lo x) ∙ grind (arith, ints, clamps, h)
+  greater_at false x lo h = ap (to_z w) (picks false lo x) ∙ grind (arith, ints, clamps, h)
 
-scaled_lane : (z : ℤ) (k : ℕ) → unsigned_abs z ≤ 1073741824 → k ≤ 15
-    → to_z w32 (of_z w32 (shr_z (to_z w32 ((of_z w32 z + chosen (int_lt (to_z w32 (of_z w32 z)) (pos 0)) (ones k) 0) % 4294967296)) (2 ^ k))) ≡ int_div z (pos (2 ^ k))
-scaled_lane z k size few = rw (to_z-of_z w32 z (fits_signed_from_abs w32 z (omega (arith, size)))) (scaled_by (int_lt z (pos 0)) z k refl size few)
+  lesser_at : (b : Bool) (x hi : ℕ) → int_lt (to_z w x) (to_z w hi) ≡ b → to_z w (cond (t (cond b ones 0)) x hi) ≡ int_min (to_z w x) (to_z w hi)
+  lesser_at true x hi h = ap (to_z w) (picks true x hi) ∙ grind (arith, ints, clamps, h)
+  lesser_at false x hi h = ap (to_z w) (picks false x hi) ∙ grind (arith, ints, clamps, h)
 
-pub scaled_are : (n k s : ℕ) (zs : List ℤ) → s ≡ k → k ≤ 15 → length zs ≡ n → Each1 (λ z. unsigned_abs z ≤ 1073741824) zs
-    → map (to_z w32) (zip2 (λ a b. of_z w32 (shr_z (to_z w32 a) (2 ^ b)))
-    (zip2 (λ a b. (a + b) % 4294967296) (map (of_z w32) zs) (sel_l (map (top 31) (zip2 (λ a b. cond (int_lt (to_z w32 a) (to_z w32 b)) 4294967295 0) (map (of_z w32) zs) (replicate n 0))) (replicate n (ones k)) (replicate n 0)))
-    (replicate n s)) ≡ map (λ z. int_div z (pos (2 ^ k))) zs
-scaled_are n k s [] is few long sizes = refl
-scaled_are zero k s (z ∷ zs) is few long sizes = absurd (omega (arith, long))
-scaled_are (suc n) k s (z ∷ zs) is few long sizes =
-    cc (
-      ap (λ e. to_z w32 (of_z w32 (shr_z (to_z w32 ((of_z w32 z + chosen (int_lt (to_z w32 (of_z w32 z)) (pos 0)) (ones k) 0) % 4294967296)) (2 ^ e)))) is ∙ scaled_lane z k sizes.0 few,
-      scaled_are n k s zs is few (omega (arith, long)) sizes.1,
-    )
+  pub nearest_at : (x lo hi : ℕ) → to_z w (cond (t (less w ones (cond (t (less w ones x lo)) lo x) hi)) (cond (t (less w ones x lo)) lo x) hi) ≡ int_min (int_max (to_z w lo) (to_z w x)) (to_z w hi)
+  nearest_at x lo hi =
+      lesser_at (int_lt (to_z w (cond (t (less w ones x lo)) lo x)) (to_z w hi)) (cond (t (less w ones x lo)) lo x) hi refl
+      ∙ ap (λ y. int_min y (to_z w hi)) (greater_at (int_lt (to_z w x) (to_z w lo)) x lo refl)
 
--- ---- the nearest numbers of 16 bits
+picks_32 : (b : Bool) (x y : ℕ) → cond (top 31 (cond b 4294967295 0)) x y ≡ cond b x y
+picks_32 true x y = refl
+picks_32 false x y = refl
 
-abbrev raised : ℕ → ℕ
-raised x = chosen (int_lt (to_z w32 x) (negsuc 32767)) 4294934528 x
+pub raised_first : (z : ℤ) → (int_min (int_max (pos 0) z) (pos 255) ≡ clamp U8 z) × (int_min (int_max (negsuc 32767) z) (pos 32767) ≡ clamp S16 z)
+raised_first z = (grind (arith, ints, clamps), grind (arith, ints, clamps))
 
-abbrev lowered : ℕ → ℕ
-lowered x = chosen (int_lt (to_z w32 x) (pos 32767)) x 32767
+-- a number as one without a sign, and that it is one of eight bits
+abbrev pub IsByte : ℤ → Type 0
+IsByte z = T (non_neg z) × Fits w8 (unsigned_abs z)
 
--- what that makes of a number, by both tests
-below_least : (z : ℤ) → int_lt z (negsuc 32767) ≡ true → negsuc 32767 ≡ narrow S16 Saturate z
-below_least z low = grind (arith, ints, clamps, low)
-
-within : (z : ℤ) → int_lt z (negsuc 32767) ≡ false → int_lt z (pos 32767) ≡ true → z ≡ narrow S16 Saturate z
-within z low high = grind (arith, ints, clamps, low, high)
-
-from_greatest : (z : ℤ) → int_lt z (negsuc 32767) ≡ false → int_lt z (pos 32767) ≡ false → pos 32767 ≡ narrow S16 Saturate z
-from_greatest z low high = grind (arith, ints, clamps, low, high)
-
-nearest_by : (a b : Bool) (z : ℤ) → int_lt z (negsuc 32767) ≡ a → int_lt z (pos 32767) ≡ b → FitsSigned w32 z → to_z w32 (lowered (chosen a 4294934528 (of_z w32 z))) ≡ narrow S16 Saturate z
-nearest_by true b z low high fits = below_least z low
-nearest_by false true z low high fits = rw (to_z-of_z w32 z fits, high, to_z-of_z w32 z fits) (within z low high)
-nearest_by false false z low high fits = rw (to_z-of_z w32 z fits, high) (from_greatest z low high)
-
-nearest_lane : (z : ℤ) → FitsSigned w32 z → to_z w32 (lowered (raised (of_z w32 z))) ≡ narrow S16 Saturate z
-nearest_lane z fits = rw (to_z-of_z w32 z fits) (nearest_by (int_lt z (negsuc 32767)) (int_lt z (pos 32767)) z refl refl fits)
+pub clamped_is_byte : (z : ℤ) → IsByte (clamp U8 z) × (pos (unsigned_abs (clamp U8 z)) ≡ clamp U8 z)
+clamped_is_byte z = grind (arith, ints, clamps)
 
 pub nearest_fits : (z : ℤ) → FitsSigned w16 (narrow S16 Saturate z)
 nearest_fits z = record { sfits = first_of (omega (arith, ints, clamps), grind (arith, ints, clamps)) }
 
-abbrev all_raised : ℕ → List ℕ → List ℕ
-all_raised n xs = sel_l (map (top 31) (zip2 (λ a b. cond (int_lt (to_z w32 a) (to_z w32 b)) 4294967295 0) xs (replicate n 4294934528))) (replicate n 4294934528) xs
+abbrev bits : Lanewise ℤ ℤ ℕ
+bits = each (of_z w32) one
 
-abbrev all_lowered : ℕ → List ℕ → List ℕ
-all_lowered n xs = sel_l (map (top 31) (zip2 (λ a b. cond (int_lt (to_z w32 a) (to_z w32 b)) 4294967295 0) xs (replicate n 32767))) xs (replicate n 32767)
+abbrev pub bytes : Lanewise ℤ ℤ ℕ
+bytes = nearest w32 (top 31) 4294967295 0 255 bits
 
-pub nearest_are : (n : ℕ) (zs : List ℤ) → length zs ≡ n → Each1 (FitsSigned w32) zs
-    → map (to_z w16) (map (λ a. of_z w16 (to_z w32 a)) (all_lowered n (all_raised n (map (of_z w32) zs)))) ≡ map (narrow S16 Saturate) zs
-nearest_are n [] long fits = refl
-nearest_are zero (z ∷ zs) long fits = absurd (omega (arith, long))
-nearest_are (suc n) (z ∷ zs) long fits =
-    cc (
-      ap (λ y. to_z w16 (of_z w16 y)) (nearest_lane z fits.0) ∙ to_z-of_z w16 (narrow S16 Saturate z) (nearest_fits z),
-      nearest_are n zs (omega (arith, long)) fits.1,
-    )
+abbrev pub shorts : Lanewise ℤ ℤ ℕ
+shorts = nearest w32 (top 31) 4294967295 4294934528 32767 bits
 
-pub each_nearest : (n : ℕ) (zs : List ℤ) → length zs ≡ n → Each1 (FitsSigned w32) zs → Each1 (λ a. FitsSigned w16 (to_z w32 a)) (all_lowered n (all_raised n (map (of_z w32) zs)))
-each_nearest n [] long fits = tt
-each_nearest zero (z ∷ zs) long fits = absurd (omega (arith, long))
-each_nearest (suc n) (z ∷ zs) long fits = (subst (FitsSigned w16) (sym (nearest_lane z fits.0)) (nearest_fits z), each_nearest n zs (omega (arith, long)) fits.1)
+byte_at : (z : ℤ) → FitsSigned w32 z → to_z w32 (bytes.at z z) ≡ clamp U8 z
+byte_at z f = nearest_at w32 (top 31) 4294967295 picks_32 (of_z w32 z) 0 255 ∙ ap (λ y. int_min (int_max (pos 0) y) (pos 255)) (to_z-of_z w32 z f) ∙ (raised_first z).0
+
+short_at : (z : ℤ) → FitsSigned w32 z → to_z w32 (shorts.at z z) ≡ clamp S16 z
+short_at z f = nearest_at w32 (top 31) 4294967295 picks_32 (of_z w32 z) 4294934528 32767 ∙ ap (λ y. int_min (int_max (negsuc 32767) y) (pos 32767)) (to_z-of_z w32 z f) ∙ (raised_first z).1
+
+module _ (zs : List ℤ) (long : length zs ≡ 16) (fits : Each1 (FitsSigned w32) zs) where
+  pub each_byte : Each1 (λ x. IsByte (to_z w32 x)) (bytes.all 16 zs zs)
+  each_byte = each_is bytes (FitsSigned w32) (FitsSigned w32) (λ x. IsByte (to_z w32 x)) 16 zs zs long long fits fits (λ z y f g. subst IsByte (sym (byte_at z f)) (clamped_is_byte z).0)
+
+  pub bytes_are : map pos ((each (λ x. unsigned_abs (to_z w32 x)) bytes).all 16 zs zs) ≡ map (clamp U8) zs
+  bytes_are =
+      numbers_are (each (λ x. unsigned_abs (to_z w32 x)) bytes) (FitsSigned w32) pos (clamp U8) 16 zs long fits
+      (λ z f. ap (λ y. pos (unsigned_abs y)) (byte_at z f) ∙ (clamped_is_byte z).1)
+
+  pub each_nearest : Each1 (λ x. FitsSigned w16 (to_z w32 x)) (shorts.all 16 zs zs)
+  each_nearest = each_is shorts (FitsSigned w32) (FitsSigned w32) (λ x. FitsSigned w16 (to_z w32 x)) 16 zs zs long long fits fits (λ z y f g. subst (FitsSigned w16) (sym (short_at z f)) (nearest_fits z))
+
+  pub nearest_are : map (to_z w16) ((each (λ x. of_z w16 (to_z w32 x)) shorts).all 16 zs zs) ≡ map (narrow S16 Saturate) zs
+  nearest_are =
+      numbers_are (each (λ x. of_z w16 (to_z w32 x)) shorts) (FitsSigned w32) (to_z w16) (narrow S16 Saturate) 16 zs long fits
+      (λ z f. ap (λ y. to_z w16 (of_z w16 y)) (short_at z f) ∙ to_z-of_z w16 (narrow S16 Saturate z) (nearest_fits z))
 
 -- ---- what is left in 16 bits
 
@@ -126,9 +111,6 @@ half_fits r small = elim (cases_lt r 32768) [
   | inr more ↦ subst (FitsSigned w16) (large_half r more small) (record { sfits = omega (arith, more, small) })
 ]
 
-wide : (z : ℤ) → FitsSigned w16 z → FitsSigned w32 z
-wide z fits = search (rules, ints)
-
 rest_of : (z : ℤ) → FitsSigned w32 z → pos (of_z w32 z % 65536) ≡ int_rem_euclid z (pos 65536)
 rest_of (pos n) fits = refl
 rest_of (negsuc n) fits = let e = fits.sfits in let f : (4294967296 - suc n) % 65536 ≡ 65535 - n % 65536 = omega (arith, e) in ap pos f
@@ -141,23 +123,19 @@ wrapped_fits z fits =
 wrapped_lane : (z : ℤ) → FitsSigned w32 z → to_z w32 (of_z w32 (shr_z (to_z w32 ((of_z w32 z * 65536) % 4294967296)) 65536)) ≡ narrow S16 Wrap z
 wrapped_lane z fits =
     let small : of_z w32 z % 65536 < 65536 = omega arith in
-    rw (left_shifted (of_z w32 z), halves (of_z w32 z % 65536) small ∙ ap signed_of (rest_of z fits)) (to_z-of_z w32 (narrow S16 Wrap z) (wide (narrow S16 Wrap z) (wrapped_fits z fits)))
+    rw (left_shifted (of_z w32 z), halves (of_z w32 z % 65536) small ∙ ap signed_of (rest_of z fits)) (to_z-of_z w32 (narrow S16 Wrap z) (wider (narrow S16 Wrap z) (wrapped_fits z fits)))
 
-pub wrapped_are : (n : ℕ) (zs : List ℤ) → length zs ≡ n → Each1 (FitsSigned w32) zs
-    → map (to_z w16) (map (λ a. of_z w16 (to_z w32 a)) (zip2 (λ a b. of_z w32 (shr_z (to_z w32 a) (2 ^ b))) (zip2 (λ a b. (a * 2 ^ b) % 4294967296) (map (of_z w32) zs) (replicate n 16)) (replicate n 16))) ≡ map (narrow S16 Wrap) zs
-wrapped_are n [] long fits = refl
-wrapped_are zero (z ∷ zs) long fits = absurd (omega (arith, long))
-wrapped_are (suc n) (z ∷ zs) long fits =
-    cc (
-      ap (λ y. to_z w16 (of_z w16 y)) (wrapped_lane z fits.0) ∙ to_z-of_z w16 (narrow S16 Wrap z) (wrapped_fits z fits.0),
-      wrapped_are n zs (omega (arith, long)) fits.1,
-    )
+abbrev pub lefts : Lanewise ℤ ℤ ℕ
+lefts = both (λ a b. of_z w32 (shr_z (to_z w32 a) (2 ^ b))) (both (λ a b. (a * 2 ^ b) % 4294967296) bits (constant 16)) (constant 16)
 
-pub each_wrapped : (n : ℕ) (zs : List ℤ) → length zs ≡ n → Each1 (FitsSigned w32) zs
-    → Each1 (λ a. FitsSigned w16 (to_z w32 a)) (zip2 (λ a b. of_z w32 (shr_z (to_z w32 a) (2 ^ b))) (zip2 (λ a b. (a * 2 ^ b) % 4294967296) (map (of_z w32) zs) (replicate n 16)) (replicate n 16))
-each_wrapped n [] long fits = tt
-each_wrapped zero (z ∷ zs) long fits = absurd (omega (arith, long))
-each_wrapped (suc n) (z ∷ zs) long fits = (subst (FitsSigned w16) (sym (wrapped_lane z fits.0)) (wrapped_fits z fits.0), each_wrapped n zs (omega (arith, long)) fits.1)
+module _ (zs : List ℤ) (long : length zs ≡ 16) (fits : Each1 (FitsSigned w32) zs) where
+  pub each_wrapped : Each1 (λ x. FitsSigned w16 (to_z w32 x)) (lefts.all 16 zs zs)
+  each_wrapped = each_is lefts (FitsSigned w32) (FitsSigned w32) (λ x. FitsSigned w16 (to_z w32 x)) 16 zs zs long long fits fits (λ z y f g. subst (FitsSigned w16) (sym (wrapped_lane z f)) (wrapped_fits z f))
+
+  pub wrapped_are : map (to_z w16) ((each (λ x. of_z w16 (to_z w32 x)) lefts).all 16 zs zs) ≡ map (narrow S16 Wrap) zs
+  wrapped_are =
+      numbers_are (each (λ x. of_z w16 (to_z w32 x)) lefts) (FitsSigned w32) (to_z w16) (narrow S16 Wrap) 16 zs long fits
+      (λ z f. ap (λ y. to_z w16 (of_z w16 y)) (wrapped_lane z f) ∙ to_z-of_z w16 (narrow S16 Wrap z) (wrapped_fits z f))
 
 -- ---- by any policy
 

@@ -131,11 +131,6 @@ products_fit [] vs f g = tt
 products_fit (a ∷ us) [] f g = tt
 products_fit (a ∷ us) (b ∷ vs) f g = (size_fits (a *ℤ b) (product_size a b f.0 g.0), products_fit us vs f.1 g.1)
 
-pub product_sizes : (us vs : List ℤ) → Each1 (FitsSigned w16) us → Each1 (FitsSigned w16) vs → Each1 (λ z. unsigned_abs z ≤ 1073741824) (zip2 ◌*ℤ◌ us vs)
-product_sizes [] vs f g = tt
-product_sizes (a ∷ us) [] f g = tt
-product_sizes (a ∷ us) (b ∷ vs) f g = (product_size a b f.0 g.0, product_sizes us vs f.1 g.1)
-
 each_below : (w : Width) (zs : List ℤ) → Each1 (FitsSigned w) zs → Each1 (λ x. x < 2 ^ bits w) (map (of_z w) zs)
 each_below w [] f = tt
 each_below w (z ∷ zs) f = (let fits = Fits-of_z f.0 in fits.fits, each_below w zs f.1)

@@ -20,6 +20,10 @@ impl Item for i16 {
     ghost value = { λ z. z };
 }
 
+impl Item for i32 {
+    ghost value = { λ z. z };
+}
+
 /// Items that are S16 samples, or become them without loss: `u8` and `i16`.
 pub trait Short: Item {
     /// The same number as an S16 sample.

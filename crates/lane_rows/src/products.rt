@@ -1,5 +1,5 @@
 //! Products.
-ghost use Rattle.std.specs.Prelude.{◌≡◌, ◌≤◌, ◌^◌, ◌*ℤ◌, pos, unsigned_abs, int_div, map, length};
+ghost use Rattle.std.specs.Prelude.{◌≡◌, ◌≤◌, ◌^◌, ◌*ℤ◌, pos, int_div, map, length};
 ghost use Rattle.std.specs.Simd.Lanes.{zip2};
 ghost use Rattle.vx_base.specs.declared.format.Format.TheVariants.{U8, S16};
 ghost use Rattle.vx_base.specs.Sample.{IsSample};
@@ -10,20 +10,10 @@ use crate::bytes::{byte_products, narrowed_bytes};
 use crate::item::Short;
 use crate::overflow::{Overflow, Saturated, Wrapped, with_overflow};
 use crate::rows::zip_rows;
+use crate::scales::scaled;
 use crate::shorts::multiplied;
 use std::simd::prelude::*;
 use vx_base::{Policy, narrow_s16, narrow_u8};
-
-/// A number over 2^amount, rounded to zero. Rounded down, it is that of a number that isn't
-/// negative, and of a negative one that is 2^amount - 1 greater.
-fn scaled(number: i32, amount: u8) -> i32
-    requires size { unsigned_abs number ≤ 1073741824 }
-    requires amount { amount ≤ 15 }
-    ensures { result ≡ int_div number (pos (2 ^ amount)) }
-{
-    let added = if number < 0 { (1 << amount) - 1 } else { 0 };
-    (number + added) >> amount
-}
 
 /// The product of two S16 samples over 2^amount, rounded to zero.
 fn scaled_product(a: i16, b: i16, amount: u8) -> i32

@@ -1,6 +1,6 @@
 //! S16 numbers in 16 lanes.
 ghost use Rattle.std.specs.Prelude.{◌≡◌, ◌≤◌, ◌+ℤ◌, ◌-ℤ◌, ◌*ℤ◌, ◌^◌, pos, map, length};
-ghost use Rattle.std.specs.Prelude.{int_div, unsigned_abs, FitsSigned};
+ghost use Rattle.std.specs.Prelude.{FitsSigned};
 ghost use Rattle.std.specs.Int.{w16, w32, int_div_euclid};
 ghost use Rattle.std.specs.Simd.Lanes.{zip2, Each1};
 ghost use Rattle.vx_base.specs.declared.format.Format.TheVariants.{S16};
@@ -9,6 +9,7 @@ ghost use Rattle.vx_base.specs.Sample.{narrow, distance};
 ghost use Rattle.vx_base.specs.Pixelwise.{product, smaller, greater, accumulated};
 ghost use Rattle.lane_rows.specs.Quarters.{exchanged};
 
+use crate::scales::scaled_lanes;
 use std::simd::prelude::*;
 use vx_base::Policy;
 
@@ -90,22 +91,8 @@ fn products(a: i16x16, b: i16x16) -> i32x16
     i32x16::from_le_bytes(halves.to_le_bytes())
 }
 
-/// The numbers over 2^amount, rounded to zero: to those below 0 is added what makes rounding down
-/// that.
-fn scaled(numbers: i32x16, amount: u8) -> i32x16
-    requires amount { amount ≤ 15 }
-    requires len { length numbers ≡ 16 }
-    requires size { Each1 (λ z. unsigned_abs z ≤ 1073741824) numbers }
-    ensures { result ≡ map (λ z. int_div z (pos (2 ^ amount))) numbers }
-{
-    let rest = i32x16::splat((1 << amount) - 1);
-    let none = i32x16::splat(0);
-    let added = numbers.simd_lt(none).select(rest, none);
-    (numbers + added) >> i32::from(amount)
-}
-
 /// The nearest S16 samples.
-fn clamped(numbers: i32x16) -> i16x16
+pub fn clamped(numbers: i32x16) -> i16x16
     requires len { length numbers ≡ 16 }
     requires fits { Each1 (FitsSigned w32) numbers }
     ensures { result ≡ map (narrow S16 Saturate) numbers }
@@ -159,7 +146,7 @@ pub fn multiplied(a: i16x16, b: i16x16, amount: u8, policy: Policy) -> i16x16
     requires b_fits { Each1 (FitsSigned w16) b }
     ensures { result ≡ zip2 (product S16 policy amount) a b }
 {
-    quarters_exchanged(narrowed(scaled(products(a, b), amount), policy))
+    quarters_exchanged(narrowed(scaled_lanes(products(a, b), amount), policy))
 }
 
 /// The squares of bytes over 2^amount, rounded down.

@@ -1,6 +1,6 @@
-use Rattle.std.proofs.Common.{◌≡◌, ℕ, ℤ, ◌^◌, ◌≤◌, pos, int_div, unsigned_abs, List, length, map, refl, ap, ◌∙◌, sym, subst, w16, w32, FitsSigned, to_z, of_z, ◌*ℤ◌}
+use Rattle.std.proofs.Common.{◌≡◌, ℕ, ℤ, ◌^◌, ◌≤◌, pos, int_div, List, length, map, refl, ap, ◌∙◌, sym, subst, w16, w32, FitsSigned, to_z, of_z, ◌*ℤ◌}
 use Rattle.lane_rows.proofs.Common.{zip2, Each1, length-zip2, S16, Policy, narrow, product, exchanged, Width}
-use Rattle.lane_rows.proofs.ShortLaws.{of_bits, fit_as_bits, told, products_fit, product_sizes}
+use Rattle.lane_rows.proofs.ShortLaws.{of_bits, fit_as_bits, told, products_fit}
 use Rattle.lane_rows.proofs.QuarterLaws.{written_out, Each1-exchanged}
 use Rattle.lane_rows.proofs.NarrowLaws.{quotients_fit, products_narrowed, narrow_fits, narrowed_products_fit}
 use Rattle.lane_rows.proofs.shorts.multiplied.Goals as goal
@@ -23,10 +23,8 @@ module _ (a b : List ℤ) (f : Each1 (FitsSigned w16) a) (g : Each1 (FitsSigned 
   multiplied_are ps is =
       told w32 ps moved (is ∙ ap (λ (l : List ℤ). exchanged (zip2 ◌*ℤ◌ l (in_lanes w16 b))) (of_bits w16 a f) ∙ ap (λ (l : List ℤ). exchanged (zip2 ◌*ℤ◌ a l)) (of_bits w16 b g)) moved_fit
 
-  pub sizes : (ps : List ℤ) → ps ≡ exchanged (zip2 ◌*ℤ◌ (in_lanes w16 a) (in_lanes w16 b)) → Each1 (λ z. unsigned_abs z ≤ 1073741824) (in_lanes w32 ps)
-  sizes ps is =
-      subst (Each1 (λ z. unsigned_abs z ≤ 1073741824)) (sym (multiplied_are ps is))
-      (Each1-exchanged (λ z. unsigned_abs z ≤ 1073741824) (zip2 ◌*ℤ◌ a b) (product_sizes a b f g))
+  pub read_fit : (ps : List ℤ) → ps ≡ exchanged (zip2 ◌*ℤ◌ (in_lanes w16 a) (in_lanes w16 b)) → Each1 (FitsSigned w32) (in_lanes w32 ps)
+  read_fit ps is = subst (Each1 (FitsSigned w32)) (sym (multiplied_are ps is)) moved_fit
 
   module _ (n : ℕ) (ps qs : List ℤ) (is : ps ≡ exchanged (zip2 ◌*ℤ◌ (in_lanes w16 a) (in_lanes w16 b))) (so : qs ≡ over n (in_lanes w32 ps)) where
     divided_fit : Each1 (FitsSigned w32) (over n moved)
@@ -63,17 +61,17 @@ products-requires-clause-a_fits c = fit_as_bits w16 c.args.a c.requires.a_fits
 pub products-requires-clause-b_fits : goal.products-requires-clause-b_fits
 products-requires-clause-b_fits c = fit_as_bits w16 c.args.b c.requires.b_fits
 
-pub scaled-requires-clause-size : goal.scaled-requires-clause-size
-scaled-requires-clause-size c = sizes c.args.a c.args.b c.requires.a_fits c.requires.b_fits c.products.result c.products.ensures
+pub scaled_lanes-requires-clause-fits : goal.scaled_lanes-requires-clause-fits
+scaled_lanes-requires-clause-fits c = read_fit c.args.a c.args.b c.requires.a_fits c.requires.b_fits c.products.result c.products.ensures
 
 pub narrowed-requires-clause-fits : goal.narrowed-requires-clause-fits
-narrowed-requires-clause-fits c = fit c.args.a c.args.b c.requires.a_fits c.requires.b_fits c.args.amount c.products.result c.scaled.result c.products.ensures c.scaled.ensures
+narrowed-requires-clause-fits c = fit c.args.a c.args.b c.requires.a_fits c.requires.b_fits c.args.amount c.products.result c.scaled_lanes.result c.products.ensures c.scaled_lanes.ensures
 
 pub quarters_exchanged-requires-clause-fits : goal.quarters_exchanged-requires-clause-fits
 quarters_exchanged-requires-clause-fits c =
-    narrow_fit c.args.a c.args.b c.requires.a_fits c.requires.b_fits c.args.amount c.products.result c.scaled.result c.products.ensures c.scaled.ensures c.args.policy c.narrowed.result c.narrowed.ensures.value
+    narrow_fit c.args.a c.args.b c.requires.a_fits c.requires.b_fits c.args.amount c.products.result c.scaled_lanes.result c.products.ensures c.scaled_lanes.ensures c.args.policy c.narrowed.result c.narrowed.ensures.value
 
 pub returns : goal.returns
 returns c =
-    placed c.args.a c.args.b c.requires.a_fits c.requires.b_fits c.args.amount c.products.result c.scaled.result c.products.ensures c.scaled.ensures c.args.policy c.narrowed.result c.narrowed.ensures.value
+    placed c.args.a c.args.b c.requires.a_fits c.requires.b_fits c.args.amount c.products.result c.scaled_lanes.result c.products.ensures c.scaled_lanes.ensures c.args.policy c.narrowed.result c.narrowed.ensures.value
     c.quarters_exchanged.result c.requires.a_len c.requires.b_len c.quarters_exchanged.ensures
