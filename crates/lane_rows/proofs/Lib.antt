@@ -16,7 +16,7 @@ mod Names
 pub mod CountLaws
 mod RunningLaws
 mod TallyLaws
-mod RunLaws
+pub mod RunLaws
 pub mod MedianLaws
 mod NineLaws
 mod GradientLaws
@@ -25,3 +25,8 @@ mod ThreeLaws
 mod SampleLaws
 mod DepthLaws
 mod SumLaws
+mod PairNames
+mod BitLaws
+mod PairLaws
+mod AddLaws
+mod MatrixSumLaws

@@ -1,9 +1,18 @@
 -- Rows that are written as runs, block by block and item by item.
-use Rattle.std.proofs.Common.{◌≡◌, ℕ, ℤ, zero, suc, ◌+◌, ◌-◌, ◌*◌, ◌≤◌, List, [], ◌∷◌, length, map, take, drop, get_or, ap, ◌∙◌, sym, refl, arith, take-take, take_all, pos}
+use Rattle.std.proofs.Common.{◌≡◌, ℕ, ℤ, zero, suc, ◌+◌, ◌-◌, ◌*◌, ◌/◌, ◌%◌, ◌<◌, ◌≤◌, min, List, [], ◌∷◌, length, map, take, drop, get_or, ap, ◌∙◌, sym, refl, arith, zero-add, take-take, take_all, pos}
 use Rattle.lane_rows.proofs.Common.{range_with_len, chunk, length-map, map-append, take-put_mid, put_mid}
 use Rattle.std.proofs.lemmas.Simd.{pick_l-range_with_len}
 use Rattle.vx_base.specs.Image.{run}
 use Rattle.vx_base.proofs.TableLaws.{run-append, length-run}
+use Rattle.vx_base.proofs.WindowLaws.{run_shifted}
+
+-- one more part of a run, from item `at` on
+pub part_written : {T : Type 0} (value : T → ℤ) (g : ℕ → ℤ) (out ws : List T) (at m end : ℕ) → at ≤ length out → end ≡ at + length ws
+    → map value (take at out) ≡ run 0 at g → map value ws ≡ run 0 (length ws) (λ i. g (at + i)) → map value (take end (put_mid at m out ws)) ≡ run 0 end g
+part_written value g out ws at m end room more before is =
+    let place : (i : ℕ) → at + (0 + i) ≡ 0 + at + i = λ i. omega arith in
+    let these = is ∙ run_shifted (λ i. g (at + i)) g 0 (0 + at) (length ws) (λ i h. ap g (place i)) in
+    rw (take-put_mid at m out ws end more room, map-append value (take at out) ws, before, these, more) (sym (run-append g 0 at (length ws)))
 
 -- one more block of 32 items
 pub block_of_run : {T : Type 0} (value : T → ℤ) (g : ℕ → ℤ) (out ws : List T) (k m : ℕ) → 32 * k + 32 ≤ length out
@@ -11,10 +20,26 @@ pub block_of_run : {T : Type 0} (value : T → ℤ) (g : ℕ → ℤ) (out ws : 
     → map value (take (32 * (k + 1)) (put_mid (32 * k) m out ws)) ≡ run 0 (32 * (k + 1)) g
 block_of_run value g out ws k m room before is =
     let long : length ws ≡ 32 = sym (length-map ws value) ∙ ap length is ∙ length-run g (32 * k) 32 in
-    let end : 32 * (k + 1) ≡ 32 * k + length ws = omega (arith, long) in
-    let next : 32 * k + 32 ≡ 32 * (k + 1) = omega arith in
-    let these = is ∙ ap (λ n. run n 32 g) (let start : 32 * k ≡ 0 + 32 * k = omega arith in start) in
-    rw (take-put_mid (32 * k) m out ws (32 * (k + 1)) end (omega arith), map-append value (take (32 * k) out) ws, before, these, ← next) (sym (run-append g 0 (32 * k) 32))
+    part_written value g out ws (32 * k) m (32 * (k + 1)) (omega arith) (omega (arith, long)) before
+    (is ∙ run_shifted g (λ i. g (32 * k + i)) (32 * k) 0 32 (λ i h. ap (λ j. g (32 * k + j)) (sym (zero-add i))) ∙ ap (λ n. run 0 n (λ i. g (32 * k + i))) (sym long))
+
+-- one more block of at most 32 items
+pub block_written : {T : Type 0} (value : T → ℤ) (g : ℕ → ℤ) (out ws : List T) (k m n e : ℕ) → length out ≡ n → e ≡ min (32 * k + 32) n → 32 * k ≤ n
+    → map value (take (min (32 * k) n) out) ≡ run 0 (min (32 * k) n) g → length ws ≡ e - 32 * k → map value ws ≡ run 0 (length ws) (λ i. g (32 * k + i))
+    → map value (take (min (32 * (k + 1)) n) (put_mid (32 * k) m out ws)) ≡ run 0 (min (32 * (k + 1)) n) g
+block_written value g out ws k m n e size end begun before long is =
+    let first : min (32 * k) n ≡ 32 * k = omega arith in
+    let more : min (32 * (k + 1)) n ≡ 32 * k + length ws = omega (arith, long, end) in
+    part_written value g out ws (32 * k) m (min (32 * (k + 1)) n) (omega (arith, size)) more
+    (ap (λ i. map value (take i out)) (sym first) ∙ before ∙ ap (λ i. run 0 i g) first) is
+
+-- blocks that are not all written yet begin in the row
+pub block_begins : (n k : ℕ) → k < n / 32 + min 1 (n % 32) → 32 * k ≤ n
+block_begins n k h = omega arith
+
+-- and then they end with it
+pub blocks_end : (n k : ℕ) → n / 32 + min 1 (n % 32) ≤ k → min (32 * k) n ≡ n
+blocks_end n k h = omega arith
 
 -- all of what is written
 pub whole_run : {T : Type 0} (value : T → ℤ) (g : ℕ → ℤ) (out : List T) (i n : ℕ) → length out ≡ n → i ≡ n → map value (take i out) ≡ run 0 i g → map value out ≡ run 0 n g

@@ -8,3 +8,5 @@ pub mod Threes
 pub mod Limits
 pub mod Axpy
 pub mod Chosen
+pub mod Pairs
+pub mod MatrixRows

@@ -23,6 +23,9 @@
 //! - `ranks`, `gradients`: the kernels of nine samples
 //! - `threes`: sums and means of three rows of numbers that aren't negative
 //! - `axpy`: a coefficient times a row of bytes, added to sums
+//! - `matrix_rows`: sums of rows of samples, each times a coefficient of a matrix, by `pairs` of
+//!   coefficients
+//! - `scales`: numbers over a power of two, rounded toward zero and clamped
 //! - `bytes`, `shorts`, `choices`, `depth_lanes`: their arithmetic in lanes
 //!
 //! The kernels and their formulas: a and b are the items, c is what stood in the output, and p
@@ -70,10 +73,12 @@ mod gradients;
 mod item;
 mod items;
 mod kernel;
+mod matrix_rows;
 mod nine;
 mod nine_rows;
 mod occurrences;
 mod overflow;
+mod pairs;
 mod products;
 mod ranks;
 mod rows;
@@ -99,6 +104,7 @@ pub use gradients::{GradientX, GradientY, sobel_x, sobel_y};
 pub use item::{Item, Short};
 pub use items::map_items;
 pub use kernel::{LanesOfItem, OfItem, OfPair, OfSum};
+pub use matrix_rows::MatrixRows;
 pub use nine::{OfNine, ThreeItems, write_nine};
 pub use nine_rows::{Nine, Three};
 pub use occurrences::{count_of, first_of};

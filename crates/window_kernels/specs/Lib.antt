@@ -1,3 +1,3 @@
 pub mod Fits
-pub mod Products
+pub mod Turned
 pub mod Examples

@@ -1,0 +1,118 @@
+//! Rows of samples that a matrix lies on.
+ghost use Rattle.std.specs.Prelude.{◌≡◌, ◌+◌, ◌*◌, ◌<◌, ◌≤◌, ◌^◌, ℕ, pos, int_div, map, length};
+ghost use Rattle.std.specs.Prelude.{FitsSigned, All};
+ghost use Rattle.std.specs.Int.{w16};
+ghost use Rattle.std.specs.Simd.Lanes.{Each1};
+ghost use Rattle.vx_base.specs.Image.{run};
+ghost use Rattle.vx_base.specs.Sample.{clamp};
+ghost use Rattle.lane_rows.specs.Pairs.{IsNear, IsPairTable, line_of};
+
+use crate::items::map_items;
+use crate::kernel::LanesOfItem;
+use crate::pairs::add_row;
+use crate::scales::{Clamped, Scale};
+use std::simd::prelude::*;
+
+/// As many rows of U8 samples as a matrix has, and its coefficients.
+#[derive(Drop)]
+pub struct MatrixRows<'a> {
+    /// The rows, one after another.
+    pub rows: &'a [i16],
+    /// How many items a row has.
+    pub line: u16,
+    /// For each row 80 items: pairs of coefficients, each eight times.
+    pub tables: &'a [i16],
+    /// How many rows there are.
+    pub count: u8,
+    /// How many pairs of coefficients a row has.
+    pub pairs: usize,
+    /// The power of two that the sums are divided by.
+    pub exponent: u8,
+    ghost few: { (count ≤ 9) × (pairs ≤ 5) },
+    ghost small: { exponent ≤ 31 },
+    ghost rows_len: { length rows.now ≡ count * line },
+    ghost near: { All (IsNear 255) rows.now },
+    ghost tables_len: { length tables.now ≡ count * 80 },
+    ghost paired: { (l : ℕ) → l < count → IsPairTable pairs (line_of tables.now 80 l) },
+    ghost fits: { All (FitsSigned w16) tables.now },
+}
+
+/// One of the rows that stand one after another.
+fn row_of(items: &[i16], line: u16, l: u8) -> &[i16]
+    requires { l * line + line ≤ length items.now }
+    ensures { result.now ≡ line_of items.now line l }
+{
+    let step = usize::from(line);
+    let start = usize::from(l) * step;
+    &items[start..start + step]
+}
+
+impl MatrixRows<'_> {
+    ghost use Rattle.lane_rows.specs.MatrixRows.{matrix_sum};
+
+    /// Returns the sums at 32 places: at the even places and at the odd ones, counted from the
+    /// given one.
+    fn sum_rows(&self, place: usize) -> (i32x16, i32x16)
+        requires { place + 2 * self.now.pairs + 31 ≤ self.now.line }
+        ensures even { result.0 ≡ run 0 16 (λ i. matrix_sum self.now (place + 2 * i)) }
+        ensures odd { result.1 ≡ run 0 16 (λ i. matrix_sum self.now (place + 1 + 2 * i)) }
+        ensures even_limit { Each1 (IsNear 752025600) result.0 }
+        ensures odd_limit { Each1 (IsNear 752025600) result.1 }
+    {
+        let (mut even, mut odd) = (i32x16::splat(0), i32x16::splat(0));
+        for l in 0..self.count {
+            let (row, table) = (row_of(self.rows, self.line, l), row_of(self.tables, 80, l));
+            let (left, right) = add_row(row, place, table, self.pairs, even, odd);
+            even = left;
+            odd = right;
+        }
+        (even, odd)
+    }
+
+    /// Returns the sums at 32 places.
+    fn sum_block(&self, place: usize) -> [i32; 32]
+        requires { place + 2 * self.now.pairs + 31 ≤ self.now.line }
+        ensures { result ≡ run 0 32 (λ i. matrix_sum self.now (place + i)) }
+    {
+        let (even, odd) = self.sum_rows(place);
+        let (first, second) = even.interleave(odd);
+        let mut sums = [0; 32];
+        first.copy_to_slice(&mut sums[..16]);
+        second.copy_to_slice(&mut sums[16..]);
+        sums
+    }
+
+    /// Writes at most 32 samples, from the given place on.
+    fn write_block<T: Clamped>(&self, place: usize, out: &mut [T])
+        requires few { length out.old ≤ 32 }
+        requires room { place + 41 ≤ self.now.line }
+        ensures { map T.value out.new ≡ run 0 (length out.old) (λ i.
+            clamp T.format (int_div (matrix_sum self.now (place + i))
+            (pos (2 ^ self.now.exponent)))) }
+    {
+        let sums = self.sum_block(place);
+        let scale = Scale {
+            exponent: self.exponent,
+        };
+        if out.len() == 32 {
+            scale.lanes(&sums, out);
+        } else {
+            map_items(&scale, &sums[..out.len()], out);
+        }
+    }
+
+    /// Writes the sums along the rows over 2^exponent, rounded toward zero and clamped. At its last
+    /// place a block reads 48 items to the right of what it writes.
+    pub fn write<T: Clamped>(&self, out: &mut [T])
+        requires { length out.old + 48 ≤ self.now.line }
+        ensures { map T.value out.new ≡ run 0 (length out.old) (λ i.
+            clamp T.format (int_div (matrix_sum self.now i) (pos (2 ^ self.now.exponent)))) }
+    {
+        let count = out.len();
+        for k in 0..count.div_ceil(32) {
+            let first = 32 * k;
+            let end = (first + 32).min(count);
+            self.write_block(first, &mut out[first..end]);
+        }
+    }
+}

@@ -1,0 +1,116 @@
+//! Sums of samples times coefficients, by the processor's multiply-and-add.
+//!
+//! It multiplies 16 numbers by 16 others and adds up the products of each two neighbours. So a
+//! vector of two coefficients in turn gives what both of them add at every second place, and the
+//! same from the next place on what they add at the places between.
+ghost use Rattle.std.specs.Prelude.{◌≡◌, ◌+◌, ◌-◌, ◌*◌, ◌<◌, ◌≤◌, ℕ, ℤ, ◌+ℤ◌, ◌*ℤ◌, length};
+ghost use Rattle.std.specs.Prelude.{FitsSigned};
+ghost use Rattle.std.specs.Int.{w16};
+ghost use Rattle.std.specs.Simd.Lanes.{zip2, chunk, Each1};
+ghost use Rattle.vx_base.specs.Image.{run};
+ghost use Rattle.lane_rows.specs.Pairs.{IsNear, IsPairTable, evens_of, odds_of, alternating};
+ghost use Rattle.lane_rows.specs.Pairs.{pair_at, row_sum};
+
+use std::simd::prelude::*;
+
+/// The products of each two neighbours, added up.
+fn pair_products(samples: i16x16, coefficients: i16x16) -> i32x8
+    requires samples_len { length samples ≡ 16 }
+    requires coefficients_len { length coefficients ≡ 16 }
+    requires limit { Each1 (IsNear 255) samples }
+    requires fits { Each1 (FitsSigned w16) coefficients }
+    ensures value { result ≡ zip2 ◌+ℤ◌ (zip2 ◌*ℤ◌ (evens_of samples) (evens_of coefficients))
+        (zip2 ◌*ℤ◌ (odds_of samples) (odds_of coefficients)) }
+    ensures limit { Each1 (IsNear 16711680) result }
+{
+    samples.swizzle([0, 2, 4, 6, 8, 10, 12, 14]).cast::<i32>()
+        * coefficients
+            .swizzle([0, 2, 4, 6, 8, 10, 12, 14])
+            .cast::<i32>()
+        + samples.swizzle([1, 3, 5, 7, 9, 11, 13, 15]).cast::<i32>()
+            * coefficients
+                .swizzle([1, 3, 5, 7, 9, 11, 13, 15])
+                .cast::<i32>()
+}
+
+/// What two coefficients give at eight places, every second one. They are read from a table, and
+/// here: as vectors that are made before the loop they would be widened there, and then each
+/// product is a multiplication of its own.
+fn eight_places(row: &[i16], place: usize, table: &[i16], at: usize) -> i32x8
+    requires room { place + 16 ≤ length row.now }
+    requires limit { Each1 (IsNear 255) row.now }
+    requires table_room { at + 16 ≤ length table.now }
+    requires fits { Each1 (FitsSigned w16) table.now }
+    ensures value { (a b : ℤ) → chunk at 16 table.now ≡ alternating 8 a b →
+        result ≡ run 0 8 (λ i. pair_at row.now a b (place + 2 * i)) }
+    ensures len { length result ≡ 8 }
+    ensures limit { Each1 (IsNear 16711680) result }
+{
+    let samples = i16x16::from_slice(&row[place..place + 16]);
+    let coefficients = i16x16::from_slice(&table[at..at + 16]);
+    pair_products(samples, coefficients)
+}
+
+/// What two coefficients give at sixteen places, every second one. The halves are joined before
+/// they are added to sums: else the compiler adds the products one by one, and takes two
+/// multiplications for one.
+fn sixteen_places(row: &[i16], place: usize, table: &[i16], at: usize) -> i32x16
+    requires room { place + 32 ≤ length row.now }
+    requires limit { Each1 (IsNear 255) row.now }
+    requires table_room { at + 16 ≤ length table.now }
+    requires fits { Each1 (FitsSigned w16) table.now }
+    ensures value { (a b : ℤ) → chunk at 16 table.now ≡ alternating 8 a b →
+        result ≡ run 0 16 (λ i. pair_at row.now a b (place + 2 * i)) }
+    ensures len { length result ≡ 16 }
+    ensures limit { Each1 (IsNear 16711680) result }
+{
+    let (first, second) = (
+        eight_places(row, place, table, at),
+        eight_places(row, place + 16, table, at),
+    );
+    first.shuffle(
+        second,
+        [0, 1, 2, 3, 4, 5, 6, 7, 8, 9, 10, 11, 12, 13, 14, 15],
+    )
+}
+
+/// The sums at 32 places, with what a row of a matrix adds to them: the even places and the odd
+/// ones, counted from the given one.
+pub fn add_row(
+    row: &[i16],
+    place: usize,
+    table: &[i16],
+    pairs: usize,
+    even: i32x16,
+    odd: i32x16,
+) -> (i32x16, i32x16)
+    requires some { pairs ≤ 45 }
+    requires room { place + 2 * pairs + 31 ≤ length row.now }
+    requires limit { Each1 (IsNear 255) row.now }
+    requires table_len { 16 * pairs ≤ length table.now }
+    requires table { IsPairTable pairs table.now }
+    requires fits { Each1 (FitsSigned w16) table.now }
+    requires even_len { length even ≡ 16 }
+    requires odd_len { length odd ≡ 16 }
+    requires even_limit { Each1 (IsNear ((45 - pairs) * 16711680)) even }
+    requires odd_limit { Each1 (IsNear ((45 - pairs) * 16711680)) odd }
+    ensures even { (f : ℕ → ℤ) → even ≡ run 0 16 f →
+        result.0 ≡ run 0 16 (λ i. f i +ℤ row_sum row.now table.now pairs (place + 2 * i)) }
+    ensures odd { (f : ℕ → ℤ) → odd ≡ run 0 16 f →
+        result.1 ≡ run 0 16 (λ i. f i +ℤ row_sum row.now table.now pairs (place + 1 + 2 * i)) }
+    ensures even_len { length result.0 ≡ 16 }
+    ensures odd_len { length result.1 ≡ 16 }
+    ensures even_limit { (limit : ℕ) → Each1 (IsNear limit) even →
+        Each1 (IsNear (limit + pairs * 16711680)) result.0 }
+    ensures odd_limit { (limit : ℕ) → Each1 (IsNear limit) odd →
+        Each1 (IsNear (limit + pairs * 16711680)) result.1 }
+{
+    let (mut left, mut right) = (even, odd);
+    for j in 0..pairs {
+        let more_left = sixteen_places(row, place + 2 * j, table, 16 * j);
+        let more_right = sixteen_places(row, place + 1 + 2 * j, table, 16 * j);
+        left = left + more_left;
+        right = right + more_right;
+    }
+    (left, right)
+}

@@ -1,5 +1,0 @@
-use Rattle.window_kernels.proofs.SumLaws.{row_cut}
-use Rattle.window_kernels.proofs.products.row_of.Goals as goal
-
-pub returns : goal.returns
-returns c = row_cut c.args.items.now c.from.result c.args.line c.from-step.result c.args.l c.from.ensures c.from-step.ensures
