@@ -26,7 +26,7 @@ mod SampleLaws
 mod DepthLaws
 mod SumLaws
 mod PairNames
-mod BitLaws
+pub mod BitLaws
 mod PairLaws
 mod AddLaws
 mod MatrixSumLaws

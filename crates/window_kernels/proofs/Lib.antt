@@ -1,10 +1,5 @@
 mod Common
-mod BitLaws
-mod PlaceLaws
-mod AddLaws
-mod SumLaws
 mod ProductLaws
-mod ScaleLaws
 mod MatrixLaws
 mod RowLaws
 mod WindowLaws

@@ -6,9 +6,10 @@ use Rattle.std.proofs.lemmas.Simd.{get_or-chunk}
 use Rattle.vx_base.specs.Convolution.{ConvolutionValue, is_odd_side, coefficient}
 use Rattle.vx_base.specs.Window.{row_product, matrix_product}
 use Rattle.vx_base.proofs.ImageLaws.{get_or-table}
-use Rattle.window_kernels.specs.Products.{turned_tables}
+use Rattle.window_kernels.specs.Turned.{turned_tables}
 use Rattle.window_kernels.proofs.ProductLaws.{sum-same, sum_turned, sum_is_total, pairs_add_up}
-use Rattle.window_kernels.proofs.RowLaws.{part_written, part_fits}
+use Rattle.lane_rows.proofs.RunLaws.{part_written}
+use Rattle.window_kernels.proofs.RowLaws.{part_fits}
 
 -- a side of a matrix
 pub odd_side : (n : ℕ) → IsTrue (is_odd_side n) → (0 < n) × (n ≤ 9) × (n ≡ 2 * (n / 2) + 1)

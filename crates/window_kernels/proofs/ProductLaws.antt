@@ -1,19 +1,8 @@
--- Sums of products, and rows of them.
+-- Sums of products.
 use Rattle.std.proofs.Common.{◌≡◌, ℕ, ℤ, pos, zero, suc, ◌+◌, ◌-◌, ◌*◌, ◌<◌, List, [], ◌∷◌, ◌++◌, length, map, take, get_or, set, refl, ap, ◌+ℤ◌, ◌∙◌, sym, arith, zero-add, add-one, to_z, of_z, w32, ◌*ℤ◌}
-use Rattle.window_kernels.proofs.Common.{ints, take_more_set, run, IsUpTo, sum_of_first, row_sum, pair_at, first_of_pair, second_of_pair}
-use Rattle.std.proofs.lemmas.List.{map_push, map_more}
+use Rattle.window_kernels.proofs.Common.{ints, run, sum_of_first, row_sum, pair_at, first_of_pair, second_of_pair}
 use Rattle.vx_base.proofs.TableLaws.{run-more}
 use Rattle.vx_base.specs.Window.{total}
-
--- a sum is what its bits say
-pub sum_of_bits : (sum : ℤ) → IsUpTo 752025600 sum → to_z w32 (of_z w32 sum) ≡ sum
-sum_of_bits sum small = omega (arith, ints)
-
--- one more item is what a function gives of another row's
-pub item_mapped : {S T : Type 0} (value : T → ℤ) (f : S → ℤ) (items : List S) (out : List T) (i : ℕ) (d : S) (z : T) → map value (take i out) ≡ map f (take i items) → i < length out → i < length items → value z ≡ f (get_or items i d) → map value (take (i + 1) (set out i z)) ≡ map f (take (i + 1) items)
-item_mapped value f items out i d z before room below is = rw (take_more_set out i z room, map_push value (take i out) z, before, is) (sym (map_more f items i d below))
-
--- ---- sums
 
 plus_assoc : (x y z : ℤ) → x +ℤ (y +ℤ z) ≡ (x +ℤ y) +ℤ z
 plus_assoc x y z = omega (arith, ints)

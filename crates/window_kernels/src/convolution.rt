@@ -1,11 +1,9 @@
 //! Images that are convolved by a matrix.
-ghost use Rattle.std.specs.Prelude.{◌≡◌, ◌+◌, ◌-◌, ◌*◌, ◌/◌, ◌%◌, ◌<◌, ◌≤◌, ◌^◌, ◌+ℤ◌, ◌-ℤ◌, ℕ};
-ghost use Rattle.std.specs.Prelude.{pos, unsigned_abs, int_div, min, map, length, FitsSigned, All};
-ghost use Rattle.std.specs.Prelude.{IsTrue};
+ghost use Rattle.std.specs.Prelude.{◌≡◌, ◌+◌, ◌*◌, ◌/◌, ◌<◌, ◌≤◌, ◌+ℤ◌, ◌-ℤ◌};
+ghost use Rattle.std.specs.Prelude.{pos, min, length, FitsSigned, All, IsTrue, refl};
 ghost use Rattle.std.specs.Int.{w16};
 ghost use Rattle.std.specs.Simd.Lanes.{Each1};
 ghost use Rattle.vx_base.specs.declared.format.Format.TheVariants.{U8};
-ghost use Rattle.vx_base.specs.Sample.{clamp};
 ghost use Rattle.vx_base.specs.Convolution.{is_odd_side};
 ghost use Rattle.vx_base.specs.Image.{run, table};
 ghost use Rattle.vx_base.specs.Node.{IsBorder};
@@ -14,58 +12,27 @@ ghost use Rattle.image_core.specs.Fits.{HaveSameSize};
 ghost use Rattle.image_core.specs.Target.{written, IsTarget, Writes};
 ghost use Rattle.window_kernels.specs.declared.pieces.TheConstants.{PIECE};
 ghost use Rattle.window_kernels.specs.Fits.{ConvolutionFits};
-ghost use Rattle.window_kernels.specs.Products.{IsUpTo, AreUpTo, alternating, sum_of_rows, turned};
-ghost use Rattle.window_kernels.specs.Products.{turned_pairs, turned_tables};
+ghost use Rattle.lane_rows.specs.Pairs.{IsNear, alternating};
+ghost use Rattle.window_kernels.specs.Turned.{turned, turned_pairs, turned_tables};
 
 use crate::pieces::PIECE;
-use crate::products::sum_block;
+use crate::windows::RowSample;
 use border_rows::{load_row, window_valid};
-use image_core::{Image, ImageMut, RowFormula, Sample};
-use vx_base::{Border, Convolution, Format, Policy, Rect, narrow_s16, narrow_u8};
+use image_core::{Image, ImageMut, RowFormula};
+use lane_rows::{Clamped, MatrixRows};
+use vx_base::{Border, Convolution, Format, Rect};
 
-/// U8 and S16 samples, to which numbers are clamped.
-trait Clamped: Sample {
-    fn clamped(number: i32) -> Self
-        ensures { Self.value result ≡ clamp Self.format number };
+/// Samples that convolution writes: U8 and S16.
+trait Convolved: RowSample + Clamped {
+    ghost same_format: { Self.Clamped.format ≡ Self.Sample.format };
 }
 
-impl Clamped for u8 {
-    fn clamped(number: i32) -> u8 {
-        narrow_u8(number, Policy::Saturate)
-    }
+impl Convolved for u8 {
+    ghost same_format = { refl };
 }
 
-impl Clamped for i16 {
-    fn clamped(number: i32) -> i16 {
-        narrow_s16(number, Policy::Saturate)
-    }
-}
-
-/// A sum over 2^exponent, rounded to zero: a shift rounds down, so a sum below 0 is raised before.
-fn scaled(sum: i32, exponent: u8) -> i32
-    requires size { unsigned_abs sum ≤ 752025600 }
-    requires exponent { exponent ≤ 31 }
-    ensures { result ≡ int_div sum (pos (2 ^ exponent)) }
-{
-    let rest = ((1u32 << exponent) - 1) as i32;
-    if sum < 0 {
-        (sum + rest) >> exponent
-    } else {
-        sum >> exponent
-    }
-}
-
-/// Writes the sums over 2^exponent, rounded to zero and clamped.
-fn write_scaled<T: Clamped>(exponent: u8, sums: &[i32], out: &mut [T])
-    requires len { length sums.now ≡ length out.old }
-    requires size { AreUpTo 752025600 sums.now }
-    requires exponent { exponent ≤ 31 }
-    ensures { map T.value out.new ≡ map (λ sum.
-        clamp T.format (int_div sum (pos (2 ^ exponent)))) sums.now }
-{
-    for (i, sample) in out.iter_mut().enumerate() {
-        *sample = T::clamped(scaled(sums[i], exponent));
-    }
+impl Convolved for i16 {
+    ghost same_format = { refl };
 }
 
 /// A coefficient of a row of the matrix turned by half; 0 in the columns after its last.
@@ -165,7 +132,7 @@ impl FromMatrix<'_, '_> {
         ensures value { line.new ≡ run x (length line.old)
             (λ c. look self.now.image.now self.now.border
             (pos c -ℤ pos (self.now.convolution.now.columns / 2)) row) }
-        ensures limit { Each1 (IsUpTo 255) line.new }
+        ensures limit { Each1 (IsNear 255) line.new }
     {
         let _limits = self.image.valid();
         has_constant(self.border);
@@ -184,7 +151,7 @@ impl FromMatrix<'_, '_> {
             (λ c l. look self.now.image.now self.now.border
             (pos (x + c) -ℤ pos (self.now.convolution.now.columns / 2))
             (pos y +ℤ pos (self.now.convolution.now.rows / 2) -ℤ pos l)) }
-        ensures limit { Each1 (IsUpTo 255) rows.new }
+        ensures limit { Each1 (IsNear 255) rows.new }
     {
         let step = usize::from(line);
         let count = self.convolution.rows();
@@ -194,53 +161,10 @@ impl FromMatrix<'_, '_> {
             self.load_line(x, row, &mut rows[start..start + step]);
         }
     }
-
-    /// Writes at most 32 samples of a row whose windows are loaded. Of a whole block the compiler
-    /// knows how many there are, and scales them without a loop.
-    fn write_block<T: Clamped>(&self, rows: &[i16], line: u16, place: usize, out: &mut [T])
-        requires few { length out.old ≤ 32 }
-        requires rows { length rows.now ≡ self.now.convolution.now.rows * line }
-        requires room { place + 41 ≤ line }
-        requires limit { Each1 (IsUpTo 255) rows.now }
-        ensures { map T.value out.new ≡ run 0 (length out.old)
-            (λ i. clamp T.format (int_div
-            (sum_of_rows rows.now line self.now.tables.now
-            (self.now.convolution.now.columns / 2 + 1) self.now.convolution.now.rows (place + i))
-            (pos (2 ^ self.now.convolution.now.exponent)))) }
-    {
-        let count = self.convolution.rows();
-        let pairs = usize::from(self.convolution.columns()) / 2 + 1;
-        let sums = sum_block(rows, line, self.tables, count, pairs, place);
-        let exponent = self.convolution.exponent();
-        if out.len() == 32 {
-            write_scaled(exponent, &sums, out);
-        } else {
-            write_scaled(exponent, &sums[..out.len()], out);
-        }
-    }
-
-    /// Writes a row whose windows are loaded.
-    fn write_blocks<T: Clamped>(&self, rows: &[i16], line: u16, out: &mut [T])
-        requires rows { length rows.now ≡ self.now.convolution.now.rows * line }
-        requires room { length out.old + 48 ≤ line }
-        requires limit { Each1 (IsUpTo 255) rows.now }
-        ensures { map T.value out.new ≡ run 0 (length out.old)
-            (λ i. clamp T.format (int_div
-            (sum_of_rows rows.now line self.now.tables.now
-            (self.now.convolution.now.columns / 2 + 1) self.now.convolution.now.rows i)
-            (pos (2 ^ self.now.convolution.now.exponent)))) }
-    {
-        let count = out.len();
-        for k in 0..count.div_ceil(32) {
-            let first = 32 * k;
-            let end = (first + 32).min(count);
-            self.write_block(rows, line, first, &mut out[first..end]);
-        }
-    }
 }
 
-impl<T: Clamped> RowFormula<T, i16> for FromMatrix<'_, '_> {
-    ghost at = { λ s x y. convolved s.convolution.now T.format (look s.image.now s.border)
+impl<T: Convolved> RowFormula<T, i16> for FromMatrix<'_, '_> {
+    ghost at = { λ s x y. convolved s.convolution.now T.Sample.format (look s.image.now s.border)
         (pos x) (pos y) };
 
     ghost area = { λ s. s.area };
@@ -260,15 +184,24 @@ impl<T: Clamped> RowFormula<T, i16> for FromMatrix<'_, '_> {
     fn fill(&self, x: u16, y: u16, scratch: &mut [i16], out: &mut [T]) {
         let _limits = self.image.valid();
         let line = (out.len() + AROUND) as u16;
-        let rows = &mut scratch[..usize::from(self.convolution.rows()) * usize::from(line)];
+        let count = self.convolution.rows();
+        let rows = &mut scratch[..usize::from(count) * usize::from(line)];
         self.load_rows(x, y, line, rows);
-        self.write_blocks(rows, line, out);
+        let matrix = MatrixRows {
+            rows,
+            line,
+            tables: self.tables,
+            count,
+            pairs: usize::from(self.convolution.columns()) / 2 + 1,
+            exponent: self.convolution.exponent(),
+        };
+        matrix.write(out);
     }
 }
 
 /// Writes what the matrix gives of a U8 image to another of its size, with scratch memory for what
 /// the windows of a piece of a row see.
-fn write_convolved<T: Clamped>(
+fn write_convolved<T: Convolved>(
     image: &Image<'_>,
     convolution: &Convolution,
     output: &mut ImageMut<'_>,
@@ -278,9 +211,9 @@ fn write_convolved<T: Clamped>(
     requires target { IsTarget output.old }
     requires size { HaveSameSize (written output.old) image.now }
     requires input_format { image.now.format ≡ U8 }
-    requires format { (written output.old).format ≡ T.format }
+    requires format { (written output.old).format ≡ T.Sample.format }
     requires scratch { 9 * (min image.now.width PIECE + 48) ≤ length scratch.old }
-    ensures { Writes (from_matrix T.format convolution.now border image.now) output.old output.new }
+    ensures { Writes (from_matrix T.Sample.format convolution.now border image.now) output.old output.new }
 {
     let (columns, rows) = (convolution.columns() / 2, convolution.rows() / 2);
     let area = window_valid(border, u16::from(columns), u16::from(rows), image.valid());

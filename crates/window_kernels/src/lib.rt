@@ -7,9 +7,9 @@
 //! of nine shifted slices at once (`InPlace`), or down the columns and then across three of their
 //! sums (`means`). The first and the last sample of a row, whose windows may lie beside the valid
 //! columns, are computed one by one. `convolve` loads what the windows of a piece of a row see, with
-//! what counts beside the image, and sums up the products with two coefficients at once, at 32
-//! places (`products`), so that no scratch memory of its grows with the width of images (`pieces`).
-//! No function takes memory. `examples` works the definitions out in numbers, and `laws` states what
+//! what counts beside the image, for the kernel of lane_rows that lays the matrix on rows
+//! (`MatrixRows`), so that no scratch memory of its grows with the width of images (`pieces`). No
+//! function takes memory. `examples` works the definitions out in numbers, and `laws` states what
 //! the median means.
 #![tactic(auto)]
 
@@ -19,7 +19,6 @@ mod gradients;
 pub mod laws;
 mod means;
 mod pieces;
-mod products;
 mod ranks;
 mod windows;
 

@@ -1,5 +1,5 @@
 use Rattle.std.proofs.Common.{◌≡◌, ◌∙◌, ◌/◌, ◌-ℤ◌, ap, sym, subst, pos, length, arith, w32, map-id}
-use Rattle.window_kernels.proofs.Common.{Each1, to_z-of_z, run, look, IsUpTo}
+use Rattle.window_kernels.proofs.Common.{Each1, to_z-of_z, run, look, IsNear}
 use Rattle.window_kernels.proofs.RowLaws.{looks_up_to}
 use Rattle.window_kernels.proofs.convolution.FromMatrix.load_line.Goals as goal
 
@@ -15,5 +15,5 @@ returns-clause-value c =
 pub returns-clause-limit : goal.returns-clause-limit
 returns-clause-limit c =
     let s = c.args.self.now in
-    subst (Each1 (IsUpTo 255)) (sym (returns-clause-value c))
+    subst (Each1 (IsNear 255)) (sym (returns-clause-value c))
     (looks_up_to s.image.now s.border (s.convolution.now.columns / 2) c.args.row c.args.x (length c.args.line.now) c.valid-limits.ensures.image s.format c.requires.columns c.requires.rows c.has_constant.ensures)

@@ -1,5 +1,5 @@
 use Rattle.std.proofs.Common.{◌≡◌, ◌∙◌, ◌+◌, ◌*◌, ◌/◌, ◌<◌, ◌+ℤ◌, ◌-ℤ◌, ap, sym, subst, pos, length, map, take, arith, map-id, take_all}
-use Rattle.window_kernels.proofs.Common.{Each1, table, look, row_fits, IsUpTo}
+use Rattle.window_kernels.proofs.Common.{Each1, table, look, row_fits, IsNear}
 use Rattle.vx_base.proofs.TableLaws.{row_written, length_part}
 use Rattle.window_kernels.proofs.RowLaws.{row_fits_too, row_in_bits, line_seen}
 use Rattle.window_kernels.proofs.convolution.FromMatrix.load_rows.Goals as goal
@@ -25,7 +25,7 @@ loop-l-preserved c =
       value = row_written (λ z. z) line m.rows l (first * step) _ (λ c' i. f (pos (c.args.x + c') -ℤ pos (m.columns / 2)) (pos c.args.y +ℤ pos (m.rows / 2) -ℤ pos i)) c.loop-l.rows c.load_line.new.line size below at long
           (ap (λ n. map (λ z. z) (take n c.loop-l.rows)) at ∙ c.loop-l.invariant.value)
           (line_seen f c.load_line.new.line c.args.x _ line (m.columns / 2) c.args.y (m.rows / 2) l _ c.load_line.ensures.value part row);
-      limit = row_fits_too (IsUpTo 255) c.loop-l.rows c.load_line.new.line line l first step _ c.loop-l.invariant.limit at long (omega (arith, size, row_fits line m.rows l below)) c.load_line.ensures.limit;
+      limit = row_fits_too (IsNear 255) c.loop-l.rows c.load_line.new.line line l first step _ c.loop-l.invariant.limit at long (omega (arith, size, row_fits line m.rows l below)) c.load_line.ensures.limit;
     }
 
 pub returns-clause-value : goal.returns-clause-value
@@ -44,4 +44,4 @@ returns-clause-limit c =
     let m = c.args.self.now.convolution.now in
     let end : c.loop-l.l ≡ m.rows = omega (arith, c.loop-l-test.false, c.loop-l.auto.l-end, c.rows-count.ensures.value) in
     let all : length c.loop-l.rows ≡ c.loop-l.l * c.args.line = c.loop-l.auto.rows ∙ c.requires.len ∙ ap (λ n. n * c.args.line) (sym end) in
-    subst (Each1 (IsUpTo 255)) (take_all (c.loop-l.l * c.args.line) c.loop-l.rows (omega (arith, all))) c.loop-l.invariant.limit
+    subst (Each1 (IsNear 255)) (take_all (c.loop-l.l * c.args.line) c.loop-l.rows (omega (arith, all))) c.loop-l.invariant.limit
