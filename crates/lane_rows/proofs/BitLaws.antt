@@ -1,9 +1,11 @@
 -- Signed lanes as bits, and as the numbers that the bits say.
 use Rattle.std.proofs.Common.{rules, ◌≡◌, ℕ, ℤ, pos, zero, suc, ◌+◌, ◌*◌, ◌%◌, ◌<◌, ◌≤◌, List, [], ◌∷◌, ◌++◌, map, length, get_or, take, drop, ◌-◌, refl, ap, ◌∙◌, sym, subst, arith, w16, w32, FitsSigned, to_z, of_z, ◌+ℤ◌, ◌*ℤ◌, unsigned_abs, take-take, length-append}
 use Rattle.lane_rows.proofs.PairNames.{range_with_len, zip2, Each1, pick_l, chunk, ints, to_z-of_z, fits_signed_from_abs, Each1-chunk, map-append, length-map, evens_of, odds_of, IsNear}
-use Rattle.std.proofs.lemmas.Int.{of_z-to_z, wrapping_add_is, wrapping_mul_is, int_wrap_fits, unsigned_abs-mul}
+use Rattle.std.proofs.lemmas.Int.{of_z-to_z, wrapping_add_is, int_wrap_fits, unsigned_abs-mul}
 use Rattle.std.proofs.lemmas.Nat.{mul-le}
 use Rattle.std.proofs.lemmas.Simd.{pick_l_whole, Each1-weaker, length-zip2}
+use Rattle.lane_rows.proofs.Lanewise.{each_of}
+use Rattle.lane_rows.proofs.ShortLaws.{of_bits, wider, abs_16, left_of_32, times_lane}
 use mir.Syntax.{Width}
 
 -- ---- lanes at positions
@@ -49,29 +51,19 @@ byte_fits z near = fits_signed_from_abs w16 z (omega arith)
 pub fits_32 : (z : ℤ) → IsNear 752025600 z → FitsSigned w32 z
 fits_32 z near = fits_signed_from_abs w32 z (omega arith)
 
-wider : (x : ℤ) → FitsSigned w16 x → FitsSigned w32 x
-wider x p = search (rules, ints)
-
-abs_16 : (x : ℤ) → FitsSigned w16 x → unsigned_abs x ≤ 32768
-abs_16 x p = first_of (omega (arith, ints), search (rules, ints), grind (arith, ints))
-
 product_up_to : (a b : ℤ) → IsNear 255 a → FitsSigned w16 b → IsNear 8355840 (a *ℤ b)
 product_up_to a b near fits =
     let bound : unsigned_abs a * unsigned_abs b ≤ 255 * 32768 = mul-le (unsigned_abs a) (unsigned_abs b) 255 32768 near (abs_16 b fits) in
     rw (unsigned_abs-mul a b) (omega arith)
 
 pub products_up_to : (xs ys : List ℤ) → Each1 (IsNear 255) xs → Each1 (FitsSigned w16) ys → Each1 (IsNear 8355840) (zip2 ◌*ℤ◌ xs ys)
-products_up_to [] ys ps qs = tt
-products_up_to (x ∷ xs) [] ps qs = tt
-products_up_to (x ∷ xs) (y ∷ ys) ps qs = (product_up_to x y ps.0 qs.0, products_up_to xs ys ps.1 qs.1)
+products_up_to xs ys ps qs = each_of (IsNear 255) (FitsSigned w16) (IsNear 8355840) ◌*ℤ◌ xs ys ps qs product_up_to
 
 pub sum_up_to : (m n : ℕ) (x y : ℤ) → IsNear m x → IsNear n y → IsNear (m + n) (x +ℤ y)
 sum_up_to m n x y p q = omega (arith, ints)
 
 pub sums_up_to : (m n : ℕ) (xs ys : List ℤ) → Each1 (IsNear m) xs → Each1 (IsNear n) ys → Each1 (IsNear (m + n)) (zip2 ◌+ℤ◌ xs ys)
-sums_up_to m n [] ys ps qs = tt
-sums_up_to m n (x ∷ xs) [] ps qs = tt
-sums_up_to m n (x ∷ xs) (y ∷ ys) ps qs = (sum_up_to m n x y ps.0 qs.0, sums_up_to m n xs ys ps.1 qs.1)
+sums_up_to m n xs ys ps qs = each_of (IsNear m) (IsNear n) (IsNear (m + n)) ◌+ℤ◌ xs ys ps qs (sum_up_to m n)
 
 pub up_to_more : (m n : ℕ) (xs : List ℤ) → m ≤ n → Each1 (IsNear m) xs → Each1 (IsNear n) xs
 up_to_more m n xs le ps = Each1-weaker (IsNear m) (IsNear n) (λ z p. omega arith) xs ps
@@ -81,28 +73,15 @@ each_fits_32 xs ps = Each1-weaker (IsNear 752025600) (FitsSigned w32) fits_32 xs
 
 -- ---- arithmetic on bits
 
--- numbers that fit are what their bits say
-pub of_bits : (w : Width) (xs : List ℤ) → Each1 (FitsSigned w) xs → map (to_z w) (map (of_z w) xs) ≡ xs
-of_bits w [] ps = refl
-of_bits w (x ∷ xs) ps = cc (to_z-of_z w x ps.0, of_bits w xs ps.1)
-
 -- a cast to wider lanes keeps the numbers
 pub widened : (xs : List ℤ) → Each1 (FitsSigned w16) xs → map (λ a. of_z w32 (to_z w16 a)) (map (of_z w16) xs) ≡ map (of_z w32) xs
 widened [] ps = refl
 widened (x ∷ xs) ps = cc (ap (of_z w32) (to_z-of_z w16 x ps.0), widened xs ps.1)
 
-left_of_32 : (n : ℕ) → n % 4294967296 < 4294967296
-left_of_32 n = omega arith
-
 plus_lane : (x y : ℤ) → FitsSigned w32 x → FitsSigned w32 y → FitsSigned w32 (x +ℤ y) → (of_z w32 x + of_z w32 y) % 4294967296 ≡ of_z w32 (x +ℤ y)
 plus_lane x y p q r =
     sym (of_z-to_z w32 ((of_z w32 x + of_z w32 y) % 4294967296) (left_of_32 (of_z w32 x + of_z w32 y)))
     ∙ ap (of_z w32) (wrapping_add_is w32 x y p q ∙ int_wrap_fits w32 (x +ℤ y) r)
-
-times_lane : (x y : ℤ) → FitsSigned w32 x → FitsSigned w32 y → FitsSigned w32 (x *ℤ y) → (of_z w32 x * of_z w32 y) % 4294967296 ≡ of_z w32 (x *ℤ y)
-times_lane x y p q r =
-    sym (of_z-to_z w32 ((of_z w32 x * of_z w32 y) % 4294967296) (left_of_32 (of_z w32 x * of_z w32 y)))
-    ∙ ap (of_z w32) (wrapping_mul_is w32 x y p q ∙ int_wrap_fits w32 (x *ℤ y) r)
 
 pub plus_bits : (xs ys : List ℤ) → Each1 (FitsSigned w32) xs → Each1 (FitsSigned w32) ys → Each1 (FitsSigned w32) (zip2 ◌+ℤ◌ xs ys) → zip2 (λ a b. (a + b) % 4294967296) (map (of_z w32) xs) (map (of_z w32) ys) ≡ map (of_z w32) (zip2 ◌+ℤ◌ xs ys)
 plus_bits [] ys ps qs rs = refl

@@ -1,12 +1,12 @@
 -- Bit depths: samples times a power of two, and over one.
 use Rattle.std.proofs.Common.{◌≡◌, ℕ, ℤ, pos, negsuc, suc, ◌-◌, ◌*◌, ◌%◌, ◌^◌, ◌<◌, ◌≤◌, ◌*ℤ◌, int_lt, unsigned_abs, List, [], ◌∷◌, length, map, Bool, true, false, cond, w8, w16, Fits, FitsSigned, to_z, of_z, bit_and, refl, ap, ◌∙◌, sym, subst, arith, map-id}
-use Rattle.std.specs.Int.{int_div_euclid}
+use Rattle.std.specs.Int.{int_div_euclid, int_min, int_max}
 use Rattle.lane_rows.proofs.Common.{shr_z, Each1, ints, clamps, nat_tests, pow-le-pow_right, mod-eq_of_lt, to_z_pos, to_z-of_z, U8, Wrap, Saturate, narrow, top}
 use Rattle.std.proofs.lemmas.Nat.{and_mask}
 use Rattle.std.specs.Int.Signed.{mag_shr}
-use Rattle.lane_rows.proofs.Lanewise.{Lanewise, one, constant, each, both, chosen, items_are, each_is}
-use lib.Dec.{T}
-use lib.Signed.{non_neg}
+use Rattle.lane_rows.proofs.LaneLaws.{chosen_w16}
+use Rattle.lane_rows.proofs.NarrowLaws.{IsByte, nearest, nearest_at, raised_first, clamped_is_byte}
+use Rattle.lane_rows.proofs.Lanewise.{Lanewise, one, constant, each, both, items_are, numbers_are, each_is}
 
 product_below : (p a : ℕ) → p ≤ 128 → a < 256 → a * p < 32768
 product_below p a small byte = grind arith
@@ -54,27 +54,18 @@ downs s = both down (each (of_z w16) one) (constant s)
 abbrev pub lefts : ℕ → Lanewise ℤ ℤ ℕ
 lefts s = both bit_and (downs s) (constant 255)
 
-abbrev less : ℕ → ℕ → ℕ
-less a b = cond (int_lt (to_z w16 a) (to_z w16 b)) 65535 0
-
-abbrev raised_ones : ℕ → Lanewise ℤ ℤ ℕ
-raised_ones s = chosen (top 15) (both less (downs s) (constant 0)) (constant 0) (downs s)
-
 -- the nearest number of eight bits
 abbrev pub nearest_ones : ℕ → Lanewise ℤ ℤ ℕ
-nearest_ones s = chosen (top 15) (both less (raised_ones s) (constant 255)) (raised_ones s) (constant 255)
+nearest_ones s = nearest w16 (top 15) 65535 0 255 (downs s)
 
--- a number as one without a sign, and that it is one of eight bits
+-- a number as one without a sign
 abbrev pub natural : ℕ → ℕ
 natural x = unsigned_abs (to_z w16 x)
-
-abbrev pub IsByte : ℕ → Type 0
-IsByte x = T (non_neg (to_z w16 x)) × Fits w8 (unsigned_abs (to_z w16 x))
 
 bytes : (m : ℕ) → m < 256 → to_z w16 m ≡ pos m
 bytes m small = to_z_pos w16 m (omega (arith, small))
 
-is_byte : (m : ℕ) → m < 256 → IsByte m
+is_byte : (m : ℕ) → m < 256 → IsByte (to_z w16 m)
 is_byte m small = rw (bytes m small) (tt, record { fits = small })
 
 natural_is : (m : ℕ) → m < 256 → natural m ≡ m
@@ -105,63 +96,28 @@ masked_below n = let e : n % 256 < 256 = omega arith in subst (λ m. m < 256) (s
 left_is : (y : ℤ) → FitsSigned w16 y → pos (natural (bit_and (of_z w16 y) 255)) ≡ narrow U8 Wrap y
 left_is y f = ap pos (natural_is (bit_and (of_z w16 y) 255) (masked_below (of_z w16 y)) ∙ and_mask (of_z w16 y) 8) ∙ rest_of y f
 
-abbrev picked : Bool → ℕ → ℕ → ℕ
-picked t x y = cond (top 15 (cond t 65535 0)) x y
-
-abbrev raised : ℕ → ℕ
-raised x = picked (int_lt (to_z w16 x) (pos 0)) 0 x
-
-abbrev lowered : ℕ → ℕ
-lowered x = picked (int_lt (to_z w16 x) (pos 255)) x 255
-
-below_least : (y : ℤ) → int_lt y (pos 0) ≡ true → pos 0 ≡ narrow U8 Saturate y
-below_least y low = grind (arith, ints, clamps, low)
-
-within : (y : ℤ) → int_lt y (pos 0) ≡ false → int_lt y (pos 255) ≡ true → pos (unsigned_abs y) ≡ narrow U8 Saturate y
-within y low high = grind (arith, ints, clamps, low, high)
-
-from_greatest : (y : ℤ) → int_lt y (pos 0) ≡ false → int_lt y (pos 255) ≡ false → pos 255 ≡ narrow U8 Saturate y
-from_greatest y low high = grind (arith, ints, clamps, low, high)
-
-nearest_by : (a b : Bool) (y : ℤ) → int_lt y (pos 0) ≡ a → int_lt y (pos 255) ≡ b → FitsSigned w16 y → pos (natural (lowered (picked a 0 (of_z w16 y)))) ≡ narrow U8 Saturate y
-nearest_by true b y low high f = below_least y low
-nearest_by false true y low high f = rw (to_z-of_z w16 y f, high, to_z-of_z w16 y f) (within y low high)
-nearest_by false false y low high f = rw (to_z-of_z w16 y f, high) (from_greatest y low high)
-
-nearest_is : (y : ℤ) → FitsSigned w16 y → pos (natural (lowered (raised (of_z w16 y)))) ≡ narrow U8 Saturate y
-nearest_is y f = rw (to_z-of_z w16 y f) (nearest_by (int_lt y (pos 0)) (int_lt y (pos 255)) y refl refl f)
-
-small_bits : (y : ℤ) → int_lt y (pos 0) ≡ false → int_lt y (pos 255) ≡ true → of_z w16 y < 256
-small_bits (pos n) low high = grind (arith, nat_tests, ints, high)
-small_bits (negsuc n) low high = absurd (cc low)
-
-below_by : (a b : Bool) (y : ℤ) → int_lt y (pos 0) ≡ a → int_lt y (pos 255) ≡ b → FitsSigned w16 y → lowered (picked a 0 (of_z w16 y)) < 256
-below_by true b y low high f = let e : 0 < 256 = omega arith in e
-below_by false true y low high f = rw (to_z-of_z w16 y f, high) (small_bits y low high)
-below_by false false y low high f = rw (to_z-of_z w16 y f, high) (omega arith)
-
-nearest_below : (y : ℤ) → FitsSigned w16 y → lowered (raised (of_z w16 y)) < 256
-nearest_below y f = rw (to_z-of_z w16 y f) (below_by (int_lt y (pos 0)) (int_lt y (pos 255)) y refl refl f)
+nearest_is : (z : ℤ) (s k : ℕ) → s ≡ k → FitsSigned w16 z → to_z w16 ((nearest_ones s).at z z) ≡ narrow U8 Saturate (over k z)
+nearest_is z s k is f =
+    nearest_at w16 (top 15) 65535 chosen_w16 (down (of_z w16 z) s) 0 255
+    ∙ ap (λ y. int_min (int_max (pos 0) y) (pos 255)) (ap (to_z w16) (down_is z s k is f) ∙ to_z-of_z w16 (over k z) (over_fits k z f)) ∙ (raised_first (over k z)).0
 
 -- ---- in lanes
 
 module _ (s k : ℕ) (zs : List ℤ) (is : s ≡ k) (long : length zs ≡ 32) (ps : Each1 (FitsSigned w16) zs) where
-  pub lefts_fit : Each1 IsByte ((lefts s).all 32 zs zs)
-  lefts_fit = each_is (lefts s) (FitsSigned w16) (FitsSigned w16) IsByte 32 zs zs long long ps ps (λ x y p q. is_byte (bit_and (down (of_z w16 x) s) 255) (masked_below (down (of_z w16 x) s)))
+  pub lefts_fit : Each1 (λ x. IsByte (to_z w16 x)) ((lefts s).all 32 zs zs)
+  lefts_fit = each_is (lefts s) (FitsSigned w16) (FitsSigned w16) (λ x. IsByte (to_z w16 x)) 32 zs zs long long ps ps (λ x y p q. is_byte (bit_and (down (of_z w16 x) s) 255) (masked_below (down (of_z w16 x) s)))
 
-  pub nearest_fit : Each1 IsByte ((nearest_ones s).all 32 zs zs)
+  pub nearest_fit : Each1 (λ x. IsByte (to_z w16 x)) ((nearest_ones s).all 32 zs zs)
   nearest_fit =
-      each_is (nearest_ones s) (FitsSigned w16) (FitsSigned w16) IsByte 32 zs zs long long ps ps
-      (λ x y p q. is_byte (lowered (raised (down (of_z w16 x) s))) (subst (λ n. lowered (raised n) < 256) (sym (down_is x s k is p)) (nearest_below (over k x) (over_fits k x p))))
+      each_is (nearest_ones s) (FitsSigned w16) (FitsSigned w16) (λ x. IsByte (to_z w16 x)) 32 zs zs long long ps ps
+      (λ x y p q. subst IsByte (sym (nearest_is x s k is p)) (clamped_is_byte (over k x)).0)
 
   pub lefts_are : map pos ((each natural (lefts s)).all 32 zs zs) ≡ map (λ z. narrow U8 Wrap (over k z)) zs
   lefts_are =
-      items_are (each natural (lefts s)) (FitsSigned w16) pos (λ z. z) (λ z. narrow U8 Wrap (over k z)) 32 zs long ps
+      numbers_are (each natural (lefts s)) (FitsSigned w16) pos (λ z. narrow U8 Wrap (over k z)) 32 zs long ps
       (λ z p. ap (λ n. pos (natural (bit_and n 255))) (down_is z s k is p) ∙ left_is (over k z) (over_fits k z p))
-      ∙ ap (map (λ z. narrow U8 Wrap (over k z))) (map-id zs)
 
   pub nearest_are : map pos ((each natural (nearest_ones s)).all 32 zs zs) ≡ map (λ z. narrow U8 Saturate (over k z)) zs
   nearest_are =
-      items_are (each natural (nearest_ones s)) (FitsSigned w16) pos (λ z. z) (λ z. narrow U8 Saturate (over k z)) 32 zs long ps
-      (λ z p. ap (λ n. pos (natural (lowered (raised n)))) (down_is z s k is p) ∙ nearest_is (over k z) (over_fits k z p))
-      ∙ ap (map (λ z. narrow U8 Saturate (over k z))) (map-id zs)
+      numbers_are (each natural (nearest_ones s)) (FitsSigned w16) pos (λ z. narrow U8 Saturate (over k z)) 32 zs long ps
+      (λ z p. ap (λ y. pos (unsigned_abs y)) (nearest_is z s k is p) ∙ (clamped_is_byte (over k z)).1)

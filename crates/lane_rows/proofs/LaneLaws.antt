@@ -1,38 +1,20 @@
--- What is computed in lanes, lane by lane.
+-- What is computed of numbers without a sign, lane by lane.
 use Rattle.std.proofs.Common.{◌≡◌, ℕ, ℤ, pos, zero, suc, ◌*◌, ◌/◌, ◌%◌, ◌^◌, ◌<◌, List, [], ◌∷◌, length, map, Bool, true, false, cond, min, ltb, w8, Fits, replicate, refl, ap, ◌∙◌, sym, subst, arith, bit_and}
 use Rattle.lane_rows.proofs.Common.{zip2, Each1, sel_l, ints, clamps, U8, Wrap, Saturate, narrow, top}
 use Rattle.std.proofs.lemmas.Nat.{and_mask}
+use Rattle.std.proofs.lemmas.Simd.{map-map}
+use Rattle.lane_rows.proofs.Lanewise.{Lanewise, one, other, constant, each, both, chosen, same_pairs}
 
--- ---- one operation after another
+-- products of bytes in 16 bits, over a power of two
+abbrev pub products : ℕ → Lanewise ℕ ℕ ℕ
+products s = both (λ x e. x / 2 ^ e) (both (λ x y. (x * y) % 65536) (each (λ x. x) one) (each (λ x. x) other)) (constant s)
 
-pub in_pairs : (h g : ℕ → ℕ → ℕ) (w : ℕ → ℕ) (f : ℕ → ℕ → ℕ) (k : ℕ) → ((x y : ℕ) → Fits w8 x → Fits w8 y → h (g (w x) (w y)) k ≡ f x y)
-    → (n : ℕ) (xs ys : List ℕ) → length xs ≡ n → Each1 (Fits w8) xs → Each1 (Fits w8) ys → zip2 h (zip2 g (map w xs) (map w ys)) (replicate n k) ≡ zip2 f xs ys
-in_pairs h g w f k same n [] ys long ps qs = refl
-in_pairs h g w f k same n (x ∷ xs) [] long ps qs = refl
-in_pairs h g w f k same zero (x ∷ xs) (y ∷ ys) long ps qs = absurd (omega (arith, long))
-in_pairs h g w f k same (suc n) (x ∷ xs) (y ∷ ys) long ps qs = cc (same x y ps.0 qs.0, in_pairs h g w f k same n xs ys (omega (arith, long)) ps.1 qs.1)
+-- the smaller of a number and 255, and the last eight bits of a number
+abbrev pub clamped_ones : Lanewise ℕ ℕ ℕ
+clamped_ones = chosen (top 15) (both (λ x y. cond (ltb x y) 65535 0) one (constant 255)) one (constant 255)
 
-pub chosen_each : (c : ℕ → ℕ) (t : ℕ → Bool) (m : ℕ → ℕ → ℕ) (f : ℕ → ℕ) (k : ℕ) → ((x : ℕ) → c (cond (t (m x k)) x k) ≡ f x)
-    → (n : ℕ) (xs : List ℕ) → length xs ≡ n → map c (sel_l (map t (zip2 m xs (replicate n k))) xs (replicate n k)) ≡ map f xs
-chosen_each c t m f k same n [] long = refl
-chosen_each c t m f k same zero (x ∷ xs) long = absurd (omega (arith, long))
-chosen_each c t m f k same (suc n) (x ∷ xs) long = cc (same x, chosen_each c t m f k same n xs (omega (arith, long)))
-
-pub each_chosen : (P : ℕ → Type 0) (t : ℕ → Bool) (m : ℕ → ℕ → ℕ) (k : ℕ) → ((x : ℕ) → P (cond (t (m x k)) x k))
-    → (n : ℕ) (xs : List ℕ) → length xs ≡ n → Each1 P (sel_l (map t (zip2 m xs (replicate n k))) xs (replicate n k))
-each_chosen P t m k all n [] long = tt
-each_chosen P t m k all zero (x ∷ xs) long = absurd (omega (arith, long))
-each_chosen P t m k all (suc n) (x ∷ xs) long = (all x, each_chosen P t m k all n xs (omega (arith, long)))
-
-pub left_each : (c : ℕ → ℕ) (m : ℕ → ℕ → ℕ) (f : ℕ → ℕ) (k : ℕ) → ((x : ℕ) → c (m x k) ≡ f x) → (n : ℕ) (xs : List ℕ) → length xs ≡ n → map c (zip2 m xs (replicate n k)) ≡ map f xs
-left_each c m f k same n [] long = refl
-left_each c m f k same zero (x ∷ xs) long = absurd (omega (arith, long))
-left_each c m f k same (suc n) (x ∷ xs) long = cc (same x, left_each c m f k same n xs (omega (arith, long)))
-
-pub each_left : (P : ℕ → Type 0) (m : ℕ → ℕ → ℕ) (k : ℕ) → ((x : ℕ) → P (m x k)) → (n : ℕ) (xs : List ℕ) → length xs ≡ n → Each1 P (zip2 m xs (replicate n k))
-each_left P m k all n [] long = tt
-each_left P m k all zero (x ∷ xs) long = absurd (omega (arith, long))
-each_left P m k all (suc n) (x ∷ xs) long = (all x, each_left P m k all n xs (omega (arith, long)))
+abbrev pub wrapped_ones : Lanewise ℕ ℕ ℕ
+wrapped_ones = both bit_and one (constant 255)
 
 -- ---- at one lane
 
@@ -69,9 +51,7 @@ wrapped_fits x = let e : x % 256 < 256 = omega arith in subst (Fits w8) (sym (wr
 -- ---- pairs
 
 pub numbers : (g : ℤ → ℤ) (h : ℕ → ℕ → ℕ) (f : ℤ → ℤ → ℤ) → ((x y : ℕ) → g (pos (h x y)) ≡ f (pos x) (pos y)) → (xs ys : List ℕ) → map g (map pos (zip2 h xs ys)) ≡ zip2 f (map pos xs) (map pos ys)
-numbers g h f same [] ys = refl
-numbers g h f same (x ∷ xs) [] = refl
-numbers g h f same (x ∷ xs) (y ∷ ys) = cc (same x y, numbers g h f same xs ys)
+numbers g h f same xs ys = map-map g pos (zip2 h xs ys) ∙ same_pairs (λ n. g (pos n)) pos pos h f same xs ys
 
 -- ---- numbers that become bytes
 

@@ -1,8 +1,8 @@
 mod Common
 mod RowLaws
 mod BlockLaws
-mod LaneLaws
 mod Lanewise
+mod LaneLaws
 mod ScaleLaws
 mod ByteLaws
 mod DigitLaws

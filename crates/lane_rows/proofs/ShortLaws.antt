@@ -6,6 +6,7 @@ use Rattle.std.proofs.lemmas.Nat.{mul-le, mul-mod}
 use Rattle.std.proofs.Math.Facts.{Fits-of_z}
 use Rattle.lane_rows.proofs.ScaleLaws.{shift_fits}
 use Rattle.lane_rows.proofs.DigitLaws.{recast}
+use Rattle.lane_rows.proofs.Lanewise.{Lanewise, one, other, constant, each, both, lanes_are, each_is, each_of, map-zip2}
 use Rattle.lane_rows.proofs.QuarterLaws.{written_out, length-exchanged, exchanged-map, exchanged-zip2, Each1-exchanged, exchanged_in_lanes}
 use mir.Val.{bits}
 
@@ -61,10 +62,10 @@ product_size a b p q =
 pub size_fits : (z : ℤ) → unsigned_abs z ≤ 1073741824 → FitsSigned w32 z
 size_fits z small = fits_signed_from_abs w32 z (omega (arith, small))
 
-left_of_32 : (n : ℕ) → n % 4294967296 < 4294967296
+pub left_of_32 : (n : ℕ) → n % 4294967296 < 4294967296
 left_of_32 n = omega arith
 
-times_lane : (x y : ℤ) → FitsSigned w32 x → FitsSigned w32 y → FitsSigned w32 (x *ℤ y) → (of_z w32 x * of_z w32 y) % 4294967296 ≡ of_z w32 (x *ℤ y)
+pub times_lane : (x y : ℤ) → FitsSigned w32 x → FitsSigned w32 y → FitsSigned w32 (x *ℤ y) → (of_z w32 x * of_z w32 y) % 4294967296 ≡ of_z w32 (x *ℤ y)
 times_lane x y p q r =
     sym (of_z-to_z w32 ((of_z w32 x * of_z w32 y) % 4294967296) (left_of_32 (of_z w32 x * of_z w32 y)))
     ∙ ap (of_z w32) (wrapping_mul_is w32 x y p q ∙ int_wrap_fits w32 (x *ℤ y) r)
@@ -117,19 +118,19 @@ high_halves n xs ys =
     map (λ z. of_z w16 (to_z w32 z)) (zip2 (λ z k. of_z w32 (shr_z (to_z w32 z) (2 ^ k)))
     (zip2 (λ x y. (x * y) % 4294967296) (map (λ x. of_z w32 (to_z w16 x)) xs) (map (λ y. of_z w32 (to_z w16 y)) ys)) (replicate n 16))
 
-halves_joined : (n : ℕ) (us vs : List ℤ) → length us ≡ n → length vs ≡ n → Each1 (FitsSigned w16) us → Each1 (FitsSigned w16) vs
-    → zip2 (λ x y. x + 65536 * y) (low_halves (map (of_z w16) us) (map (of_z w16) vs)) (high_halves n (map (of_z w16) us) (map (of_z w16) vs)) ≡ map (of_z w32) (zip2 ◌*ℤ◌ us vs)
-halves_joined n [] vs p q f g = refl
-halves_joined n (a ∷ us) [] p q f g = refl
-halves_joined zero (a ∷ us) (b ∷ vs) p q f g = absurd (omega (arith, p))
-halves_joined (suc n) (a ∷ us) (b ∷ vs) p q f g =
-    let one = two_halves a b f.0 g.0 in
-    cc (one, halves_joined n us vs (omega (arith, p)) (omega (arith, q)) f.1 g.1)
+-- the products in 32 bits, shifted; and both halves joined
+abbrev pub shifted : Lanewise ℤ ℤ ℕ
+shifted = both (λ z k. of_z w32 (shr_z (to_z w32 z) (2 ^ k))) (both (λ x y. (x * y) % 4294967296) (each (λ x. of_z w32 (to_z w16 x)) (each (of_z w16) one)) (each (λ x. of_z w32 (to_z w16 x)) (each (of_z w16) other))) (constant 16)
+
+abbrev halves : Lanewise ℤ ℤ ℕ
+halves = both (λ x y. x + 65536 * y) (both (λ x y. (x * y) % 65536) (each (of_z w16) one) (each (of_z w16) other)) (each (λ z. of_z w16 (to_z w32 z)) shifted)
+
+halves_joined : (us vs : List ℤ) → length us ≡ 16 → length vs ≡ 16 → Each1 (FitsSigned w16) us → Each1 (FitsSigned w16) vs
+    → zip2 (λ x y. x + 65536 * y) (low_halves (map (of_z w16) us) (map (of_z w16) vs)) (high_halves 16 (map (of_z w16) us) (map (of_z w16) vs)) ≡ map (of_z w32) (zip2 ◌*ℤ◌ us vs)
+halves_joined us vs p q f g = lanes_are halves (FitsSigned w16) (FitsSigned w16) (λ a b. of_z w32 (a *ℤ b)) 16 us vs p q f g two_halves ∙ sym (map-zip2 (of_z w32) ◌*ℤ◌ us vs)
 
 pub products_fit : (us vs : List ℤ) → Each1 (FitsSigned w16) us → Each1 (FitsSigned w16) vs → Each1 (FitsSigned w32) (zip2 ◌*ℤ◌ us vs)
-products_fit [] vs f g = tt
-products_fit (a ∷ us) [] f g = tt
-products_fit (a ∷ us) (b ∷ vs) f g = (size_fits (a *ℤ b) (product_size a b f.0 g.0), products_fit us vs f.1 g.1)
+products_fit us vs f g = each_of (FitsSigned w16) (FitsSigned w16) (FitsSigned w32) ◌*ℤ◌ us vs f g (λ a b p q. size_fits (a *ℤ b) (product_size a b p q))
 
 each_below : (w : Width) (zs : List ℤ) → Each1 (FitsSigned w) zs → Each1 (λ x. x < 2 ^ bits w) (map (of_z w) zs)
 each_below w [] f = tt
@@ -146,12 +147,8 @@ high_fits a b p q =
     let fits = size_fits (a *ℤ b) size in
     rw (product_bits a b p q, to_z-of_z w32 (a *ℤ b) fits, to_z-of_z w32 (shr_z (a *ℤ b) 65536) (shift_fits (a *ℤ b) 65536 fits)) (shifted_fits (a *ℤ b) size)
 
-pub halves_fit : (n : ℕ) (us vs : List ℤ) → length us ≡ n → Each1 (FitsSigned w16) us → Each1 (FitsSigned w16) vs
-    → Each1 (λ z. FitsSigned w16 (to_z w32 z)) (zip2 (λ z k. of_z w32 (shr_z (to_z w32 z) (2 ^ k))) (zip2 (λ x y. (x * y) % 4294967296) (map (λ x. of_z w32 (to_z w16 x)) (map (of_z w16) us)) (map (λ y. of_z w32 (to_z w16 y)) (map (of_z w16) vs))) (replicate n 16))
-halves_fit n [] vs p f g = tt
-halves_fit n (a ∷ us) [] p f g = tt
-halves_fit zero (a ∷ us) (b ∷ vs) p f g = absurd (omega (arith, p))
-halves_fit (suc n) (a ∷ us) (b ∷ vs) p f g = (high_fits a b f.0 g.0, halves_fit n us vs (omega (arith, p)) f.1 g.1)
+pub halves_fit : (us vs : List ℤ) → length us ≡ 16 → length vs ≡ 16 → Each1 (FitsSigned w16) us → Each1 (FitsSigned w16) vs → Each1 (λ z. FitsSigned w16 (to_z w32 z)) (shifted.all 16 us vs)
+halves_fit us vs p q f g = each_is shifted (FitsSigned w16) (FitsSigned w16) (λ z. FitsSigned w16 (to_z w32 z)) 16 us vs p q f g high_fits
 
 length-low : (xs ys : List ℕ) → length xs ≡ 16 → length ys ≡ 16 → length (low_halves xs ys) ≡ 16
 length-low xs ys p q = length-zip2 (λ x y. (x * y) % 65536) xs ys (p ∙ sym q) ∙ p
@@ -182,7 +179,7 @@ products_are us vs p q f g =
     let whole : number_l 65536 (weave (exchanged (low_halves xs ys)) (exchanged (high_halves 16 xs ys))) ≡ number_l 4294967296 (map (of_z w32) (exchanged zs)) =
     joined (exchanged (low_halves xs ys)) (exchanged (high_halves 16 xs ys))
     ∙ ap (number_l 4294967296)
-    (sym (exchanged-zip2 0 0 (λ x y. x + 65536 * y) (low_halves xs ys) (high_halves 16 xs ys) low_long high_long) ∙ ap exchanged (halves_joined 16 us vs p q f g) ∙ exchanged-map (pos 0) (of_z w32) zs long) in
+    (sym (exchanged-zip2 0 0 (λ x y. x + 65536 * y) (low_halves xs ys) (high_halves 16 xs ys) low_long high_long) ∙ ap exchanged (halves_joined us vs p q f g) ∙ exchanged-map (pos 0) (of_z w32) zs long) in
     ap (λ l. map (to_z w32) (in_bytes l)) (woven (low_halves xs ys) (high_halves 16 xs ys) low_long high_long)
     ∙ ap (map (to_z w32)) (recast 65536 4294967296 64 16 (weave (exchanged (low_halves xs ys)) (exchanged (high_halves 16 xs ys))) (map (of_z w32) (exchanged zs)) whole bits_long (each_below w32 (exchanged zs) fits) refl)
     ∙ of_bits w32 (exchanged zs) fits

@@ -3,18 +3,15 @@ use Rattle.std.proofs.Common.{◌≡◌, inl, inr, ℕ, ℤ, pos, negsuc, suc, �
 use Rattle.std.specs.Int.{int_div_euclid}
 use Rattle.lane_rows.proofs.Common.{zip2, Each1, length-zip2, sel_l, number_l, digits_l, ints, clamps, cases_lt, to_z-of_z, to_z_pos, S16, Saturate, narrow, top}
 use Rattle.vx_base.specs.Pixelwise.{accumulated, accumulated_square}
-use Rattle.lane_rows.proofs.LaneLaws.{product_lane, chosen_w16, smaller_lane}
+use Rattle.lane_rows.proofs.LaneLaws.{products, product_lane, chosen_w16, smaller_lane}
 use Rattle.lane_rows.proofs.DigitLaws.{recast}
 use Rattle.lane_rows.proofs.NarrowLaws.{nearest_fits}
 use Rattle.lane_rows.proofs.Lanewise.{Lanewise, one, other, constant, each, both, chosen, items_are, pairs_are, each_is}
 
 -- ---- squares
 
-abbrev pub squares : ℕ → Lanewise ℕ ℕ ℕ
-squares s = both (λ x e. x / 2 ^ e) (both (λ x y. (x * y) % 65536) (each (λ x. x) one) (each (λ x. x) one)) (constant s)
-
-pub squares_are : (s k : ℕ) (xs : List ℕ) → s ≡ k → (length xs ≡ 16) × Each1 (Fits w8) xs → map pos ((squares s).all 16 xs xs) ≡ map (λ a. int_div_euclid (a *ℤ a) (pos (2 ^ k))) (map pos xs)
-squares_are s k xs is p = items_are (squares s) (Fits w8) pos pos (λ a. int_div_euclid (a *ℤ a) (pos (2 ^ k))) 16 xs p.0 p.1 (λ x f. ap pos (product_lane x x s k is f f))
+pub squares_are : (s k : ℕ) (xs : List ℕ) → s ≡ k → (length xs ≡ 16) × Each1 (Fits w8) xs → map pos ((products s).all 16 xs xs) ≡ map (λ a. int_div_euclid (a *ℤ a) (pos (2 ^ k))) (map pos xs)
+squares_are s k xs is p = items_are (products s) (Fits w8) pos pos (λ a. int_div_euclid (a *ℤ a) (pos (2 ^ k))) 16 xs p.0 p.1 (λ x f. ap pos (product_lane x x s k is f f))
 
 -- ---- room for more
 

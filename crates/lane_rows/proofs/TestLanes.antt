@@ -3,7 +3,7 @@ use Rattle.std.proofs.Common.{◌≡◌, ℕ, ℤ, pos, int_lt, int_le, ◌&&◌
 use Rattle.lane_rows.proofs.Common.{Each1, ints, nat_tests, to_z-of_z, top}
 use Rattle.vx_base.specs.declared.threshold.ThresholdKind.TheVariants.{Binary, Range}
 use Rattle.lane_rows.specs.Chosen as spec
-use Rattle.lane_rows.proofs.Lanewise.{Lanewise, one, constant, each, both, chosen, items_are}
+use Rattle.lane_rows.proofs.Lanewise.{Lanewise, one, constant, each, both, chosen, numbers_are}
 
 abbrev pub less : ℕ → ℕ → ℕ
 less a b = cond (int_lt (to_z w16 a) (to_z w16 b)) 65535 0
@@ -22,7 +22,7 @@ abbrev pub row : Lanewise ℤ ℤ ℕ
 row = each (of_z w16) one
 
 pub chosen_are : (e : Lanewise ℤ ℤ ℕ) (f : ℤ → ℤ) (zs : List ℤ) → length zs ≡ 32 → Each1 (FitsSigned w16) zs → ((z : ℤ) → FitsSigned w16 z → pos (e.at z z) ≡ f z) → map pos (e.all 32 zs zs) ≡ map f zs
-chosen_are e f zs p ps at = items_are e (FitsSigned w16) pos (λ z. z) f 32 zs p ps at ∙ ap (map f) (map-id zs)
+chosen_are e f zs p ps at = numbers_are e (FitsSigned w16) pos f 32 zs p ps at
 
 -- ---- at one lane
 

@@ -1,6 +1,7 @@
 use Rattle.std.proofs.Common.{◌≡◌, ℕ, ℤ, ◌+◌, ◌-◌, ◌≤◌, List, length, map, take, drop, ap, ◌∙◌, sym, subst, w16, w32, FitsSigned, to_z, of_z, ◌+ℤ◌, ◌*ℤ◌}
 use Rattle.lane_rows.proofs.PairNames.{Each1, chunk, zip2, Each1-chunk, length-chunk, IsNear, evens_of, odds_of}
-use Rattle.lane_rows.proofs.BitLaws.{loaded, bytes_fit, product_fits, of_bits}
+use Rattle.lane_rows.proofs.BitLaws.{loaded, bytes_fit, product_fits}
+use Rattle.lane_rows.proofs.ShortLaws.{of_bits}
 use Rattle.lane_rows.proofs.PairLaws.{eight_along}
 use Rattle.lane_rows.proofs.pairs.eight_places.Goals as goal
 
