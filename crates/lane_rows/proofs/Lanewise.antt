@@ -96,7 +96,7 @@ pub pairs_are : {A B C D E F : Type 0} (e : Lanewise A B C) (P : A → Type 0) (
     → length xs ≡ n → length ys ≡ n → Each1 P xs → Each1 Q ys → ((a : A) (b : B) → P a → Q b → u (e.at a b) ≡ f (v a) (w b)) → map u (e.all n xs ys) ≡ zip2 f (map v xs) (map w ys)
 pairs_are e P Q u v w f n xs ys p q ps qs at = ap (map u) (e.same n xs ys p q) ∙ alike P Q u v w e.at f xs ys ps qs at
 
-alike_lanes : {A B C : Type 0} (P : A → Type 0) (Q : B → Type 0) (g f : A → B → C) (xs : List A) (ys : List B) → Each1 P xs → Each1 Q ys → ((a : A) (b : B) → P a → Q b → g a b ≡ f a b) → zip2 g xs ys ≡ zip2 f xs ys
+pub alike_lanes : {A B C : Type 0} (P : A → Type 0) (Q : B → Type 0) (g f : A → B → C) (xs : List A) (ys : List B) → Each1 P xs → Each1 Q ys → ((a : A) (b : B) → P a → Q b → g a b ≡ f a b) → zip2 g xs ys ≡ zip2 f xs ys
 alike_lanes P Q g f [] ys ps qs at = refl
 alike_lanes P Q g f (x ∷ xs) [] ps qs at = refl
 alike_lanes P Q g f (x ∷ xs) (y ∷ ys) ps qs at = cc (at x y ps.0 qs.0, alike_lanes P Q g f xs ys ps.1 qs.1 at)

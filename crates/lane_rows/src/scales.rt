@@ -41,7 +41,7 @@ pub fn scaled_lanes(numbers: i32x16, exponent: u8) -> i32x16
 }
 
 /// Returns sixteen numbers of a row.
-fn sixteen(row: &[i32]) -> i32x16
+pub fn sixteen(row: &[i32]) -> i32x16
     requires { length row.now ≡ 16 }
     ensures value { result ≡ row.now }
     ensures fits { Each1 (FitsSigned w32) result }
