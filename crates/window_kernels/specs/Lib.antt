@@ -1,3 +1,4 @@
 pub mod Fits
 pub mod Products
 pub mod Examples
+pub mod ByColumns

@@ -1,20 +1,85 @@
 //! The least, the greatest and the middle one of the nine samples around a place.
+ghost use Rattle.std.specs.Int.{int_min, int_max};
 ghost use Rattle.vx_base.specs.declared.format.Format.TheVariants.{U8};
 ghost use Rattle.vx_base.specs.Window.{least_of, greatest_of, median, from_nine};
 ghost use Rattle.image_core.specs.Target.{Writes};
 ghost use Rattle.window_kernels.specs.Fits.{WindowFits};
+ghost use Rattle.window_kernels.specs.ByColumns.{least_is_least, greatest_is_greatest};
 
-use crate::windows::{InPlace, write_windows};
+use crate::columns::{Across, ByColumns, OfThree};
+use crate::windows::{OfWindow, with_scratch, write_windows};
 use image_core::{Image, ImageMut};
-use lane_rows::{Greatest, Least, Median};
-use vx_base::Border;
+use lane_rows::{Median, Nine, OfNine, ThreeItems, median9};
+use vx_base::{Border, GREATEST_SIDE};
+
+/// The least of three samples.
+#[derive(Drop)]
+struct Least;
+
+impl OfThree<u8, u8> for Least {
+    ghost formula = { λ a b c. int_min (int_min a b) c };
+
+    fn item(first: u8, second: u8, third: u8) -> u8 {
+        first.min(second).min(third)
+    }
+}
+
+impl Across<u8, u8, Least> for Least {
+    ghost of_nine = { least_of };
+
+    ghost is_of_nine = { least_is_least };
+}
+
+/// The greatest of three samples.
+#[derive(Drop)]
+struct Greatest;
+
+impl OfThree<u8, u8> for Greatest {
+    ghost formula = { λ a b c. int_max (int_max a b) c };
+
+    fn item(first: u8, second: u8, third: u8) -> u8 {
+        first.max(second).max(third)
+    }
+}
+
+impl Across<u8, u8, Greatest> for Greatest {
+    ghost of_nine = { greatest_of };
+
+    ghost is_of_nine = { greatest_is_greatest };
+}
+
+impl OfWindow<u8, u8> for Median {
+    ghost use Rattle.std.specs.Prelude.{ℕ};
+
+    ghost formula = { λ _. median };
+
+    ghost room = { 0 };
+
+    fn item(&self, above: ThreeItems, here: ThreeItems, below: ThreeItems) -> u8 {
+        OfNine::item(self, above, here, below)
+    }
+
+    fn write_row(
+        &self,
+        above: &[u8],
+        here: &[u8],
+        below: &[u8],
+        _scratch: &mut [u8],
+        out: &mut [u8],
+    ) {
+        median9(&Nine::around(above, here, below), out);
+    }
+}
 
 /// Writes the least of the nine samples (OpenVX 1.3, "Erode Image"); both images are U8.
 pub fn erode3(image: &Image<'_>, output: &mut ImageMut<'_>, border: Border)
     requires { WindowFits U8 image.now output.old }
     ensures { Writes (from_nine U8 least_of border image.now) output.old output.new }
 {
-    write_windows::<u8, _>(&InPlace(Least), image, output, border, &mut []);
+    let (kernel, _limits) = (ByColumns(Least, Least), image.valid());
+    with_scratch!(image.desc().width(), 0, columns => {
+        write_windows::<u8, u8, _>(&kernel, image, output, border, columns)
+    })
 }
 
 /// Writes the greatest of the nine samples (OpenVX 1.3, "Dilate Image"); both images are U8.
@@ -22,7 +87,10 @@ pub fn dilate3(image: &Image<'_>, output: &mut ImageMut<'_>, border: Border)
     requires { WindowFits U8 image.now output.old }
     ensures { Writes (from_nine U8 greatest_of border image.now) output.old output.new }
 {
-    write_windows::<u8, _>(&InPlace(Greatest), image, output, border, &mut []);
+    let (kernel, _limits) = (ByColumns(Greatest, Greatest), image.valid());
+    with_scratch!(image.desc().width(), 0, columns => {
+        write_windows::<u8, u8, _>(&kernel, image, output, border, columns)
+    })
 }
 
 /// Writes the median of the nine samples (OpenVX 1.3, "Median Filter"); both images are U8.
@@ -30,5 +98,5 @@ pub fn median3(image: &Image<'_>, output: &mut ImageMut<'_>, border: Border)
     requires { WindowFits U8 image.now output.old }
     ensures { Writes (from_nine U8 median border image.now) output.old output.new }
 {
-    write_windows::<u8, _>(&InPlace(Median), image, output, border, &mut []);
+    write_windows::<u8, u8, _>(&Median, image, output, border, &mut []);
 }
