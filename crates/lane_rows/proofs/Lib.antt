@@ -19,6 +19,7 @@ mod TallyLaws
 pub mod RunLaws
 pub mod MedianLaws
 mod NineLaws
+mod ChoiceLaws
 mod GradientLaws
 mod AxpyLaws
 mod ThreeLaws

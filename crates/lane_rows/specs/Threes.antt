@@ -1,5 +1,6 @@
 -- Rows of numbers from 0 to a limit, three of which are added up.
-use Rattle.std.specs.Prelude.{ℕ, ℤ, pos, ◌≤ℤ◌, List, [], ◌∷◌, slice_index_or}
+use Rattle.std.specs.Prelude.{ℕ, ℤ, pos, ◌≤ℤ◌, List, [], ◌∷◌, map, slice_index_or}
+use Rattle.lane_rows.specs.declared.nine_rows.Three.{Three}
 
 -- from 0 to the limit
 abbrev pub IsUpTo : ℕ → ℤ → Type 0
@@ -17,3 +18,7 @@ AreUpTo limit row = (i : ℕ) → IsUpTo limit (number_at row i)
 abbrev pub zip3 : (ℤ → ℤ → ℤ → ℤ) → List ℤ → List ℤ → List ℤ → List ℤ
 zip3 f (x ∷ xs) (y ∷ ys) (z ∷ zs) = f x y z ∷ zip3 f xs ys zs
 zip3 f xs ys zs = []
+
+-- of the three bytes at a place of three rows the chosen one, by choices of two
+abbrev pub chosen_at : (ℤ → ℤ → ℤ) → Three → ℕ → ℤ
+chosen_at op rows i = op (op (number_at (map pos rows.left.now) i) (number_at (map pos rows.middle.now) i)) (number_at (map pos rows.right.now) i)

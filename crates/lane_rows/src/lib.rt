@@ -110,7 +110,7 @@ pub use nine_rows::{Nine, Three};
 pub use occurrences::{count_of, first_of};
 pub use overflow::{Overflow, Saturated, Wrapped};
 pub use products::{Product, mul_s16, mul_u8};
-pub use ranks::{Greatest, Least, Median, max9, median9, min9};
+pub use ranks::{Greatest, Least, Median, max3, max9, median9, min3, min9};
 pub use rows::{map_row, update_row, zip_rows};
 pub use running::running_sums;
 pub use scales::{Clamped, Scale, scale_s16, scale_u8};

@@ -43,7 +43,7 @@ impl<'a> Three<'a> {
     }
 
     /// The items at one place.
-    fn items(&self, place: usize) -> ThreeItems
+    pub fn items(&self, place: usize) -> ThreeItems
         requires { place < length self.now.left.now }
         ensures { result ≡ three_of self.now place }
     {

@@ -1,6 +1,7 @@
 //! The least, the greatest and the middle one of the nine samples of windows.
-ghost use Rattle.std.specs.Prelude.{◌≡◌, ◌+◌, ◌≤◌, ℕ, ℤ, pos, min, max, map, length, slice_index};
-ghost use Rattle.std.specs.Prelude.{List, [], ◌∷◌};
+ghost use Rattle.std.specs.Prelude.{◌≡◌, ◌+◌, ◌*◌, ◌≤◌, ℕ, ℤ, pos, min, max, map, take, length};
+ghost use Rattle.std.specs.Prelude.{List, [], ◌∷◌, slice_index};
+ghost use Rattle.std.specs.Int.{int_min, int_max};
 ghost use Rattle.std.specs.List.{range_with_len};
 ghost use Rattle.std.specs.Simd.Lanes.{zip2};
 ghost use Rattle.vx_base.specs.Image.{run};
@@ -8,14 +9,19 @@ ghost use Rattle.vx_base.specs.Window.{least_of, greatest_of, median};
 ghost use Rattle.lane_rows.specs.Windows.{nine_at, places};
 ghost use Rattle.lane_rows.specs.Ranks.{chosen_of_nine, middle_of_three, middle_of_nine};
 ghost use Rattle.lane_rows.specs.RankLaws.{least_is_least, greatest_is_greatest};
+ghost use Rattle.lane_rows.specs.RankLaws.{lesser_number, greater_number};
+ghost use Rattle.lane_rows.specs.Threes.{number_at, chosen_at};
 
 use crate::nine::{OfNine, ThreeItems, write_nine};
-use crate::nine_rows::{Nine, ThreeLanes, three_lanes};
+use crate::nine_rows::{Nine, Three, ThreeLanes, three_lanes};
 use std::simd::prelude::*;
 
-/// A kernel that chooses the lesser of two samples, or the greater, and so of nine.
+/// A kernel that chooses the lesser of two samples, or the greater, and so of three and of nine.
 trait Choice {
     ghost choice: { ℕ → ℕ → ℕ };
+
+    /// The same of numbers.
+    ghost of_numbers: { ℤ → ℤ → ℤ };
 
     /// What it chooses of nine.
     ghost of_nine: { List ℤ → ℤ };
@@ -25,6 +31,8 @@ trait Choice {
 
     fn of_two_lanes(a: u8x32, b: u8x32) -> u8x32
         ensures { result ≡ zip2 choice a b };
+
+    ghost same: { (a b : ℕ) → pos (choice a b) ≡ of_numbers (pos a) (pos b) };
 
     ghost is_of_nine: { (a b c d e f g h i : ℕ) → pos (chosen_of_nine choice a b c d e f g h i)
         ≡ of_nine (pos a ∷ pos b ∷ pos c ∷ pos d ∷ pos e ∷ pos f ∷ pos g ∷ pos h ∷ pos i ∷ []) };
@@ -36,6 +44,8 @@ pub struct Least;
 impl Choice for Least {
     ghost choice = { min };
 
+    ghost of_numbers = { int_min };
+
     ghost of_nine = { least_of };
 
     fn of_two(a: u8, b: u8) -> u8 {
@@ -46,6 +56,8 @@ impl Choice for Least {
         a.simd_min(b)
     }
 
+    ghost same = { lesser_number };
+
     ghost is_of_nine = { least_is_least };
 }
 
@@ -54,6 +66,8 @@ pub struct Greatest;
 
 impl Choice for Greatest {
     ghost choice = { max };
+
+    ghost of_numbers = { int_max };
 
     ghost of_nine = { greatest_of };
 
@@ -64,6 +78,8 @@ impl Choice for Greatest {
     fn of_two_lanes(a: u8x32, b: u8x32) -> u8x32 {
         a.simd_max(b)
     }
+
+    ghost same = { greater_number };
 
     ghost is_of_nine = { greatest_is_greatest };
 }
@@ -93,6 +109,32 @@ impl<C: Choice> OfNine<u8> for C {
         let here = chosen_lanes::<C>(three_lanes(&nine.here, place));
         let below = chosen_lanes::<C>(three_lanes(&nine.below, place));
         chosen_lanes::<C>((above, here, below)).copy_to_slice(out);
+    }
+}
+
+/// Writes what is chosen at so many times 32 places of three rows.
+fn choose_blocks<C: Choice>(rows: &Three<'_>, blocks: usize, out: &mut [u8])
+    requires len { length rows.now.left.now ≡ length out.old }
+    requires inside { 32 * blocks ≤ length out.old }
+    ensures { map pos (take (32 * blocks) out.new) ≡ run 0 (32 * blocks)
+        (chosen_at C.of_numbers rows.now) }
+{
+    for k in 0..blocks {
+        let start = 32 * k;
+        let lanes = chosen_lanes::<C>(three_lanes(rows, start));
+        lanes.copy_to_slice(&mut out[start..start + 32]);
+    }
+}
+
+/// Writes what is chosen at each place of three rows.
+fn choose<C: Choice>(rows: &Three<'_>, out: &mut [u8])
+    requires { length rows.now.left.now ≡ length out.old }
+    ensures { map pos out.new ≡ run 0 (length out.old) (chosen_at C.of_numbers rows.now) }
+{
+    let blocks = out.len() / 32;
+    choose_blocks::<C>(rows, blocks, out);
+    for i in 32 * blocks..out.len() {
+        out[i] = chosen::<C>(rows.items(i));
     }
 }
 
@@ -196,4 +238,28 @@ pub fn median9(nine: &Nine<'_>, out: &mut [u8])
     ensures { map pos out.new ≡ run 0 (length out.old) (λ i. median (nine_at nine.now i)) }
 {
     write_nine(&Median, nine, out);
+}
+
+/// Writes the least of the three bytes at each place of three rows.
+pub fn min3(first: &[u8], second: &[u8], third: &[u8], out: &mut [u8])
+    requires first_len { length first.now ≡ length out.old }
+    requires second_len { length second.now ≡ length out.old }
+    requires third_len { length third.now ≡ length out.old }
+    ensures { map pos out.new ≡ run 0 (length out.old) (λ i. int_min (int_min
+        (number_at (map pos first.now) i) (number_at (map pos second.now) i))
+        (number_at (map pos third.now) i)) }
+{
+    choose::<Least>(&Three { left: first, middle: second, right: third }, out);
+}
+
+/// Writes the greatest of the three bytes at each place of three rows.
+pub fn max3(first: &[u8], second: &[u8], third: &[u8], out: &mut [u8])
+    requires first_len { length first.now ≡ length out.old }
+    requires second_len { length second.now ≡ length out.old }
+    requires third_len { length third.now ≡ length out.old }
+    ensures { map pos out.new ≡ run 0 (length out.old) (λ i. int_max (int_max
+        (number_at (map pos first.now) i) (number_at (map pos second.now) i))
+        (number_at (map pos third.now) i)) }
+{
+    choose::<Greatest>(&Three { left: first, middle: second, right: third }, out);
 }

@@ -3,3 +3,4 @@ mod ProductLaws
 mod MatrixLaws
 mod RowLaws
 mod WindowLaws
+mod ChangeLaws

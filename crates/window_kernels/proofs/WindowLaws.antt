@@ -1,7 +1,7 @@
 -- What the windows of rows that are read where they stand give.
 use Rattle.std.proofs.Common.{◌≡◌, ℕ, ℤ, pos, ◌+◌, ◌<◌, ◌+ℤ◌, ◌-ℤ◌, ◌*ℤ◌, ◌*◌, ◌≤◌, zero, suc, List, [], ◌∷◌, ◌++◌, length, map, take, drop, get_or, refl, ap, ◌∙◌, sym, subst, arith, zero-add, replicate, w8, Fits, get_or-drop}
 use Rattle.window_kernels.proofs.Common.{ints, get_or-map, map-append, run, run-append, get_or-run, run_shifted, nine_around}
-use Rattle.std.proofs.lemmas.List.{length-replicate}
+use Rattle.std.proofs.lemmas.List.{drop-map, length-replicate, take-map}
 use Rattle.vx_base.proofs.ZeroLaws.{map-replicate}
 use Rattle.std.proofs.lemmas.Simd.{get_or-chunk}
 use Rattle.vx_base.proofs.TableLaws.{run-same}
@@ -9,6 +9,15 @@ use Rattle.lane_rows.specs.Windows.{nine_from}
 use Rattle.lane_rows.specs.Threes.{IsUpTo, AreUpTo, number_at}
 use Rattle.std.specs.Int.{int_div_euclid}
 use Rattle.vx_base.specs.Window.{box_mean, gaussian_mean}
+
+pub same_three : (f : ℤ → ℤ → ℤ → ℤ) {a b c p q r : ℤ} → a ≡ p → b ≡ q → c ≡ r → f a b c ≡ f p q r
+same_three f x y z = cc (x, y, z)
+
+-- an item of a row, as a number
+pub item_of : {A : Type 0} (value : A → ℤ) (xs : List A) (i : ℕ) (x : A) → i < length xs → x ≡ get_or xs i x → value x ≡ number_at (map value xs) i
+item_of value [] i x below is = absurd (omega (arith, below))
+item_of value (y ∷ ys) zero x below is = ap value is
+item_of value (y ∷ ys) (suc i) x below is = item_of value ys i x (omega (arith, below)) is
 
 pub map-same : {A B : Type 0} (f g : A → B) → ((a : A) → f a ≡ g a) → (xs : List A) → map f xs ≡ map g xs
 map-same f g same [] = refl
@@ -54,7 +63,7 @@ parts_joined value f x n m last xs ys zs one two three to_last whole =
 
 -- ---- down the columns, then across three of them
 
-bytes_at : (row : List ℕ) (i : ℕ) → number_at (map pos row) i ≡ pos (get_or row i 0)
+pub bytes_at : (row : List ℕ) (i : ℕ) → number_at (map pos row) i ≡ pos (get_or row i 0)
 bytes_at row i = get_or-map pos row i 0
 
 pub bytes_up_to : (limit : ℕ) (row : List ℕ) → 255 ≤ limit → ((i : ℕ) → Fits w8 (get_or row i 0)) → AreUpTo limit (map pos row)
@@ -99,6 +108,14 @@ module _ (down across : ℤ → ℤ → ℤ → ℤ) (of_nine : List ℤ → ℤ
           let middle = part_at f m 1 n q i sums is qq (omega arith) (omega arith) ∙ bytes (1 + i) (i + 1) (omega arith) in
           let right = part_at f m 2 n r i sums is rr (omega arith) (omega arith) ∙ bytes (2 + i) (i + 2) (omega arith) in
           cc (left, middle, right, law (pos (get_or above i 0)) (pos (get_or above (i + 1) 0)) (pos (get_or above (i + 2) 0)) (pos (get_or here i 0)) (pos (get_or here (i + 1) 0)) (pos (get_or here (i + 2) 0)) (pos (get_or below i 0)) (pos (get_or below (i + 1) 0)) (pos (get_or below (i + 2) 0)))
+
+  -- the same of what columns give that aren't numbers themselves
+  pub across_columns : {S : Type 0} (value : S → ℤ) (above here below : List ℕ) (m n p q r : ℕ) (columns : List S)
+      → map value columns ≡ run 0 m (λ i. down (number_at (map pos above) i) (number_at (map pos here) i) (number_at (map pos below) i)) → m ≡ n + 2 → p ≡ n → q ≡ n → r ≡ n
+      → run 0 n (λ i. across (number_at (map value (take p (drop 0 columns))) i) (number_at (map value (take q (drop 1 columns))) i) (number_at (map value (take r (drop 2 columns))) i)) ≡ run 0 n (λ i. of_nine (nine_from above here below i))
+  across_columns value above here below m n p q r columns is long pp qq rr =
+      let part : (k a : ℕ) → map value (take k (drop a columns)) ≡ take k (drop a (map value columns)) = λ k a. sym (take-map value k (drop a columns)) ∙ ap (take k) (sym (drop-map value a columns)) in
+      rw (part p 0, part q 1, part r 2) (by_columns above here below m n p q r (map value columns) is long pp qq rr)
 
 -- the sums of columns a d g, b e h and c f i are those of the nine samples
 pub box_is_box : (a b c d e f g h i : ℤ) → int_div_euclid (((a +ℤ d +ℤ g) +ℤ (b +ℤ e +ℤ h)) +ℤ (c +ℤ f +ℤ i)) (pos 9) ≡ box_mean (a ∷ b ∷ c ∷ d ∷ e ∷ f ∷ g ∷ h ∷ i ∷ [])

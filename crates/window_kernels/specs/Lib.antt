@@ -1,3 +1,4 @@
 pub mod Fits
 pub mod Turned
 pub mod Examples
+pub mod ByColumns

@@ -6,10 +6,10 @@ ghost use Rattle.vx_base.specs.Window.{box_mean, gaussian_mean, from_nine};
 ghost use Rattle.image_core.specs.Target.{Writes};
 ghost use Rattle.window_kernels.specs.Fits.{WindowFits};
 
-use crate::windows::{OfWindow, write_windows};
+use crate::windows::{OfWindow, SIDE, with_scratch, write_windows};
 use image_core::{Image, ImageMut};
 use lane_rows::{ThreeItems, ninths, sixteenths, sum3, weighted3};
-use vx_base::{Border, GREATEST_SIDE};
+use vx_base::Border;
 
 /// The sum of three samples.
 fn sum_of(items: ThreeItems) -> u16
@@ -29,7 +29,7 @@ fn weighted_sum_of(items: ThreeItems) -> u16
 
 struct BoxMean;
 
-impl OfWindow<u8> for BoxMean {
+impl OfWindow<u8, i16> for BoxMean {
     ghost formula = { λ _. box_mean };
 
     ghost room = { 1 };
@@ -59,7 +59,7 @@ impl OfWindow<u8> for BoxMean {
 
 struct GaussianMean;
 
-impl OfWindow<u8> for GaussianMean {
+impl OfWindow<u8, i16> for GaussianMean {
     ghost formula = { λ _. gaussian_mean };
 
     ghost room = { 1 };
@@ -88,23 +88,6 @@ impl OfWindow<u8> for GaussianMean {
     }
 }
 
-/// `with_sums!(width, sums => call)` makes the call with `sums` on the stack, for the columns of an
-/// image of this width. It is cleared once, and a small image needs little of it.
-macro_rules! with_sums {
-    ($width:expr, $sums:ident => $call:expr) => {
-        if $width <= 64 {
-            let $sums = &mut [0; 64];
-            $call
-        } else if $width <= 512 {
-            let $sums = &mut [0; 512];
-            $call
-        } else {
-            let $sums = &mut [0; GREATEST_SIDE as usize];
-            $call
-        }
-    };
-}
-
 /// Writes the mean of the nine samples, rounded down (OpenVX 1.3, "Box Filter"); both images are
 /// U8.
 pub fn box3(image: &Image<'_>, output: &mut ImageMut<'_>, border: Border)
@@ -112,8 +95,8 @@ pub fn box3(image: &Image<'_>, output: &mut ImageMut<'_>, border: Border)
     ensures { Writes (from_nine U8 box_mean border image.now) output.old output.new }
 {
     let _limits = image.valid();
-    with_sums!(image.desc().width(), sums => {
-        write_windows::<u8, _>(&BoxMean, image, output, border, sums)
+    with_scratch!(image.desc().width(), [0; SIDE], sums => {
+        write_windows::<u8, i16, _>(&BoxMean, image, output, border, sums)
     })
 }
 
@@ -124,7 +107,7 @@ pub fn gaussian3(image: &Image<'_>, output: &mut ImageMut<'_>, border: Border)
     ensures { Writes (from_nine U8 gaussian_mean border image.now) output.old output.new }
 {
     let _limits = image.valid();
-    with_sums!(image.desc().width(), sums => {
-        write_windows::<u8, _>(&GaussianMean, image, output, border, sums)
+    with_scratch!(image.desc().width(), [0; SIDE], sums => {
+        write_windows::<u8, i16, _>(&GaussianMean, image, output, border, sums)
     })
 }

@@ -1,6 +1,6 @@
 //! Images of the nine samples around each place.
 ghost use Rattle.std.specs.Prelude.{◌≡◌, ◌+◌, ◌*◌, ◌<◌, ◌≤◌, ℕ, ℤ, List, pos, map, length};
-ghost use Rattle.std.specs.Prelude.{replicate, refl};
+ghost use Rattle.std.specs.Prelude.{replicate};
 ghost use Rattle.vx_base.specs.declared.format.Format.TheVariants.{U8};
 ghost use Rattle.vx_base.specs.Image.{run};
 ghost use Rattle.vx_base.specs.Window.{look, nine_around, window_valid, from_nine};
@@ -11,11 +11,11 @@ ghost use Rattle.lane_rows.specs.Windows.{nine_of, nine_from};
 
 use border_rows::{row_in_place, seen_around, value_beside, window_valid};
 use image_core::{Image, ImageMut, RowFormula, Sample, set_all};
-use lane_rows::{Item, Nine, OfNine, ThreeItems, write_nine};
+use lane_rows::ThreeItems;
 use vx_base::{Border, GREATEST_SIDE, Rect};
 
 /// A kernel of the nine samples around a place.
-pub trait OfWindow<T: Sample> {
+pub trait OfWindow<T: Sample, S> {
     /// The sample, from the nine by rows from above to below.
     ghost formula: { Self → List ℤ → ℤ };
 
@@ -26,51 +26,13 @@ pub trait OfWindow<T: Sample> {
         ensures { T.value result ≡ formula self.now (nine_of above here below) };
 
     /// Writes what it gives in the middle of each three columns of three rows.
-    fn write_row(&self, above: &[u8], here: &[u8], below: &[u8], scratch: &mut [i16], out: &mut [T])
+    fn write_row(&self, above: &[u8], here: &[u8], below: &[u8], scratch: &mut [S], out: &mut [T])
         requires above { length above.now ≡ length out.old + 2 }
         requires here { length here.now ≡ length out.old + 2 }
         requires below { length below.now ≡ length out.old + 2 }
         requires scratch { room * length above.now ≤ length scratch.old }
         ensures { map T.value out.new ≡ run 0 (length out.old)
             (λ i. formula self.now (nine_from above.now here.now below.now i)) };
-}
-
-/// Samples that are items of rows: U8 and S16.
-pub trait RowSample: Sample + Item {
-    ghost same: { (z : Self) → Self.Item.value z ≡ Self.Number.value z };
-}
-
-impl RowSample for u8 {
-    ghost same = { λ _. refl };
-}
-
-impl RowSample for i16 {
-    ghost same = { λ _. refl };
-}
-
-/// A kernel that reads nine slices of the rows where they stand, in lanes.
-#[derive(Drop)]
-pub struct InPlace<K>(pub K);
-
-impl<T: RowSample, K: OfNine<T>> OfWindow<T> for InPlace<K> {
-    ghost formula = { λ s. K.formula s.0 };
-
-    ghost room = { 0 };
-
-    fn item(&self, above: ThreeItems, here: ThreeItems, below: ThreeItems) -> T {
-        self.0.item(above, here, below)
-    }
-
-    fn write_row(
-        &self,
-        above: &[u8],
-        here: &[u8],
-        below: &[u8],
-        _scratch: &mut [i16],
-        out: &mut [T],
-    ) {
-        write_nine(&self.0, &Nine::around(above, here, below), out);
-    }
 }
 
 /// A U8 image under a border, and where its windows give something.
@@ -101,9 +63,9 @@ struct FromNine<'a, 'b, K> {
 
 impl<K> FromNine<'_, '_, K> {
     /// Writes the sample at one place.
-    fn write_place<T: Sample>(&self, x: u16, y: u16, out: &mut [T])
+    fn write_place<T: Sample, S>(&self, x: u16, y: u16, out: &mut [T])
     where
-        K: OfWindow<T>,
+        K: OfWindow<T, S>,
         requires rows { self.now.window.now.image.now.valid.y0
             < self.now.window.now.image.now.valid.y1 }
         requires column { (self.now.window.now.image.now.valid.x0 ≤ x) ×
@@ -121,9 +83,9 @@ impl<K> FromNine<'_, '_, K> {
 
     /// Writes the samples of row y to the right of column x, where only valid columns are seen:
     /// from the rows where they stand.
-    fn write_inside<T: Sample>(&self, x: u16, y: u16, scratch: &mut [i16], out: &mut [T])
+    fn write_inside<T: Sample, S>(&self, x: u16, y: u16, scratch: &mut [S], out: &mut [T])
     where
-        K: OfWindow<T>,
+        K: OfWindow<T, S>,
         requires rows { self.now.window.now.image.now.valid.y0
             < self.now.window.now.image.now.valid.y1 }
         requires columns { (self.now.window.now.image.now.valid.x0 ≤ x) ×
@@ -147,7 +109,7 @@ impl<K> FromNine<'_, '_, K> {
     }
 }
 
-impl<T: Sample, K: OfWindow<T>> RowFormula<T, i16> for FromNine<'_, '_, K> {
+impl<T: Sample, S, K: OfWindow<T, S>> RowFormula<T, S> for FromNine<'_, '_, K> {
     ghost at = { λ s x y. K.formula s.kernel.now
         (nine_around (look s.window.now.image.now s.window.now.border) (pos x) (pos y)) };
 
@@ -165,29 +127,29 @@ impl<T: Sample, K: OfWindow<T>> RowFormula<T, i16> for FromNine<'_, '_, K> {
         u16::MAX
     }
 
-    fn fill(&self, x: u16, y: u16, scratch: &mut [i16], out: &mut [T]) {
+    fn fill(&self, x: u16, y: u16, scratch: &mut [S], out: &mut [T]) {
         let (_valid, last) = (self.window.image.valid(), out.len() - 1);
         if last == 0 {
-            self.write_place(x, y, out);
+            self.write_place::<T, S>(x, y, out);
         } else {
             // At the first and the last place there may be columns that aren't valid.
             let (first, others) = out.split_at_mut(1);
             let (inside, end) = others.split_at_mut(last - 1);
-            self.write_place(x, y, first);
+            self.write_place::<T, S>(x, y, first);
             self.write_inside(x, y, scratch, inside);
-            self.write_place(x + last as u16, y, end);
+            self.write_place::<T, S>(x + last as u16, y, end);
         }
     }
 }
 
 /// Writes what the kernel gives, with a row as it is seen where no valid row is.
-fn write_with_rows<T: Sample, K: OfWindow<T>>(
+fn write_with_rows<T: Sample, S, K: OfWindow<T, S>>(
     kernel: &K,
     image: &Image<'_>,
     output: &mut ImageMut<'_>,
     border: Border,
     off_rows: &[u8],
-    scratch: &mut [i16],
+    scratch: &mut [S],
 )
     requires target { IsTarget output.old }
     requires size { HaveSameSize (written output.old) image.now }
@@ -211,17 +173,40 @@ fn write_with_rows<T: Sample, K: OfWindow<T>>(
         kernel,
         window: &window,
     };
-    output.write_by_rows::<T, i16, _>(&formula, scratch);
+    output.write_by_rows::<T, S, _>(&formula, scratch);
 }
 
+/// The greatest width of an image.
+pub const SIDE: usize = GREATEST_SIDE as usize;
+
+/// `with_scratch!(count, [item; most], row => call)` makes the call with `row`, a slice of at least
+/// `count` items on the stack, of which there are at most `most`. They are written once; a small
+/// image needs few of them.
+macro_rules! with_scratch {
+    ($count:expr, [$item:expr; $most:expr], $row:ident => $call:expr) => {
+        if $count <= 64 {
+            let $row = &mut [$item; 64];
+            $call
+        } else if $count <= 512 {
+            let $row = &mut [$item; 512];
+            $call
+        } else {
+            let $row = &mut [$item; $most];
+            $call
+        }
+    };
+}
+
+pub(crate) use with_scratch;
+
 /// Writes what the kernel gives of a U8 image to another of its size. The row that is seen where no
-/// valid row is stands on the stack; a small image needs little of it.
-pub fn write_windows<T: Sample, K: OfWindow<T>>(
+/// valid row is stands on the stack.
+pub fn write_windows<T: Sample, S, K: OfWindow<T, S>>(
     kernel: &K,
     image: &Image<'_>,
     output: &mut ImageMut<'_>,
     border: Border,
-    scratch: &mut [i16],
+    scratch: &mut [S],
 )
     requires target { IsTarget output.old }
     requires size { HaveSameSize (written output.old) image.now }
@@ -233,12 +218,7 @@ pub fn write_windows<T: Sample, K: OfWindow<T>>(
 {
     let _limits = image.valid();
     let (width, off) = (image.desc().width(), value_beside(border, 0));
-    if width <= 64 {
-        write_with_rows(kernel, image, output, border, &[off; 64], scratch);
-    } else if width <= 512 {
-        write_with_rows(kernel, image, output, border, &[off; 512], scratch);
-    } else {
-        let rows = [off; GREATEST_SIDE as usize];
-        write_with_rows(kernel, image, output, border, &rows, scratch);
-    }
+    with_scratch!(width, [off; SIDE], rows => {
+        write_with_rows(kernel, image, output, border, rows, scratch)
+    })
 }

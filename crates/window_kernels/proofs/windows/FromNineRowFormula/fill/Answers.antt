@@ -1,8 +1,8 @@
-use Rattle.std.proofs.Common.{◌≡◌, ◌≤◌, ◌+◌, ◌*◌, ℕ, pos, length, ap, arith}
+use Rattle.std.proofs.Common.{◌≤◌, ◌+◌, ℕ, pos, length, arith}
 use Rattle.std.proofs.lemmas.Nat.{mul-le}
-use Rattle.window_kernels.proofs.Common.{Rectangle, look, nine_around}
+use Rattle.window_kernels.proofs.Common.{look, nine_around}
 use Rattle.window_kernels.proofs.WindowLaws.{parts_joined}
-use Rattle.window_kernels.proofs.windows.FromNineRowFormulaI16.fill.Goals as goal
+use Rattle.window_kernels.proofs.windows.FromNineRowFormula.fill.Goals as goal
 
 pub write_inside-requires-clause-scratch : goal.write_inside-requires-clause-scratch
 write_inside-requires-clause-scratch g c =

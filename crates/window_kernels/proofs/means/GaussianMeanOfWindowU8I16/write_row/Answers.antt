@@ -1,9 +1,8 @@
-use Rattle.std.proofs.Common.{rules, ◌≡◌, ◌≤◌, ◌+◌, ◌-◌, ◌+ℤ◌, ◌*ℤ◌, ℕ, ℤ, pos, map, length, ◌∙◌, arith}
+use Rattle.std.proofs.Common.{rules, ◌≤◌, ◌+ℤ◌, ◌*ℤ◌, pos, length, ◌∙◌, arith}
 use Rattle.std.specs.Int.{int_div_euclid}
 use Rattle.vx_base.specs.Window.{gaussian_mean}
-use Rattle.lane_rows.specs.Threes.{IsUpTo, number_at}
 use Rattle.window_kernels.proofs.WindowLaws.{bytes_up_to, part_up_to, weighted_up_to, by_columns, gaussian_is_gaussian}
-use Rattle.window_kernels.proofs.means.GaussianMeanOfWindowU8.write_row.Goals as goal
+use Rattle.window_kernels.proofs.means.GaussianMeanOfWindowU8I16.write_row.Goals as goal
 
 pub weighted3-requires-clause-first : goal.weighted3-requires-clause-first
 weighted3-requires-clause-first c = let more : 255 ≤ 8191 = omega arith in bytes_up_to 8191 c.args.above.now more c.type_inv.above

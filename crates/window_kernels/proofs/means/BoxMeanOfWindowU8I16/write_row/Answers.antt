@@ -1,9 +1,8 @@
-use Rattle.std.proofs.Common.{rules, ◌≡◌, ◌≤◌, ◌+◌, ◌-◌, ◌+ℤ◌, ◌*ℤ◌, ℕ, ℤ, pos, map, length, ◌∙◌, arith}
+use Rattle.std.proofs.Common.{rules, ◌≤◌, ◌+ℤ◌, pos, length, ◌∙◌, arith}
 use Rattle.std.specs.Int.{int_div_euclid}
 use Rattle.vx_base.specs.Window.{box_mean}
-use Rattle.lane_rows.specs.Threes.{IsUpTo, number_at}
 use Rattle.window_kernels.proofs.WindowLaws.{bytes_up_to, part_up_to, sum_up_to, by_columns, box_is_box}
-use Rattle.window_kernels.proofs.means.BoxMeanOfWindowU8.write_row.Goals as goal
+use Rattle.window_kernels.proofs.means.BoxMeanOfWindowU8I16.write_row.Goals as goal
 
 pub sum3-requires-clause-first : goal.sum3-requires-clause-first
 sum3-requires-clause-first c = let more : 255 ≤ 8191 = omega arith in bytes_up_to 8191 c.args.above.now more c.type_inv.above

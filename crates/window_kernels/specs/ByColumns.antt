@@ -1,0 +1,49 @@
+-- That three columns give what the nine samples do. Their samples are numbered by rows: column a d g is the left one.
+use Rattle.std.specs.Prelude.{ℤ, ◌≡◌, [], ◌∷◌, pos, ◌+ℤ◌, ◌-ℤ◌, ◌*ℤ◌}
+use Rattle.std.specs.Int.{int_min, int_max}
+use Rattle.std.proofs.Common.{arith, ap, ◌∙◌}
+use Rattle.std.proofs.lemmas.Int.{ints}
+use Rattle.vx_base.specs.Window.{least_of, greatest_of, gradient_x, gradient_y}
+
+-- of an operation whose order doesn't matter
+module _ (op : ℤ → ℤ → ℤ) (assoc : (x y z : ℤ) → op x (op y z) ≡ op (op x y) z) (turned : (x y z u : ℤ) → op (op x y) (op z u) ≡ op (op x z) (op y u)) where
+  in_rows : (a b c d e f g h i : ℤ) → op (op (op (op a d) g) (op (op b e) h)) (op (op c f) i) ≡ op (op (op (op a b) c) (op (op d e) f)) (op (op g h) i)
+  in_rows a b c d e f g h i =
+      ap (λ z. op z (op (op c f) i)) (turned (op a d) g (op b e) h ∙ ap (λ z. op z (op g h)) (turned a d b e))
+      ∙ turned (op (op a b) (op d e)) (op g h) (op c f) i
+      ∙ ap (λ z. op z (op (op g h) i)) (turned (op a b) (op d e) c f)
+
+  one_after_another : (r d e f : ℤ) → op r (op (op d e) f) ≡ op (op (op r d) e) f
+  one_after_another r d e f = assoc r (op d e) f ∙ ap (λ z. op z f) (assoc r d e)
+
+  by_columns : (a b c d e f g h i : ℤ) → op (op (op (op a d) g) (op (op b e) h)) (op (op c f) i) ≡ op (op (op (op (op (op (op (op a b) c) d) e) f) g) h) i
+  by_columns a b c d e f g h i =
+      in_rows a b c d e f g h i
+      ∙ ap (λ z. op z (op (op g h) i)) (one_after_another (op (op a b) c) d e f)
+      ∙ one_after_another (op (op (op (op (op a b) c) d) e) f) g h i
+
+pub least_is_least : (a b c d e f g h i : ℤ) → int_min (int_min (int_min (int_min a d) g) (int_min (int_min b e) h)) (int_min (int_min c f) i) ≡ least_of (a ∷ b ∷ c ∷ d ∷ e ∷ f ∷ g ∷ h ∷ i ∷ [])
+least_is_least = by_columns int_min assoc turned
+  where
+    assoc : (x y z : ℤ) → int_min x (int_min y z) ≡ int_min (int_min x y) z
+    assoc x y z = grind (arith, ints)
+
+    turned : (x y z u : ℤ) → int_min (int_min x y) (int_min z u) ≡ int_min (int_min x z) (int_min y u)
+    turned x y z u = grind (arith, ints)
+
+pub greatest_is_greatest : (a b c d e f g h i : ℤ) → int_max (int_max (int_max (int_max a d) g) (int_max (int_max b e) h)) (int_max (int_max c f) i) ≡ greatest_of (a ∷ b ∷ c ∷ d ∷ e ∷ f ∷ g ∷ h ∷ i ∷ [])
+greatest_is_greatest = by_columns int_max assoc turned
+  where
+    assoc : (x y z : ℤ) → int_max x (int_max y z) ≡ int_max (int_max x y) z
+    assoc x y z = grind (arith, ints)
+
+    turned : (x y z u : ℤ) → int_max (int_max x y) (int_max z u) ≡ int_max (int_max x z) (int_max y u)
+    turned x y z u = grind (arith, ints)
+
+-- changes of three columns
+
+pub x_is_x : (a b c d e f g h i : ℤ) → (c +ℤ pos 2 *ℤ f +ℤ i) -ℤ (a +ℤ pos 2 *ℤ d +ℤ g) ≡ gradient_x (a ∷ b ∷ c ∷ d ∷ e ∷ f ∷ g ∷ h ∷ i ∷ [])
+x_is_x a b c d e f g h i = omega (arith, ints)
+
+pub y_is_y : (a b c d e f g h i : ℤ) → ((g -ℤ a) +ℤ pos 2 *ℤ (h -ℤ b)) +ℤ (i -ℤ c) ≡ gradient_y (a ∷ b ∷ c ∷ d ∷ e ∷ f ∷ g ∷ h ∷ i ∷ [])
+y_is_y a b c d e f g h i = omega (arith, ints)
