@@ -22,6 +22,7 @@
 //!   of them, written 32 places at a time
 //! - `ranks`, `gradients`: the kernels of nine samples
 //! - `threes`: sums and means of three rows of numbers that aren't negative
+//! - `columns`: weighted sums and differences of three rows, which may be negative, for gradients
 //! - `axpy`: a coefficient times a row of bytes, added to sums
 //! - `matrix_rows`: sums of rows of samples, each times a coefficient of a matrix, by `pairs` of
 //!   coefficients
@@ -63,6 +64,7 @@ mod bits;
 mod blocks;
 mod bytes;
 mod choices;
+mod columns;
 mod compared;
 mod depth_lanes;
 mod depths;
@@ -96,6 +98,7 @@ pub use arithmetic::{Arithmetic, OfSamples};
 pub use axpy::axpy_i32;
 pub use bits::{And, Not, Or, Xor, and_u8, not_u8, or_u8, xor_u8};
 pub use compared::Compared;
+pub use columns::{Change, OfColumn, Rise, Weighted, WeightedSum, write_columns};
 pub use depths::{Narrowed, ShiftedUp, narrow, shift_up, widen};
 pub use distances::{Distance, absdiff_s16, absdiff_u8};
 pub use extent::{RowExtremes, extremes_s16, extremes_u8, greatest_of, least_of};

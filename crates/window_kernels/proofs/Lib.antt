@@ -3,4 +3,3 @@ mod ProductLaws
 mod MatrixLaws
 mod RowLaws
 mod WindowLaws
-mod ChangeLaws

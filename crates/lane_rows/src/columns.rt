@@ -1,0 +1,116 @@
+//! Kernels of three rows, by which gradients go down the columns of three rows of bytes and then
+//! across three columns.
+//!
+//! They are plain loops, which the compiler computes in lanes as wide as the processor's. Lanes of
+//! 32 numbers of 16 bits take 1.1 to 1.2 times as long on processors with lanes of 16 bytes.
+ghost use Rattle.std.specs.Prelude.{◌≡◌, ◌≤◌, ◌+ℤ◌, ◌-ℤ◌, ◌*ℤ◌, ℤ, pos, map, length, unsigned_abs};
+ghost use Rattle.vx_base.specs.Image.{run};
+ghost use Rattle.lane_rows.specs.Threes.{number_at};
+
+use crate::item::Item;
+
+/// The sum of three bytes, the middle one twice.
+#[derive(Clone, Copy)]
+pub struct WeightedSum {
+    sum: u16,
+    ghost limit: { sum ≤ 1020 },
+}
+
+impl Item for WeightedSum {
+    ghost value = { λ s. pos s.sum };
+}
+
+impl WeightedSum {
+    /// Returns the sum of three zeros.
+    pub fn zero() -> WeightedSum {
+        WeightedSum { sum: 0 }
+    }
+}
+
+/// The difference of two bytes.
+#[derive(Clone, Copy)]
+pub struct Change {
+    change: i16,
+    ghost limit: { unsigned_abs change ≤ 255 },
+}
+
+impl Item for Change {
+    ghost value = { λ s. s.change };
+}
+
+impl Change {
+    /// Returns the difference of equal bytes.
+    pub fn zero() -> Change {
+        Change { change: 0 }
+    }
+}
+
+/// A function of three numbers.
+pub trait OfColumn<A: Item, T: Item> {
+    ghost formula: { ℤ → ℤ → ℤ → ℤ };
+
+    /// Returns what it gives of three items.
+    fn item(first: A, second: A, third: A) -> T
+        ensures { T.value result ≡ formula (A.value first) (A.value second) (A.value third) };
+}
+
+/// The sum of three numbers, the middle one twice.
+#[derive(Drop)]
+pub struct Weighted;
+
+impl OfColumn<u8, WeightedSum> for Weighted {
+    ghost formula = { λ a b c. a +ℤ pos 2 *ℤ b +ℤ c };
+
+    fn item(first: u8, second: u8, third: u8) -> WeightedSum {
+        let sum = u16::from(first) + 2 * u16::from(second) + u16::from(third);
+        WeightedSum { sum }
+    }
+}
+
+impl OfColumn<Change, i16> for Weighted {
+    ghost formula = { λ a b c. a +ℤ pos 2 *ℤ b +ℤ c };
+
+    fn item(first: Change, second: Change, third: Change) -> i16 {
+        first.change + 2 * second.change + third.change
+    }
+}
+
+/// How much greater the third of three numbers is than the first.
+#[derive(Drop)]
+pub struct Rise;
+
+impl OfColumn<u8, Change> for Rise {
+    ghost formula = { λ a _ c. c -ℤ a };
+
+    fn item(first: u8, _second: u8, third: u8) -> Change {
+        let change = i16::from(third) - i16::from(first);
+        Change { change }
+    }
+}
+
+impl OfColumn<WeightedSum, i16> for Rise {
+    ghost formula = { λ a _ c. c -ℤ a };
+
+    fn item(first: WeightedSum, _second: WeightedSum, third: WeightedSum) -> i16 {
+        third.sum as i16 - first.sum as i16
+    }
+}
+
+/// Writes the function at each place of three rows.
+pub fn write_columns<A: Item, T: Item, K: OfColumn<A, T>>(
+    first: &[A],
+    second: &[A],
+    third: &[A],
+    out: &mut [T],
+)
+    requires first { length first.now ≡ length out.old }
+    requires second { length second.now ≡ length out.old }
+    requires third { length third.now ≡ length out.old }
+    ensures { map T.value out.new ≡ run 0 (length out.old)
+        (λ i. K.formula (number_at (map A.value first.now) i)
+        (number_at (map A.value second.now) i) (number_at (map A.value third.now) i)) }
+{
+    for (i, item) in out.iter_mut().enumerate() {
+        *item = K::item(first[i], second[i], third[i]);
+    }
+}
