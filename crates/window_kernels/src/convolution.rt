@@ -16,22 +16,27 @@ ghost use Rattle.lane_rows.specs.Pairs.{IsNear, alternating};
 ghost use Rattle.window_kernels.specs.Turned.{turned, turned_pairs, turned_tables};
 
 use crate::pieces::PIECE;
-use crate::windows::RowSample;
 use border_rows::{load_row, window_valid};
-use image_core::{Image, ImageMut, RowFormula};
+use image_core::{Image, ImageMut, RowFormula, Sample};
 use lane_rows::{Clamped, MatrixRows};
 use vx_base::{Border, Convolution, Format, Rect};
 
 /// Samples that convolution writes: U8 and S16.
-trait Convolved: RowSample + Clamped {
+trait Convolved: Sample + Clamped {
+    ghost same: { (z : Self) → Self.Item.value z ≡ Self.Number.value z };
+
     ghost same_format: { Self.Clamped.format ≡ Self.Sample.format };
 }
 
 impl Convolved for u8 {
+    ghost same = { λ _. refl };
+
     ghost same_format = { refl };
 }
 
 impl Convolved for i16 {
+    ghost same = { λ _. refl };
+
     ghost same_format = { refl };
 }
 
