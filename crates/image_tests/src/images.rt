@@ -9,7 +9,7 @@ ghost use Rattle.image_core.specs.Rows.{sample_from};
 ghost use Rattle.image_core.specs.Target.{written, IsTarget, SameSlices};
 
 use image_core::{Image, ImageMut};
-use pixel_kernels::bit_xor;
+use pixel_kernels::{bit_and, bit_xor};
 use std::test::Fail;
 use vx_base::{Desc, Format, Rect};
 
@@ -97,4 +97,21 @@ fn valid_where_both_are(rt: HostRuntime) -> Result<(), Fail> {
         assert!(rt; xor(first, second) == (samples, valid));
     }
     Ok(())
+}
+
+/// And of two 4 by 1 images of 255, each valid in its half; and where the result is valid.
+fn and_of_halves() -> Option<([u8; 4], Rect)> {
+    let desc = Desc::new(4, 1, Format::U8)?;
+    let (mut first, mut second, mut output) = ([255; 4], [255; 4], [77; 4]);
+    let image = lend(desc, Rect::new(0, 0, 2, 1)?, &mut first);
+    let other = lend(desc, Rect::new(2, 0, 4, 1)?, &mut second);
+    let mut target = ImageMut::new(desc, &mut output);
+    bit_and(&image, &other, &mut target);
+    let valid = target.valid();
+    Some((output, valid))
+}
+
+#[test]
+fn valid_nowhere(rt: HostRuntime) {
+    assert!(rt; and_of_halves() == Some(([0; 4], Rect::empty())));
 }

@@ -9,7 +9,8 @@
 //! - `rows`: the kernels of lane_rows, at lengths around that of a block
 //! - `kernels`, `texts`: windows, statistics and PGM texts, by the calls of their crates
 //! - `statistics`: extremes, counts and running sums of rows, at such lengths
-//! - `wide`: windows where two pieces of a row meet
+//! - `wide`: windows of rows that convolution computes in pieces
+//! - `windows`: kernels of windows, at lengths and sizes around that of a block
 #![tactic(auto)]
 
 #[cfg(test)]
@@ -30,3 +31,5 @@ mod texts;
 mod values;
 #[cfg(test)]
 mod wide;
+#[cfg(test)]
+mod windows;

@@ -1,11 +1,13 @@
 //! The kernels of lane_rows, at lengths around that of a block: each item that is written is the
 //! formula of the items at its place, and no other is touched.
+ghost use Rattle.std.specs.Prelude.{◌≤◌};
 ghost use Rattle.vx_base.specs.Pixelwise.{not_bits};
 
 use lane_rows::{
     LanesOfItem, OfItem, absdiff_s16, absdiff_u8, accumulate, accumulate_square, add_s16, add_u8,
     and_u8, map_row, max_s16, max_u8, min_s16, min_u8, mul_s16, mul_u8, narrow, not_u8, or_u8,
-    shift_up, store_bytes, sub_s16, sub_u8, threshold_s16, threshold_u8, widen, xor_u8,
+    scale_s16, scale_u8, shift_up, store_bytes, sub_s16, sub_u8, threshold_s16, threshold_u8,
+    widen, xor_u8,
 };
 use std::test::Fail;
 use vx_base::{Format, Policy, ThresholdKind, ThresholdRule};
@@ -16,6 +18,9 @@ const LENGTHS: [usize; 9] = [0, 1, 15, 16, 17, 31, 33, 64, 65];
 const BYTES: [u8; 8] = [0, 255, 1, 254, 128, 127, 3, 77];
 
 const SHORTS: [i16; 8] = [0, 32_767, -32_768, -1, 1, 255, -3, 100];
+
+/// The ends of 32 bits and numbers between them.
+const NUMBERS: [i32; 8] = [0, -1, 7, -9, 2_040, -300_000, i32::MAX, i32::MIN];
 
 /// Each of eight numbers in turn.
 fn in_turn<T: Copy>(numbers: &[T; 8]) -> [T; 65] {
@@ -291,6 +296,25 @@ fn accumulated(rt: HostRuntime) {
     assert_sums!(rt;
         |row, sums| accumulate_square(row, 15, sums);
         |x, sum| nearest(sum + x * x / 32_768));
+}
+
+/// A number over a power of two, rounded toward zero.
+fn over(number: i32, exponent: u32) -> i32
+    requires { exponent ≤ 31 }
+{
+    (i64::from(number) / (1i64 << exponent)) as i32
+}
+
+#[test]
+fn scales(rt: HostRuntime) {
+    for (exponent, power) in [(0u8, 0u32), (3, 3), (31, 31)] {
+        assert_items!(rt, in_turn(&NUMBERS), 77u8;
+            |row, out| scale_u8(row, exponent, out);
+            |x| nearest_byte(over(x, power)));
+        assert_items!(rt, in_turn(&NUMBERS), 77i16;
+            |row, out| scale_s16(row, exponent, out);
+            |x| nearest(over(x, power)));
+    }
 }
 
 #[test]

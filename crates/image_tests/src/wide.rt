@@ -1,4 +1,4 @@
-//! Rows that are wider than the pieces in which windows compute them, of 1,024 columns.
+//! Rows that are wider than the pieces in which convolution computes them, of 1,024 columns.
 
 use crate::images::lend;
 use image_core::ImageMut;

@@ -5,7 +5,7 @@ use Rattle.lane_rows.proofs.Common.{zip2, Each1, ints, clamps, to_z-of_z, int_wr
 use Rattle.std.proofs.lemmas.Int.{wrapping_add_is, wrapping_sub_is}
 use Rattle.vx_base.specs.Sample.{distance}
 use Rattle.lane_rows.proofs.LaneLaws.{chosen_w16}
-use Rattle.lane_rows.proofs.ShortLaws.{of_bits, fit_as_bits, wider, widened}
+use Rattle.lane_rows.proofs.ShortLaws.{of_bits, told, wider, widened}
 use Rattle.lane_rows.proofs.Lanewise.{Lanewise, one, other, each, both, chosen, pairs_are, map-zip2, each_of}
 
 -- the bits of the lanes of the one vector and of the other
@@ -108,16 +108,14 @@ pub read_both : (g : ℤ → ℤ → ℤ) (us vs : List ℤ) → Each1 (FitsSign
     → zip2 g (map (to_z w16) (map (of_z w16) us)) (map (to_z w16) (map (of_z w16) vs)) ≡ zip2 g us vs
 read_both g us vs f h = ap (λ (l : List ℤ). zip2 g l (map (to_z w16) (map (of_z w16) vs))) (of_bits w16 us f) ∙ ap (zip2 g us) (of_bits w16 vs h)
 
-pub pairs_fit : (g : ℤ → ℤ → ℤ) (w : Width) → ((x y : ℤ) → FitsSigned w16 x → FitsSigned w16 y → FitsSigned w (g x y)) → (us vs : List ℤ) → Each1 (FitsSigned w16) us → Each1 (FitsSigned w16) vs → Each1 (FitsSigned w) (zip2 g us vs)
-pairs_fit g w fit us vs f h = each_of (FitsSigned w16) (FitsSigned w16) (FitsSigned w) g us vs f h fit
+-- what is made of two vectors of 16 bits, where it fits w bits
+module _ (g : ℤ → ℤ → ℤ) (w : Width) (fit : (x y : ℤ) → FitsSigned w16 x → FitsSigned w16 y → FitsSigned w (g x y)) (us vs : List ℤ) (f : Each1 (FitsSigned w16) us) (h : Each1 (FitsSigned w16) vs)
+    (ms : List ℤ) (is : ms ≡ zip2 g (map (to_z w16) (map (of_z w16) us)) (map (to_z w16) (map (of_z w16) vs))) where
+  pub made_are : map (to_z w) (map (of_z w) ms) ≡ zip2 g us vs
+  made_are = told w ms (zip2 g us vs) (is ∙ read_both g us vs f h) (each_of (FitsSigned w16) (FitsSigned w16) (FitsSigned w) g us vs f h fit)
 
-module _ (g : ℤ → ℤ → ℤ) (us vs : List ℤ) (fit : Each1 (FitsSigned w32) (zip2 g us vs)) (ms : List ℤ) (is : ms ≡ zip2 g us vs) where
-  made_fit : Each1 (FitsSigned w32) ms
-  made_fit = subst (Each1 (FitsSigned w32)) (sym is) fit
+  pub made_fit : Each1 (FitsSigned w) (map (to_z w) (map (of_z w) ms))
+  made_fit = subst (Each1 (FitsSigned w)) (sym made_are) (each_of (FitsSigned w16) (FitsSigned w16) (FitsSigned w) g us vs f h fit)
 
-  pub to_narrow_fit : Each1 (FitsSigned w32) (map (to_z w32) (map (of_z w32) ms))
-  to_narrow_fit = fit_as_bits w32 ms made_fit
-
-  pub narrow_is : (policy : Policy) (ns : List ℤ) → ns ≡ map (narrow S16 policy) (map (to_z w32) (map (of_z w32) ms)) → Each1 (FitsSigned w16) ns
-      → map (to_z w16) (map (of_z w16) ns) ≡ zip2 (λ x y. narrow S16 policy (g x y)) us vs
-  narrow_is policy ns thus fits = of_bits w16 ns fits ∙ thus ∙ ap (map (narrow S16 policy)) (of_bits w32 ms made_fit ∙ is) ∙ map-zip2 (narrow S16 policy) g us vs
+  pub narrow_is : (policy : Policy) (ns : List ℤ) → ns ≡ map (narrow S16 policy) (map (to_z w) (map (of_z w) ms)) → Each1 (FitsSigned w16) ns → map (to_z w16) (map (of_z w16) ns) ≡ zip2 (λ x y. narrow S16 policy (g x y)) us vs
+  narrow_is policy ns thus fits = of_bits w16 ns fits ∙ thus ∙ ap (map (narrow S16 policy)) made_are ∙ map-zip2 (narrow S16 policy) g us vs

@@ -1,5 +1,5 @@
 -- Rows that are loaded.
-use Rattle.std.proofs.Common.{◌≡◌, ℕ, ℤ, pos, zero, suc, zero-add, ◌+◌, ◌-◌, ◌*◌, ◌/◌, ◌%◌, ◌<◌, ◌≤◌, ◌+ℤ◌, ◌-ℤ◌, List, [], ◌∷◌, length, map, take, set, min, ap, ◌∙◌, sym, subst, arith, w32, to_z, of_z, unsigned_abs, map-id}
+use Rattle.std.proofs.Common.{◌≡◌, ℕ, ℤ, pos, zero, suc, zero-add, ◌+◌, ◌-◌, ◌*◌, ◌/◌, ◌%◌, ◌<◌, ◌≤◌, ◌+ℤ◌, ◌-ℤ◌, List, [], ◌∷◌, length, map, take, set, min, refl, ap, ◌∙◌, sym, subst, arith, w32, to_z, of_z, unsigned_abs, map-id}
 use Rattle.window_kernels.proofs.Common.{Each1, ints, map-append, take_more_set, take-put_mid, put_mid, Border, U8, ImageValue, run, look, run-append, run_shifted, IsNear}
 use Rattle.vx_base.specs.Image.{IsImage}
 use Rattle.vx_base.specs.Node.{IsBorder}
@@ -44,3 +44,8 @@ line_seen f row x n line r y h l at are long is =
     rw (map-id row, are, is, long)
     (run_shifted (λ c. f (pos c -ℤ pos r) (pos y +ℤ pos h -ℤ pos l)) (λ c. f (pos (x + c) -ℤ pos r) (pos y +ℤ pos h -ℤ pos l)) x 0 line
     (λ k b. ap (λ c. f (pos (x + c) -ℤ pos r) (pos y +ℤ pos h -ℤ pos l)) (sym (zero-add k))))
+
+-- items and samples are the same numbers
+pub same_values : {A B : Type 0} (f g : A → B) → ((a : A) → f a ≡ g a) → (xs : List A) → map f xs ≡ map g xs
+same_values f g same [] = refl
+same_values f g same (x ∷ xs) = cc (same x, same_values f g same xs)

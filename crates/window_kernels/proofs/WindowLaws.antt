@@ -19,10 +19,6 @@ item_of value [] i x below is = absurd (omega (arith, below))
 item_of value (y ∷ ys) zero x below is = ap value is
 item_of value (y ∷ ys) (suc i) x below is = item_of value ys i x (omega (arith, below)) is
 
-pub map-same : {A B : Type 0} (f g : A → B) → ((a : A) → f a ≡ g a) → (xs : List A) → map f xs ≡ map g xs
-map-same f g same [] = refl
-map-same f g same (x ∷ xs) = cc (same x, map-same f g same xs)
-
 -- a row of one sample
 pub all_are : (n v : ℕ) (z : ℤ) → pos v ≡ z → map pos (replicate n v) ≡ replicate (length (replicate n v)) z
 all_are n v z is = map-replicate pos n v ∙ ap (replicate n) is ∙ ap (λ k. replicate k z) (sym (length-replicate n v))

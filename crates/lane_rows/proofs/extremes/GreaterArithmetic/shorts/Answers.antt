@@ -1,8 +1,7 @@
-use Rattle.std.proofs.Common.{◌∙◌, subst, sym, w16, FitsSigned}
-use Rattle.lane_rows.proofs.Common.{Each1}
+use Rattle.std.proofs.Common.{w16}
 use Rattle.vx_base.specs.Pixelwise.{greater}
-use Rattle.lane_rows.proofs.ShortLaws.{fit_as_bits, told}
-use Rattle.lane_rows.proofs.ShortLanes.{read_both, pairs_fit, max_fits}
+use Rattle.lane_rows.proofs.ShortLaws.{fit_as_bits}
+use Rattle.lane_rows.proofs.ShortLanes.{made_are, made_fit, max_fits}
 use Rattle.lane_rows.proofs.extremes.GreaterArithmetic.shorts.Goals as goal
 
 pub greater_shorts-requires-clause-a_fits : goal.greater_shorts-requires-clause-a_fits
@@ -12,11 +11,7 @@ pub greater_shorts-requires-clause-b_fits : goal.greater_shorts-requires-clause-
 greater_shorts-requires-clause-b_fits c = fit_as_bits w16 c.args.b c.requires.b_fits
 
 pub returns-clause-value : goal.returns-clause-value
-returns-clause-value c =
-    told w16 c.greater_shorts.result _ (c.greater_shorts.ensures ∙ read_both greater c.args.a c.args.b c.requires.a_fits c.requires.b_fits)
-    (pairs_fit greater w16 max_fits c.args.a c.args.b c.requires.a_fits c.requires.b_fits)
+returns-clause-value c = made_are greater w16 max_fits c.args.a c.args.b c.requires.a_fits c.requires.b_fits c.greater_shorts.result c.greater_shorts.ensures
 
 pub returns-clause-fits : goal.returns-clause-fits
-returns-clause-fits c =
-    subst (Each1 (FitsSigned w16)) (sym (returns-clause-value c))
-    (pairs_fit greater w16 max_fits c.args.a c.args.b c.requires.a_fits c.requires.b_fits)
+returns-clause-fits c = made_fit greater w16 max_fits c.args.a c.args.b c.requires.a_fits c.requires.b_fits c.greater_shorts.result c.greater_shorts.ensures
