@@ -1,4 +1,4 @@
-//! Kernels that go down the columns of three rows, and then across three columns.
+//! Kernels of 3x3 windows that go down the columns of three rows, then across three columns.
 ghost use Rattle.std.specs.Prelude.{◌≡◌, ℕ, ℤ, List, [], ◌∷◌, map, length};
 ghost use Rattle.vx_base.specs.Image.{run};
 ghost use Rattle.lane_rows.specs.Threes.{number_at};
@@ -11,13 +11,14 @@ use lane_rows::ThreeItems;
 pub trait OfThree<A: Number, T: Number> {
     ghost formula: { ℤ → ℤ → ℤ → ℤ };
 
+    /// Returns the function of three items.
     fn item(first: A, second: A, third: A) -> T
         ensures { T.value result ≡ formula (A.value first) (A.value second) (A.value third) };
 }
 
-/// A function of three columns, from what `D` gives of each.
+/// A function of the values of three columns, which `D` computes from three samples each.
 pub trait Across<T: Number, S: Number, D: OfThree<u8, S>>: OfThree<S, T> {
-    /// What it gives of nine samples by rows from above to below.
+    /// The formula of the window's nine samples, by rows from above to below.
     ghost of_nine: { List ℤ → ℤ };
 
     ghost is_of_nine: { (a b c d e f g h i : ℤ) →
@@ -25,9 +26,9 @@ pub trait Across<T: Number, S: Number, D: OfThree<u8, S>>: OfThree<S, T> {
         ≡ of_nine (a ∷ b ∷ c ∷ d ∷ e ∷ f ∷ g ∷ h ∷ i ∷ []) };
 }
 
-/// Writes the function at each place of three rows. The compiler computes it in lanes as wide as
-/// the processor's: wider ones would be stored from their end on, which takes longer in images that
-/// the cache doesn't hold.
+/// Writes the function of the items at each index of three rows. The compiler computes this loop in
+/// lanes as wide as the processor's. Wider lanes take several registers, which it stores in
+/// descending order: for images larger than the cache that is slower.
 fn write_three<A: Number, T: Number, K: OfThree<A, T>>(
     first: &[A],
     second: &[A],
@@ -46,7 +47,7 @@ fn write_three<A: Number, T: Number, K: OfThree<A, T>>(
     }
 }
 
-/// A kernel of nine samples that goes down the columns, and then across three of them.
+/// The kernel that computes `D` of each column, then `A` of three columns.
 #[derive(Drop)]
 pub struct ByColumns<D, A>(pub D, pub A);
 

@@ -12,7 +12,7 @@ use crate::windows::{with_scratch, write_windows};
 use image_core::{Image, ImageMut, Number};
 use vx_base::{Border, GREATEST_SIDE};
 
-/// The sum of three numbers, the middle one twice.
+/// The sum of three numbers; the middle one counts twice.
 #[derive(Drop)]
 struct Weighted;
 
@@ -33,7 +33,7 @@ impl OfThree<Change, i16> for Weighted {
     }
 }
 
-/// How much greater the third of three numbers is than the first.
+/// The third of three numbers less the first.
 #[derive(Drop)]
 struct Difference;
 

@@ -1,9 +1,9 @@
-//! What columns of three samples give.
+//! Values of columns of three samples.
 ghost use Rattle.std.specs.Prelude.{◌≡◌, ◌≤◌, pos, unsigned_abs};
 
 use image_core::Number;
 
-/// The sum of three samples, the middle one twice.
+/// The sum of three samples; the middle one counts twice.
 #[derive(Clone, Copy)]
 pub struct WeightedSum {
     pub sum: u16,
