@@ -3,7 +3,8 @@ use Rattle.std.proofs.Common.{◌≡◌, ℕ, ℤ, zero, suc, ◌+◌, ◌-◌, 
 use Rattle.lane_rows.proofs.Common.{range_with_len, chunk, length-map, map-append, take-put_mid, put_mid}
 use Rattle.std.proofs.lemmas.Simd.{pick_l-range_with_len}
 use Rattle.vx_base.specs.Image.{run}
-use Rattle.vx_base.proofs.TableLaws.{run-append, length-run}
+use Rattle.std.proofs.lemmas.List.{take-map}
+use Rattle.vx_base.proofs.TableLaws.{run-append, length-run, run_part}
 use Rattle.vx_base.proofs.WindowLaws.{run_shifted}
 
 -- one more part of a run, from item `at` on
@@ -14,14 +15,26 @@ part_written value g out ws at m end room more before is =
     let these = is ∙ run_shifted (λ i. g (at + i)) g 0 (0 + at) (length ws) (λ i h. ap g (place i)) in
     rw (take-put_mid at m out ws end more room, map-append value (take at out) ws, before, these, more) (sym (run-append g 0 at (length ws)))
 
--- one more block of 32 items
+-- one more block of 32 items, from item i on
+pub block_at : {T : Type 0} (value : T → ℤ) (g : ℕ → ℤ) (out ws : List T) (i m end : ℕ) → i + 32 ≤ length out → end ≡ i + 32
+    → map value (take i out) ≡ run 0 i g → map value ws ≡ run i 32 g → map value (take end (put_mid i m out ws)) ≡ run 0 end g
+block_at value g out ws i m end room to before is =
+    let long : length ws ≡ 32 = sym (length-map ws value) ∙ ap length is ∙ length-run g i 32 in
+    part_written value g out ws i m end (omega arith) (omega (arith, long, to)) before
+    (is ∙ run_shifted g (λ k. g (i + k)) i 0 32 (λ k h. ap (λ j. g (i + j)) (sym (zero-add k))) ∙ ap (λ n. run 0 n (λ k. g (i + k))) (sym long))
+
 pub block_of_run : {T : Type 0} (value : T → ℤ) (g : ℕ → ℤ) (out ws : List T) (k m : ℕ) → 32 * k + 32 ≤ length out
     → map value (take (32 * k) out) ≡ run 0 (32 * k) g → map value ws ≡ run (32 * k) 32 g
     → map value (take (32 * (k + 1)) (put_mid (32 * k) m out ws)) ≡ run 0 (32 * (k + 1)) g
-block_of_run value g out ws k m room before is =
-    let long : length ws ≡ 32 = sym (length-map ws value) ∙ ap length is ∙ length-run g (32 * k) 32 in
-    part_written value g out ws (32 * k) m (32 * (k + 1)) (omega arith) (omega (arith, long)) before
-    (is ∙ run_shifted g (λ i. g (32 * k + i)) (32 * k) 0 32 (λ i h. ap (λ j. g (32 * k + j)) (sym (zero-add i))) ∙ ap (λ n. run 0 n (λ i. g (32 * k + i))) (sym long))
+block_of_run value g out ws k m room before is = block_at value g out ws (32 * k) m (32 * (k + 1)) room (omega arith) before is
+
+-- what is written of the first blocks, as far as the last block
+pub shorter_run : {T : Type 0} (value : T → ℤ) (g : ℕ → ℤ) (out : List T) (i n : ℕ) → i ≤ n → map value (take n out) ≡ run 0 n g → map value (take i out) ≡ run 0 i g
+shorter_run value g out i n less is =
+    ap (map value) (sym (take-take i n out less))
+    ∙ sym (take-map value i (take n out))
+    ∙ ap (take i) is
+    ∙ run_part g n 0 i (omega (arith, less))
 
 -- one more block of at most 32 items
 pub block_written : {T : Type 0} (value : T → ℤ) (g : ℕ → ℤ) (out ws : List T) (k m n e : ℕ) → length out ≡ n → e ≡ min (32 * k + 32) n → 32 * k ≤ n

@@ -1,5 +1,5 @@
 //! Kernels of the nine samples of windows.
-ghost use Rattle.std.specs.Prelude.{◌≡◌, ◌+◌, ◌*◌, ◌<◌, ◌≤◌, ℕ, ℤ, List, map, take, length};
+ghost use Rattle.std.specs.Prelude.{◌≡◌, ◌+◌, ◌-◌, ◌*◌, ◌<◌, ◌≤◌, ℕ, ℤ, List, map, take, length};
 ghost use Rattle.vx_base.specs.Image.{run};
 ghost use Rattle.lane_rows.specs.Windows.{three_of, nine_of, nine_at, places};
 ghost use Rattle.lane_rows.specs.Windows.{three_from, nine_from};
@@ -82,15 +82,43 @@ fn write_blocks<T: Item, K: OfNine<T>>(kernel: &K, nine: &Nine<'_>, blocks: usiz
     }
 }
 
-/// Writes what the kernel gives at each place of nine rows.
+/// Writes what the kernel gives at the last 32 places, where those before them are written. Some of
+/// them may be written already.
+fn write_last<T: Item, K: OfNine<T>>(kernel: &K, nine: &Nine<'_>, out: &mut [T])
+    requires len { places nine.now ≡ length out.old }
+    requires room { 32 ≤ length out.old }
+    ensures { map T.value (take (length out.old - 32) out.old) ≡ run 0 (length out.old - 32)
+        (λ i. K.formula kernel.now (nine_at nine.now i)) →
+        map T.value (take (length out.old) out.new) ≡ run 0 (length out.old)
+        (λ i. K.formula kernel.now (nine_at nine.now i)) }
+{
+    let place = out.len() - 32;
+    kernel.lanes(nine, place, &mut out[place..place + 32]);
+}
+
+/// Writes what the kernel gives at each place, one by one.
+fn write_items<T: Item, K: OfNine<T>>(kernel: &K, nine: &Nine<'_>, out: &mut [T])
+    requires { places nine.now ≡ length out.old }
+    ensures { map T.value out.new ≡ run 0 (length out.old)
+        (λ i. K.formula kernel.now (nine_at nine.now i)) }
+{
+    for i in 0..out.len() {
+        out[i] = kernel.item(nine.above.items(i), nine.here.items(i), nine.below.items(i));
+    }
+}
+
+/// Writes what the kernel gives at each place of nine rows: in blocks of 32 places, of which the
+/// last may overlap the one before, or in a shorter row one by one.
 pub fn write_nine<T: Item, K: OfNine<T>>(kernel: &K, nine: &Nine<'_>, out: &mut [T])
     requires { places nine.now ≡ length out.old }
     ensures { map T.value out.new ≡ run 0 (length out.old)
         (λ i. K.formula kernel.now (nine_at nine.now i)) }
 {
-    let blocks = out.len() / 32;
-    write_blocks(kernel, nine, blocks, out);
-    for i in 32 * blocks..out.len() {
-        out[i] = kernel.item(nine.above.items(i), nine.here.items(i), nine.below.items(i));
+    let count = out.len();
+    if count < 32 {
+        write_items(kernel, nine, out);
+    } else {
+        write_blocks(kernel, nine, count / 32, out);
+        write_last(kernel, nine, out);
     }
 }

@@ -1,5 +1,5 @@
 //! The least, the greatest and the middle one of the nine samples of windows.
-ghost use Rattle.std.specs.Prelude.{◌≡◌, ◌+◌, ◌*◌, ◌≤◌, ℕ, ℤ, pos, min, max, map, take, length};
+ghost use Rattle.std.specs.Prelude.{◌≡◌, ◌+◌, ◌-◌, ◌*◌, ◌≤◌, ℕ, ℤ, pos, min, max, map, take, length};
 ghost use Rattle.std.specs.Prelude.{List, [], ◌∷◌, slice_index};
 ghost use Rattle.std.specs.Int.{int_min, int_max};
 ghost use Rattle.std.specs.List.{range_with_len};
@@ -112,7 +112,16 @@ impl<C: Choice> OfNine<u8> for C {
     }
 }
 
-/// Writes what is chosen at so many times 32 places of three rows.
+/// Writes what is chosen of three rows at 32 places.
+fn choose_block<C: Choice>(rows: &Three<'_>, place: usize, out: &mut [u8])
+    requires room { place + 32 ≤ length rows.now.left.now }
+    requires out_len { length out.old ≡ 32 }
+    ensures { map pos out.new ≡ run place 32 (chosen_at C.of_numbers rows.now) }
+{
+    chosen_lanes::<C>(three_lanes(rows, place)).copy_to_slice(out);
+}
+
+/// Writes what is chosen at so many times 32 places.
 fn choose_blocks<C: Choice>(rows: &Three<'_>, blocks: usize, out: &mut [u8])
     requires len { length rows.now.left.now ≡ length out.old }
     requires inside { 32 * blocks ≤ length out.old }
@@ -121,20 +130,44 @@ fn choose_blocks<C: Choice>(rows: &Three<'_>, blocks: usize, out: &mut [u8])
 {
     for k in 0..blocks {
         let start = 32 * k;
-        let lanes = chosen_lanes::<C>(three_lanes(rows, start));
-        lanes.copy_to_slice(&mut out[start..start + 32]);
+        choose_block::<C>(rows, start, &mut out[start..start + 32]);
     }
 }
 
-/// Writes what is chosen at each place of three rows.
+/// Writes what is chosen at the last 32 places, where those before them are written.
+fn choose_last<C: Choice>(rows: &Three<'_>, out: &mut [u8])
+    requires len { length rows.now.left.now ≡ length out.old }
+    requires room { 32 ≤ length out.old }
+    ensures { map pos (take (length out.old - 32) out.old) ≡ run 0 (length out.old - 32)
+        (chosen_at C.of_numbers rows.now) →
+        map pos (take (length out.old) out.new) ≡ run 0 (length out.old)
+        (chosen_at C.of_numbers rows.now) }
+{
+    let place = out.len() - 32;
+    choose_block::<C>(rows, place, &mut out[place..place + 32]);
+}
+
+/// Writes what is chosen at each place, one by one.
+fn choose_items<C: Choice>(rows: &Three<'_>, out: &mut [u8])
+    requires { length rows.now.left.now ≡ length out.old }
+    ensures { map pos out.new ≡ run 0 (length out.old) (chosen_at C.of_numbers rows.now) }
+{
+    for i in 0..out.len() {
+        out[i] = chosen::<C>(rows.items(i));
+    }
+}
+
+/// Writes what is chosen at each place of three rows, as `write_nine` does of nine.
 fn choose<C: Choice>(rows: &Three<'_>, out: &mut [u8])
     requires { length rows.now.left.now ≡ length out.old }
     ensures { map pos out.new ≡ run 0 (length out.old) (chosen_at C.of_numbers rows.now) }
 {
-    let blocks = out.len() / 32;
-    choose_blocks::<C>(rows, blocks, out);
-    for i in 32 * blocks..out.len() {
-        out[i] = chosen::<C>(rows.items(i));
+    let count = out.len();
+    if count < 32 {
+        choose_items::<C>(rows, out);
+    } else {
+        choose_blocks::<C>(rows, count / 32, out);
+        choose_last::<C>(rows, out);
     }
 }
 

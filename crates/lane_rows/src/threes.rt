@@ -1,6 +1,6 @@
 //! Sums and means of three rows of numbers that aren't negative, as windows of three columns need
 //! them: down the columns of three rows of samples, and then across three of these sums.
-ghost use Rattle.std.specs.Prelude.{◌≡◌, ◌+◌, ◌*◌, ◌≤◌, ◌+ℤ◌, ◌*ℤ◌, ℕ, ℤ, pos, map, take, length};
+ghost use Rattle.std.specs.Prelude.{◌≡◌, ◌+◌, ◌-◌, ◌*◌, ◌≤◌, ◌+ℤ◌, ◌*ℤ◌, ℕ, ℤ, pos, map, take, length};
 ghost use Rattle.std.specs.Int.{int_div_euclid};
 ghost use Rattle.std.specs.List.{range_with_len};
 ghost use Rattle.std.specs.Simd.Lanes.{Each1};
@@ -96,6 +96,33 @@ trait OfThree<T: Stored> {
     ghost small: { limit ≤ 8191 };
 }
 
+/// Writes what the kernel gives at 32 places.
+fn write_block<A: Addend, T: Stored, K: OfThree<T>>(
+    first: &[A],
+    second: &[A],
+    third: &[A],
+    place: usize,
+    out: &mut [T],
+)
+    requires first_room { place + 32 ≤ length first.now }
+    requires second_room { place + 32 ≤ length second.now }
+    requires third_room { place + 32 ≤ length third.now }
+    requires first { AreUpTo K.limit (map A.value first.now) }
+    requires second { AreUpTo K.limit (map A.value second.now) }
+    requires third { AreUpTo K.limit (map A.value third.now) }
+    requires out_len { length out.old ≡ 32 }
+    ensures { map T.value out.new ≡ run place 32
+        (λ i. K.formula (number_at (map A.value first.now) i)
+        (number_at (map A.value second.now) i) (number_at (map A.value third.now) i)) }
+{
+    let numbers = K::lanes(
+        A::numbers(first, place),
+        A::numbers(second, place),
+        A::numbers(third, place),
+    );
+    T::store(numbers, out);
+}
+
 /// Writes what the kernel gives at so many times 32 places.
 fn write_blocks<A: Addend, T: Stored, K: OfThree<T>>(
     first: &[A],
@@ -117,16 +144,58 @@ fn write_blocks<A: Addend, T: Stored, K: OfThree<T>>(
 {
     for k in 0..blocks {
         let start = 32 * k;
-        let numbers = K::lanes(
-            A::numbers(first, start),
-            A::numbers(second, start),
-            A::numbers(third, start),
-        );
-        T::store(numbers, &mut out[start..start + 32]);
+        write_block::<A, T, K>(first, second, third, start, &mut out[start..start + 32]);
     }
 }
 
-/// Writes what the kernel gives at each place of three rows.
+/// Writes what the kernel gives at the last 32 places, where those before them are written.
+fn write_last<A: Addend, T: Stored, K: OfThree<T>>(
+    first: &[A],
+    second: &[A],
+    third: &[A],
+    out: &mut [T],
+)
+    requires first_len { length first.now ≡ length out.old }
+    requires second_len { length second.now ≡ length out.old }
+    requires third_len { length third.now ≡ length out.old }
+    requires first { AreUpTo K.limit (map A.value first.now) }
+    requires second { AreUpTo K.limit (map A.value second.now) }
+    requires third { AreUpTo K.limit (map A.value third.now) }
+    requires room { 32 ≤ length out.old }
+    ensures { map T.value (take (length out.old - 32) out.old) ≡ run 0 (length out.old - 32)
+        (λ i. K.formula (number_at (map A.value first.now) i)
+        (number_at (map A.value second.now) i) (number_at (map A.value third.now) i)) →
+        map T.value (take (length out.old) out.new) ≡ run 0 (length out.old)
+        (λ i. K.formula (number_at (map A.value first.now) i)
+        (number_at (map A.value second.now) i) (number_at (map A.value third.now) i)) }
+{
+    let place = out.len() - 32;
+    write_block::<A, T, K>(first, second, third, place, &mut out[place..place + 32]);
+}
+
+/// Writes what the kernel gives at each place, one by one.
+fn write_items<A: Addend, T: Stored, K: OfThree<T>>(
+    first: &[A],
+    second: &[A],
+    third: &[A],
+    out: &mut [T],
+)
+    requires first_len { length first.now ≡ length out.old }
+    requires second_len { length second.now ≡ length out.old }
+    requires third_len { length third.now ≡ length out.old }
+    requires first { AreUpTo K.limit (map A.value first.now) }
+    requires second { AreUpTo K.limit (map A.value second.now) }
+    requires third { AreUpTo K.limit (map A.value third.now) }
+    ensures { map T.value out.new ≡ run 0 (length out.old)
+        (λ i. K.formula (number_at (map A.value first.now) i)
+        (number_at (map A.value second.now) i) (number_at (map A.value third.now) i)) }
+{
+    for i in 0..out.len() {
+        out[i] = K::item(first[i].number(), second[i].number(), third[i].number());
+    }
+}
+
+/// Writes what the kernel gives at each place of three rows, as `write_nine` does of nine.
 fn write_three<A: Addend, T: Stored, K: OfThree<T>>(
     first: &[A],
     second: &[A],
@@ -143,10 +212,12 @@ fn write_three<A: Addend, T: Stored, K: OfThree<T>>(
         (λ i. K.formula (number_at (map A.value first.now) i)
         (number_at (map A.value second.now) i) (number_at (map A.value third.now) i)) }
 {
-    let blocks = out.len() / 32;
-    write_blocks::<A, T, K>(first, second, third, blocks, out);
-    for i in 32 * blocks..out.len() {
-        out[i] = K::item(first[i].number(), second[i].number(), third[i].number());
+    let count = out.len();
+    if count < 32 {
+        write_items::<A, T, K>(first, second, third, out);
+    } else {
+        write_blocks::<A, T, K>(first, second, third, count / 32, out);
+        write_last::<A, T, K>(first, second, third, out);
     }
 }
 

@@ -1,7 +1,7 @@
 use Rattle.std.proofs.Common.{◌≡◌, map, take}
 use Rattle.vx_base.specs.Image.{run}
 use Rattle.lane_rows.specs.Threes.{number_at}
-use Rattle.lane_rows.proofs.threes.write_three.Given as goal
+use Rattle.lane_rows.proofs.threes.write_items.Given as goal
 
 abbrev pub invariant-loop-i : goal.invariant-loop-i
 invariant-loop-i g l =
