@@ -55,6 +55,10 @@ KERNELS = [
     Kernel("narrow", "psraw", 1),
     Kernel("accumulate, accumulate_square", "pminuw", 1),
     Kernel("accumulate_square", "psrlw", 1),
+    # Convolution alone scales, so they are in its function.
+    Kernel("scale_u8, scale_s16", "psrad", 1, WINDOWS),
+    Kernel("scale_u8", "packuswb", 1, WINDOWS),
+    Kernel("scale_s16", "packssdw", 1, WINDOWS),
     # Sixteen numbers multiplied and the products of neighbours added up, which takes half the time
     # of single products of 32 bits.
     Kernel("convolution", "pmaddwd", 4, WINDOWS),

@@ -1,6 +1,6 @@
 -- What is computed of numbers without a sign, lane by lane.
-use Rattle.std.proofs.Common.{◌≡◌, ℕ, ℤ, pos, zero, suc, ◌*◌, ◌/◌, ◌%◌, ◌^◌, ◌<◌, List, [], ◌∷◌, length, map, Bool, true, false, cond, min, ltb, w8, Fits, replicate, refl, ap, ◌∙◌, sym, subst, arith, bit_and}
-use Rattle.lane_rows.proofs.Common.{zip2, Each1, sel_l, ints, clamps, U8, Wrap, Saturate, narrow, top}
+use Rattle.std.proofs.Common.{◌≡◌, ℕ, ℤ, pos, ◌*◌, ◌/◌, ◌%◌, ◌^◌, ◌<◌, List, [], ◌∷◌, map, Bool, true, false, cond, min, ltb, w8, Fits, refl, ap, ◌∙◌, sym, subst, arith, bit_and}
+use Rattle.lane_rows.proofs.Common.{zip2, ints, clamps, U8, Wrap, Saturate, narrow, top}
 use Rattle.std.proofs.lemmas.Nat.{and_mask}
 use Rattle.std.proofs.lemmas.Simd.{map-map}
 use Rattle.lane_rows.proofs.Lanewise.{Lanewise, one, other, constant, each, both, chosen, same_pairs}

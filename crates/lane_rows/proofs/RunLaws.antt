@@ -1,5 +1,5 @@
 -- Rows that are written as runs, block by block and item by item.
-use Rattle.std.proofs.Common.{◌≡◌, ℕ, ℤ, zero, suc, ◌+◌, ◌-◌, ◌*◌, ◌/◌, ◌%◌, ◌<◌, ◌≤◌, min, List, [], ◌∷◌, length, map, take, drop, get_or, ap, ◌∙◌, sym, refl, arith, zero-add, take-take, take_all, pos}
+use Rattle.std.proofs.Common.{◌≡◌, ℕ, ℤ, ◌+◌, ◌-◌, ◌*◌, ◌/◌, ◌%◌, ◌<◌, ◌≤◌, min, List, length, map, take, drop, get_or, ap, ◌∙◌, sym, arith, zero-add, take-take, take_all}
 use Rattle.lane_rows.proofs.Common.{range_with_len, chunk, length-map, map-append, take-put_mid, put_mid}
 use Rattle.std.proofs.lemmas.Simd.{pick_l-range_with_len}
 use Rattle.vx_base.specs.Image.{run}

@@ -1,5 +1,5 @@
 -- Numbers of 16 bits that are tested in lanes, and bytes chosen by that.
-use Rattle.std.proofs.Common.{◌≡◌, ℕ, ℤ, pos, int_lt, int_le, ◌&&◌, if◌then◌else◌, List, length, map, Bool, true, false, cond, w8, w16, FitsSigned, to_z, of_z, refl, ap, ◌∙◌, arith, map-id}
+use Rattle.std.proofs.Common.{◌≡◌, ℕ, ℤ, pos, int_lt, int_le, ◌&&◌, if◌then◌else◌, List, length, map, Bool, true, false, cond, w8, w16, FitsSigned, to_z, of_z, refl, ap, ◌∙◌, arith}
 use Rattle.lane_rows.proofs.Common.{Each1, ints, nat_tests, to_z-of_z, top}
 use Rattle.vx_base.specs.declared.threshold.ThresholdKind.TheVariants.{Binary, Range}
 use Rattle.lane_rows.specs.Chosen as spec

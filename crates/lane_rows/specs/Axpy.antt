@@ -1,5 +1,5 @@
 -- Rows of sums of bytes times a coefficient.
-use Rattle.std.specs.Prelude.{ℕ, ℤ, pos, ◌≤◌, ◌+ℤ◌, ◌*ℤ◌, unsigned_abs}
+use Rattle.std.specs.Prelude.{ℤ, ◌≤◌, ◌+ℤ◌, ◌*ℤ◌, unsigned_abs}
 
 -- a sum to which any byte times any S16 number can be added in 32 bits: such a product is at most 8,355,840 from 0
 abbrev pub HasRoom : ℤ → Type 0

@@ -33,7 +33,7 @@
 //! narrows to the output's format by the policy. Times are those of an item of rows of 1920 in the
 //! cache, in thousandths of a nanosecond, on x86-64-v2, whose registers have 16 bytes, and on
 //! x86-64-v3, with 32. A block of 32 items is two registers of bytes or four of S16 on v2, half as
-//! many on v3; where a row is updated, a block has 16 items.
+//! many on v3; where a row is updated, a block has 16 items. No time: not measured alone.
 //!
 //! | Kernel | Formula | Conditions | v2 | v3 |
 //! |---|---|---|---|---|
@@ -51,6 +51,7 @@
 //! | `threshold_s16` | by a limit; by a range | a rule of S16 | 50; 86 | 38; 56 |
 //! | `widen`, `shift_up` | a, a * 2^n | n up to 7 | 46 | 23 |
 //! | `narrow` | a / 2^n, rounded down, wraps; saturates | n up to 7 | 52; 39 | 29; 24 |
+//! | `scale_u8`, `scale_s16` | a / 2^n, rounded to zero, at the nearest | S32 rows, n up to 31 | | |
 //! | `accumulate` | c + a, up to 32,767 | updates S16 | 90 | 44 |
 //! | `accumulate_square` | c + a * a / 2^n, rounded down, up to 32,767 | n up to 15 | 122 | 62 |
 //!

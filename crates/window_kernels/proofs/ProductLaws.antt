@@ -1,5 +1,5 @@
 -- Sums of products.
-use Rattle.std.proofs.Common.{◌≡◌, ℕ, ℤ, pos, zero, suc, ◌+◌, ◌-◌, ◌*◌, ◌<◌, List, [], ◌∷◌, ◌++◌, length, map, take, get_or, set, refl, ap, ◌+ℤ◌, ◌∙◌, sym, arith, zero-add, add-one, to_z, of_z, w32, ◌*ℤ◌}
+use Rattle.std.proofs.Common.{◌≡◌, ℕ, ℤ, pos, zero, suc, ◌+◌, ◌-◌, ◌*◌, ◌<◌, List, [], ◌∷◌, ◌++◌, get_or, refl, ap, ◌+ℤ◌, ◌∙◌, sym, arith, zero-add, add-one, ◌*ℤ◌}
 use Rattle.window_kernels.proofs.Common.{ints, run, sum_of_first, row_sum, pair_at, first_of_pair, second_of_pair}
 use Rattle.vx_base.proofs.TableLaws.{run-more}
 use Rattle.vx_base.specs.Window.{total}

@@ -1,6 +1,6 @@
 -- Rows that are loaded.
-use Rattle.std.proofs.Common.{◌≡◌, ℕ, ℤ, pos, zero, suc, zero-add, ◌+◌, ◌-◌, ◌*◌, ◌/◌, ◌%◌, ◌<◌, ◌≤◌, ◌+ℤ◌, ◌-ℤ◌, List, [], ◌∷◌, length, map, take, set, min, refl, ap, ◌∙◌, sym, subst, arith, w32, to_z, of_z, unsigned_abs, map-id}
-use Rattle.window_kernels.proofs.Common.{Each1, ints, map-append, take_more_set, take-put_mid, put_mid, Border, U8, ImageValue, run, look, run-append, run_shifted, IsNear}
+use Rattle.std.proofs.Common.{◌≡◌, ℕ, ℤ, pos, zero, suc, zero-add, ◌+◌, ◌*◌, ◌<◌, ◌≤◌, ◌+ℤ◌, ◌-ℤ◌, List, [], ◌∷◌, length, map, take, refl, ap, sym, subst, arith, w32, to_z, of_z, unsigned_abs, map-id}
+use Rattle.window_kernels.proofs.Common.{Each1, ints, take-put_mid, put_mid, Border, U8, ImageValue, run, look, run_shifted, IsNear}
 use Rattle.vx_base.specs.Image.{IsImage}
 use Rattle.vx_base.specs.Node.{IsBorder}
 use Rattle.vx_base.specs.Sample.{IsSample}

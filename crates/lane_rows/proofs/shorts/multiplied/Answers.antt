@@ -1,4 +1,4 @@
-use Rattle.std.proofs.Common.{◌≡◌, ℕ, ℤ, ◌^◌, ◌≤◌, pos, int_div, List, length, map, refl, ap, ◌∙◌, sym, subst, w16, w32, FitsSigned, to_z, of_z, ◌*ℤ◌}
+use Rattle.std.proofs.Common.{◌≡◌, ℕ, ℤ, ◌^◌, pos, int_div, List, length, map, refl, ap, ◌∙◌, sym, subst, w16, w32, FitsSigned, to_z, of_z, ◌*ℤ◌}
 use Rattle.lane_rows.proofs.Common.{zip2, Each1, length-zip2, S16, Policy, narrow, product, exchanged, Width}
 use Rattle.lane_rows.proofs.ShortLaws.{of_bits, fit_as_bits, told, products_fit}
 use Rattle.lane_rows.proofs.QuarterLaws.{written_out, Each1-exchanged}

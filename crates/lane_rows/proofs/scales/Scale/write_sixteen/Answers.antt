@@ -1,4 +1,4 @@
-use Rattle.std.proofs.Common.{◌≡◌, ℕ, ℤ, pos, int_div, ◌^◌, List, length, map, ap, ◌∙◌, sym, subst, w32, FitsSigned, to_z, of_z}
+use Rattle.std.proofs.Common.{◌≡◌, ℕ, ℤ, pos, int_div, ◌^◌, List, map, ap, ◌∙◌, sym, subst, w32, FitsSigned, to_z, of_z}
 use Rattle.lane_rows.proofs.Common.{Each1}
 use Rattle.std.proofs.lemmas.Simd.{map-map}
 use Rattle.vx_base.specs.Sample.{clamp}
