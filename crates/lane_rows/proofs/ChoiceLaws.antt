@@ -1,5 +1,5 @@
 -- Rows that are chosen of three rows.
-use Rattle.std.proofs.Common.{◌≡◌, ℕ, ℤ, pos, ◌+◌, List, [], ◌∷◌, length, map, get_or, refl, ap, ◌∙◌, sym, arith}
+use Rattle.std.proofs.Common.{◌≡◌, ℕ, ℤ, pos, List, [], ◌∷◌, length, map, refl, ap, ◌∙◌, sym}
 use Rattle.lane_rows.proofs.Common.{range_with_len, zip2, length-map, put_chunk_whole}
 use Rattle.std.specs.Simd.Lanes.{put_chunk}
 use Rattle.std.specs.Prelude.{slice_index}

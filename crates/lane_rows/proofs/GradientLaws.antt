@@ -1,10 +1,10 @@
 -- Gradients in lanes.
-use Rattle.std.proofs.Common.{◌≡◌, ℕ, ℤ, pos, ◌+◌, ◌-◌, ◌*◌, ◌%◌, ◌<◌, ◌≤◌, ◌+ℤ◌, ◌-ℤ◌, ◌*ℤ◌, List, [], ◌∷◌, length, map, refl, ap, ◌∙◌, sym, arith, w8, w16, to_z, Fits, subst}
-use Rattle.lane_rows.proofs.Common.{range_with_len, zip2, ints, length-map, put_chunk_whole, Each1}
+use Rattle.std.proofs.Common.{◌≡◌, ℕ, ℤ, pos, ◌+◌, ◌-◌, ◌*◌, ◌%◌, ◌<◌, ◌≤◌, ◌-ℤ◌, List, [], ◌∷◌, length, map, refl, ap, ◌∙◌, sym, arith, w8, w16, to_z, Fits, subst}
+use Rattle.lane_rows.proofs.Common.{range_with_len, zip2, ints, put_chunk_whole, Each1}
 use Rattle.std.specs.Simd.Lanes.{put_chunk}
 use Rattle.vx_base.specs.Image.{run}
 use Rattle.vx_base.specs.Window.{gradient_x, gradient_y}
-use Rattle.vx_base.proofs.TableLaws.{length-range, length-run}
+use Rattle.vx_base.proofs.TableLaws.{length-run}
 use Rattle.lane_rows.specs.Windows.{nine_of, change}
 
 -- the bits of signed lanes are added and subtracted modulo 2 ^ 16

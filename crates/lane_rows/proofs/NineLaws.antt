@@ -1,5 +1,5 @@
 -- What is computed in lanes of the nine samples of windows, lane by lane.
-use Rattle.std.proofs.Common.{◌≡◌, ℕ, ℤ, pos, zero, suc, ◌+◌, List, [], ◌∷◌, length, map, get_or, Bool, true, false, cond, min, max, ltb, refl, ap, ◌∙◌, sym, arith}
+use Rattle.std.proofs.Common.{◌≡◌, ℕ, ℤ, pos, List, [], ◌∷◌, length, map, Bool, true, false, cond, min, max, ltb, refl, ap, ◌∙◌, sym, arith}
 use Rattle.lane_rows.proofs.Common.{range_with_len, sel_l, zip2, length-map, put_chunk_whole, top}
 use Rattle.std.specs.Simd.Lanes.{put_chunk}
 use Rattle.std.proofs.lemmas.Simd.{map-map}

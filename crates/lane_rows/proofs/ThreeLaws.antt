@@ -1,7 +1,6 @@
 -- Three rows of numbers that are added up, in lanes.
-use Rattle.std.proofs.Common.{◌≡◌, ℕ, ℤ, pos, negsuc, zero, suc, ◌+◌, ◌-◌, ◌*◌, ◌/◌, ◌%◌, ◌^◌, ◌<◌, ◌≤◌, ◌+ℤ◌, ◌*ℤ◌, ◌≤ℤ◌, List, [], ◌∷◌, length, map, take, drop, get_or, refl, ap, ◌∙◌, sym, subst, arith, take-take, replicate, w16, of_z, to_z, map-id}
+use Rattle.std.proofs.Common.{◌≡◌, ℕ, ℤ, pos, negsuc, zero, suc, ◌+◌, ◌-◌, ◌/◌, ◌%◌, ◌<◌, ◌≤◌, ◌+ℤ◌, ◌*ℤ◌, List, [], ◌∷◌, length, map, take, drop, get_or, refl, ap, ◌∙◌, sym, subst, arith, take-take, w16, of_z, to_z, map-id}
 use Rattle.lane_rows.proofs.Common.{range_with_len, zip2, chunk, ints, Each1, length-map, length-zip2, put_chunk_whole}
-use Rattle.std.specs.Int.{int_div_euclid}
 use Rattle.std.proofs.Math.Dec.{T}
 use mir.Val.{Fits}
 use lib.IntN.{nat_abs}
@@ -9,7 +8,6 @@ use lib.Signed.{non_neg}
 use Rattle.std.specs.Simd.Lanes.{put_chunk}
 use Rattle.std.proofs.lemmas.Simd.{pick_l-range_with_len}
 use Rattle.std.proofs.Math.ListN.{get_or-map}
-use Rattle.vx_base.specs.Image.{run}
 use Rattle.lane_rows.specs.Threes.{IsUpTo, AreUpTo, number_at, zip3}
 
 -- ---- numbers that are loaded

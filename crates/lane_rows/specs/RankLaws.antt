@@ -2,7 +2,6 @@
 use Rattle.std.specs.Prelude.{ℕ, ℤ, ◌≡◌, [], ◌∷◌, pos, min, max}
 use Rattle.std.specs.Int.{int_min, int_max}
 use Rattle.std.proofs.Common.{arith, ap, ◌∙◌}
-use Rattle.std.proofs.lemmas.Int.{ints}
 use Rattle.vx_base.specs.Window.{least_of, greatest_of}
 use Rattle.lane_rows.specs.Ranks.{chosen_of_nine}
 

@@ -1,5 +1,4 @@
 -- Of nine items by rows the chosen one, by choices of two, and the middle one.
-use Rattle.std.specs.Prelude.{ℕ, ℤ}
 
 -- of three
 abbrev pub chosen_of_three : {A : Type 0} → (A → A → A) → A → A → A → A

@@ -282,7 +282,14 @@ pub fn min3(first: &[u8], second: &[u8], third: &[u8], out: &mut [u8])
         (number_at (map pos first.now) i) (number_at (map pos second.now) i))
         (number_at (map pos third.now) i)) }
 {
-    choose::<Least>(&Three { left: first, middle: second, right: third }, out);
+    choose::<Least>(
+        &Three {
+            left: first,
+            middle: second,
+            right: third,
+        },
+        out,
+    );
 }
 
 /// Writes the greatest of the three bytes at each place of three rows.
@@ -294,5 +301,12 @@ pub fn max3(first: &[u8], second: &[u8], third: &[u8], out: &mut [u8])
         (number_at (map pos first.now) i) (number_at (map pos second.now) i))
         (number_at (map pos third.now) i)) }
 {
-    choose::<Greatest>(&Three { left: first, middle: second, right: third }, out);
+    choose::<Greatest>(
+        &Three {
+            left: first,
+            middle: second,
+            right: third,
+        },
+        out,
+    );
 }

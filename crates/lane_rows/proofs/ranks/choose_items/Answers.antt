@@ -1,4 +1,4 @@
-use Rattle.std.proofs.Common.{◌≡◌, ℕ, pos, length, ◌∙◌, ap, sym, arith, zero-add}
+use Rattle.std.proofs.Common.{ℕ, pos, length, ◌∙◌, ap, sym, arith, zero-add}
 use Rattle.vx_base.proofs.WindowLaws.{item_written}
 use Rattle.lane_rows.specs.Threes.{chosen_at}
 use Rattle.lane_rows.proofs.RunLaws.{whole_run}

@@ -1,4 +1,4 @@
-use Rattle.std.proofs.Common.{◌∙◌, ◌*◌, ℕ, map, arith}
+use Rattle.std.proofs.Common.{◌∙◌, map}
 use Rattle.lane_rows.proofs.Common.{range_with_len}
 use Rattle.lane_rows.specs.Threes.{number_at}
 use Rattle.lane_rows.proofs.ThreeLaws.{up_to_more, limited_numbers, zip3_of_maps}

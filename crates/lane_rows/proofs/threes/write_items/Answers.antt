@@ -1,4 +1,4 @@
-use Rattle.std.proofs.Common.{◌≡◌, ◌∙◌, ℕ, pos, map, length, ap, sym, subst, arith, zero-add}
+use Rattle.std.proofs.Common.{◌∙◌, ℕ, map, length, ap, sym, subst, arith, zero-add}
 use Rattle.lane_rows.proofs.Common.{ints}
 use Rattle.vx_base.proofs.WindowLaws.{item_written}
 use Rattle.lane_rows.specs.Threes.{IsUpTo, number_at}

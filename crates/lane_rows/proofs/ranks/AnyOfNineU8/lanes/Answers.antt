@@ -1,6 +1,5 @@
-use Rattle.std.proofs.Common.{◌∙◌, get_or}
 use Rattle.lane_rows.proofs.Common.{zip2}
-use Rattle.lane_rows.specs.Ranks.{chosen_of_three, chosen_of_nine}
+use Rattle.lane_rows.specs.Ranks.{chosen_of_nine}
 use Rattle.lane_rows.proofs.NineLaws.{chosen_by_lanes, stored}
 use Rattle.lane_rows.proofs.ranks.AnyOfNineU8.lanes.Goals as goal
 

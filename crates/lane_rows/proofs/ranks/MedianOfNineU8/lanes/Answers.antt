@@ -1,4 +1,4 @@
-use Rattle.std.proofs.Common.{◌∙◌, min, max, get_or}
+use Rattle.std.proofs.Common.{min, max}
 use Rattle.lane_rows.proofs.Common.{zip2}
 use Rattle.vx_base.specs.Window.{median}
 use Rattle.lane_rows.specs.Ranks.{middle_of_nine}

@@ -1,4 +1,4 @@
-use Rattle.std.proofs.Common.{◌≡◌, ◌∙◌, ◌<◌, ◌≤◌, ◌/◌, ◌^◌, ◌+ℤ◌, ◌*ℤ◌, ℕ, ℤ, List, map, pos, length, ap, sym, subst, arith}
+use Rattle.std.proofs.Common.{◌∙◌, ◌<◌, ◌≤◌, ◌/◌, ◌+ℤ◌, ℕ, List, map, pos, ap, sym, subst, arith}
 use Rattle.std.specs.Int.{int_div_euclid}
 use Rattle.lane_rows.proofs.Common.{zip2, Each1}
 use Rattle.std.proofs.lemmas.Simd.{zip2_splat, Each1-all, Each2-splat}
