@@ -77,7 +77,7 @@ PIXELWISE = {
     "ConvertDepth, S16 to U8, shift 4": (
         "convertScaleAbs by 1/16", lambda: cv2.convertScaleAbs(shorts, byte_output, 1 / 16)),
     "Accumulate": ("accumulate, to floats", lambda: cv2.accumulate(first, float_sums)),
-    "Accumulate, beside add": (
+    "Accumulate, against add": (
         "add to CV_16S, in place",
         lambda: cv2.add(short_sums, first, short_sums, dtype=cv2.CV_16S)),
     "AccumulateSquare, s = 8": (

@@ -23,9 +23,8 @@ def found() -> Iterator[str]:
     for path in pages():
         for line, target in links.broken(path, tree.read(path)):
             yield f"{path}:{line}: the link to {target} leads nowhere"
-        if path not in prose.NOT_YET:
-            for line, wrong in prose.faults(tree.read(path)):
-                yield f"{path}:{line}: {wrong}"
+        for line, wrong in prose.faults(tree.read(path)):
+            yield f"{path}:{line}: {wrong}"
 
 
 def main() -> int:
