@@ -104,9 +104,7 @@ impl Runtime {
         ensures kept { AppliesToKept client request.now self.old self.new result }
     {
         let result = self.answer(alloc, client, request);
-        if self.pool.has_new_free() {
-            self.pool.trim();
-        }
+        self.pool.trim();
         result
     }
 

@@ -1,7 +1,7 @@
 -- Lemmas on size classes.
 use Rattle.std.proofs.Common.{◌≡◌, ℕ, zero, suc, ◌+◌, ◌-◌, ◌*◌, ◌/◌, ◌^◌, ◌<◌, ◌≤◌, ◌⊎◌, min, inl, inr, refl, add-zero, add-one, add-suc, arith}
 use Rattle.std.proofs.Math.Nat.{pow-le-pow_right}
-use Rattle.pixel_pool.specs.Classes.{class_step, class_room, class_count, IsClassOf, FitsIn}
+use Rattle.pixel_pool.specs.Classes.{class_step, class_room, class_count, FitsIn}
 
 -- no class has room for many more samples than the one below it
 pub step_small : (class : ℕ) → class < class_count → class_step class ≤ 2 ^ 23
@@ -32,6 +32,9 @@ room_mono class other within =
 pub room_small : (class : ℕ) → class ≤ class_count → class_room class ≤ class * 2 ^ 23
 room_small zero within = omega (arith, room_zero)
 room_small (suc class) within = omega (arith, room_suc class, step_small class (omega arith), room_small class (omega arith))
+
+-- the room of a class, for loops over classes
+pub ruleset room_steps = (room_zero, room_more, room_mono, room_small)
 
 pub room_one : 1 ≡ class_room 1
 unfolding class_room

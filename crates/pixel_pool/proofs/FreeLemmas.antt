@@ -1,13 +1,13 @@
 -- Lemmas on how many blocks of each class are free.
-use Rattle.std.proofs.Common.{◌≡◌, ◌≢◌, ℕ, zero, suc, ◌+◌, ◌-◌, ◌*◌, ◌^◌, ◌<◌, ◌≤◌, ◌⊎◌, false, List, [], ◌∷◌, length, map, Option, Some, None, IfNone, get_or, set, refl, ap, ◌∙◌, add-zero, add-one, add-suc, inl, inr, arith}
-use Rattle.std.proofs.lemmas.List.{length-map, map-set, get_or_past}
+use Rattle.std.proofs.Common.{◌≡◌, ◌≢◌, ℕ, zero, suc, ◌+◌, ◌*◌, ◌^◌, ◌<◌, ◌≤◌, ◌⊎◌, false, List, [], ◌∷◌, length, Option, Some, None, IfNone, get_or, set, refl, sym, ap, ◌∙◌, add-one, inl, inr, arith}
+use Rattle.std.proofs.lemmas.List.{length-map, map-set, get_or_past, get_or-set_same, get_or-set_other}
 use Rattle.std.proofs.lemmas.Bool.Decides.{nat_tests}
 use Rattle.std.proofs.Math.Nat.{mul-le-mul}
 use Rattle.std.proofs.Math.ListN.{get_or-map}
 use Rattle.std.proofs.lemmas.List.Sums.{sum_by-cons, get_or-le-sum_by}
-use Rattle.pixel_pool.specs.Classes.{class_room, class_count, IsClassOf, FitsIn}
+use Rattle.pixel_pool.specs.Classes.{class_room, class_count, FitsIn}
 use Rattle.pixel_pool.specs.Free.{free_count, HasFree, HasRoom, UsesBest, UsesLargest, GetsFree, IsTrim, suits_better, without_one, room_below}
-use Rattle.pixel_pool.proofs.ClassLemmas.{room_mono, room_small}
+use Rattle.pixel_pool.proofs.ClassLemmas.{room_mono, room_small, room_steps}
 use Rattle.pixel_pool.specs.Shelf.{lengths, no_stack, stack_at}
 use Rattle.pixel_pool.specs.declared.stacks.Stack.{Stack}
 
@@ -45,10 +45,8 @@ pub below_more : (free : List ℕ) (class : ℕ) → room_below free (class + 1)
 unfolding room_below
 below_more free class = rw add-one refl
 
--- the room of the classes below a greater one is no less
-pub below_rises : (free : List ℕ) (class above : ℕ) → room_below free class ≤ room_below free (class + above)
-below_rises free class zero = rw add-zero (omega arith)
-below_rises free class (suc above) = rw (add-suc, ← add-one) (omega (arith, below_rises free class above, below_more free (class + above)))
+-- the lengths of stacks, for loops over their classes
+pub ruleset stack_steps = (none_free, free_within, length_at, room_steps)
 
 below_or : (free : List ℕ) (class : ℕ) → (class < length free) ⊎ (length free ≤ class)
 below_or [] class = inr (omega arith)
@@ -73,7 +71,7 @@ no_len : (free : List ℕ) → free_count free ≡ 0 → (class : ℕ) → get_o
 no_len free none class =
     omega (arith, class_within free class, none)
 
-no_room : (free : List ℕ) → free_count free ≡ 0 → (class : ℕ) → room_below free class ≡ 0
+pub no_room : (free : List ℕ) → free_count free ≡ 0 → (class : ℕ) → room_below free class ≡ 0
 no_room free none zero = below_zero free
 no_room free none (suc class) =
     rw (← add-one) (below_more free class ∙ rw (no_room free none class, no_len free none class) (omega arith))
@@ -82,24 +80,37 @@ no_room free none (suc class) =
 pub none_is_trim : (free : List ℕ) → free_count free ≡ 0 → IsTrim free
 none_is_trim free none = record { blocks = omega (arith, none); room = omega (arith, no_room free none class_count) }
 
--- the room of the free blocks of a class is far from the end of the numbers
-pub few_times : (stacks : List Stack) (class room : ℕ) → free_count (lengths stacks) ≤ 16384 → class < 193
-    → room ≡ class_room class → (stack_at stacks class).len * room < 2 ^ 64
-few_times stacks class room few known is =
-    let a : (stack_at stacks class).len ≤ 16384 = omega (arith, class_within (lengths stacks) class, length_at stacks class) in
-    let b : room ≤ 193 * 2 ^ 23 = omega (arith, room_small class (omega arith)) in
-    let c : (stack_at stacks class).len * room ≤ 16384 * (193 * 2 ^ 23) = mul-le-mul a b in
-    omega (arith, c)
+-- the room of free blocks is far from the end of the numbers
+pub room_bound : (free : List ℕ) (class : ℕ) → class ≤ class_count → room_below free class ≤ class * (free_count free * 2 ^ 31)
+room_bound free zero within = omega (arith, below_zero free)
+room_bound free (suc class) within =
+    let each : get_or free class 0 * class_room class ≤ free_count free * 2 ^ 31 =
+    mul-le-mul (class_within free class) (omega (arith, room_small class (omega arith))) in
+    let more : room_below free (suc class) ≡ room_below free class + get_or free class 0 * class_room class = rw (← add-one) (below_more free class) in
+    omega (arith, more, each, room_bound free class (omega arith))
 
--- more room than is allowed is too much
-pub too_much : (stacks : List Stack) (class left room : ℕ) → class < 193 → left + room_below (lengths stacks) class ≡ 67108864
-    → room ≡ class_room class → left < (stack_at stacks class).len * room → IsTrim (lengths stacks) → ⊥
-too_much stacks class left room known sum is over trim =
-    let free = lengths stacks in
-    let e : class + 1 + (192 - class) ≡ 193 = omega arith in
-    let rises : room_below free (class + 1) ≤ room_below free 193 = rw e at (below_rises free (class + 1) (192 - class)) in
-    let here : (stack_at stacks class).len * room ≡ get_or free class 0 * class_room class = rw (is, length_at) refl in
-    absurd (omega (arith, rises, here, below_more free class, trim.room))
+room_beside : (free : List ℕ) (class n top : ℕ) → top ≤ class → room_below (set free class n) top ≡ room_below free top
+room_beside free class n zero within = below_zero (set free class n) ∙ sym (below_zero free)
+room_beside free class n (suc top) within =
+    let e : get_or (set free class n) top 0 ≡ get_or free top 0 = get_or-set_other free class top n 0 (λ e. absurd (omega (arith, e))) in
+    let more : room_below (set free class n) (top + 1) ≡ room_below (set free class n) top + get_or free top 0 * class_room top = rw e at (below_more (set free class n) top) in
+    rw (← add-one) (omega (arith, more, below_more free top, room_beside free class n top (omega arith)))
+
+-- the room of free blocks after those of one class are others
+pub room_set : (free : List ℕ) (class n top : ℕ) → class < length free → class < top
+    → room_below (set free class n) top + get_or free class 0 * class_room class ≡ room_below free top + n * class_room class
+room_set free class n zero inside below = absurd (omega arith)
+room_set free class n (suc top) inside below =
+    elim (same_or_not top class) [
+      | inl same ↦
+          let e : get_or (set free class n) class 0 ≡ n = get_or-set_same free class n 0 inside in
+          let more : room_below (set free class n) (class + 1) ≡ room_below (set free class n) class + n * class_room class = rw e at (below_more (set free class n) class) in
+          rw (← add-one, same) (omega (arith, more, below_more free class, room_beside free class n class (omega arith)))
+      | inr other ↦
+          let e : get_or (set free class n) top 0 ≡ get_or free top 0 = get_or-set_other free class top n 0 other in
+          let more : room_below (set free class n) (top + 1) ≡ room_below (set free class n) top + get_or free top 0 * class_room top = rw e at (below_more (set free class n) top) in
+          rw (← add-one) (omega (arith, more, below_more free top, room_set free class n top inside (omega arith)))
+    ]
 
 -- the smallest of the rooms in which so many samples fit suits them best
 pub fit_is_best : (count : ℕ) (free : List ℕ) (class : ℕ) → HasFree free class → count ≤ class_room class

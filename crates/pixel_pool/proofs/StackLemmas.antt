@@ -1,13 +1,12 @@
 -- Lemmas on stacks of free blocks: what stays of them where a block comes or goes.
-use Rattle.std.proofs.Common.{◌≡◌, ◌≢◌, ℕ, zero, suc, ◌+◌, ◌-◌, ◌<◌, ◌≤◌, ◌⊎◌, List, length, map, get_or, set, replicate, length-set, [], ◌∷◌, Some, ◌*◌, None, IsSomeAnd, Vec, vec_capacity, refl, sym, ap, subst, ◌∙◌, inl, inr, arith}
-use Rattle.std.proofs.lemmas.List.{length-map, length-replicate, get_or-set_same, get_or-set_other, map-set}
+use Rattle.std.proofs.Common.{◌≡◌, ◌≢◌, ℕ, zero, suc, ◌+◌, ◌-◌, ◌<◌, ◌≤◌, ◌⊎◌, List, length, get_or, set, replicate, length-set, [], ◌∷◌, Some, ◌*◌, None, IsSomeAnd, vec_capacity, refl, sym, ap, ◌∙◌, inl, inr, arith}
+use Rattle.std.proofs.lemmas.List.{length-map, length-replicate, get_or-set_same, get_or-set_other}
 use Rattle.std.proofs.lemmas.List.Sums.{sum_by-set, get_or-le-sum_by}
 use Rattle.std.proofs.lemmas.List.Folds.{sum_by-replicate}
-use Rattle.std.proofs.Math.ListN.{get_or-map}
 use Rattle.slab.specs.Slab.{Slab, get, slab_len, Updates}
 use Rattle.pixel_pool.specs.Classes.{class_room, class_count, IsClassOf}
-use Rattle.pixel_pool.proofs.FreeLemmas.{fit_is_best, same_or_not, length_at, lengths_set, free_within}
-use Rattle.pixel_pool.specs.Free.{free_count, HasFree, without_one, with_one, GetsFree, UsesBest}
+use Rattle.pixel_pool.proofs.FreeLemmas.{fit_is_best, same_or_not, length_at, lengths_set, free_within, no_room, room_set}
+use Rattle.pixel_pool.specs.Free.{free_count, room_below, HasFree, without_one, GetsFree, UsesBest}
 use Rattle.pixel_pool.specs.Shelf.{ShelfValue, block_count, lengths, no_stack, stack_at, IsTopOf, IsStack, IsStacked, AreStacks}
 use Rattle.pixel_pool.specs.declared.shelf.Free.{Free}
 use Rattle.pixel_pool.specs.declared.stacks.Stack.{Stack}
@@ -18,15 +17,11 @@ pub counted_set : (stacks : List Stack) (class : ℕ) (stack : Stack) → class 
 counted_set stacks class stack inside =
     rw (lengths_set stacks class stack, ← length_at stacks class) (sum_by-set (λ n. n) (lengths stacks) class stack.len 0 (simp length-map inside))
 
--- a class of which a block is free has a stack with a block
-pub has_stack : (stacks : List Stack) (class : ℕ) → HasFree (lengths stacks) class → (class < length stacks) × (0 < (stack_at stacks class).len)
-has_stack stacks class some =
-    (simp length-map at (free_within (lengths stacks) class some), rw (← length_at stacks class) some)
-
--- a free block that is seen is one
-pub stack_free : (stacks : List Stack) (lent class : ℕ) (was : ShelfValue) → ◌≡◌ {A = ShelfValue} (record { lent = lent; free = lengths stacks }) was
-    → HasFree was.free class → HasFree (lengths stacks) class
-stack_free stacks lent class was is some = rw (← is) at some
+-- the room of free blocks after a stack is changed
+pub room_changed : (stacks : List Stack) (class : ℕ) (stack : Stack) → class < length stacks → length stacks ≡ class_count
+    → room_below (lengths (set stacks class stack)) class_count + (stack_at stacks class).len * class_room class ≡ room_below (lengths stacks) class_count + stack.len * class_room class
+room_changed stacks class stack inside all =
+    rw (lengths_set stacks class stack, ← length_at stacks class) (room_set (lengths stacks) class stack.len class_count (simp length-map inside) (omega (arith, inside, all)))
 
 -- a stack has no more blocks than are free
 pub stack_counted : (stacks : List Stack) (class : ℕ) → class < length stacks → (stack_at stacks class).len ≤ free_count (lengths stacks)
@@ -46,11 +41,26 @@ empty_lengths (suc n) = ap (λ l. 0 ∷ l) (empty_lengths n)
 pub empty_count : (n : ℕ) → free_count (replicate n 0) ≡ 0
 empty_count n = omega (arith, sum_by-replicate (λ m. m) n 0)
 
+pub empty_room : room_below (lengths (replicate 193 no_stack)) class_count ≡ 0
+empty_room = no_room (lengths (replicate 193 no_stack)) (ap free_count (empty_lengths 193) ∙ empty_count 193) class_count
+
 module _ {T : Type 0} where
   -- a stack that has a block has a top block
   pub top_of : (free : Slab (Free T)) (class : ℕ) (stack : Stack) (block : Free T) → IsStack free class stack → 0 < stack.len
       → get free stack.top ≡ Some block → IsTopOf class stack.len block
   top_of free class stack block is some found = rw found at (is some)
+
+  -- the top block of a class of which one is free
+  pub top_free : (stacks : List Stack) (free : Slab (Free T)) (lent class : ℕ) (was : ShelfValue) (block : Free T)
+      → ◌≡◌ {A = ShelfValue} (record { lent = lent; free = lengths stacks }) was → AreStacks stacks free → HasFree was.free class
+      → get free (stack_at stacks class).top ≡ Some block
+      → (class < length stacks) × (0 < (stack_at stacks class).len) × IsTopOf class (stack_at stacks class).len block
+      × (class_room class ≤ vec_capacity block.samples) × (block.room ≡ class_room class)
+  top_free stacks free lent class was block is are some found =
+      let has : HasFree (lengths stacks) class = rw (← is) at some in
+      let some_there : 0 < (stack_at stacks class).len = rw (← length_at stacks class) has in
+      let top : IsTopOf class (stack_at stacks class).len block = top_of free class (stack_at stacks class) block (are.tops class) some_there found in
+      (simp length-map at (free_within (lengths stacks) class has), some_there, top, rw top.0 at (are.each _ block found).room, rw top.0 at (are.each _ block found).room_known)
 
   -- a stack whose top block isn't one key's hasn't this key
   pub not_top : (free : Slab (Free T)) (class key : ℕ) (stack : Stack) (block : Free T) → IsStack free class stack → 0 < stack.len
@@ -104,6 +114,7 @@ module _ {T : Type 0} where
       let is = are.each k b was in
       record {
         room = is.room;
+        room_known = is.room_known;
         within = elim (same_or_not b.class class) [
           | inl same ↦
               let e : stack_at (set stacks class block.under) b.class ≡ block.under = rw same (get_or-set_same stacks class block.under no_stack inside) in
@@ -157,15 +168,16 @@ module _ {T : Type 0} where
       ]
 
   pushed_each : (stacks : List Stack) (old new : Slab (Free T)) (key : ℕ) (block : Free T) (k : ℕ) (b : Free T) → AreStacks stacks old → block.class < length stacks
-      → class_room block.class ≤ vec_capacity block.samples → block.under ≡ stack_at stacks block.class → get old key ≡ None
+      → class_room block.class ≤ vec_capacity block.samples → block.room ≡ class_room block.class → block.under ≡ stack_at stacks block.class → get old key ≡ None
       → Updates old new key (Some block) → get new k ≡ Some b
       → IsStacked (set stacks block.class (record { top = key; len = block.under.len + 1 })) new b
-  pushed_each stacks old new key block k b are inside room under vacant came h =
+  pushed_each stacks old new key block k b are inside room known under vacant came h =
       let on : Stack = record { top = key; len = block.under.len + 1 } in
       let here : stack_at (set stacks block.class on) block.class ≡ on = get_or-set_same stacks block.class on no_stack inside in
       elim (came_or_was old new key block k b came h) [
         | inl new_one ↦ rw new_one.1 (record {
           room = room;
+          room_known = known;
           within = rw here (omega arith);
           linked = still_stack old new key block block.class block.under vacant came (rw under (are.tops block.class));
         })
@@ -173,6 +185,7 @@ module _ {T : Type 0} where
             let is = are.each k b was in
             record {
               room = is.room;
+              room_known = is.room_known;
               within = elim (same_or_not b.class block.class) [
                 | inl same ↦
                     let below : b.under.len < (stack_at stacks block.class).len = rw same at is.within in
@@ -227,14 +240,14 @@ module _ {T : Type 0} where
 
   -- the stacks once a block has come
   pub pushed : (stacks : List Stack) (old new : Slab (Free T)) (key : ℕ) (block : Free T) → AreStacks stacks old → block.class < length stacks
-      → class_room block.class ≤ vec_capacity block.samples → block.under ≡ stack_at stacks block.class → get old key ≡ None
+      → class_room block.class ≤ vec_capacity block.samples → block.room ≡ class_room block.class → block.under ≡ stack_at stacks block.class → get old key ≡ None
       → Updates old new key (Some block) → slab_len new ≡ slab_len old + 1
       → AreStacks (set stacks block.class (record { top = key; len = block.under.len + 1 })) new
-  pushed stacks old new key block are inside room under vacant came more =
+  pushed stacks old new key block are inside room known under vacant came more =
       record {
         all = length-set stacks block.class (record { top = key; len = block.under.len + 1 }) ∙ are.all;
         tops = λ c. pushed_tops stacks old new key block c are inside under vacant came;
-        each = λ k b h. pushed_each stacks old new key block k b are inside room under vacant came h;
+        each = λ k b h. pushed_each stacks old new key block k b are inside room known under vacant came h;
         alone = λ k j b d hk hj same level. pushed_alone stacks old new key block k j b d are under came hk hj same level;
         counted = omega (arith, counted_set stacks block.class (record { top = key; len = block.under.len + 1 }) inside, are.counted, ap (λ (s : Stack). s.len) under);
       }

@@ -1,5 +1,5 @@
 -- What a contract sees of a `Shelf`, the blocks of one format; and how its free blocks are linked.
-use Rattle.std.specs.Prelude.{◌≡◌, ◌≤◌, ◌<◌, ℕ, ◌+◌, List, length, map, Some, IsSomeAnd, slice_index_or, Vec, vec_capacity}
+use Rattle.std.specs.Prelude.{◌≡◌, ◌≤◌, ◌<◌, ℕ, ◌+◌, List, length, map, Some, IsSomeAnd, slice_index_or, vec_capacity}
 use Rattle.slab.specs.Slab.{Slab, get, slab_len}
 use Rattle.pixel_pool.specs.Classes.{class_room, class_count}
 use Rattle.pixel_pool.specs.Free.{free_count}
@@ -36,9 +36,10 @@ module _ {T : Type 0} where
   abbrev pub IsStack : Slab (Free T) → ℕ → Stack → Type 0
   IsStack free class stack = 0 < stack.len → IsSomeAnd (get free stack.top) (IsTopOf class stack.len)
 
-  -- a block has the room of its class, and it and the stack under it are in the stack of the class
+  -- a block has the room of its class, which it knows, and it and the stack under it are in the stack of the class
   pub record IsStacked (stacks : List Stack) (free : Slab (Free T)) (block : Free T) : Type 0 where
     pub room : class_room block.class ≤ vec_capacity block.samples
+    pub room_known : block.room ≡ class_room block.class
     pub within : block.under.len < (stack_at stacks block.class).len
     pub linked : IsStack free block.class block.under
 

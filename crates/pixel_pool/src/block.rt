@@ -35,6 +35,7 @@ impl Block {
         self.samples
     }
 
+    /// Returns the format of the block's samples, also while they are lifted out.
     pub fn format(&self) -> Format
         ensures { result ≡ samples_format self.now }
     {

@@ -1,6 +1,6 @@
 //! The size classes of blocks.
 ghost use Rattle.std.specs.Prelude.{◌≡◌, ◌<◌, ◌≤◌, ◌^◌};
-ghost use Rattle.pixel_pool.specs.Classes.{class_count, class_step, IsClassOf, FitsIn};
+ghost use Rattle.pixel_pool.specs.Classes.{class_count, class_room, class_step, IsClassOf, FitsIn};
 
 /// How many classes there are. The last has room for 67,108,864 samples, as many as the largest
 /// image has.
@@ -16,23 +16,27 @@ pub fn step(class: usize) -> usize
     1 << (class / 8).saturating_sub(1)
 }
 
-/// The class of a block that has room for so many samples: the greatest that it has the room of.
-#[tactic(auto, using(crate::proofs::ClassLemmas::room_zero, crate::proofs::ClassLemmas::room_more, crate::proofs::ClassLemmas::room_mono, crate::proofs::ClassLemmas::room_small))]
-pub fn class_of(room: usize) -> usize
-    ensures { IsClassOf room result }
+/// The class of a block that has room for so many samples: the greatest that it has the room of; and
+/// for how many samples this class has room.
+#[tactic(auto, using(crate::proofs::ClassLemmas::room_steps))]
+pub fn class_of(room: usize) -> (usize, usize)
+    ensures class { IsClassOf room result.0 }
+    ensures room { result.1 ≡ class_room result.0 }
 {
     let mut class = 0;
+    let mut within = 0;
     let mut next = 1;
     while class + 1 < CLASSES && next <= room {
         class += 1;
+        within = next;
         next += step(class);
     }
-    class
+    (class, within)
 }
 
 /// For how many samples a new block has room into which so many fit: for as many as a class has,
 /// unless they fit in none.
-#[tactic(auto, using(crate::proofs::ClassLemmas::room_zero, crate::proofs::ClassLemmas::room_more, crate::proofs::ClassLemmas::room_mono, crate::proofs::ClassLemmas::room_small))]
+#[tactic(auto, using(crate::proofs::ClassLemmas::room_steps))]
 pub fn room_for(count: usize) -> usize
     ensures enough { count ≤ result }
     ensures class { FitsIn count result }

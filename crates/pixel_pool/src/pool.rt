@@ -1,5 +1,5 @@
 //! The blocks of all formats.
-ghost use Rattle.std.specs.Prelude.{◌≡◌, ◌≢◌, true, length, max, pos, replicate};
+ghost use Rattle.std.specs.Prelude.{◌≡◌, ◌≢◌, length, max, pos, replicate};
 ghost use Rattle.std.specs.Prelude.{IfOk, IsOk, OnErr, OnOk};
 ghost use Rattle.vx_base.specs.Picture.{values, samples_format};
 ghost use Rattle.pixel_pool.specs.Classes.{class_count, FitsIn};
@@ -18,7 +18,6 @@ pub struct Pool {
     u8s: Shelf<u8>,
     s16s: Shelf<i16>,
     u32s: Shelf<u32>,
-    has_new_free: bool,
 }
 
 impl Pool {
@@ -33,7 +32,6 @@ impl Pool {
             u8s: Shelf::new(alloc),
             s16s: Shelf::new(alloc),
             u32s: Shelf::new(alloc),
-            has_new_free: false,
         }
     }
 
@@ -95,22 +93,12 @@ impl Pool {
         ensures free { GetsFree (room_of block) (free_of self.old (samples_format block))
             (free_of self.new (samples_format block)) }
         ensures other_free { KeepsOtherFree self.old self.new (samples_format block) }
-        ensures new_free { self.new.has_new_free ≡ true }
     {
-        self.has_new_free = true;
         match block.into_samples() {
             Samples::U8(samples) => self.u8s.give_back(samples),
             Samples::S16(samples) => self.s16s.give_back(samples),
             Samples::U32(samples) => self.u32s.give_back(samples),
         }
-    }
-
-    /// Returns whether a block was given back since the free ones were last trimmed: no request that
-    /// gives none back has to look at them.
-    pub fn has_new_free(&self) -> bool
-        ensures { result ≡ self.now.has_new_free }
-    {
-        self.has_new_free
     }
 
     /// Drops free blocks of each format, the largest first, until at most 16,384 are free, which
@@ -123,7 +111,6 @@ impl Pool {
         ensures kept { (format : Format) → IsTrim (free_of self.old format) →
             free_of self.new format ≡ free_of self.old format }
     {
-        self.has_new_free = false;
         self.u8s.trim();
         self.s16s.trim();
         self.u32s.trim();

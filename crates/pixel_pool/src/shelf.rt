@@ -7,7 +7,7 @@ ghost use Rattle.pixel_pool.specs.Free.{without_one, GetsFree};
 ghost use Rattle.pixel_pool.specs.Shelf.{block_count};
 
 use crate::classes::{CLASSES, class_of, room_for};
-use crate::stacks::{EMPTY, Stack, are_trim, largest, smallest};
+use crate::stacks::{EMPTY, Stack, largest, smallest};
 use slab::Slab;
 use std::alloc::{AllocError, Global};
 use std::marker::Model;
@@ -16,26 +16,38 @@ use std::marker::Model;
 /// widest format.
 const SMALL_ROOM: usize = 1024;
 
-/// A free block, with the stack of its class as it was before the block came.
+/// For how many samples free blocks may have room together that are kept.
+const KEPT_ROOM: u128 = 67_108_864;
+
+/// How many free blocks may be kept: as many as one client can leave.
+const KEPT_BLOCKS: usize = 16_384;
+
+/// A free block, its class with the room of this class, and the stack of the class as it was before
+/// the block came.
 #[derive(Drop)]
 struct Free<T> {
     samples: Vec<T>,
     class: usize,
+    room: usize,
     under: Stack,
 }
 
-/// How many blocks are lent, and the free ones under their keys, stacked by their classes.
+/// How many blocks are lent, and the free ones under their keys, stacked by their classes. `room` is
+/// the number of samples for which the free blocks have room, each as its class does.
 #[derive(Drop)]
 pub struct Shelf<T> {
     alloc: Global,
     lent: usize,
     free: Slab<Free<T>>,
     stacks: [Stack; CLASSES],
+    room: u128,
 }
 
 impl<T> Model for Shelf<T> {
-    ghost use Rattle.std.specs.Prelude.{◌+◌, ◌≤◌};
+    ghost use Rattle.std.specs.Prelude.{◌≡◌, ◌+◌, ◌≤◌};
     ghost use Rattle.slab.specs.Slab.{slab_len};
+    ghost use Rattle.pixel_pool.specs.Classes.{class_count};
+    ghost use Rattle.pixel_pool.specs.Free.{room_below};
     ghost use Rattle.pixel_pool.specs.Shelf.{ShelfValue, lengths, AreStacks};
 
     ghost Value = { ShelfValue };
@@ -44,7 +56,8 @@ impl<T> Model for Shelf<T> {
 
     // Each block that is lent has a place among the free ones.
     ghost invariant = { λ s. (s.lent + slab_len s.free ≤ s.free.capacity)
-        × AreStacks s.stacks s.free };
+        × AreStacks s.stacks s.free
+        × (s.room ≡ room_below (lengths s.stacks) class_count) };
 }
 
 impl<T: Copy + Drop> Shelf<T> {
@@ -57,6 +70,7 @@ impl<T: Copy + Drop> Shelf<T> {
             lent: 0,
             free: Slab::new(alloc),
             stacks: [EMPTY; CLASSES],
+            room: 0,
         }
     }
 
@@ -164,6 +178,7 @@ impl<T: Copy + Drop> Shelf<T> {
         let _fit = self.free.capacity();
         let block = self.free.remove(self.stacks[class].top);
         self.stacks[class] = block.under;
+        self.room -= block.room as u128;
         self.lent += 1;
         block.samples
     }
@@ -176,11 +191,12 @@ impl<T: Copy + Drop> Shelf<T> {
         ensures blocks { block_count self.new ≡ block_count self.old }
     {
         let _fit = self.free.capacity();
-        let class = class_of(samples.capacity());
+        let (class, room) = class_of(samples.capacity());
         let under = self.stacks[class];
         let block = Free {
             samples,
             class,
+            room,
             under,
         };
         let top = self.free.insert_reserved(block);
@@ -188,6 +204,7 @@ impl<T: Copy + Drop> Shelf<T> {
             top,
             len: under.len + 1,
         };
+        self.room += room as u128;
         self.lent -= 1;
     }
 
@@ -197,6 +214,7 @@ impl<T: Copy + Drop> Shelf<T> {
     {
         self.free.clear();
         self.stacks = [EMPTY; CLASSES];
+        self.room = 0;
     }
 
     /// Drops free blocks, the largest first, until they are not too many and haven't too much room.
@@ -206,9 +224,16 @@ impl<T: Copy + Drop> Shelf<T> {
         ensures fewer { IsFewer self.new.free self.old.free }
         ensures kept { IsTrim self.old.free → self.new ≡ self.old }
     {
-        while !are_trim(&self.stacks, self.free.len()) {
+        while !self.is_trim() {
             self.drop_largest();
         }
+    }
+
+    /// Returns whether the free blocks are not too many and haven't too much room together.
+    fn is_trim(&self) -> bool
+        ensures { IsTrue result ↔ IsTrim self.now.free }
+    {
+        self.free.len() <= KEPT_BLOCKS && self.room <= KEPT_ROOM
     }
 
     /// Drops a free block of the greatest class of which one is free: there are too many.

@@ -7,7 +7,8 @@ invariant-loop-class l =
     record {
       known : l.class < 193;
       next : l.next ≡ class_room (l.class + 1);
-      within : class_room l.class ≤ l.room;
+      within : l.within ≡ class_room l.class;
+      enough : l.within ≤ l.room;
     }
 
 abbrev pub decreases-loop-class : goal.decreases-loop-class

@@ -1,4 +1,4 @@
-use Rattle.std.proofs.Common.{◌-◌, ◌≡◌, ◌<◌, ◌≤◌}
+use Rattle.std.proofs.Common.{◌-◌, ◌≡◌, ◌<◌}
 use Rattle.pixel_pool.specs.Classes.{class_room}
 use Rattle.pixel_pool.proofs.classes.room_for.Given as goal
 
