@@ -87,13 +87,12 @@ module _ {S E : Type 0} (fills : S → S → Format → List ℤ → Result ⊤ 
       go (Ok x) (p, read, written) =
           let request : Request = WriteImage cell p in
           let reply : Result Reply NoMemory = Ok Empty in
-          let answers : answer_to limits (Some o.context) request ≡ (Empty, Some n.context) = ap (answered o.context) written in
-          (
+          let answers : answer_to limits (Some o.context) request ≡ (Empty, Some n.context) = ap (answered o.context) written in (
             p,
             read,
             subst (λ (w : World). Applies client request w later reply) shown (applies_done limits client request Empty before after o n was is others answers),
             subst (λ (w : World). AppliesToKept client request w later reply) shown
-            (applies_to_kept limits client request reply before after (Some o) (Some n) was is others (same_keeps limits.work request refl o.verified n.verified reply same)),
+                (applies_to_kept limits client request reply before after (Some o) (Some n) was is others (same_keeps limits.work request refl o.verified n.verified reply same)),
           )
 
   -- or it is told why not

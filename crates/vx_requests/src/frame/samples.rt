@@ -76,10 +76,7 @@ impl<S: Source> FillsSamples for Reader<'_, S> {
 }
 
 /// Reads samples of any format over those that are there, within a frame.
-fn read_samples<S: Source>(
-    reader: &mut Reader<S>,
-    samples: &mut Samples,
-) -> Result<(), StreamFault>
+fn read_samples<S: Source>(reader: &mut Reader<S>, samples: &mut Samples) -> Result<(), StreamFault>
     requires { CanRead S.reads S.failures reader.old }
     ensures ok { OnOk result (ReadsSamples
         (S.left reader.old.source.now) (S.left reader.new.source.now)

@@ -1,5 +1,5 @@
 //! A frame, once its length is known: its payload is read, and answered by the runtime.
-ghost use Rattle.std.specs.Prelude.{◌≡◌, ℕ, ◌<◌, ◌≤◌, ◌^◌, List, length, All, Ok, IfOk, IfErr, OnErr};
+ghost use Rattle.std.specs.Prelude.{◌≡◌, ℕ, ◌<◌, ◌≤◌, ◌^◌, List, length, All, Ok, IfOk};
 ghost use Rattle.client_model.specs.Allowance.{Allowance};
 ghost use Rattle.client_model.specs.Context.{State};
 ghost use Rattle.vx_requests.specs.Frame.Frames.{IsLength, frame_of, payload};
@@ -8,8 +8,6 @@ ghost use Rattle.vx_requests.specs.Frame.Reading.{CanRead, KeepsCount};
 ghost use Rattle.vx_requests.specs.Serving.Turn.{IsReply, reply_frame, AnswersBody};
 ghost use Rattle.vx_requests.specs.Serving.Turn.{AnswersPayload};
 ghost use Rattle.vx_wire.specs.Requests.{request_of};
-ghost use Rattle.vx_wire.specs.Faults.{MayFailWith};
-ghost use Rattle.vx_wire.specs.declared.parse_fault.ParseFault.TheVariants.{NoMemory as ParseNoMemory};
 
 use crate::frame::{Reader, number_of_two};
 use crate::serving::answered::{Answered, Content};
@@ -20,7 +18,7 @@ use client_contexts::{NoMemory, Runtime};
 use client_model::{Reply, Request};
 use std::alloc::Global;
 use vx_base::Code;
-use vx_wire::{Op, ParseFault, parse};
+use vx_wire::{Op, parse};
 
 /// The bytes after the length of a frame whose body has 64 bytes. A frame of at most so many is
 /// read into a fixed buffer.
@@ -174,9 +172,26 @@ fn frame_in(bytes: &[u8]) -> RequestFrame<'_>
     }
 }
 
+/// What the frame is answered.
+fn answer_frame(alloc: Global, runtime: &mut Runtime, frame: &RequestFrame) -> Content
+    ensures replies { let f = frame_of frame.now.client frame.now.op frame.now.body.now in
+        IsReply runtime.old.limits f (states_of runtime.old) (states_of runtime.new)
+        (reply_frame runtime.old.limits (states_of runtime.new)
+        (record { client = f.client; op = f.op; content = result })) }
+    ensures limits { runtime.new.limits ≡ runtime.old.limits }
+{
+    let content = content_for(alloc, runtime, frame);
+    if let Content::Made(Reply::Refused(Code::NoMemory)) = content {
+        // The body may have found no memory as it was parsed. A client that asks again finds what
+        // free blocks held.
+        runtime.drop_free();
+    }
+    content
+}
+
 /// Why the frame's body is no request, or what its request is answered. A text that is written to
 /// an image is read where it stands.
-fn answer_frame(alloc: Global, runtime: &mut Runtime, frame: &RequestFrame) -> Content
+fn content_for(alloc: Global, runtime: &mut Runtime, frame: &RequestFrame) -> Content
     ensures replies { let f = frame_of frame.now.client frame.now.op frame.now.body.now in
         IsReply runtime.old.limits f (states_of runtime.old) (states_of runtime.new)
         (reply_frame runtime.old.limits (states_of runtime.new)
@@ -187,28 +202,9 @@ fn answer_frame(alloc: Global, runtime: &mut Runtime, frame: &RequestFrame) -> C
         let reply = answer_write_image_pgm(runtime, frame.client, frame.op, frame.body);
         return Content::Made(reply);
     }
-    match runtime.ask_again(|| parse_body(alloc, frame.op, frame.body)) {
-        Ok(Ok(request)) => answer_request(alloc, runtime, frame.client, &request),
-        Ok(Err(fault)) => Content::Made(Reply::Refused(fault.code())),
-        Err(NoMemory) => Content::Made(Reply::Refused(Code::NoMemory)),
-    }
-}
-
-/// The request that a body spells, or why it spells none.
-fn parse_body(
-    alloc: Global,
-    op: u8,
-    body: &[u8],
-) -> Result<Result<Request, ParseFault>, NoMemory>
-    ensures request { IfOk result (λ parsed.
-        IfOk parsed (λ request. request_of op body.now ≡ Ok request)) }
-    ensures fault { IfOk result (λ parsed.
-        IfErr parsed (MayFailWith (request_of op body.now))) }
-    ensures no_memory { OnErr result (MayFailWith (request_of op body.now) ParseNoMemory) }
-{
-    match parse(alloc, op, body) {
-        Err(ParseFault::NoMemory) => Err(NoMemory),
-        parsed => Ok(parsed),
+    match parse(alloc, frame.op, frame.body) {
+        Ok(request) => answer_request(alloc, runtime, frame.client, &request),
+        Err(fault) => Content::Made(Reply::Refused(fault.code())),
     }
 }
 
