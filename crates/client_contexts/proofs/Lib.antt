@@ -14,4 +14,6 @@ mod CallLemmas
 mod ImmediateLemmas
 mod OutcomeLemmas
 mod WriteLemmas
+mod IncomingLemmas
+mod AgainLemmas
 mod DelayLemmas
