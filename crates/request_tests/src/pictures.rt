@@ -6,7 +6,7 @@ use client_model::{Limits, Request};
 use std::alloc::Global;
 use std::test::Fail;
 use vx_base::{Desc, Format, ObjRef, Picture, Samples};
-use vx_requests::{StreamFault, write_request};
+use vx_requests::{StreamFault, fits_a_frame, write_request};
 
 /// The first image of client 1.
 pub fn image() -> ObjRef {
@@ -55,6 +55,9 @@ pub fn frame(alloc: Global, request: &Request) -> Result<Vec<u8>, Fail> {
         until_failure: NEVER,
         failures: 0,
     };
+    if !fits_a_frame(request) {
+        return Err("too long".into());
+    }
     match write_request(&mut sink, 1, request) {
         Ok(()) => Ok(sink.bytes),
         Err(_) => Err("not written".into()),

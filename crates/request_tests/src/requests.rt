@@ -8,9 +8,10 @@ use vx_base::{
     Bins, Border, Convolution, Desc, Format, Function, Lut, Node, NodeSpec, ObjRef, Outline,
     Picture, Policy, Rect, Samples, SlotCount, ThresholdKind, ThresholdRule,
 };
-use vx_requests::{Failed, ParseFault, StreamFault, parse, write_request};
+use vx_requests::{Failed, ParseFault, StreamFault, fits_a_frame, parse, write_request};
 
-/// The result of writing a request of client 258 by seven bytes at a call, and what was taken.
+/// The result of writing a request of client 258 by seven bytes at a call, and what was taken;
+/// `BadLength` where it fits no frame.
 fn write(alloc: Global, request: &Request, good_writes: u64) -> (Result<(), StreamFault>, Vec<u8>) {
     let mut sink = PiecewiseSink {
         bytes: Vec::new(alloc),
@@ -18,6 +19,9 @@ fn write(alloc: Global, request: &Request, good_writes: u64) -> (Result<(), Stre
         until_failure: good_writes,
         failures: 0,
     };
+    if !fits_a_frame(request) {
+        return (Err(StreamFault::BadLength), sink.bytes);
+    }
     let result = write_request(&mut sink, 258, request);
     (result, sink.bytes)
 }

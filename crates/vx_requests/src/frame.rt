@@ -7,6 +7,7 @@ mod replies;
 mod requests;
 mod samples;
 
+pub use limits::fits_a_frame;
 pub use reader::{Reader, number_of_two};
 pub use replies::{code_of, write_image, write_image_text, write_reply};
 pub use requests::write_request;

@@ -18,7 +18,7 @@ pub mod laws;
 mod serving;
 mod stream;
 
-pub use frame::{write_reply, write_request};
+pub use frame::{fits_a_frame, write_reply, write_request};
 pub use serving::{Summary, serve};
 pub use stream::{Failed, FromRead, FromWrite, Sink, Source, StreamFault, fill, write_all};
 pub use vx_wire::{ParseFault, parse};

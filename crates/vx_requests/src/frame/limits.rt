@@ -10,7 +10,7 @@ pub const GREATEST_LENGTH: u32 = 536_870_912;
 /// The greatest number of bytes that a text has in a frame: 8 others stand after the length.
 pub const GREATEST_TEXT: usize = GREATEST_LENGTH as usize - 8;
 
-/// Whether a request fits a frame: all do but a text that is too long.
+/// Returns whether a request fits a frame: all do but a text of more than 536,870,904 bytes.
 pub fn fits_a_frame(request: &Request) -> bool
     ensures { result ≡ fits_a_frame request.now }
 {

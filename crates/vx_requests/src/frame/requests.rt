@@ -1,5 +1,5 @@
 //! Requests as frames.
-ghost use Rattle.std.specs.Prelude.{◌≡◌, ◌+◌, ◌*◌, ◌<◌, ◌≤◌, ◌^◌, false, [], ◌∷◌, ◌++◌, length};
+ghost use Rattle.std.specs.Prelude.{◌≡◌, ◌+◌, ◌*◌, ◌<◌, ◌≤◌, ◌^◌, [], ◌∷◌, ◌++◌, length};
 ghost use Rattle.std.specs.Prelude.{IsTrue};
 ghost use Rattle.std.specs.Int.{w32, to_be_bytes};
 ghost use Rattle.client_model.specs.declared.request.Request.TheVariants.{WriteImage as WriteImageRequest};
@@ -26,7 +26,6 @@ ghost use Rattle.vx_wire.specs.Reference.{reference_bytes};
 ghost use Rattle.vx_wire.specs.Description.{description_bytes};
 ghost use Rattle.vx_wire.specs.Format.{format_number};
 
-use crate::frame::limits::fits_a_frame;
 use crate::frame::samples::{write_samples, write_wide};
 use crate::stream::{Sink, StreamFault, write_all};
 use client_model::{Request, Text};
@@ -38,39 +37,24 @@ use vx_wire::{
     range_bytes, rectangle_bytes, reference_bytes,
 };
 
-/// Writes the frame in which a client sends the request, and flushes nothing. `WriteFailed` comes
-/// where a write fails, and a front of the frame was taken then; `BadLength` where the request has
-/// a text of more than 536,870,904 bytes, and nothing is written then. No memory is taken. The
-/// request is one that the laws of requests speak of, so that what was written is read back as this
-/// request.
+/// Writes the frame in which a client sends the request, and flushes nothing.
+///
+/// The request fits a frame: `fits_a_frame` tells of a text that may be too long. `WriteFailed`, the
+/// one fault, comes where a write fails, and a front of the frame was taken then. No memory is
+/// taken. The request is one that the laws of requests speak of, so that what was written is read
+/// back as this request.
 pub fn write_request<K: Sink>(
     sink: &mut K,
     client: u16,
     request: &Request,
 ) -> Result<(), StreamFault>
-    requires { K.failures sink.old < 2 ^ 62 }
-    ensures written { IsTrue (fits_a_frame request.now) →
-        WritesAll K.taken K.failures sink.old sink.new
+    requires failures_fit { K.failures sink.old < 2 ^ 62 }
+    requires fits { IsTrue (fits_a_frame request.now) }
+    ensures written { WritesAll K.taken K.failures sink.old sink.new
         (frame_bytes (request_frame client request.now)) result }
-    ensures too_long { fits_a_frame request.now ≡ false →
-        (result ≡ Err StreamFault.BadLength) × (sink.new ≡ sink.old) }
     ensures request { IsRequest request.now }
 {
     request.is_request();
-    if fits_a_frame(request) {
-        write_frame(sink, client, request)
-    } else {
-        Err(StreamFault::BadLength)
-    }
-}
-
-/// Writes the frame of a request that fits one.
-fn write_frame<K: Sink>(sink: &mut K, client: u16, request: &Request) -> Result<(), StreamFault>
-    requires failures_fit { K.failures sink.old < 2 ^ 62 }
-    requires fits { IsTrue (fits_a_frame request.now) }
-    ensures { WritesAll K.taken K.failures sink.old sink.new
-        (frame_bytes (request_frame client request.now)) result }
-{
     match request {
         Request::OpenContext => write_short(sink, client, Op::OpenContext.number(), &[]),
         Request::ReleaseContext => write_short(sink, client, Op::ReleaseContext.number(), &[]),

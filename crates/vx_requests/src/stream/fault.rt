@@ -13,7 +13,7 @@ pub enum StreamFault {
     /// The bytes ended within a frame.
     #[error("truncated")]
     Truncated,
-    /// A frame began with a length that isn't allowed, or a request is too long for a frame.
+    /// A frame began with a length that isn't allowed.
     #[error("bad length")]
     BadLength,
     /// A read returned an error.
