@@ -20,7 +20,7 @@ import sys
 import threading
 import time
 from collections import deque
-from itertools import islice
+from itertools import accumulate, islice
 from typing import (
     Any, Callable, Deque, Dict, List, NamedTuple, Optional, Sequence, Tuple, Union)
 
@@ -47,6 +47,7 @@ LEAD = 3
 # No reply is longer: 9 bytes, and the samples of the greatest image, of 4 bytes each. It is told
 # without the four bytes of itself.
 GREATEST_REPLY = 9 + 4 * GREATEST_SIDE**2
+NO_LENGTH = "what was read is no reply frame: its length isn't allowed"
 # No request is longer, told likewise: the server ends where it reads a greater length.
 GREATEST_REQUEST = GREATEST_LENGTH
 
@@ -125,10 +126,9 @@ class Request:
             self._error = refusal(code, self.words, self.op, place, fault)
         return self._error.with_traceback(None)
 
-    def look_at(self, head: memoryview) -> None:
+    def look_at(self, length: int, client: int, op: int, code: int) -> None:
         """Raises UnexpectedReply where a reply that begins so isn't one to this request."""
-        length, client, op, code = HEAD.unpack_from(head)
-        if (client, op) != (self.client, self.op):
+        if client != self.client or op != self.op:
             raise UnexpectedReply(f"{self.words}: the reply is to op {op} of client {client}")
         if code >= len(CODES):
             raise UnexpectedReply(f"{self.words}: the reply has the unknown code {code}")
@@ -165,12 +165,13 @@ class Request:
 def moved(counts: List[int], call: Callable[[int, Any], int], descriptor: int,
           buffers: Sequence[Any]) -> None:
     """
-    Appends to the counts how many bytes a system call moved.
+    Adds to the last of the counts, which is all that was moved, how many bytes a system call moves.
 
     No bytecode runs between the call and the append, so no exception comes between them either: a
     signal's handler runs before the call moves anything, or after the count is stored.
     """
-    counts.extend(map(call, (descriptor,), (buffers,)))
+    del counts[:-1]
+    counts.extend(accumulate(map(call, (descriptor,), (buffers,)), initial=counts[0]))
 
 
 def references(buffers: Sequence[bytearray]) -> List[int]:
@@ -224,19 +225,17 @@ class Replies:
     def read(self, at: int) -> bool:
         """Reads once, where all replies up to there were taken. Returns whether something came; it
         is False at the end of the replies."""
-        received = self.received
+        received = self._counts[-1]
         if received == at:
             self._into = self._chunk, at, False
         buffer, base, _ = self._into
         moved(self._counts, os.readv, self._descriptor, [buffer[received - base :]])
-        return self._counts[-1] > 0
+        return self._counts[-1] > received
 
     @property
     def received(self) -> int:
         """Where the bytes end that were read."""
-        if len(self._counts) > 1:
-            self._counts = [sum(self._counts)]
-        return self._counts[0]
+        return self._counts[-1]
 
     def frame_at(self, at: int, received: int,
                  request: Optional[Request]) -> Optional[memoryview]:
@@ -244,47 +243,39 @@ class Replies:
         request, of what was received up to there; None while it isn't whole, and then there is room
         to read on."""
         buffer, base, is_frame = self._into
-        if not is_frame:
-            return self._split(buffer, base, at, received, request)
-        return buffer if received - base == len(buffer) else None
-
-    def _split(self, buffer: memoryview, base: int, at: int, received: int,
-               request: Optional[Request]) -> Optional[memoryview]:
-        there = received - at
-        chunk = buffer[at - base : received - base]
-        length = length_of(chunk) if there >= 4 else 0
+        if is_frame:
+            return buffer if received - base == len(buffer) else None
+        start, there = at - base, received - at
         if there < HEAD.size:
-            if at > base:
-                self._make_room(chunk, at)
+            self._make_room(buffer[start : start + there], at)
             return None
+        size, client, op, code = HEAD.unpack_from(buffer, start)
+        if not 4 <= size <= GREATEST_REPLY:
+            raise UnexpectedReply(NO_LENGTH)
         if request is None:
             raise UnexpectedReply("there is a reply without a request")
         # No memory is taken for what is no reply.
-        request.look_at(chunk)
+        request.look_at(size, client, op, code)
+        length = 4 + size
         if length <= HEAD_AND_NAME and length <= there:
-            return memoryview(bytes(chunk[:length]))
+            return memoryview(bytes(buffer[start : start + length]))
         frame = memoryview(self._buffers.take(LEAD + length))[LEAD:]
-        if len(frame) <= there:
-            frame[:] = chunk[: len(frame)]
+        if length <= there:
+            frame[:] = buffer[start : start + length]
             return frame
-        frame[:there] = chunk
+        frame[:there] = buffer[start : start + there]
         self._into = frame, at, True
         return None
 
     def _make_room(self, rest: memoryview, at: int) -> None:
         """Has a new chunk begin with the rest, at most seven bytes of a frame whose head isn't
         known yet."""
-        chunk = memoryview(bytearray(CHUNK))
-        chunk[: len(rest)] = rest
-        self._into = chunk, at, False
-
-
-def length_of(chunk: memoryview) -> int:
-    """Returns how long a frame is by its first four bytes, those included."""
-    length: int = struct.unpack_from(">I", chunk)[0]
-    if not 4 <= length <= GREATEST_REPLY:
-        raise UnexpectedReply("what was read is no reply frame: its length isn't allowed")
-    return 4 + length
+        if len(rest) >= 4 and not 4 <= int.from_bytes(rest[:4], "big") <= GREATEST_REPLY:
+            raise UnexpectedReply(NO_LENGTH)
+        if at > self._into[1]:
+            chunk = memoryview(bytearray(CHUNK))
+            chunk[: len(rest)] = rest
+            self._into = chunk, at, False
 
 
 class Connection:
@@ -301,8 +292,10 @@ class Connection:
         self._timeout = timeout
         # How long the oldest request without a reply has been waited for, in seconds.
         self._waited = 0.0
+        # A pipe's end that only replies come through may block where nothing else is waited for.
+        self._may_block = reader != writer and timeout is None
         os.set_blocking(writer, False)
-        os.set_blocking(reader, False)
+        os.set_blocking(reader, self._may_block)
         self._replies = Replies(reader)
         self._readable, self._either = select.poll(), select.poll()
         self._readable.register(reader, select.POLLIN)
@@ -314,7 +307,7 @@ class Connection:
         start = Request("the start", 0, 0)
         start.answer = memoryview(b""), 0
         self._line: Deque[Request] = deque([start])
-        # Those of them that aren't sent to the end, and how many bytes of all are.
+        # Those of them that aren't sent to the end, and how many bytes of all are, see `moved`.
         self._unsent: Deque[Request] = deque()
         self._counts = [0]
         # Whether all frames that were read are with their requests.
@@ -362,10 +355,11 @@ class Connection:
                 return True
             if self._fault is not None:
                 self._refuse_if_ended()
-            if self._line[-1].end > self._counts[0]:
+            if self._line[-1].end > self._counts[-1]:
                 self._mend()
+            blocks = self._may_block and limit is None and wake is None
             while (request or self._line[-1]).answer is None:
-                if self._read() or self._unsent and self._write():
+                if self._read(blocks and not self._unsent) or self._unsent and self._write():
                     continue
                 left = None if until is None else until - time.monotonic()
                 if left is not None and left <= 0:
@@ -413,7 +407,7 @@ class Connection:
     def _take(self, request: Request, parts: List[Part]) -> None:
         """Puts a whole frame after what is to be sent."""
         last = self._line[-1]
-        if last.end > self._counts[0]:
+        if last.end > self._counts[-1]:
             self._mend()
         request.parts, request.start = parts, last.end
         request.end = last.end + sum(map(len, parts))
@@ -423,10 +417,9 @@ class Connection:
     def _send_whole(self, request: Request, parts: List[Part]) -> bool:
         """Takes and sends a short frame, before which all was sent. Returns whether it was taken;
         then what the server hasn't taken of it is unsent."""
-        last = self._line[-1]
-        start = last.end
+        start = self._line[-1].end
         end = start + sum(map(len, parts))
-        if self._sent != start or end - start > SMALL:
+        if end - start > SMALL or self._counts[-1] != start:
             return False
         request.parts, request.start, request.end = parts, start, end
         self._line.append(request)
@@ -434,7 +427,7 @@ class Connection:
             moved(self._counts, os.writev, self._writer, parts)
         except (BlockingIOError, BrokenPipeError, ConnectionResetError):
             pass
-        if self._sent == end:
+        if self._counts[-1] == end:
             request.parts = ()
         else:
             request.own()
@@ -444,15 +437,8 @@ class Connection:
     def _mend(self) -> None:
         """Where an interruption came just after a request was taken, it has to be sent yet."""
         last = self._line[-1]
-        if last.end > self._sent and (not self._unsent or self._unsent[-1] is not last):
+        if last.end > self._counts[-1] and (not self._unsent or self._unsent[-1] is not last):
             self._unsent.append(last)
-
-    @property
-    def _sent(self) -> int:
-        """How many bytes were sent."""
-        if len(self._counts) > 1:
-            self._counts = [sum(self._counts)]
-        return self._counts[0]
 
     def _flush(self) -> None:
         """Sends all that was taken."""
@@ -480,7 +466,7 @@ class Connection:
 
     def _drop_sent(self) -> int:
         """Forgets what was sent. Returns how many bytes were."""
-        sent, unsent = self._sent, self._unsent
+        sent, unsent = self._counts[-1], self._unsent
         while unsent and unsent[0].end <= sent:
             unsent.popleft().parts = ()
         return sent
@@ -534,20 +520,25 @@ class Connection:
         self._give_up()
         raise self._fault
 
-    def _read(self) -> bool:
-        """Takes in replies that are there. Returns whether something was read."""
+    def _read(self, blocks: bool = False) -> bool:
+        """Takes in replies that are there, and waits for one where it blocks. Returns whether some
+        bytes came."""
+        at = self._answered
         if not self._is_delivered:
-            self._deliver()
+            self._deliver(at)
+            return True
+        if self._may_block and not blocks and not self._readable.poll(0):
+            return False
         self._is_delivered = False
         try:
-            if not self._replies.read(self._answered):
+            if not self._replies.read(at):
                 self._end()
         except BlockingIOError:
             self._is_delivered = True
             return False
         except ConnectionResetError:
             self._end()
-        self._deliver()
+        self._deliver(at)
         return True
 
     @property
@@ -560,10 +551,10 @@ class Connection:
         assert answer is not None
         return answer[1]
 
-    def _deliver(self) -> None:
-        """Gives each frame that was read to its request."""
+    def _deliver(self, at: int) -> None:
+        """Gives each frame that was read to its request, from the first that isn't with it."""
         try:
-            at, line, received = self._answered, self._line, self._replies.received
+            line, received = self._line, self._replies.received
             while at < received:
                 frame = self._replies.frame_at(at, received, line[1] if len(line) > 1 else None)
                 if frame is None:

@@ -327,10 +327,11 @@ class Context(Uncopied):
         if why_closed is not None:
             raise Closed(f"{words}: {why_closed}")
         frame = self._frame(words, make, arguments, 0 if content is None else len(content))
-        self._release_forgotten()
+        if self._unclaimed or self._dead:
+            self._release_forgotten()
         request = Request(words, self._number, frame[6], explain, body)
         request.on_answer = on_answer
-        pipeline = self._open_pipeline()
+        pipeline = None if self._pipeline is None else self._pipeline()
         if pipeline is not None:
             pipeline.take(request)
         self._connection.send(request, [frame] if content is None else [frame, content],
@@ -342,7 +343,7 @@ class Context(Uncopied):
              explain: Optional[Explain] = None) -> None:
         """Sends a request that gives nothing; waits for its reply unless a pipeline is open."""
         request = self.send(words, make, *arguments, content=content, explain=explain)
-        if self._open_pipeline() is None:
+        if self._pipeline is None or self._pipeline() is None:
             self._reply_to(request)
 
     def ask(self, words: str, make: Callable[..., bytes], decode: Callable[[memoryview], Value],
@@ -416,7 +417,7 @@ class Context(Uncopied):
     def _frame(self, words: str, make: Callable[..., bytes], arguments: Sequence[Any],
                content: int) -> bytes:
         try:
-            frame = make(self.number, *arguments)
+            frame = make(self._number, *arguments)
         except (struct.error, ValueError) as error:
             raise ValueError(f"{words}: {error}") from None
         # The server ends where it reads a greater length.

@@ -37,16 +37,20 @@ class AnyImage(Readable):
         raise NotImplementedError
 
     @property
-    def fmt(self) -> Format:
+    def _described(self) -> Size:
         raise NotImplementedError
+
+    @property
+    def fmt(self) -> Format:
+        return self._described.fmt
 
     @property
     def width(self) -> int:
-        raise NotImplementedError
+        return self._described.width
 
     @property
     def height(self) -> int:
-        raise NotImplementedError
+        return self._described.height
 
     @property
     def reference(self) -> bytes:
@@ -81,9 +85,12 @@ class AnyImage(Readable):
         image's format; or bytes or another buffer of as many samples by rows, in this machine's
         byte order; or rows of numbers. What is no such picture raises BadPicture.
         """
-        fmt, width, height, content = samples_of(samples, Size(self.fmt, self.width, self.height))
-        words = f"write {width} by {height} {fmt} samples to {self}"
-        sides_of_frame(width, height)
+        described = self._described
+        fmt, width, height, content = samples_of(samples, described)
+        words = f"write samples to {self}"
+        if (fmt, width, height) != described:
+            words = f"write {width} by {height} {fmt} samples to {self}"
+            sides_of_frame(width, height)
         self.context.tell(words, wire.write_image_head, self.reference, fmt, width, height,
                           content=content,
                           explain=lambda code: "" if code != wire.INVALID_DIMENSION else (
@@ -106,9 +113,10 @@ class AnyImage(Readable):
 
     def reading(self) -> Asked[Picture]:
         """What read() asks, for a pipeline that asks it ahead."""
-        described = struct.pack(">BHH", self.fmt, self.width, self.height)
+        fmt, width, height = self._described
+        described = struct.pack(">BHH", fmt, width, height)
         return (f"read {self}", lambda client: wire.read_image(client, self.reference), picture_of,
-                Body(len(described) + self.size * self.fmt.sample_bytes, described))
+                Body(len(described) + width * height * fmt.sample_bytes, described))
 
     def copy(self) -> Image:
         """A new image with these samples and this valid rectangle."""
@@ -209,16 +217,8 @@ class Image(Named, AnyImage):
         self._size = Size(fmt, width, height)
 
     @property
-    def fmt(self) -> Format:
-        return self._size.fmt
-
-    @property
-    def width(self) -> int:
-        return self._size.width
-
-    @property
-    def height(self) -> int:
-        return self._size.height
+    def _described(self) -> Size:
+        return self._size
 
 
 class Slot(Uncopied, AnyImage):
@@ -245,16 +245,8 @@ class Slot(Uncopied, AnyImage):
         return self._number
 
     @property
-    def fmt(self) -> Format:
-        return self._delay.fmt
-
-    @property
-    def width(self) -> int:
-        return self._delay.width
-
-    @property
-    def height(self) -> int:
-        return self._delay.height
+    def _described(self) -> Size:
+        return self._delay._size
 
     @property
     def reference(self) -> bytes:

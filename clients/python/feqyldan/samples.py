@@ -131,7 +131,8 @@ def numbers_of(content: bytes, fmt: Format) -> Tuple[int, ...]:
 
 def is_array(value: Any) -> bool:
     """Whether NumPy takes it for an array, and NumPy is there."""
-    has_interface = hasattr(value, "__array_interface__") or hasattr(value, "__array__")
+    # For an array the second takes time.
+    has_interface = hasattr(value, "__array__") or hasattr(value, "__array_interface__")
     return has_interface and numpy_module() is not None
 
 
@@ -155,6 +156,8 @@ def samples_of(value: Any, size: Optional[Size] = None) -> Samples:
 def _unmasked(value: Any) -> Any:
     """The value as an array. A mask would be lost."""
     numpy = numpy_module()
+    if type(value) is numpy.ndarray:
+        return value
     if isinstance(value, numpy.ma.MaskedArray) and numpy.ma.is_masked(value):
         raise WrongPicture("a picture has no mask, and some of these samples are masked: write "
                            "array.filled(0), and the mask as a picture of its own")
@@ -206,6 +209,8 @@ def _in_rows(pixels: Any, numpy: Any) -> Any:
 
 def _bytes_of(pixels: Any, numpy: Any) -> memoryview:
     """The bytes of an array by rows, big-endian; a copy where it isn't so."""
+    if pixels.itemsize == 1 and pixels.flags.c_contiguous:
+        return memoryview(pixels).cast("B")
     ordered = numpy.ascontiguousarray(pixels, pixels.dtype.newbyteorder(">"))
     return memoryview(ordered.reshape(-1).view(numpy.uint8))
 
@@ -347,10 +352,11 @@ def _array_of(content: memoryview, fmt: Format, shape: Tuple[int, int]) -> Pictu
     if there is None:
         view: Any = _reordered(content, fmt).cast(LETTERS[fmt], shape)
         return view  # type: ignore[no-any-return]
-    pixels = there.frombuffer(content,
-                              f">u{fmt.sample_bytes}" if fmt != Format.S16
-                              else ">i2").reshape(shape)
-    if IS_SWAPPED and fmt != Format.U8:
+    if fmt == Format.U8:
+        bytewise: Picture = there.ndarray(shape, there.uint8, content)
+        return bytewise
+    pixels = there.ndarray(shape, f">u{fmt.sample_bytes}" if fmt != Format.S16 else ">i2", content)
+    if IS_SWAPPED:
         pixels.byteswap(inplace=True)
     native: Picture = pixels.view(pixels.dtype.newbyteorder("="))
     return native
