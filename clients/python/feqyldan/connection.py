@@ -15,6 +15,7 @@ from __future__ import annotations
 
 import os
 import select
+import stat
 import struct
 import sys
 import threading
@@ -24,6 +25,7 @@ from itertools import accumulate, islice
 from typing import (
     Any, Callable, Deque, Dict, List, NamedTuple, Optional, Sequence, Tuple, Union)
 
+from . import pages
 from .errors import Closed, FeqyldanError, Refused, ServerEnded, TimedOut, UnexpectedReply, refusal
 from .wire import BODY_BYTES, CODES, GREATEST_LENGTH, GREATEST_SIDE
 
@@ -33,12 +35,16 @@ SMALL = 1 << 15
 # How many parts one system call is given at most (Linux takes 1,024), and how many unsent requests
 # are looked through for them.
 PARTS, REQUESTS = 64, 16
+# How long the server is given to read what was lent, before it is looked at again, in seconds.
+PAUSE = 0.0005
 # How many buffers for long replies are kept.
 KEPT = 4
 # So many bytes are read at once.
 CHUNK = 1 << 16
 # A reply has so many bytes before its body: its length, its client, its op and its code.
 HEAD = struct.Struct(">IHBB")
+# What a reply has before samples: its head, and a format and two sides.
+BEFORE_SAMPLES = HEAD.size + 5
 # A reply that has no samples, and is copied as it is.
 HEAD_AND_NAME = 12
 # A reply stands in its buffer from here on: so its samples, 13 bytes after its start, begin at a
@@ -91,7 +97,8 @@ class Request:
     """
 
     __slots__ = ("words", "client", "op", "answer", "on_refusal", "on_answer", "explain", "place",
-                 "parts", "start", "end", "body", "_error")
+                 "parts", "start", "end", "body", "may_lend", "has_lent",
+                 "into", "_error")
 
     def __init__(self, words: str, client: int, op: int, explain: Optional[Explain] = None,
                  body: Optional[Body] = None) -> None:
@@ -106,6 +113,10 @@ class Request:
         # Its frame until it was sent, and where that begins and ends among all that is sent.
         self.parts: Sequence[Part] = ()
         self.start = self.end = 0
+        # Whether a long part of it may be lent to the server's pipe, and whether some of it was.
+        self.may_lend = self.has_lent = False
+        # Where the samples of its reply go; then the answer has only what stands before them.
+        self.into: Optional[memoryview] = None
         self._error: Optional[Refused] = None
 
     @property
@@ -158,6 +169,7 @@ class Request:
 
     def own(self) -> None:
         """Copies its frame, which isn't sent to the end: the caller may change the samples."""
+        self.may_lend = False
         if not all(isinstance(part, bytes) for part in self.parts):
             self.parts = [bytes(part) for part in self.parts]
 
@@ -219,15 +231,15 @@ class Replies:
         self._buffers = Buffers()
         self._counts = [0]
         self._chunk = memoryview(bytearray(CHUNK))
-        # The buffer that is read into, its base, and whether it is that of a frame.
-        self._into: Tuple[memoryview, int, bool] = self._chunk, 0, False
+        # The buffer that is read into, its base, and of one frame's buffer what its request gets.
+        self._into: Tuple[memoryview, int, Optional[memoryview]] = self._chunk, 0, None
 
     def read(self, at: int) -> bool:
         """Reads once, where all replies up to there were taken. Returns whether something came; it
         is False at the end of the replies."""
         received = self._counts[-1]
         if received == at:
-            self._into = self._chunk, at, False
+            self._into = self._chunk, at, None
         buffer, base, _ = self._into
         moved(self._counts, os.readv, self._descriptor, [buffer[received - base :]])
         return self._counts[-1] > received
@@ -238,13 +250,14 @@ class Replies:
         return self._counts[-1]
 
     def frame_at(self, at: int, received: int,
-                 request: Optional[Request]) -> Optional[memoryview]:
+                 request: Optional[Request]) -> Optional[Tuple[memoryview, int]]:
         """Returns the whole frame that begins there, where the last one ended, and that answers the
-        request, of what was received up to there; None while it isn't whole, and then there is room
-        to read on."""
-        buffer, base, is_frame = self._into
-        if is_frame:
-            return buffer if received - base == len(buffer) else None
+        request, of what was received up to there, and where it ends; None while it isn't whole, and
+        then there is room to read on."""
+        buffer, base, reply = self._into
+        if reply is not None:
+            end = base + len(buffer)
+            return (reply, end) if received == end else None
         start, there = at - base, received - at
         if there < HEAD.size:
             self._make_room(buffer[start : start + there], at)
@@ -256,16 +269,40 @@ class Replies:
             raise UnexpectedReply("there is a reply without a request")
         # No memory is taken for what is no reply.
         request.look_at(size, client, op, code)
-        length = 4 + size
-        if length <= HEAD_AND_NAME and length <= there:
-            return memoryview(bytes(buffer[start : start + length]))
+        length, end = 4 + size, at + 4 + size
+        if length <= HEAD_AND_NAME and end <= received:
+            return memoryview(bytes(buffer[start : start + length])), end
+        if request.into is not None and code == 0:
+            return self._place(request.into, at, received)
         frame = memoryview(self._buffers.take(LEAD + length))[LEAD:]
-        if length <= there:
+        if end <= received:
             frame[:] = buffer[start : start + length]
-            return frame
+            return frame, end
         frame[:there] = buffer[start : start + there]
-        self._into = frame, at, True
+        self._into = frame, at, frame
         return None
+
+    def _place(self, into: memoryview, at: int,
+               received: int) -> Optional[Tuple[memoryview, int]]:
+        """The same of a reply whose samples go to a place of their own."""
+        buffer, base, _ = self._into
+        chunk = buffer[at - base : received - base]
+        if len(chunk) < BEFORE_SAMPLES:
+            self._make_room(chunk, at)
+            return None
+        before, samples = memoryview(bytes(chunk[:BEFORE_SAMPLES])), at + BEFORE_SAMPLES
+        there = chunk[BEFORE_SAMPLES : BEFORE_SAMPLES + len(into)]
+        into[: len(there)] = there
+        if len(there) == len(into):
+            return before, samples + len(into)
+        self._into = into, samples, before
+        return None
+
+    def let_go(self, place: memoryview) -> None:
+        """What is still to come for a place goes elsewhere."""
+        buffer, base, reply = self._into
+        if buffer is place:
+            self._into = memoryview(bytearray(len(place))), base, reply
 
     def _make_room(self, rest: memoryview, at: int) -> None:
         """Has a new chunk begin with the rest, at most seven bytes of a frame whose head isn't
@@ -275,7 +312,7 @@ class Replies:
         if at > self._into[1]:
             chunk = memoryview(bytearray(CHUNK))
             chunk[: len(rest)] = rest
-            self._into = chunk, at, False
+            self._into = chunk, at, None
 
 
 class Connection:
@@ -294,6 +331,7 @@ class Connection:
         self._waited = 0.0
         # A pipe's end that only replies come through may block where nothing else is waited for.
         self._may_block = reader != writer and timeout is None
+        self._may_lend = stat.S_ISFIFO(os.fstat(writer).st_mode) and pages.vmsplice() is not None
         os.set_blocking(writer, False)
         os.set_blocking(reader, self._may_block)
         self._replies = Replies(reader)
@@ -318,6 +356,27 @@ class Connection:
     def fault(self) -> Optional[FeqyldanError]:
         """Why nothing more can be sent; None while it can."""
         return self._fault
+
+    def ask(self, request: Request, parts: List[Part]) -> None:
+        """
+        Sends a request and waits for its reply. The pages of a long part are lent to the server's
+        pipe, since it was read when the reply is there. After an interruption too what it was taken
+        from may change when this returns, unless that was interrupted once more.
+        """
+        with self._lock:
+            request.may_lend = self._may_lend
+            try:
+                self.send(request, parts)
+                self.wait(request)
+            except BaseException:
+                if request.has_lent:
+                    self._await_reader()
+                raise
+
+    def _await_reader(self) -> None:
+        """Waits until the server has read what was sent."""
+        while self._fault is None and not pages.is_read(self._writer):
+            time.sleep(PAUSE)
 
     def send(self, request: Request, parts: List[Part], is_followed: bool = False) -> None:
         """
@@ -373,8 +432,17 @@ class Connection:
         """Copies what was taken and isn't sent yet: it may be the caller's, who goes on and changes
         it."""
         with self._lock:
+            self._mend()
             for request in self._unsent:
                 request.own()
+
+    def let_go(self, place: memoryview) -> None:
+        """After an interruption: the samples that are to come for a place go elsewhere."""
+        with self._lock:
+            for request in self._line:
+                if request.into is place:
+                    request.into = None
+            self._replies.let_go(place)
 
     def look(self) -> None:
         """Takes in the replies that have come, and sends what the server takes now, without
@@ -454,15 +522,32 @@ class Connection:
             return False
         first = self._unsent[0]
         is_alone = len(self._unsent) == 1 and first.start == sent
+        parts = first.parts if is_alone else self._next_parts(sent)
         try:
-            moved(self._counts, os.writev, self._writer,
-                  first.parts if is_alone else self._next_parts(sent))
+            if first.may_lend and len(self._unsent) == 1 and len(parts[-1]) >= pages.LEAST:
+                self._lend(first, parts)
+            else:
+                moved(self._counts, os.writev, self._writer, parts)
         except BlockingIOError:
             return False
         except (BrokenPipeError, ConnectionResetError):
             self._hear_out()
         self._drop_sent()
         return True
+
+    def _lend(self, request: Request, parts: Sequence[Part]) -> None:
+        """Sends what stands before a request's long part, or lends that."""
+        if len(parts) > 1:
+            moved(self._counts, os.writev, self._writer, parts[:-1])
+            return
+        request.has_lent = True
+        try:
+            pages.lend(self._counts, self._writer, parts[0])
+        except (BlockingIOError, BrokenPipeError):
+            raise
+        except OSError:
+            # As of a device's memory. It is copied.
+            request.may_lend = False
 
     def _drop_sent(self) -> int:
         """Forgets what was sent. Returns how many bytes were."""
@@ -560,9 +645,9 @@ class Connection:
                 if frame is None:
                     break
                 self._waited = 0.0
-                line[1].arrive(frame, at + len(frame))
+                reply, at = frame
+                line[1].arrive(reply, at)
                 line.popleft()
-                at += len(frame)
         except UnexpectedReply as fault:
             self._fault = fault
             raise

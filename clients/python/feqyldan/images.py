@@ -13,7 +13,8 @@ from .objects import (
     Asked, Description, Made, Named, Rectangle, description_of, in_words, sides_of_frame)
 from .pictures import Path, shown
 from .samples import (
-    Format, Picture, Readable, Size, dtype_of, needed_numpy, picture_of, samples_of)
+    Format, Picture, Readable, Size, dtype_of, needed_numpy, picture_of, place_in, samples_of,
+    turned)
 from .uncopied import Uncopied
 from .whole import UNSIGNED, whole, within
 
@@ -104,12 +105,20 @@ class AnyImage(Readable):
         self.context.tell(f"fill {self} with {value}", wire.write_image_head, self.reference,
                           self.fmt, self.width, self.height, content=bytes(line) * self.height)
 
-    def read(self) -> Picture:
+    def read(self, out: Optional[numpy.ndarray[Any, Any]] = None) -> Picture:
         """
         All samples: a NumPy array of shape (height, width) and dtype uint8, int16 or uint32;
-        without NumPy a memoryview of that shape. It is the caller's own, and may be changed.
+        without NumPy a memoryview of that shape. It is the caller's own, and may be changed. With
+        `out`, an array of that shape and dtype, they are read into that, which is returned.
         """
-        return self.context.ask(*self.reading())
+        if out is None:
+            return self.context.ask(*self.reading())
+        pixels, place = out, place_in(out, self._described)
+        if place is None:
+            pixels[...] = self.read()
+            return pixels
+        words, make, _, body = self.reading()
+        return self.context.ask(words, make, lambda _: turned(pixels), body, place)
 
     def reading(self) -> Asked[Picture]:
         """What read() asks, for a pipeline that asks it ahead."""

@@ -347,6 +347,28 @@ def picture_of(reply: memoryview) -> Picture:
     return _array_of(reply[13:], Format(fmt), (height, width))
 
 
+def place_in(out: Any, described: Size) -> Optional[memoryview]:
+    """The bytes of an array that samples are to be read into, which has to be one of their shape
+    and type; None where it doesn't stand by rows without gaps."""
+    fmt, width, height = described
+    numpy = needed_numpy("an array to read into")
+    if not isinstance(out, numpy.ndarray):
+        raise NotAPicture(f"a picture is read into an array, and not a {type(out).__name__}")
+    if out.dtype != dtype_of(fmt) or out.shape != (height, width) or not out.flags.writeable:
+        kind = "" if out.flags.writeable else ", which can't be written to"
+        raise WrongPicture(f"a {fmt} picture of {width} by {height} is read into an array of shape "
+                           f"{(height, width)} and dtype {dtype_of(fmt)}, and not one of "
+                           f"{out.shape} and {out.dtype}{kind}")
+    return memoryview(out).cast("B") if out.flags.c_contiguous else None
+
+
+def turned(pixels: Picture) -> Picture:
+    """An array whose samples stand in the order of frames: they are turned to this machine's."""
+    if IS_SWAPPED and pixels.itemsize > 1:
+        pixels.byteswap(inplace=True)
+    return pixels
+
+
 def _array_of(content: memoryview, fmt: Format, shape: Tuple[int, int]) -> Picture:
     there = numpy_module()
     if there is None:

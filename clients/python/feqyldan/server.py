@@ -83,7 +83,8 @@ class Server(Forked, Uncopied):
         self._output, replies = socket.socketpair()
         try:
             with replies:
-                self._process = subprocess.Popen(words, stdin=subprocess.PIPE, stdout=replies,
+                self._process = subprocess.Popen(words, stdin=subprocess.PIPE,
+                                                 stdout=replies.fileno(),
                                                  stderr=self._said,
                                                  bufsize=0, start_new_session=True)
         except BaseException:
