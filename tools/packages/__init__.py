@@ -1,4 +1,4 @@
-"""The packages of the server and the Python package: what tools/package builds."""
+"""What tools/package builds: a wheel, and packages for Debian."""
 
 import os
 import sys

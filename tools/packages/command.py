@@ -11,7 +11,7 @@ from typing import Dict, Tuple
 import feqyldan
 from feqyldan import program
 
-from . import ROOT, debian, library, wheels
+from . import ROOT, library, services, wheels
 
 KINDS = {"default": program.PLAIN, "x86-64-v3": program.FASTER}
 
@@ -68,5 +68,5 @@ def main() -> None:
     with tempfile.TemporaryDirectory() as folder:
         pure = wheels.pure(folder)
         print(wheels.with_programs(pure, programs, oldest, asked.folder))
-        print(debian.build(pure, programs, oldest, asked.folder))
+        print(*services.build(pure, programs, oldest, asked.folder), sep="\n")
     print(*library.build(asked.folder, c_library), sep="\n")

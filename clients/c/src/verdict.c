@@ -177,7 +177,8 @@ static void tell_writers(vx_node node, const struct formal *formal, vx_node othe
          formal->name, second);
 }
 
-/* The server is told a scale or a shift before a run: it can't be what the run finds out. */
+/* A node's scale or shift is told to the server before the graph runs, and all of the graph runs in
+   one request: so it can't be what that run finds out. */
 static vx_status check_reader(vx_node node) {
     char first[VX_MAX_LOG_MESSAGE_LEN / 4], second[VX_MAX_LOG_MESSAGE_LEN / 4];
     vx_reference amount = node->call.operands[AMOUNT];
@@ -188,8 +189,9 @@ static vx_status check_reader(vx_node node) {
             continue;
         describe_node(node, first, sizeof first);
         describe_node(other, second, sizeof second);
-        tell(&node->base, VX_ERROR_NOT_SUPPORTED, "%s reads a scalar that %s writes by %s", first,
-             second, name);
+        tell(&node->base, VX_ERROR_NOT_SUPPORTED,
+             "%s reads a scalar that %s writes by %s: give it to a graph that runs after this one",
+             first, second, name);
         return node->status = VX_ERROR_NOT_SUPPORTED;
     }
     return VX_SUCCESS;

@@ -195,10 +195,75 @@ static void refuse_late_scalars(void) {
            STATUS(vxMinMaxLocNode(graph, v8, least, greatest, NULL, NULL, count, NULL)));
     SAYS(VX_ERROR_NOT_SUPPORTED, vxProcessGraph(graph),
          "node 0 (vxAccumulateSquareImageNode) reads a scalar that node 1 (vxMinMaxLocNode) writes "
-         "by minCount");
+         "by minCount: give it to a graph that runs after this one");
     EXPECT(VX_SUCCESS, vxRemoveNode(&node));
+    /* As the entry says: the one graph finds the shift, the other one uses it. */
+    vx_graph after = vxCreateGraph(context);
+    vx_image picture = vxCreateImage(context, WIDTH, HEIGHT, VX_DF_IMAGE_U8);
+    vx_image sums = vxCreateImage(context, WIDTH, HEIGHT, VX_DF_IMAGE_S16);
+    const vx_pixel_value_t white = {.U8 = 255}, black = {.U8 = 1};
+    const vx_rectangle_t corner = {0, 0, 1, 1};
+    const vx_imagepatch_addressing_t addr = by_rows(1, 1, 1);
+    vx_uint8 least_pixel = black.U8;
+    vx_int16 sum[WIDTH * HEIGHT];
+    EXPECT(VX_SUCCESS, STATUS(vxAccumulateSquareImageNode(after, picture, count, sums)));
+    EXPECT(VX_SUCCESS, vxSetImagePixelValues(picture, &white));
+    EXPECT(VX_SUCCESS, vxSetImagePixelValues(v8, &white));
+    EXPECT(VX_SUCCESS, vxCopyImagePatch(v8, &corner, 0, &addr, &least_pixel, VX_WRITE_ONLY,
+                                        VX_MEMORY_TYPE_HOST));
     EXPECT(VX_SUCCESS, vxProcessGraph(graph));
+    EXPECT(VX_SUCCESS, vxProcessGraph(after));
+    EXPECT(VX_SUCCESS, copy_whole(sums, WIDTH, HEIGHT, 2, sum, VX_READ_ONLY));
+    CHECK(sum[0] == (255 * 255) >> 1);
     EXPECT(VX_SUCCESS, vxReleaseGraph(&graph));
+    EXPECT(VX_SUCCESS, vxReleaseGraph(&after));
+}
+
+/* How many parameters of a node of a kernel take a scalar of a type, and have the direction. */
+static int count_takers(vx_kernel kernel, vx_enum type, vx_enum direction) {
+    vx_graph graph = vxCreateGraph(context);
+    vx_node node = vxCreateGenericNode(graph, kernel);
+    vx_scalar scalar = vxCreateScalar(context, type, NULL);
+    vx_uint32 parameters;
+    int count = 0;
+    EXPECT(VX_SUCCESS, vxQueryKernel(kernel, VX_KERNEL_PARAMETERS, &parameters, sizeof parameters));
+    for (vx_uint32 place = 0; place < parameters; place++) {
+        vx_enum is;
+        vx_parameter parameter = vxGetParameterByIndex(node, place);
+        EXPECT(VX_SUCCESS, vxQueryParameter(parameter, VX_PARAMETER_DIRECTION, &is, sizeof is));
+        EXPECT(VX_SUCCESS, vxReleaseParameter(&parameter));
+        count += is == direction &&
+                 vxSetParameterByIndex(node, place, (vx_reference)scalar) == VX_SUCCESS;
+    }
+    EXPECT(VX_SUCCESS, vxReleaseGraph(&graph));
+    EXPECT(VX_SUCCESS, vxReleaseNode(&node));
+    EXPECT(VX_SUCCESS, vxReleaseScalar(&scalar));
+    return count;
+}
+
+/* The refusal above is all that there is to refuse: of all types of scalars, one is both written by
+   a node and read by one, MinMaxLoc's counts and the shift of AccumulateSquareImage. */
+static void find_links_by_scalars(void) {
+    static const vx_enum types[] = {VX_TYPE_CHAR,    VX_TYPE_INT8,    VX_TYPE_UINT8,
+                                    VX_TYPE_INT16,   VX_TYPE_UINT16,  VX_TYPE_INT32,
+                                    VX_TYPE_UINT32,  VX_TYPE_INT64,   VX_TYPE_UINT64,
+                                    VX_TYPE_FLOAT32, VX_TYPE_FLOAT64, VX_TYPE_ENUM,
+                                    VX_TYPE_SIZE,    VX_TYPE_BOOL,    VX_TYPE_DF_IMAGE};
+    for (size_t i = 0; i < sizeof types / sizeof types[0]; i++) {
+        int writers = 0, readers = 0;
+        for (vx_enum kernel = VX_KERNEL_COLOR_CONVERT; kernel <= VX_KERNEL_MIN; kernel++) {
+            vx_kernel found = vxGetKernelByEnum(context, kernel);
+            if (STATUS(found) != VX_SUCCESS)
+                continue;
+            writers += count_takers(found, types[i], VX_OUTPUT);
+            readers += count_takers(found, types[i], VX_INPUT);
+            EXPECT(VX_SUCCESS, vxReleaseKernel(&found));
+        }
+        if (types[i] == VX_TYPE_UINT32)
+            CHECK(writers == 2 && readers == 1);
+        else
+            CHECK(writers == 0 || readers == 0);
+    }
 }
 
 /* What a virtual image's graph found out of it. */
@@ -278,6 +343,7 @@ int main(void) {
     tell_links();
     refuse_two_writers();
     refuse_late_scalars();
+    find_links_by_scalars();
     ask_virtual_images();
     make_of_kernels();
     EXPECT(VX_SUCCESS, vxReleaseContext(&context));

@@ -15,15 +15,17 @@ from __future__ import annotations
 
 import os
 import select
+import stat
 import struct
 import sys
 import threading
 import time
 from collections import deque
-from itertools import islice
+from itertools import accumulate, islice
 from typing import (
     Any, Callable, Deque, Dict, List, NamedTuple, Optional, Sequence, Tuple, Union)
 
+from . import pages
 from .errors import Closed, FeqyldanError, Refused, ServerEnded, TimedOut, UnexpectedReply, refusal
 from .wire import BODY_BYTES, CODES, GREATEST_LENGTH, GREATEST_SIDE
 
@@ -33,12 +35,16 @@ SMALL = 1 << 15
 # How many parts one system call is given at most (Linux takes 1,024), and how many unsent requests
 # are looked through for them.
 PARTS, REQUESTS = 64, 16
+# How long the server is given to read what was lent, before it is looked at again, in seconds.
+PAUSE = 0.0005
 # How many buffers for long replies are kept.
 KEPT = 4
 # So many bytes are read at once.
 CHUNK = 1 << 16
 # A reply has so many bytes before its body: its length, its client, its op and its code.
 HEAD = struct.Struct(">IHBB")
+# What a reply has before samples: its head, and a format and two sides.
+BEFORE_SAMPLES = HEAD.size + 5
 # A reply that has no samples, and is copied as it is.
 HEAD_AND_NAME = 12
 # A reply stands in its buffer from here on: so its samples, 13 bytes after its start, begin at a
@@ -47,6 +53,7 @@ LEAD = 3
 # No reply is longer: 9 bytes, and the samples of the greatest image, of 4 bytes each. It is told
 # without the four bytes of itself.
 GREATEST_REPLY = 9 + 4 * GREATEST_SIDE**2
+NO_LENGTH = "what was read is no reply frame: its length isn't allowed"
 # No request is longer, told likewise: the server ends where it reads a greater length.
 GREATEST_REQUEST = GREATEST_LENGTH
 
@@ -90,7 +97,8 @@ class Request:
     """
 
     __slots__ = ("words", "client", "op", "answer", "on_refusal", "on_answer", "explain", "place",
-                 "parts", "start", "end", "body", "_error")
+                 "parts", "start", "end", "body", "may_lend", "has_lent",
+                 "into", "_error")
 
     def __init__(self, words: str, client: int, op: int, explain: Optional[Explain] = None,
                  body: Optional[Body] = None) -> None:
@@ -105,6 +113,10 @@ class Request:
         # Its frame until it was sent, and where that begins and ends among all that is sent.
         self.parts: Sequence[Part] = ()
         self.start = self.end = 0
+        # Whether a long part of it may be lent to the server's pipe, and whether some of it was.
+        self.may_lend = self.has_lent = False
+        # Where the samples of its reply go; then the answer has only what stands before them.
+        self.into: Optional[memoryview] = None
         self._error: Optional[Refused] = None
 
     @property
@@ -125,10 +137,9 @@ class Request:
             self._error = refusal(code, self.words, self.op, place, fault)
         return self._error.with_traceback(None)
 
-    def look_at(self, head: memoryview) -> None:
+    def look_at(self, length: int, client: int, op: int, code: int) -> None:
         """Raises UnexpectedReply where a reply that begins so isn't one to this request."""
-        length, client, op, code = HEAD.unpack_from(head)
-        if (client, op) != (self.client, self.op):
+        if client != self.client or op != self.op:
             raise UnexpectedReply(f"{self.words}: the reply is to op {op} of client {client}")
         if code >= len(CODES):
             raise UnexpectedReply(f"{self.words}: the reply has the unknown code {code}")
@@ -158,6 +169,7 @@ class Request:
 
     def own(self) -> None:
         """Copies its frame, which isn't sent to the end: the caller may change the samples."""
+        self.may_lend = False
         if not all(isinstance(part, bytes) for part in self.parts):
             self.parts = [bytes(part) for part in self.parts]
 
@@ -165,12 +177,13 @@ class Request:
 def moved(counts: List[int], call: Callable[[int, Any], int], descriptor: int,
           buffers: Sequence[Any]) -> None:
     """
-    Appends to the counts how many bytes a system call moved.
+    Adds to the last of the counts, which is all that was moved, how many bytes a system call moves.
 
     No bytecode runs between the call and the append, so no exception comes between them either: a
     signal's handler runs before the call moves anything, or after the count is stored.
     """
-    counts.extend(map(call, (descriptor,), (buffers,)))
+    del counts[:-1]
+    counts.extend(accumulate(map(call, (descriptor,), (buffers,)), initial=counts[0]))
 
 
 def references(buffers: Sequence[bytearray]) -> List[int]:
@@ -218,73 +231,88 @@ class Replies:
         self._buffers = Buffers()
         self._counts = [0]
         self._chunk = memoryview(bytearray(CHUNK))
-        # The buffer that is read into, its base, and whether it is that of a frame.
-        self._into: Tuple[memoryview, int, bool] = self._chunk, 0, False
+        # The buffer that is read into, its base, and of one frame's buffer what its request gets.
+        self._into: Tuple[memoryview, int, Optional[memoryview]] = self._chunk, 0, None
 
     def read(self, at: int) -> bool:
         """Reads once, where all replies up to there were taken. Returns whether something came; it
         is False at the end of the replies."""
-        received = self.received
+        received = self._counts[-1]
         if received == at:
-            self._into = self._chunk, at, False
+            self._into = self._chunk, at, None
         buffer, base, _ = self._into
         moved(self._counts, os.readv, self._descriptor, [buffer[received - base :]])
-        return self._counts[-1] > 0
+        return self._counts[-1] > received
 
     @property
     def received(self) -> int:
         """Where the bytes end that were read."""
-        if len(self._counts) > 1:
-            self._counts = [sum(self._counts)]
-        return self._counts[0]
+        return self._counts[-1]
 
     def frame_at(self, at: int, received: int,
-                 request: Optional[Request]) -> Optional[memoryview]:
+                 request: Optional[Request]) -> Optional[Tuple[memoryview, int]]:
         """Returns the whole frame that begins there, where the last one ended, and that answers the
-        request, of what was received up to there; None while it isn't whole, and then there is room
-        to read on."""
-        buffer, base, is_frame = self._into
-        if not is_frame:
-            return self._split(buffer, base, at, received, request)
-        return buffer if received - base == len(buffer) else None
-
-    def _split(self, buffer: memoryview, base: int, at: int, received: int,
-               request: Optional[Request]) -> Optional[memoryview]:
-        there = received - at
-        chunk = buffer[at - base : received - base]
-        length = length_of(chunk) if there >= 4 else 0
+        request, of what was received up to there, and where it ends; None while it isn't whole, and
+        then there is room to read on."""
+        buffer, base, reply = self._into
+        if reply is not None:
+            end = base + len(buffer)
+            return (reply, end) if received == end else None
+        start, there = at - base, received - at
         if there < HEAD.size:
-            if at > base:
-                self._make_room(chunk, at)
+            self._make_room(buffer[start : start + there], at)
             return None
+        size, client, op, code = HEAD.unpack_from(buffer, start)
+        if not 4 <= size <= GREATEST_REPLY:
+            raise UnexpectedReply(NO_LENGTH)
         if request is None:
             raise UnexpectedReply("there is a reply without a request")
         # No memory is taken for what is no reply.
-        request.look_at(chunk)
-        if length <= HEAD_AND_NAME and length <= there:
-            return memoryview(bytes(chunk[:length]))
+        request.look_at(size, client, op, code)
+        length, end = 4 + size, at + 4 + size
+        if length <= HEAD_AND_NAME and end <= received:
+            return memoryview(bytes(buffer[start : start + length])), end
+        if request.into is not None and code == 0:
+            return self._place(request.into, at, received)
         frame = memoryview(self._buffers.take(LEAD + length))[LEAD:]
-        if len(frame) <= there:
-            frame[:] = chunk[: len(frame)]
-            return frame
-        frame[:there] = chunk
-        self._into = frame, at, True
+        if end <= received:
+            frame[:] = buffer[start : start + length]
+            return frame, end
+        frame[:there] = buffer[start : start + there]
+        self._into = frame, at, frame
         return None
+
+    def _place(self, into: memoryview, at: int,
+               received: int) -> Optional[Tuple[memoryview, int]]:
+        """The same of a reply whose samples go to a place of their own."""
+        buffer, base, _ = self._into
+        chunk = buffer[at - base : received - base]
+        if len(chunk) < BEFORE_SAMPLES:
+            self._make_room(chunk, at)
+            return None
+        before, samples = memoryview(bytes(chunk[:BEFORE_SAMPLES])), at + BEFORE_SAMPLES
+        there = chunk[BEFORE_SAMPLES : BEFORE_SAMPLES + len(into)]
+        into[: len(there)] = there
+        if len(there) == len(into):
+            return before, samples + len(into)
+        self._into = into, samples, before
+        return None
+
+    def let_go(self, place: memoryview) -> None:
+        """What is still to come for a place goes elsewhere."""
+        buffer, base, reply = self._into
+        if buffer is place:
+            self._into = memoryview(bytearray(len(place))), base, reply
 
     def _make_room(self, rest: memoryview, at: int) -> None:
         """Has a new chunk begin with the rest, at most seven bytes of a frame whose head isn't
         known yet."""
-        chunk = memoryview(bytearray(CHUNK))
-        chunk[: len(rest)] = rest
-        self._into = chunk, at, False
-
-
-def length_of(chunk: memoryview) -> int:
-    """Returns how long a frame is by its first four bytes, those included."""
-    length: int = struct.unpack_from(">I", chunk)[0]
-    if not 4 <= length <= GREATEST_REPLY:
-        raise UnexpectedReply("what was read is no reply frame: its length isn't allowed")
-    return 4 + length
+        if len(rest) >= 4 and not 4 <= int.from_bytes(rest[:4], "big") <= GREATEST_REPLY:
+            raise UnexpectedReply(NO_LENGTH)
+        if at > self._into[1]:
+            chunk = memoryview(bytearray(CHUNK))
+            chunk[: len(rest)] = rest
+            self._into = chunk, at, None
 
 
 class Connection:
@@ -301,8 +329,11 @@ class Connection:
         self._timeout = timeout
         # How long the oldest request without a reply has been waited for, in seconds.
         self._waited = 0.0
+        # A pipe's end that only replies come through may block where nothing else is waited for.
+        self._may_block = reader != writer and timeout is None
+        self._may_lend = stat.S_ISFIFO(os.fstat(writer).st_mode) and pages.vmsplice() is not None
         os.set_blocking(writer, False)
-        os.set_blocking(reader, False)
+        os.set_blocking(reader, self._may_block)
         self._replies = Replies(reader)
         self._readable, self._either = select.poll(), select.poll()
         self._readable.register(reader, select.POLLIN)
@@ -314,7 +345,7 @@ class Connection:
         start = Request("the start", 0, 0)
         start.answer = memoryview(b""), 0
         self._line: Deque[Request] = deque([start])
-        # Those of them that aren't sent to the end, and how many bytes of all are.
+        # Those of them that aren't sent to the end, and how many bytes of all are, see `moved`.
         self._unsent: Deque[Request] = deque()
         self._counts = [0]
         # Whether all frames that were read are with their requests.
@@ -325,6 +356,27 @@ class Connection:
     def fault(self) -> Optional[FeqyldanError]:
         """Why nothing more can be sent; None while it can."""
         return self._fault
+
+    def ask(self, request: Request, parts: List[Part]) -> None:
+        """
+        Sends a request and waits for its reply. The pages of a long part are lent to the server's
+        pipe, since it was read when the reply is there. After an interruption too what it was taken
+        from may change when this returns, unless that was interrupted once more.
+        """
+        with self._lock:
+            request.may_lend = self._may_lend
+            try:
+                self.send(request, parts)
+                self.wait(request)
+            except BaseException:
+                if request.has_lent:
+                    self._await_reader()
+                raise
+
+    def _await_reader(self) -> None:
+        """Waits until the server has read what was sent."""
+        while self._fault is None and not pages.is_read(self._writer):
+            time.sleep(PAUSE)
 
     def send(self, request: Request, parts: List[Part], is_followed: bool = False) -> None:
         """
@@ -362,10 +414,11 @@ class Connection:
                 return True
             if self._fault is not None:
                 self._refuse_if_ended()
-            if self._line[-1].end > self._counts[0]:
+            if self._line[-1].end > self._counts[-1]:
                 self._mend()
+            blocks = self._may_block and limit is None and wake is None
             while (request or self._line[-1]).answer is None:
-                if self._read() or self._unsent and self._write():
+                if self._read(blocks and not self._unsent) or self._unsent and self._write():
                     continue
                 left = None if until is None else until - time.monotonic()
                 if left is not None and left <= 0:
@@ -379,8 +432,17 @@ class Connection:
         """Copies what was taken and isn't sent yet: it may be the caller's, who goes on and changes
         it."""
         with self._lock:
+            self._mend()
             for request in self._unsent:
                 request.own()
+
+    def let_go(self, place: memoryview) -> None:
+        """After an interruption: the samples that are to come for a place go elsewhere."""
+        with self._lock:
+            for request in self._line:
+                if request.into is place:
+                    request.into = None
+            self._replies.let_go(place)
 
     def look(self) -> None:
         """Takes in the replies that have come, and sends what the server takes now, without
@@ -413,7 +475,7 @@ class Connection:
     def _take(self, request: Request, parts: List[Part]) -> None:
         """Puts a whole frame after what is to be sent."""
         last = self._line[-1]
-        if last.end > self._counts[0]:
+        if last.end > self._counts[-1]:
             self._mend()
         request.parts, request.start = parts, last.end
         request.end = last.end + sum(map(len, parts))
@@ -423,10 +485,9 @@ class Connection:
     def _send_whole(self, request: Request, parts: List[Part]) -> bool:
         """Takes and sends a short frame, before which all was sent. Returns whether it was taken;
         then what the server hasn't taken of it is unsent."""
-        last = self._line[-1]
-        start = last.end
+        start = self._line[-1].end
         end = start + sum(map(len, parts))
-        if self._sent != start or end - start > SMALL:
+        if end - start > SMALL or self._counts[-1] != start:
             return False
         request.parts, request.start, request.end = parts, start, end
         self._line.append(request)
@@ -434,7 +495,7 @@ class Connection:
             moved(self._counts, os.writev, self._writer, parts)
         except (BlockingIOError, BrokenPipeError, ConnectionResetError):
             pass
-        if self._sent == end:
+        if self._counts[-1] == end:
             request.parts = ()
         else:
             request.own()
@@ -444,15 +505,8 @@ class Connection:
     def _mend(self) -> None:
         """Where an interruption came just after a request was taken, it has to be sent yet."""
         last = self._line[-1]
-        if last.end > self._sent and (not self._unsent or self._unsent[-1] is not last):
+        if last.end > self._counts[-1] and (not self._unsent or self._unsent[-1] is not last):
             self._unsent.append(last)
-
-    @property
-    def _sent(self) -> int:
-        """How many bytes were sent."""
-        if len(self._counts) > 1:
-            self._counts = [sum(self._counts)]
-        return self._counts[0]
 
     def _flush(self) -> None:
         """Sends all that was taken."""
@@ -468,9 +522,12 @@ class Connection:
             return False
         first = self._unsent[0]
         is_alone = len(self._unsent) == 1 and first.start == sent
+        parts = first.parts if is_alone else self._next_parts(sent)
         try:
-            moved(self._counts, os.writev, self._writer,
-                  first.parts if is_alone else self._next_parts(sent))
+            if first.may_lend and len(self._unsent) == 1 and len(parts[-1]) >= pages.LEAST:
+                self._lend(first, parts)
+            else:
+                moved(self._counts, os.writev, self._writer, parts)
         except BlockingIOError:
             return False
         except (BrokenPipeError, ConnectionResetError):
@@ -478,9 +535,23 @@ class Connection:
         self._drop_sent()
         return True
 
+    def _lend(self, request: Request, parts: Sequence[Part]) -> None:
+        """Sends what stands before a request's long part, or lends that."""
+        if len(parts) > 1:
+            moved(self._counts, os.writev, self._writer, parts[:-1])
+            return
+        request.has_lent = True
+        try:
+            pages.lend(self._counts, self._writer, parts[0])
+        except (BlockingIOError, BrokenPipeError):
+            raise
+        except OSError:
+            # As of a device's memory. It is copied.
+            request.may_lend = False
+
     def _drop_sent(self) -> int:
         """Forgets what was sent. Returns how many bytes were."""
-        sent, unsent = self._sent, self._unsent
+        sent, unsent = self._counts[-1], self._unsent
         while unsent and unsent[0].end <= sent:
             unsent.popleft().parts = ()
         return sent
@@ -534,20 +605,25 @@ class Connection:
         self._give_up()
         raise self._fault
 
-    def _read(self) -> bool:
-        """Takes in replies that are there. Returns whether something was read."""
+    def _read(self, blocks: bool = False) -> bool:
+        """Takes in replies that are there, and waits for one where it blocks. Returns whether some
+        bytes came."""
+        at = self._answered
         if not self._is_delivered:
-            self._deliver()
+            self._deliver(at)
+            return True
+        if self._may_block and not blocks and not self._readable.poll(0):
+            return False
         self._is_delivered = False
         try:
-            if not self._replies.read(self._answered):
+            if not self._replies.read(at):
                 self._end()
         except BlockingIOError:
             self._is_delivered = True
             return False
         except ConnectionResetError:
             self._end()
-        self._deliver()
+        self._deliver(at)
         return True
 
     @property
@@ -560,18 +636,18 @@ class Connection:
         assert answer is not None
         return answer[1]
 
-    def _deliver(self) -> None:
-        """Gives each frame that was read to its request."""
+    def _deliver(self, at: int) -> None:
+        """Gives each frame that was read to its request, from the first that isn't with it."""
         try:
-            at, line, received = self._answered, self._line, self._replies.received
+            line, received = self._line, self._replies.received
             while at < received:
                 frame = self._replies.frame_at(at, received, line[1] if len(line) > 1 else None)
                 if frame is None:
                     break
                 self._waited = 0.0
-                line[1].arrive(frame, at + len(frame))
+                reply, at = frame
+                line[1].arrive(reply, at)
                 line.popleft()
-                at += len(frame)
         except UnexpectedReply as fault:
             self._fault = fault
             raise

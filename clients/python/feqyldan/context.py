@@ -316,41 +316,54 @@ class Context(Uncopied):
     def send(self, words: str, make: Callable[..., bytes], *arguments: Any,
              content: Optional[Part] = None, explain: Optional[Explain] = None,
              on_answer: Optional[Callable[[memoryview], None]] = None,
-             body: Optional[Body] = None) -> Request:
+             body: Optional[Body] = None, into: Optional[memoryview] = None,
+             waits: bool = False) -> Request:
         """
         Sends a request: what `make` gives of the client's number and these arguments, and the
-        content after it. In a pipeline its refusal is kept for the end. `explain` says what is at
-        fault where it is refused. `body` is what a success gives, where the op alone doesn't
-        say that.
+        content after it. In a pipeline its refusal is kept for the end; without one the reply is
+        there already where it `waits`. `explain` says what is at fault where it is refused. `body`
+        is what a success gives, where the op alone doesn't say that, and its samples go `into` a
+        place, if one is given.
         """
         why_closed = self._why_closed
         if why_closed is not None:
             raise Closed(f"{words}: {why_closed}")
         frame = self._frame(words, make, arguments, 0 if content is None else len(content))
-        self._release_forgotten()
+        if self._unclaimed or self._dead:
+            self._release_forgotten()
         request = Request(words, self._number, frame[6], explain, body)
-        request.on_answer = on_answer
-        pipeline = self._open_pipeline()
+        request.on_answer, request.into = on_answer, into
+        parts = [frame] if content is None else [frame, content]
+        pipeline = None if self._pipeline is None else self._pipeline()
         if pipeline is not None:
             pipeline.take(request)
-        self._connection.send(request, [frame] if content is None else [frame, content],
-                              pipeline is not None and pipeline.is_followed)
+            self._connection.send(request, parts, pipeline.is_followed)
+        elif waits:
+            self._connection.ask(request, parts)
+        else:
+            self._connection.send(request, parts)
         return request
 
     def tell(self, words: str, make: Callable[..., bytes], *arguments: Any,
              content: Optional[Part] = None,
              explain: Optional[Explain] = None) -> None:
         """Sends a request that gives nothing; waits for its reply unless a pipeline is open."""
-        request = self.send(words, make, *arguments, content=content, explain=explain)
-        if self._open_pipeline() is None:
+        request = self.send(words, make, *arguments, content=content, explain=explain, waits=True)
+        if self._pipeline is None or self._pipeline() is None:
             self._reply_to(request)
 
     def ask(self, words: str, make: Callable[..., bytes], decode: Callable[[memoryview], Value],
-            body: Optional[Body] = None) -> Value:
+            body: Optional[Body] = None, into: Optional[memoryview] = None) -> Value:
         """Sends a request, waits, and gives what its reply has. In a pipeline that may be of an
-        older picture, after a request that was refused: then that refusal is raised."""
-        request = self.send(words, make, body=body)
-        value = decode(self._reply_to(request))
+        older picture, after a request that was refused: then that refusal is raised. After an
+        interruption nothing more goes `into` the place."""
+        try:
+            request = self.send(words, make, body=body, into=into, waits=True)
+            value = decode(self._reply_to(request))
+        except BaseException:
+            if into is not None:
+                self._connection.let_go(into)
+            raise
         pipeline = self._open_pipeline()
         if pipeline is not None:
             pipeline.raise_before(request)
@@ -359,7 +372,7 @@ class Context(Uncopied):
     def create(self, words: str, make: Callable[..., bytes], *arguments: Any, size: int = 0) -> int:
         """Sends a request that makes an object, waits, and gives its name. The size is how many
         bytes of the quota it takes."""
-        request = self.send(words, make, *arguments, explain=self._limit_for(size),
+        request = self.send(words, make, *arguments, explain=self._limit_for(size), waits=True,
                             on_answer=lambda reply: self._note_made(reply, size))
         return int(wire.name_of(self._reply_to(request)))
 
@@ -379,7 +392,7 @@ class Context(Uncopied):
     def add_node(self, words: str, *arguments: Any, added: Callable[[int], None]) -> int:
         """Sends a request that adds a node to a graph, waits, and gives its number, with which
         `added` is called: after an interruption too, once the reply comes."""
-        request = self.send(words, wire.add_node, *arguments, on_answer=lambda reply: (
+        request = self.send(words, wire.add_node, *arguments, waits=True, on_answer=lambda reply: (
             added(wire.node_of(reply)) if reply[7] == wire.SUCCESS else None))
         return int(wire.node_of(self._reply_to(request)))
 
@@ -416,7 +429,7 @@ class Context(Uncopied):
     def _frame(self, words: str, make: Callable[..., bytes], arguments: Sequence[Any],
                content: int) -> bytes:
         try:
-            frame = make(self.number, *arguments)
+            frame = make(self._number, *arguments)
         except (struct.error, ValueError) as error:
             raise ValueError(f"{words}: {error}") from None
         # The server ends where it reads a greater length.
@@ -427,7 +440,8 @@ class Context(Uncopied):
     def _reply_to(self, request: Request) -> memoryview:
         # It is raised here, so a pipeline that is open needn't keep it.
         request.on_refusal = None
-        self._connection.wait(request)
+        if request.answer is None:
+            self._connection.wait(request)
         error = request.error
         if error is not None:
             raise error

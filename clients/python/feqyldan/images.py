@@ -13,7 +13,8 @@ from .objects import (
     Asked, Description, Made, Named, Rectangle, description_of, in_words, sides_of_frame)
 from .pictures import Path, shown
 from .samples import (
-    Format, Picture, Readable, Size, dtype_of, needed_numpy, picture_of, samples_of)
+    Format, Picture, Readable, Size, dtype_of, needed_numpy, picture_of, place_in, samples_of,
+    turned)
 from .uncopied import Uncopied
 from .whole import UNSIGNED, whole, within
 
@@ -37,16 +38,20 @@ class AnyImage(Readable):
         raise NotImplementedError
 
     @property
-    def fmt(self) -> Format:
+    def _described(self) -> Size:
         raise NotImplementedError
+
+    @property
+    def fmt(self) -> Format:
+        return self._described.fmt
 
     @property
     def width(self) -> int:
-        raise NotImplementedError
+        return self._described.width
 
     @property
     def height(self) -> int:
-        raise NotImplementedError
+        return self._described.height
 
     @property
     def reference(self) -> bytes:
@@ -81,9 +86,12 @@ class AnyImage(Readable):
         image's format; or bytes or another buffer of as many samples by rows, in this machine's
         byte order; or rows of numbers. What is no such picture raises BadPicture.
         """
-        fmt, width, height, content = samples_of(samples, Size(self.fmt, self.width, self.height))
-        words = f"write {width} by {height} {fmt} samples to {self}"
-        sides_of_frame(width, height)
+        described = self._described
+        fmt, width, height, content = samples_of(samples, described)
+        words = f"write samples to {self}"
+        if (fmt, width, height) != described:
+            words = f"write {width} by {height} {fmt} samples to {self}"
+            sides_of_frame(width, height)
         self.context.tell(words, wire.write_image_head, self.reference, fmt, width, height,
                           content=content,
                           explain=lambda code: "" if code != wire.INVALID_DIMENSION else (
@@ -97,18 +105,27 @@ class AnyImage(Readable):
         self.context.tell(f"fill {self} with {value}", wire.write_image_head, self.reference,
                           self.fmt, self.width, self.height, content=bytes(line) * self.height)
 
-    def read(self) -> Picture:
+    def read(self, out: Optional[numpy.ndarray[Any, Any]] = None) -> Picture:
         """
         All samples: a NumPy array of shape (height, width) and dtype uint8, int16 or uint32;
-        without NumPy a memoryview of that shape. It is the caller's own, and may be changed.
+        without NumPy a memoryview of that shape. It is the caller's own, and may be changed. With
+        `out`, an array of that shape and dtype, they are read into that, which is returned.
         """
-        return self.context.ask(*self.reading())
+        if out is None:
+            return self.context.ask(*self.reading())
+        pixels, place = out, place_in(out, self._described)
+        if place is None:
+            pixels[...] = self.read()
+            return pixels
+        words, make, _, body = self.reading()
+        return self.context.ask(words, make, lambda _: turned(pixels), body, place)
 
     def reading(self) -> Asked[Picture]:
         """What read() asks, for a pipeline that asks it ahead."""
-        described = struct.pack(">BHH", self.fmt, self.width, self.height)
+        fmt, width, height = self._described
+        described = struct.pack(">BHH", fmt, width, height)
         return (f"read {self}", lambda client: wire.read_image(client, self.reference), picture_of,
-                Body(len(described) + self.size * self.fmt.sample_bytes, described))
+                Body(len(described) + width * height * fmt.sample_bytes, described))
 
     def copy(self) -> Image:
         """A new image with these samples and this valid rectangle."""
@@ -209,16 +226,8 @@ class Image(Named, AnyImage):
         self._size = Size(fmt, width, height)
 
     @property
-    def fmt(self) -> Format:
-        return self._size.fmt
-
-    @property
-    def width(self) -> int:
-        return self._size.width
-
-    @property
-    def height(self) -> int:
-        return self._size.height
+    def _described(self) -> Size:
+        return self._size
 
 
 class Slot(Uncopied, AnyImage):
@@ -245,16 +254,8 @@ class Slot(Uncopied, AnyImage):
         return self._number
 
     @property
-    def fmt(self) -> Format:
-        return self._delay.fmt
-
-    @property
-    def width(self) -> int:
-        return self._delay.width
-
-    @property
-    def height(self) -> int:
-        return self._delay.height
+    def _described(self) -> Size:
+        return self._delay._size
 
     @property
     def reference(self) -> bytes:

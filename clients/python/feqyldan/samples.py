@@ -131,7 +131,8 @@ def numbers_of(content: bytes, fmt: Format) -> Tuple[int, ...]:
 
 def is_array(value: Any) -> bool:
     """Whether NumPy takes it for an array, and NumPy is there."""
-    has_interface = hasattr(value, "__array_interface__") or hasattr(value, "__array__")
+    # For an array the second takes time.
+    has_interface = hasattr(value, "__array__") or hasattr(value, "__array_interface__")
     return has_interface and numpy_module() is not None
 
 
@@ -155,6 +156,8 @@ def samples_of(value: Any, size: Optional[Size] = None) -> Samples:
 def _unmasked(value: Any) -> Any:
     """The value as an array. A mask would be lost."""
     numpy = numpy_module()
+    if type(value) is numpy.ndarray:
+        return value
     if isinstance(value, numpy.ma.MaskedArray) and numpy.ma.is_masked(value):
         raise WrongPicture("a picture has no mask, and some of these samples are masked: write "
                            "array.filled(0), and the mask as a picture of its own")
@@ -206,6 +209,8 @@ def _in_rows(pixels: Any, numpy: Any) -> Any:
 
 def _bytes_of(pixels: Any, numpy: Any) -> memoryview:
     """The bytes of an array by rows, big-endian; a copy where it isn't so."""
+    if pixels.itemsize == 1 and pixels.flags.c_contiguous:
+        return memoryview(pixels).cast("B")
     ordered = numpy.ascontiguousarray(pixels, pixels.dtype.newbyteorder(">"))
     return memoryview(ordered.reshape(-1).view(numpy.uint8))
 
@@ -342,15 +347,38 @@ def picture_of(reply: memoryview) -> Picture:
     return _array_of(reply[13:], Format(fmt), (height, width))
 
 
+def place_in(out: Any, described: Size) -> Optional[memoryview]:
+    """The bytes of an array that samples are to be read into, which has to be one of their shape
+    and type; None where it doesn't stand by rows without gaps."""
+    fmt, width, height = described
+    numpy = needed_numpy("an array to read into")
+    if not isinstance(out, numpy.ndarray):
+        raise NotAPicture(f"a picture is read into an array, and not a {type(out).__name__}")
+    if out.dtype != dtype_of(fmt) or out.shape != (height, width) or not out.flags.writeable:
+        kind = "" if out.flags.writeable else ", which can't be written to"
+        raise WrongPicture(f"a {fmt} picture of {width} by {height} is read into an array of shape "
+                           f"{(height, width)} and dtype {dtype_of(fmt)}, and not one of "
+                           f"{out.shape} and {out.dtype}{kind}")
+    return memoryview(out).cast("B") if out.flags.c_contiguous else None
+
+
+def turned(pixels: Picture) -> Picture:
+    """An array whose samples stand in the order of frames: they are turned to this machine's."""
+    if IS_SWAPPED and pixels.itemsize > 1:
+        pixels.byteswap(inplace=True)
+    return pixels
+
+
 def _array_of(content: memoryview, fmt: Format, shape: Tuple[int, int]) -> Picture:
     there = numpy_module()
     if there is None:
         view: Any = _reordered(content, fmt).cast(LETTERS[fmt], shape)
         return view  # type: ignore[no-any-return]
-    pixels = there.frombuffer(content,
-                              f">u{fmt.sample_bytes}" if fmt != Format.S16
-                              else ">i2").reshape(shape)
-    if IS_SWAPPED and fmt != Format.U8:
+    if fmt == Format.U8:
+        bytewise: Picture = there.ndarray(shape, there.uint8, content)
+        return bytewise
+    pixels = there.ndarray(shape, f">u{fmt.sample_bytes}" if fmt != Format.S16 else ">i2", content)
+    if IS_SWAPPED:
         pixels.byteswap(inplace=True)
     native: Picture = pixels.view(pixels.dtype.newbyteorder("="))
     return native

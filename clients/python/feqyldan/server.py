@@ -78,17 +78,22 @@ class Server(Forked, Uncopied):
     def _start(self, words: List[str]) -> None:
         # A file and no pipe, which could fill up while nobody reads it.
         self._said = tempfile.TemporaryFile()
+        # Replies come by a socket: its buffers stay in the processor's cache, where a pipe would
+        # take new pages for each picture.
+        self._output, replies = socket.socketpair()
         try:
-            self._process = subprocess.Popen(words, stdin=subprocess.PIPE, stdout=subprocess.PIPE,
-                                             stderr=self._said,
-                                             bufsize=0, start_new_session=True)
+            with replies:
+                self._process = subprocess.Popen(words, stdin=subprocess.PIPE,
+                                                 stdout=replies.fileno(),
+                                                 stderr=self._said,
+                                                 bufsize=0, start_new_session=True)
         except BaseException:
             self._said.close()
+            self._output.close()
             raise
-        assert self._process.stdin is not None and self._process.stdout is not None
-        self._input, self._output = self._process.stdin, self._process.stdout
-        for pipe in (self._input, self._output):
-            enlarge(pipe.fileno())
+        assert self._process.stdin is not None
+        self._input = self._process.stdin
+        enlarge(self._input.fileno())
 
     @property
     def closed(self) -> bool:

@@ -10,6 +10,7 @@ from __future__ import annotations
 import struct
 from collections.abc import Sequence
 from enum import IntEnum
+from functools import lru_cache
 from typing import NamedTuple, Optional, Union
 
 # An image, or another object, by its name or by the bytes of `reference`.
@@ -219,6 +220,8 @@ LEAST_LENGTH, GREATEST_LENGTH = 3, 536_870_912
 # The most columns of an image, and the most rows.
 GREATEST_SIDE = 8192
 SAMPLE_LETTERS = {U8: "B", S16: "h", U32: "I"}
+# How many frames of a kind are kept that programs send again and again.
+KEPT = 256
 FORMAT_NAMES = {OPEN: "open", **{fmt: fmt.name for fmt in Format}}
 ABSENT = struct.pack(">IB", 0, 255)
 CODES = [code.name for code in Code]
@@ -281,6 +284,7 @@ def write_image(
     return frame(client, WRITE_IMAGE, described + samples)
 
 
+@lru_cache(KEPT)
 def write_image_head(client: int, named: Reference, fmt: int, width: int, height: int) -> bytes:
     """The frame of WriteImage as far as its samples, which are to follow: width times height of
     them, by rows."""
@@ -299,6 +303,7 @@ def write_image_pgm(client: int, named: Reference, text: bytes) -> bytes:
     return frame(client, WRITE_IMAGE_PGM, operand(named) + text)
 
 
+@lru_cache(KEPT)
 def read_image(client: int, named: Reference) -> bytes:
     return frame(client, READ_IMAGE, operand(named))
 
@@ -421,6 +426,7 @@ def verify_graph(client: int, graph: int) -> bytes:
     return frame(client, VERIFY_GRAPH, struct.pack(">I", graph))
 
 
+@lru_cache(KEPT)
 def process_graph(client: int, graph: int) -> bytes:
     """Runs all nodes of a graph, which is verified first."""
     return frame(client, PROCESS_GRAPH, struct.pack(">I", graph))

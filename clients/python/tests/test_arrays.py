@@ -31,6 +31,37 @@ class TestArrays(ProgramTest):
                                  [[1.0, 2.0, 3.0], [4.0, 5.0, 6.0]])
         self.assertEqual(int(numpy.sum(image)), 21)
 
+    def test_read_into_an_array(self):
+        for width, height in ((3, 2), (300, 200), (1000, 700)):
+            for fmt, dtype in ((U8, "uint8"), (S16, "int16"), (U32, "uint32")):
+                pixels = numpy.arange(width * height).reshape(height, width).astype(dtype)
+                image = self.context.image_from(pixels)
+                for out in (numpy.zeros_like(pixels),
+                            numpy.zeros((height, 2 * width), dtype)[:, ::2],
+                            numpy.zeros_like(pixels.T).T):
+                    self.assertIs(image.read(out), out)
+                    self.assertTrue((out == pixels).all())
+                    # The next replies are whole.
+                    self.assertEqual(image.query().width, width)
+                    self.assertTrue((image.read() == pixels).all())
+
+    def test_read_into_an_array_in_a_pipeline(self):
+        image, out = self.context.image_from([[1, 2], [3, 4]]), numpy.zeros((2, 2), "uint8")
+        with self.context.pipeline() as ahead:
+            first = ahead.read(image)
+            image.write([[5, 6], [7, 8]])
+            self.assertEqual(image.read(out=out).tolist(), [[5, 6], [7, 8]])
+        self.assertEqual(first.value().tolist(), [[1, 2], [3, 4]])
+
+    def test_an_array_that_a_picture_cant_be_read_into(self):
+        image, fixed = self.context.image_from([[1, 2]]), numpy.zeros((1, 2), "uint8")
+        fixed.flags.writeable = False
+        for out in (numpy.zeros((2, 1), "uint8"), numpy.zeros((1, 2), "int16"), fixed,
+                    bytearray(2)):
+            with self.assertRaisesRegex(vx.BadPicture, "read into an array"):
+                image.read(out)
+        self.assertEqual(image.read().tolist(), [[1, 2]])
+
     def test_both_signatures(self):
         """NumPy 1 calls it with nothing or a type; NumPy 2 says too whether a copy may be made."""
         image = self.context.image_from([[1, 2]])

@@ -8,16 +8,19 @@ feqyldan promises that for an exception that any signal's handler raises. By han
 """
 
 import contextlib
+import errno
 import fcntl
 import os
 import random
 import signal
 import sys
+import threading
 import time
 import unittest
+from unittest import mock
 
 from program import PROGRAM, ProgramTest, answering, needs_program, vx
-from feqyldan import wire
+from feqyldan import pages, wire
 from feqyldan.connection import Body, Connection, Request
 from feqyldan.pipes import enlarge
 from test_processes import ProcessTest
@@ -142,6 +145,22 @@ class Everywhere:
         return self
 
 
+def answer_slowly(source, target, got, size):
+    """Reads so many bytes with pauses, and then answers."""
+    while size:
+        got.append(os.read(source, 60_000))
+        size -= len(got[-1])
+        time.sleep(0.0005)
+    os.write(target, wire.reply_frame(7, 1))
+
+
+def write_slowly(target, data):
+    """Writes with pauses, so that it is read in pieces."""
+    for at in range(0, len(data), 50_000):
+        os.write(target, data[at : at + 50_000])
+        time.sleep(0.0005)
+
+
 class TestEachLine(unittest.TestCase):
     """An exception before each line of a connection's code in turn."""
 
@@ -207,6 +226,95 @@ class TestEachLine(unittest.TestCase):
             got += os.read(theirs, 1000)
         self.assertEqual(got, b"".join(b"head" + one * 3000
                                        for one in (b"1", b"0", b"1", b"2", b"3")))
+        for descriptor in (theirs, writer, reader, ours):
+            os.close(descriptor)
+
+    def lend(self, interrupted_at):
+        """Whether it was interrupted, with a picture on its way whose pages are lent: then the
+        program changes it, which its reader doesn't see."""
+        (theirs, writer), (reader, ours) = os.pipe(), os.pipe()
+        connection = Connection(writer, reader, lambda _: vx.ServerEnded("ended"), lambda: None)
+        samples, got, is_interrupted = bytearray(b"1" * 300_000), [], False
+        server = threading.Thread(target=answer_slowly, args=(theirs, ours, got, 300_004))
+        server.start()
+        request = Request("one", 7, 1)
+        try:
+            sys.settrace(Everywhere(interrupted_at))
+            connection.ask(request, [b"head", memoryview(samples)])
+        except KeyboardInterrupt:
+            is_interrupted = True
+        finally:
+            sys.settrace(None)
+        samples[:] = b"2" * len(samples)
+        if request in connection._line:
+            connection.wait(request)
+        else:
+            # Nothing of it was taken.
+            connection.ask(request, [b"head", b"1" * 300_000])
+        server.join()
+        self.assertEqual(b"".join(got), b"head" + b"1" * 300_000)
+        self.assertTrue(request.has_lent or is_interrupted)
+        for descriptor in (theirs, writer, reader, ours):
+            os.close(descriptor)
+        return is_interrupted
+
+    def place(self, interrupted_at):
+        """Whether a read into a place was interrupted: then nothing more comes there, and what is
+        read next is right."""
+        (theirs, writer), (reader, ours) = os.pipe(), os.pipe()
+        connection = Connection(writer, reader, lambda _: vx.ServerEnded("ended"), lambda: None)
+        place, is_interrupted = memoryview(bytearray(200_000)), False
+        replies = b"".join(wire.reply_frame(7, number, 0, b"12345" + b"%d" % number * 200_000)
+                           for number in (1, 2))
+        server = threading.Thread(target=write_slowly, args=(ours, replies))
+        server.start()
+        requests = [Request("one", 7, number, body=Body(200_005)) for number in (1, 2)]
+        requests[0].into = place
+        connection.send(requests[0], [b"head"])
+        try:
+            sys.settrace(Everywhere(interrupted_at))
+            connection.wait(requests[0])
+        except KeyboardInterrupt:
+            is_interrupted = True
+        finally:
+            sys.settrace(None)
+        if is_interrupted:
+            connection.let_go(place)
+            place[:] = b"X" * 200_000
+        connection.send(requests[1], [b"head"])
+        connection.wait(requests[1])
+        server.join()
+        self.assertEqual(bytes(place), (b"X" if is_interrupted else b"1") * 200_000)
+        self.assertEqual(bytes(requests[1].reply), replies[-200_013:])
+        for descriptor in (theirs, writer, reader, ours):
+            os.close(descriptor)
+        return is_interrupted
+
+    def test_what_was_interrupted_comes_nowhere(self):
+        number = 1
+        while self.place(number):
+            number += 1
+        self.assertGreater(number, 50)
+
+    @unittest.skipIf(pages.vmsplice() is None, "no memory can be lent here")
+    def test_what_was_lent_is_read_as_it_was(self):
+        number = 1
+        while self.lend(number):
+            number += 1
+        self.assertGreater(number, 50)
+
+    @unittest.skipIf(pages.vmsplice() is None, "no memory can be lent here")
+    def test_memory_that_cant_be_lent_is_copied(self):
+        def refuse(*_):
+            raise OSError(errno.EINVAL, "no such memory")
+
+        (theirs, writer), (reader, ours) = os.pipe(), os.pipe()
+        enlarge(writer)
+        connection = Connection(writer, reader, lambda _: vx.ServerEnded("ended"), lambda: None)
+        os.write(ours, wire.reply_frame(7, 1))
+        with mock.patch.object(pages, "lend", refuse):
+            connection.ask(Request("one", 7, 1), [b"head", memoryview(b"1" * 300_000)])
+        self.assertEqual(os.read(theirs, 400_000), b"head" + b"1" * 300_000)
         for descriptor in (theirs, writer, reader, ours):
             os.close(descriptor)
 

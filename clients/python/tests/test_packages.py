@@ -104,6 +104,23 @@ class TestStarter(unittest.TestCase):
                                  stderr=subprocess.DEVNULL, check=False)
         self.assertEqual(run.returncode, 4)
 
+    def test_help_and_refusals_have_the_commands_name(self):
+        self.put("cpuinfo", "")
+        self.put(f"lib/feqyldan/{program.PLAIN}", "#!/bin/sh\ncase $1 in\n"
+                 "serve) [ $# != 3 ] || exec cat; echo Usage: vx_main serve >&2; exit 2 ;;\n"
+                 "apply) cat; exit 5 ;;\n"
+                 "help) echo Usage: vx_main; exit ;;\nesac\necho Usage: vx_main >&2; exit 2\n")
+        for words, status, out, error in (
+                (["nonsense"], 2, "", "Usage: feqyldan\n"), ([], 2, "", "Usage: feqyldan\n"),
+                (["serve", "--quota=x"], 2, "", "Usage: feqyldan serve\n"),
+                (["help"], 0, "Usage: feqyldan\n", ""),
+                # What is no refusal gets the input.
+                (["serve", "--quota", "5"], 0, "vx_main", ""),
+                (["serve", "--work", "5"], 0, "vx_main", ""), (["apply"], 5, "vx_main", "")):
+            run = subprocess.run([self.starter, *words], input="vx_main", capture_output=True,
+                                 text=True, check=False)
+            self.assertEqual((run.returncode, run.stdout, run.stderr), (status, out, error), words)
+
     def test_by_another_name(self):
         link = os.path.join(self.folder, "link")
         os.symlink(self.starter, link)
@@ -116,7 +133,7 @@ class TestPackages(unittest.TestCase):
     def setUpClass(cls):
         folder = tempfile.TemporaryDirectory()
         cls.addClassCleanup(folder.cleanup)
-        cls.wheel, cls.debian, *cls.library = cls.packages(folder.name)
+        cls.wheel, *cls.debian = cls.packages(folder.name)
 
     @staticmethod
     def packages(folder):
@@ -142,7 +159,7 @@ class TestPackages(unittest.TestCase):
 
     def unpack(self):
         """The packages for Debian in a folder of their own, found before all else."""
-        for package in (self.debian, *self.library):
+        for package in self.debian:
             self.run_there("dpkg", "-x", package, self.root)
         self.environment["PATH"] = f"{self.root}/usr/bin:{self.environment['PATH']}"
         self.environment["PYTHONPATH"] = f"{self.root}/usr/lib/python3/dist-packages"
@@ -170,14 +187,38 @@ class TestPackages(unittest.TestCase):
         self.run_there(python, "-m", "pip", "uninstall", "--yes", "feqyldan")
         self.assertEqual(files_of(venv), before)
 
-    def test_the_first_program_with_the_debian_package(self):
+    def test_each_package_needs_what_it_says(self):
+        """The server without Python, Python without the server, the library without both."""
+        names = [os.path.basename(package).partition("_")[0] for package in self.debian]
+        self.assertEqual(names, ["feqyldan-server", "python3-feqyldan", "feqyldan",
+                                 "libfeqyldan0", "libfeqyldan-dev"])
+        needs = {name: self.run_there("dpkg-deb", "--field", package, "Depends").strip()
+                 for name, package in zip(names, self.debian)}
+        version = vx.__version__
+        for name in ("feqyldan-server", "libfeqyldan0"):
+            self.assertRegex(needs[name], r"^libc6 \(>= [\d.]+\)$")
+        self.assertEqual(needs["python3-feqyldan"], "python3 (>= 3.9)")
+        self.assertEqual(needs["feqyldan"], f"python3 (>= 3.9), feqyldan-server (= {version}), "
+                                            f"python3-feqyldan (= {version})")
+        self.assertEqual(needs["libfeqyldan-dev"], f"libfeqyldan0 (= {version})")
+        files = [name for package in self.debian
+                 for name in self.run_there("dpkg-deb", "--contents", package).split()
+                 if name.startswith("./") and not name.endswith("/")]
+        self.assertEqual(len(files), len(set(files)))
+
+    @unittest.skipIf(shutil.which("lintian") is None, "lintian isn't installed")
+    def test_lintian_finds_no_error(self):
+        self.run_there("lintian", "--allow-root", "--fail-on", "error", *self.debian)
+
+    def test_the_first_program_with_the_debian_packages(self):
         self.unpack()
         self.first_program_runs(sys.executable, f"{self.root}/usr/bin/feqyldan")
         documents = f"{self.root}/usr/share/doc/feqyldan"
-        for name in ("README.md", "copyright", "changelog.gz", "docs/wire.md", "examples/first.py"):
+        for name in ("README.md", "copyright", "changelog.gz", "docs/wire.md", "examples/first.py",
+                     "CHANGELOG.md"):
             self.assertTrue(os.path.isfile(os.path.join(documents, name)), name)
 
-    def test_the_example_in_c_with_the_debian_package(self):
+    def test_the_example_in_c_with_the_debian_packages(self):
         self.unpack()
         example = f"{self.root}/usr/share/doc/libfeqyldan-dev/examples/edges.c"
         library, made = f"{self.root}/{MULTIARCH}", os.path.join(self.folder, "edges")
@@ -193,7 +234,7 @@ class TestPackages(unittest.TestCase):
         self.assertTrue(run.stdout.startswith(b"P5\n256 256\n255\n"))
         self.assertEqual(set(run.stdout[15:]), {0, 255})
 
-    def test_the_door_and_the_broker_of_the_debian_package(self):
+    def test_the_door_and_the_broker_of_the_debian_packages(self):
         self.unpack()
         socket = os.path.join(self.folder, "socket")
         for name, options in (("door", ()), ("broker", ("--servers", "1"))):
@@ -240,8 +281,11 @@ class TestPackages(unittest.TestCase):
 
     def test_the_removal_s_script_fails_nowhere(self):
         """Not where the folder is gone, or systemd refuses."""
-        folder = os.path.join(self.folder, "control")
-        self.run_there("dpkg-deb", "--control", self.debian, folder)
+        for number, package in enumerate(self.debian[:3]):
+            self.runs_removal(package, os.path.join(self.folder, f"control{number}"))
+
+    def runs_removal(self, package, folder):
+        self.run_there("dpkg-deb", "--control", package, folder)
         os.mkdir(os.path.join(folder, "bin"))
         with open(os.path.join(folder, "bin", "systemctl"), "w", encoding="utf-8") as file:
             file.write("#!/bin/sh\nexit 1\n")
@@ -262,28 +306,27 @@ class TestPackages(unittest.TestCase):
                 pass
         dpkg = ("dpkg", f"--root={self.root}", f"--log={self.folder}/log",
                 "--force-script-chrootless", "--force-depends")
-        self.run_there(*dpkg, "--install", self.debian, *self.library)
+        self.run_there(*dpkg, "--install", *self.debian)
         library = os.path.join(self.root, "usr/lib/python3/dist-packages/feqyldan")
         # What Python would have left there.
         os.mkdir(os.path.join(library, "__pycache__"))
-        self.run_there(*dpkg, "--purge", "feqyldan", "libfeqyldan-dev", "libfeqyldan0")
+        self.run_there(*dpkg, "--purge", "feqyldan", "feqyldan-server", "python3-feqyldan",
+                       "libfeqyldan-dev", "libfeqyldan0")
         self.assertEqual(os.listdir(self.root), ["var"])
         self.assertEqual(os.listdir(os.path.join(self.root, "var")), ["lib"])
         self.assertFalse([path for path in files_of(kept) if "feqyldan" in path])
 
     def test_versions_agree(self):
         self.assertEqual(self.run_there(PROGRAM, "--version").split()[1], vx.__version__)
-        said = self.run_there("dpkg-deb", "--field", self.debian, "Version")
-        self.assertEqual(said.strip(), vx.__version__)
-        for path in (self.wheel, self.debian):
-            self.assertRegex(os.path.basename(path), rf"^feqyldan[-_]{vx.__version__}[-_]")
+        for package in self.debian:
+            said = self.run_there("dpkg-deb", "--field", package, "Version")
+            self.assertEqual(said.strip(), vx.__version__)
+        for path in (self.wheel, *self.debian):
+            self.assertRegex(os.path.basename(path), rf"feqyldan\S*[-_]{vx.__version__}[-_]")
         self.unpack()
         self.assertEqual(self.run_there("feqyldan", "--version"), f"feqyldan {vx.__version__}\n")
         for name in ("feqyldan.1", "feqyldan-door.1", "feqyldan-broker.1"):
             self.assertIn(f'"feqyldan {vx.__version__}"', self.manual(name))
-        for package in self.library:
-            said = self.run_there("dpkg-deb", "--field", package, "Version")
-            self.assertEqual(said.strip(), vx.__version__)
         library = f"{self.root}/{MULTIARCH}/pkgconfig/feqyldan.pc"
         with open(library, encoding="utf-8") as file:
             self.assertIn(f"Version: {vx.__version__}\n", file.read())
@@ -307,8 +350,7 @@ class TestPackages(unittest.TestCase):
                 self.assertIn(word, self.manual(name))
 
     def test_the_same_tree_gives_the_same_bytes(self):
-        for path, again in zip((self.wheel, self.debian, *self.library),
-                               self.packages(self.folder)):
+        for path, again in zip((self.wheel, *self.debian), self.packages(self.folder)):
             with open(path, "rb") as first, open(again, "rb") as second:
                 self.assertEqual(first.read(), second.read(), path)
 

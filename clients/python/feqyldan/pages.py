@@ -1,0 +1,69 @@
+"""
+Lends memory to a pipe by vmsplice(2): a server reads a picture from the pages in which it stands,
+and no copy is made.
+"""
+
+from __future__ import annotations
+
+import ctypes
+import fcntl
+import os
+import select
+import struct
+import termios
+from functools import lru_cache
+from itertools import accumulate
+from typing import Any, List
+
+from .samples import numpy_module
+
+# Less is copied: that takes less time.
+LEAST = 1 << 16
+# Returns at once where the pipe is full.
+NONBLOCK = 2
+
+
+class Vector(ctypes.Structure):
+    """A struct iovec."""
+
+    _fields_ = [("start", ctypes.c_void_p), ("length", ctypes.c_size_t)]
+
+
+@lru_cache(maxsize=None)
+def vmsplice() -> Any:
+    """The C function; None where there is none, or no NumPy to tell where memory is."""
+    try:
+        function = ctypes.CDLL(None, use_errno=True).vmsplice
+    except (AttributeError, OSError):
+        return None
+    function.argtypes = ctypes.c_int, ctypes.c_void_p, ctypes.c_size_t, ctypes.c_uint
+    function.restype = ctypes.c_ssize_t
+    return None if numpy_module() is None else function
+
+
+def lend(counts: List[int], pipe: int, part: Any) -> None:
+    """
+    Adds to the last of the counts, as connection.moved() does, how many bytes of a part the pipe
+    has taken. They mustn't change until they were read from it. Raises OSError where it takes none:
+    BlockingIOError where it is full, another one where memory of this kind can't be lent.
+    """
+    numpy = numpy_module()
+    start = numpy.frombuffer(part, numpy.uint8).__array_interface__["data"][0]
+    vector = Vector(start, len(part))
+    call = map(vmsplice(), (pipe,), (ctypes.byref(vector),), (1,), (NONBLOCK,))
+    del counts[:-1]
+    # A refused call gives -1.
+    counts.extend(accumulate(map(max, call, (0,)), initial=counts[0]))
+    if counts[-1] == counts[0]:
+        number = ctypes.get_errno()
+        raise OSError(number, os.strerror(number))
+
+
+def is_read(pipe: int) -> bool:
+    """Whether all that a pipe has taken was read from it, or nobody will read it any more."""
+    unread: int = struct.unpack("i", fcntl.ioctl(pipe, termios.FIONREAD, bytes(4)))[0]
+    if unread == 0:
+        return True
+    poll = select.poll()
+    poll.register(pipe, 0)
+    return bool(poll.poll(0))

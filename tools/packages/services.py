@@ -1,0 +1,178 @@
+"""The packages for Debian of the server, of the Python package, and of what serves several
+programs: the door and the broker, with the documents.
+
+The server needs no Python. The Python package may reach a server at a socket, so it asks for none.
+"""
+
+import glob
+import os
+import subprocess
+import sys
+import tempfile
+from typing import Dict, List, Tuple
+
+import feqyldan
+
+from . import ROOT, debian, wheels
+from .debian import Data
+
+SERVER, PYTHON, SERVICES = "feqyldan-server", "python3-feqyldan", "feqyldan"
+SERVER_DESCRIPTION = """vision server with the behaviour of OpenVX
+ Images, graphs, virtual images, delays, immediate mode and 25 vision functions
+ on grey pictures of 8 and 16 bits, for many clients at once: none of them sees
+ another's pixels.
+ .
+ This package has the server for both kinds of processor, and a socket of
+ systemd at which each program of the machine has a server of its own."""
+PYTHON_DESCRIPTION = """vision server Feqyldan from Python
+ Images, graphs, delays, immediate mode and 25 vision functions on NumPy arrays
+ and other pictures. They are computed by a server, which a program starts or
+ reaches at a socket."""
+SERVICES_DESCRIPTION = """vision server Feqyldan for several programs
+ Two services at a socket: the door gives each program of the machine a server
+ of its own, the broker lets programs share servers. Both have limits for each
+ process and each user, and tell their state.
+ .
+ This package has them, and the documents of Feqyldan."""
+# A command that is a module of the Python package.
+COMMAND = """\
+#!/usr/bin/python3
+import sys
+
+from feqyldan.{module} import main
+
+sys.exit(main())
+"""
+COMMANDS = ("door", "broker")
+# The units of deploy/ by package, and what in them is otherwise in a package: by the words there,
+# those here.
+SERVER_UNITS = ("feqyldan.slice", "feqyldan.socket", "feqyldan@.service")
+SERVICE_UNITS = tuple(f"feqyldan-{module}.{kind}" for module in COMMANDS
+                      for kind in ("service", "socket"))
+PROGRAM = "/opt/feqyldan/bin/vx_main"
+# The program that this machine's processors can run is looked for once, before the socket listens.
+CHOSEN = "/run/feqyldan/program"
+CHANGES = {
+    "feqyldan.socket": {
+        "Accept=yes\n": "Accept=yes\nExecStartPre=/usr/bin/install -d -m 755 /run/feqyldan\n"
+                        "ExecStartPre=/bin/sh -c 'exec ln -sfn \"$$(/usr/bin/feqyldan --which)\" "
+                        f"{CHOSEN}'\n"},
+    "feqyldan@.service": {PROGRAM: CHOSEN},
+    **{f"feqyldan-{module}.service": {"Environment=PYTHONPATH=/opt/feqyldan/python\n": "",
+                                      PROGRAM: "/usr/bin/feqyldan"} for module in COMMANDS}}
+# In a root folder of another system nothing is started and nobody is added.
+AFTER_INSTALL = """\
+#!/bin/sh
+set -e
+if [ "$1" = configure ] && [ -z "$DPKG_ROOT" ]; then
+{lines}
+fi
+"""
+ADD_USER = "    if command -v systemd-sysusers > /dev/null; then systemd-sysusers feqyldan.conf; fi"
+COMPILE = "    if command -v py3compile > /dev/null; then py3compile -p python3-feqyldan; fi"
+RELOAD = "    if [ -d /run/systemd/system ]; then systemctl daemon-reload; fi"
+# Nothing that isn't there, or is masked, keeps the package from being removed.
+BEFORE_REMOVAL = """\
+#!/bin/sh
+set -e
+if [ "$1" = remove ] && [ -z "$DPKG_ROOT" ] && [ -d /run/systemd/system ]; then
+    for unit in {units}; do
+        systemctl disable --now "$unit" || true
+    done{more}
+fi
+"""
+STOP_ALL = "\n    systemctl stop 'feqyldan@*.service' || true"
+FORGET_COMPILED = """\
+#!/bin/sh
+set -e
+find "$DPKG_ROOT/usr/lib/python3/dist-packages/feqyldan" -name __pycache__ -prune \\
+    -exec rm -r {} + || true
+"""
+AFTER_REMOVAL = """\
+#!/bin/sh
+set -e
+if [ "$1" = remove ] && [ -z "$DPKG_ROOT" ]; then
+    rm -rf /run/feqyldan
+    if [ -d /run/systemd/system ]; then systemctl daemon-reload; fi
+fi
+"""
+
+
+def unit(name: str) -> str:
+    """A unit of deploy/, with the package's paths."""
+    said = debian.text_of("deploy", name)
+    for before, after in CHANGES.get(name, {}).items():
+        if said.count(before) != 1:
+            sys.exit(f"tools/package: deploy/{name} has {before!r} not just once")
+        said = said.replace(before, after)
+    return said
+
+
+def units(names: Tuple[str, ...]) -> Dict[str, Data]:
+    return {f"usr/lib/systemd/system/{name}": unit(name) for name in names}
+
+
+def documents() -> Dict[str, Data]:
+    """As they stand in the checkout, so that what they refer to is found."""
+    paths = ["README.md", "CHANGELOG.md", "clients/python/README.md", "examples/first.py",
+             "clients/c/examples/edges.c"]
+    paths += [os.path.relpath(path, ROOT) for path in glob.glob(f"{ROOT}/docs/*.md")]
+    return {f"usr/share/doc/{SERVICES}/{path}": debian.text_of(path) for path in paths}
+
+
+def build_server(programs: Dict[str, bytes], c_library: Tuple[int, int], folder: str) -> str:
+    with tempfile.TemporaryDirectory() as stage:
+        places = {f"usr/lib/feqyldan/{name}": data for name, data in programs.items()}
+        debian.put(stage, {**units(SERVER_UNITS), **debian.manual("feqyldan.1"),
+                           "usr/lib/sysusers.d/feqyldan.conf":
+                               debian.text_of("deploy", "sysusers.conf")}, 0o644)
+        debian.put(stage, {**places, "usr/bin/feqyldan": debian.text_of("deploy", "starter")},
+                   0o755)
+        # What is for debuggers alone is taken out.
+        subprocess.run(["strip", "--strip-unneeded",
+                        *(os.path.join(stage, place) for place in places)], check=True)
+        return debian.finish(
+            stage, folder,
+            {"postinst": AFTER_INSTALL.format(lines=f"{ADD_USER}\n{RELOAD}"),
+             "prerm": BEFORE_REMOVAL.format(units="feqyldan.socket", more=STOP_ALL),
+             "postrm": AFTER_REMOVAL},
+            name=SERVER, architecture="amd64", section="science", description=SERVER_DESCRIPTION,
+            relations="Depends: libc6 (>= {}.{})\nSuggests: feqyldan, libfeqyldan-dev, "
+                      "python3-feqyldan".format(*c_library))
+
+
+def build_python(wheel: str, folder: str) -> str:
+    with tempfile.TemporaryDirectory() as stage:
+        debian.put(stage, {f"usr/lib/python3/dist-packages/{name}": data
+                           for name, data in wheels.entries_of(wheel).items()}, 0o644)
+        return debian.finish(
+            stage, folder,
+            {"postinst": AFTER_INSTALL.format(lines=COMPILE), "prerm": FORGET_COMPILED},
+            name=PYTHON, architecture="all", section="python", description=PYTHON_DESCRIPTION,
+            relations="Depends: python3 (>= 3.9)\nRecommends: feqyldan-server\n"
+                      "Suggests: python3-numpy, python3-distributed")
+
+
+def build_services(folder: str) -> str:
+    with tempfile.TemporaryDirectory() as stage:
+        pages = [debian.manual(f"feqyldan-{module}.1") for module in COMMANDS]
+        debian.put(stage, {**units(SERVICE_UNITS), **pages[0], **pages[1], **documents()}, 0o644)
+        debian.put(stage, {f"usr/bin/feqyldan-{module}": COMMAND.format(module=module)
+                           for module in COMMANDS}, 0o755)
+        version = feqyldan.__version__
+        return debian.finish(
+            stage, folder,
+            {"postinst": AFTER_INSTALL.format(lines=RELOAD),
+             "prerm": BEFORE_REMOVAL.format(
+                 units=" \\\n        ".join(sorted(SERVICE_UNITS, reverse=True)), more=""),
+             "postrm": AFTER_REMOVAL.replace("    rm -rf /run/feqyldan\n", "")},
+            name=SERVICES, architecture="all", section="science", description=SERVICES_DESCRIPTION,
+            relations=f"Depends: python3 (>= 3.9), {SERVER} (= {version}), {PYTHON} (= {version})\n"
+                      "Suggests: libfeqyldan-dev")
+
+
+def build(wheel: str, programs: Dict[str, bytes], c_library: Tuple[int, int],
+          folder: str) -> List[str]:
+    """The paths of the packages, with the Python package as it is in a wheel."""
+    return [build_server(programs, c_library, folder), build_python(wheel, folder),
+            build_services(folder)]
