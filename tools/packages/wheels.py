@@ -17,19 +17,18 @@ PURE_TAG = "py3-none-any"
 
 
 def python() -> str:
-    """A Python that has what pip needs to build a wheel without a network."""
-    asked = ("from importlib.util import find_spec\n"
-             "raise SystemExit(not all(map(find_spec, ('pip', 'setuptools', 'wheel'))))")
+    """A Python that has pip."""
+    asked = "from importlib.util import find_spec\nraise SystemExit(not find_spec('pip'))"
     for path in (sys.executable, "/usr/bin/python3"):
         if not subprocess.run([path, "-c", asked], check=False).returncode:
             return path
-    sys.exit("tools/package: Python's pip, setuptools and wheel aren't installed")
+    sys.exit("tools/package: Python's pip isn't installed")
 
 
 def pure(folder: str) -> str:
     """The path of the wheel of the Python package, built in a folder."""
-    run = subprocess.run([python(), "-m", "pip", "wheel", "--no-index", "--no-build-isolation",
-                          "--no-deps", "--wheel-dir", folder, PYTHON],
+    run = subprocess.run([python(), "-m", "pip", "wheel", "--no-index", "--no-deps",
+                          "--wheel-dir", folder, PYTHON],
                          stdout=subprocess.PIPE, stderr=subprocess.STDOUT, text=True, check=False)
     if run.returncode:
         sys.exit(f"{run.stdout}\ntools/package: pip ended with status {run.returncode}")

@@ -37,6 +37,8 @@ SMALL = 1 << 15
 PARTS, REQUESTS = 64, 16
 # How long the server is given to read what was lent, before it is looked at again, in seconds.
 PAUSE = 0.0005
+# How long the rest of a reply may take to come, in milliseconds, where it is only looked for.
+REST = 5
 # How many buffers for long replies are kept.
 KEPT = 4
 # So many bytes are read at once.
@@ -446,14 +448,17 @@ class Connection:
 
     def look(self) -> None:
         """Takes in the replies that have come, and sends what the server takes now, without
-        waiting."""
+        waiting. Of a reply that is on its way, since the server waits for room, the rest comes
+        too."""
         with self._lock:
             self._refuse_if_ended()
             self._mend()
             if self._unsent:
                 self._write()
-            while self._line[-1].answer is None and self._read():
-                pass
+            while self._line[-1].answer is None:
+                is_begun = self._replies.received > self._answered
+                if not self._read() and not (is_begun and self._readable.poll(REST)):
+                    break
 
     def close(self) -> None:
         """Nothing more is sent or waited for."""

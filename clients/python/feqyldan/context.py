@@ -5,11 +5,12 @@ from __future__ import annotations
 
 import asyncio
 import struct
+import threading
 import weakref
 from collections import deque
 from types import TracebackType
 from typing import (
-    TYPE_CHECKING, Any, Callable, Deque, Dict, List, Optional, Sequence, Set, Tuple, Type, TypeVar)
+    TYPE_CHECKING, Any, Callable, Deque, Dict, List, Optional, Sequence, Tuple, Type, TypeVar)
 
 from . import wire
 from .connection import GREATEST_REQUEST, Body, Connection, Explain, Part, Request
@@ -82,7 +83,7 @@ class Context(Uncopied):
     """
 
     __slots__ = ("_server", "_connection", "_number", "_vxu", "_pipeline", "_alive", "_dead",
-                 "_unclaimed", "_used", "_is_closed", "__weakref__")
+                 "_unclaimed", "_releasing", "_used", "_is_closed", "__weakref__")
     _inner = frozenset((
         "ask", "tell", "send", "create", "claim", "add_node", "look_at", "release", "references_of",
         "enter_pipeline", "leave_pipeline", "close_within", "connection"))
@@ -97,9 +98,11 @@ class Context(Uncopied):
         # released before the next request.
         self._alive: Dict[int, Death] = {}
         self._dead: Deque[Death] = deque()
-        # Those that the server has made and no object in Python has: where that is so at the next
-        # request, an interruption came between.
-        self._unclaimed: Set[int] = set()
+        # Those that the server has made for a thread and no object in Python has: where that is so
+        # at the thread's next request, an interruption came between.
+        self._unclaimed: Dict[int, int] = {}
+        # Held by the thread that releases what Python has forgotten.
+        self._releasing = threading.RLock()
         self._used = Used()
         self._is_closed = False
         self.tell("open a context", wire.open_context)
@@ -372,22 +375,24 @@ class Context(Uncopied):
     def create(self, words: str, make: Callable[..., bytes], *arguments: Any, size: int = 0) -> int:
         """Sends a request that makes an object, waits, and gives its name. The size is how many
         bytes of the quota it takes."""
+        thread = threading.get_ident()
         request = self.send(words, make, *arguments, explain=self._limit_for(size), waits=True,
-                            on_answer=lambda reply: self._note_made(reply, size))
+                            on_answer=lambda reply: self._note_made(reply, size, thread))
         return int(wire.name_of(self._reply_to(request)))
 
-    def _note_made(self, reply: memoryview, size: int) -> None:
+    def _note_made(self, reply: memoryview, size: int, thread: int) -> None:
+        """For a thread, which may not be the one that reads the reply."""
         if reply[7] == wire.SUCCESS:
             name = wire.name_of(reply)
             self._used.add(name, size)
-            self._unclaimed.add(name)
+            self._unclaimed[name] = thread
 
     def claim(self, name: int, thing: Named) -> None:
         """An object in Python has the name from here on. It is released when Python forgets it."""
         death = Death(thing, self._dead.append)  # type: ignore[arg-type]
         death.name = name
         self._alive[name] = death
-        self._unclaimed.discard(name)
+        self._unclaimed.pop(name, None)
 
     def add_node(self, words: str, *arguments: Any, added: Callable[[int], None]) -> int:
         """Sends a request that adds a node to a graph, waits, and gives its number, with which
@@ -449,15 +454,16 @@ class Context(Uncopied):
 
     def _release_forgotten(self) -> None:
         """An interruption in between has some released twice, and the second time is refused."""
-        while self._unclaimed:
-            name = next(iter(self._unclaimed))
+        thread = threading.get_ident()
+        for name in [name for name, maker in list(self._unclaimed.items()) if maker == thread]:
             self._release_unseen(name)
-            self._unclaimed.discard(name)
-        while self._dead:
-            name = self._dead[0].name
-            self._release_unseen(name)
-            self._alive.pop(name, None)
-            self._dead.popleft()
+            self._unclaimed.pop(name, None)
+        with self._releasing:
+            while self._dead:
+                name = self._dead[0].name
+                self._release_unseen(name)
+                self._alive.pop(name, None)
+                self._dead.popleft()
 
     def _release_unseen(self, name: int) -> None:
         frame = wire.release(self._number, name)

@@ -2,6 +2,7 @@
 
 import array
 import gc
+import threading
 import unittest
 from unittest import mock
 
@@ -263,6 +264,31 @@ class TestReleases(ProgramTest):
             with self.server.context() as other, other.image(U8, 1, 1):
                 other.close()
                 raise KeyError
+
+
+class TestThreads(ProgramTest):
+    def test_threads_that_make_and_forget_objects_of_one_context(self):
+        """None releases what another one has just made."""
+        faults = []
+
+        def work(shade):
+            try:
+                for _ in range(200):
+                    image = self.context.image_from([[shade, 0]])
+                    out = self.context.image_like(image)
+                    self.context.vxu.not_(image, out)
+                    if out.read().tolist() != [[255 - shade, 255]]:
+                        raise AssertionError("this isn't what was asked for")
+            except Exception as fault:
+                faults.append(fault)
+
+        threads = [threading.Thread(target=work, args=(shade,)) for shade in (10, 20, 30)]
+        for thread in threads:
+            thread.start()
+        for thread in threads:
+            thread.join()
+        self.assertEqual(faults, [])
+        self.assertEqual(self.context.usage().objects, 0)
 
 
 if __name__ == "__main__":

@@ -20,7 +20,7 @@ ROOT = os.path.realpath(os.path.join(TOOLS, ".."))
 FIRST = os.path.join(ROOT, "examples", "first.py")
 MULTIARCH = "usr/lib/x86_64-linux-gnu"
 # What these tests need that not every machine has.
-ABSENT = [*missing("pip", "setuptools", "wheel", "venv"),
+ABSENT = [*missing("pip", "venv"),
           *(name for name in ("dpkg", "dpkg-deb") if shutil.which(name) is None),
           *(["FEQYLDAN_PROGRAM"] * (not PROGRAM))]
 

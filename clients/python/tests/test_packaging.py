@@ -27,8 +27,7 @@ def files_of(folder):
             if os.path.join("tests", "__pycache__") not in at}
 
 
-@unittest.skipIf(missing("pip", "setuptools", "wheel", "venv"),
-                 f"not installed: {', '.join(missing('pip', 'setuptools', 'wheel', 'venv'))}")
+@unittest.skipIf(missing("pip", "venv"), f"not installed: {', '.join(missing('pip', 'venv'))}")
 class TestPackage(unittest.TestCase):
     def setUp(self):
         folder = tempfile.TemporaryDirectory()
@@ -50,8 +49,7 @@ class TestPackage(unittest.TestCase):
         python = os.path.join(self.folder, "venv", "bin", "python")
         self.run_there(sys.executable, "-m", "venv", "--system-site-packages", "--without-pip",
                        "venv")
-        self.run_there(python, "-m", "pip", "install", "--no-index", "--no-build-isolation",
-                       "--no-deps", PYTHON)
+        self.run_there(python, "-m", "pip", "install", "--no-index", "--no-deps", PYTHON)
         self.assertEqual(files_of(PYTHON), before)
         where = self.run_there(python, "-c", "import feqyldan; print(feqyldan.__file__)").strip()
         self.assertTrue(where.startswith(os.path.join(self.folder, "venv")), where)
@@ -67,8 +65,7 @@ class TestPackage(unittest.TestCase):
                                             "2]]).read().tolist())"), "[[1, 2]]\n")
 
     def test_what_a_wheel_has(self):
-        self.run_there(sys.executable, "-m", "pip", "wheel", "--no-index", "--no-build-isolation",
-                       "--no-deps", PYTHON)
+        self.run_there(sys.executable, "-m", "pip", "wheel", "--no-index", "--no-deps", PYTHON)
         wheel, = (name for name in os.listdir(self.folder) if name.endswith(".whl"))
         with zipfile.ZipFile(os.path.join(self.folder, wheel)) as archive:
             names = archive.namelist()
@@ -87,43 +84,32 @@ class TestPackage(unittest.TestCase):
         self.assertEqual({name for name in names if name.startswith("feqyldan/")},
                          sources | {"feqyldan/py.typed"})
 
-    def test_a_wheel_without_the_package_wheel(self):
-        """What setuptools alone leaves has the same files and says the same."""
-        self.run_there(sys.executable, "-m", "pip", "wheel", "--no-index", "--no-build-isolation",
-                       "--no-deps", PYTHON)
-        os.mkdir(os.path.join(self.folder, "other"))
-        self.run_there(sys.executable, "-c", "import sys\nsys.dont_write_bytecode = True\n"
-                       f"sys.path.insert(0, {PYTHON!r})\nimport build_in_copy\n"
-                       "build_in_copy.is_installed = lambda name: False\n"
-                       "print(build_in_copy.build_wheel('other'))")
-        name, = (name for name in os.listdir(self.folder) if name.endswith(".whl"))
-        one, other = (zipfile.ZipFile(os.path.join(self.folder, *path, name))
-                      for path in ((), ("other",)))
-        with one, other:
-            def names(archive):
-                return sorted(os.path.basename(path) if ".dist-info/" in path else path
-                              for path in archive.namelist())
-
-            self.assertEqual(names(one), names(other))
-            for path in other.namelist():
-                if os.path.basename(path) not in ("RECORD", "WHEEL"):
-                    wanted, = (there for there in one.namelist()
-                               if there == path or ".dist-info/" in path
-                               and os.path.basename(there) == os.path.basename(path)
-                               and ".dist-info/" in there)
-                    # Their order is no matter.
-                    said, told = ({*archive.read(where).splitlines()} - {b"License-File: LICENSE"}
-                                  for archive, where in ((other, path), (one, wanted)))
-                    self.assertEqual(said, told, path)
+    @unittest.skipIf(missing("ensurepip"), "ensurepip isn't installed")
+    def test_a_new_virtual_environment_without_a_network(self):
+        """It has pip alone."""
         before = files_of(PYTHON)
-        self.run_there(sys.executable, "-m", "venv", "--system-site-packages", "--without-pip",
-                       "venv")
+        self.run_there(sys.executable, "-m", "venv", "venv")
         python = os.path.join(self.folder, "venv", "bin", "python")
-        self.run_there(python, "-m", "pip", "install", "--no-index", "--no-deps",
-                       os.path.join(self.folder, "other", name))
-        self.assertIn("venv", self.run_there(python, "-c",
-                                             "import feqyldan; print(feqyldan.__file__)"))
+        for words in ((), ("--editable",)):
+            self.run_there(python, "-m", "pip", "install", "--no-index", *words, PYTHON)
+            where = self.run_there(python, "-B", "-c",
+                                   "import feqyldan; print(feqyldan.__file__)")
+            self.assertTrue(where.startswith(PYTHON if words else self.folder), where)
+            self.run_there(python, "-m", "pip", "uninstall", "--yes", "feqyldan")
         self.assertEqual(files_of(PYTHON), before)
+
+    def test_an_archive_of_the_sources(self):
+        """What is installed from it is the same wheel, byte for byte."""
+        build = ("import sys\nsys.dont_write_bytecode = True\nsys.path.insert(0, sys.argv[1])\n"
+                 "import build_backend\n"
+                 "print(build_backend.build_sdist('.'), build_backend.build_wheel('.'))\n")
+        archive, wheel = self.run_there(sys.executable, "-c", build, PYTHON).split()
+        self.run_there("tar", "xf", archive)
+        os.rename(os.path.join(self.folder, wheel), os.path.join(self.folder, "first"))
+        self.run_there(sys.executable, "-c", build, archive[:-len(".tar.gz")])
+        one, other = (open(os.path.join(self.folder, name), "rb") for name in ("first", wheel))
+        with one, other:
+            self.assertEqual(one.read(), other.read())
 
 
 if __name__ == "__main__":
