@@ -1,3 +1,2 @@
 mod BlockLemmas
-mod ChainLemmas
 mod RunLemmas

@@ -1,17 +1,11 @@
 //! Nodes and graphs that run in a table.
-ghost use Rattle.std.specs.Prelude.{◌≡◌, IfOk, None, OnOk};
+ghost use Rattle.std.specs.Prelude.{◌≡◌, IfOk};
 ghost use Rattle.vx_base.specs.declared.format.Format.TheVariants.{U8};
-ghost use Rattle.vx_base.specs.declared.function.Function.TheVariants.{Box};
-ghost use Rattle.vx_base.specs.declared.policy.Policy.TheVariants.{Wrap};
-ghost use Rattle.vx_base.specs.Graph.{with_node};
-ghost use Rattle.graph_verify.specs.Examples.{node_to};
 ghost use Rattle.vx_base.specs.Image.{IsImage, description_of};
-ghost use Rattle.object_table.specs.Context.{new_context, with_objects, with_graph};
-ghost use Rattle.object_table.specs.Table.{graph_under};
-ghost use Rattle.graph_tests.specs.Chain.{chain};
+ghost use Rattle.object_table.specs.Context.{new_context};
 
 use crate::cells::holds;
-use crate::graphs::{is_graph, not};
+use crate::graphs::not;
 use crate::tables::hold;
 use buffer_plan::Plan;
 use graph_run::{operand_in, operand_of, run, run_node, run_once, verify_in};
@@ -21,10 +15,7 @@ use object_table::{Content, Delay, Object, Stored, Table};
 use pixel_pool::Pool;
 use std::alloc::Global;
 use std::test::Fail;
-use vx_base::{
-    Border, Desc, Format, Function, Node, NodeSpec, ObjRef, Outline, Output, Picture, Policy,
-    Samples, SlotCount, VirtualImage,
-};
+use vx_base::{Desc, Format, Outline, Output, Picture, Samples, SlotCount, VirtualImage};
 
 /// An image of two samples of U8.
 fn image(alloc: Global, pool: &mut Pool, samples: [u8; 2]) -> Result<Stored, Fail>
@@ -148,93 +139,5 @@ fn a_graph_runs_through_a_virtual_image(rt: HostRuntime) -> Result<(), Fail> {
 
     // The block in which the virtual image stood is free again.
     assert!(rt; (pool.blocks(Format::U8), pool.free(Format::U8)) == (3, 1));
-    Ok(())
-}
-
-/// Adds Box, from the image of one name to that of another, to the graph of name 3.
-fn add_box(table: &mut Table, input: u32, output: u32) -> Result<(), Fail>
-    ensures { OnOk result (table.new ≡ with_objects table.old (with_graph table.old.objects 3
-        (with_node (graph_under table.old.objects 3) (node_to Box Wrap input None output)))) }
-{
-    let node = NodeSpec::new(Node {
-        function: Function::Box,
-        border: Border::Undefined,
-        policy: Policy::Wrap,
-        amount: 0,
-        in1: ObjRef::new(input, None),
-        in2: None,
-        out1: Some(ObjRef::new(output, None)),
-        out2: None,
-    })
-    .ok_or("a node")?;
-    if !is_graph(table, 3) || table.get_held(input).is_none() || table.get_held(output).is_none() {
-        return Err("not there".into());
-    }
-    table.add_node(3, node)?;
-    Ok(())
-}
-
-/// A table with two images, a graph and five virtual images, through which the graph links the first
-/// image to the second by six nodes of Box.
-fn chained(alloc: Global, input: Stored, output: Stored, declared: Outline) -> Result<Table, Fail>
-    ensures { IfOk result (λ table. table.objects ≡ chain input output declared) }
-{
-    let mut table = Table::new(alloc);
-    hold(&mut table, Content::Image(input))?;
-    hold(&mut table, Content::Image(output))?;
-    hold(&mut table, Content::Graph(Graph::new(alloc)))?;
-    hold(
-        &mut table,
-        Content::Virtual(VirtualImage { graph: 3, declared }),
-    )?;
-    hold(
-        &mut table,
-        Content::Virtual(VirtualImage { graph: 3, declared }),
-    )?;
-    hold(
-        &mut table,
-        Content::Virtual(VirtualImage { graph: 3, declared }),
-    )?;
-    hold(
-        &mut table,
-        Content::Virtual(VirtualImage { graph: 3, declared }),
-    )?;
-    hold(
-        &mut table,
-        Content::Virtual(VirtualImage { graph: 3, declared }),
-    )?;
-    add_box(&mut table, 1, 4)?;
-    add_box(&mut table, 4, 5)?;
-    add_box(&mut table, 5, 6)?;
-    add_box(&mut table, 6, 7)?;
-    add_box(&mut table, 7, 8)?;
-    add_box(&mut table, 8, 2)?;
-    Ok(table)
-}
-
-/// Runs a graph that links two images by six nodes of Box in a row, and returns whether the second
-/// was written. The pool lends blocks to the virtual images alone: the two images have theirs of
-/// another one.
-fn run_chain(alloc: Global, pool: &mut Pool) -> Result<bool, Fail> {
-    let mut others = Pool::new(alloc);
-    let input = image(alloc, &mut others, [10, 255])?;
-    let output = image(alloc, &mut others, [1, 2])?;
-    let open = Outline::new(None, None, None).ok_or("nothing is declared")?;
-    open.has_sides();
-    let mut table = chained(alloc, input, output, open)?;
-    let verified = verify_in(alloc, &table, table.graph(3), 10)?;
-    let plan = Plan::new(alloc, &verified)?;
-    run(alloc, &verified, &plan, &mut table, pool)?;
-    Ok(holds(&mut table, 2, [0, 0]))
-}
-
-#[test]
-fn six_nodes_in_a_row_run_in_two_blocks(rt: HostRuntime) -> Result<(), Fail> {
-    let mut pool = Pool::new(rt.alloc());
-    for _ in 0..2 {
-        // No pixel of so narrow an image is valid after Box.
-        assert!(rt; run_chain(rt.alloc(), &mut pool)?);
-        assert!(rt; (pool.blocks(Format::U8), pool.free(Format::U8)) == (2, 2));
-    }
     Ok(())
 }
