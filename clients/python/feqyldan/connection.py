@@ -369,7 +369,10 @@ class Connection:
             request.may_lend = self._may_lend
             try:
                 self.send(request, parts)
-                self.wait(request)
+                if not self._may_block or self._unsent:
+                    self.wait(request)
+                while request.answer is None:
+                    self._read(True)
             except BaseException:
                 if request.has_lent:
                     self._await_reader()
