@@ -11,21 +11,33 @@ four times as bright, and what was kept.
 """
 
 import math
+import os
 import random
-from typing import List, NamedTuple, Optional
+from typing import Any, List, NamedTuple, Optional, Sequence, Tuple
 
 import feqyldan as vx
 from bounds import add_bounds, rectangle_of
-from sheet import folder_told, inside, panel, sides_in_words, write_sheet
+from folder import folder_told
+
+# Red, green and blue from 0 to 255, by rows from the top.
+Pixel = Tuple[int, int, int]
+Rows = List[List[Pixel]]
 
 WIDTH, HEIGHT = 200, 144
 MIDDLE = (100, 72)
 HOLES = [(MIDDLE[0] + 42 * math.cos(k * math.pi / 3), MIDDLE[1] + 42 * math.sin(k * math.pi / 3))
          for k in range(6)]
 SCRATCH = ((77, 41), (64, 95))
+GAP = 6
+WHITE, RED = (255, 255, 255), (230, 30, 30)
 
 
 # ---- the pictures
+
+def inside(distance: float) -> float:
+    """How much of a pixel is inside of an edge that is so many pixels away."""
+    return min(1.0, max(0.0, distance + 0.5))
+
 
 def flange(x: int, y: int) -> float:
     """A turned flange with a bore and six holes on a dark belt."""
@@ -95,7 +107,41 @@ class Station:
 def in_words(found: Finding) -> str:
     if not found.around:
         return "nothing found"
-    return f"{found.pixels} pixels differ, {sides_in_words(found.around)}"
+    x0, y0, x1, y1 = found.around
+    return f"{found.pixels} pixels differ, in columns {x0} to {x1 - 1} and rows {y0} to {y1 - 1}"
+
+
+# ---- the sheet
+
+def panel(picture: Any, around: Optional[vx.Rectangle] = None) -> Rows:
+    """A grey picture, as Image.read() gives it, in colour; with a red frame two pixels beside a
+    rectangle."""
+    rows = [[(sample, sample, sample) for sample in row] for row in picture.tolist()]
+    if around:
+        frame(rows, vx.Rectangle(around.x0 - 3, around.y0 - 3, around.x1 + 3, around.y1 + 3))
+    return rows
+
+
+def frame(rows: Rows, outside: vx.Rectangle) -> None:
+    """The frame's outermost pixels are those of the rectangle; what isn't in the picture is left
+    out."""
+    x0, y0, x1, y1 = outside
+    across = [(x, y) for x in range(x0, x1) for y in (y0, y1 - 1)]
+    down = [(x, y) for y in range(y0, y1) for x in (x0, x1 - 1)]
+    for x, y in across + down:
+        if 0 <= y < len(rows) and 0 <= x < len(rows[0]):
+            rows[y][x] = RED
+
+
+def sheet(panels: Sequence[Rows]) -> Rows:
+    """Panels of one height beside one another, on white."""
+    result: Rows = []
+    for parts in zip(*panels):
+        joined: List[Pixel] = list(parts[0])
+        for part in parts[1:]:
+            joined += [WHITE] * GAP + part
+        result.append(joined)
+    return result
 
 
 def main() -> None:
@@ -112,7 +158,7 @@ def main() -> None:
         pictures = panel(reference.read()), panel(station.part.read(),
                                                   found.around), panel(bright.read())
         marks = panel(station.marks.read(), found.around)
-    write_sheet(folder, "inspection.png", [[*pictures, marks]])
+    vx.write_png(os.path.join(folder, "inspection.png"), sheet([*pictures, marks]))
 
 
 main()

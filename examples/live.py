@@ -19,7 +19,7 @@ import time
 from typing import Iterator, List, Tuple
 
 import feqyldan as vx
-from sheet import folder_told
+from folder import folder_told
 
 try:
     import cv2

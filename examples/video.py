@@ -19,7 +19,7 @@ from typing import Any, List, NamedTuple, Optional
 
 import feqyldan as vx
 from bounds import add_bounds, rectangle_of
-from sheet import folder_told
+from folder import folder_told
 
 try:
     import cv2

@@ -333,7 +333,7 @@ class Connection:
         self._waited = 0.0
         # A pipe's end that only replies come through may block where nothing else is waited for.
         self._may_block = reader != writer and timeout is None
-        self._may_lend = stat.S_ISFIFO(os.fstat(writer).st_mode) and pages.vmsplice() is not None
+        self._is_pipe = stat.S_ISFIFO(os.fstat(writer).st_mode)
         os.set_blocking(writer, False)
         os.set_blocking(reader, self._may_block)
         self._replies = Replies(reader)
@@ -366,7 +366,7 @@ class Connection:
         from may change when this returns, unless that was interrupted once more.
         """
         with self._lock:
-            request.may_lend = self._may_lend
+            request.may_lend = self._is_pipe
             try:
                 self.send(request, parts)
                 self.wait(request)
@@ -529,7 +529,7 @@ class Connection:
         is_alone = len(self._unsent) == 1 and first.start == sent
         parts = first.parts if is_alone else self._next_parts(sent)
         try:
-            if first.may_lend and len(self._unsent) == 1 and len(parts[-1]) >= pages.LEAST:
+            if self._lends(first, parts):
                 self._lend(first, parts)
             else:
                 moved(self._counts, os.writev, self._writer, parts)
@@ -539,6 +539,11 @@ class Connection:
             self._hear_out()
         self._drop_sent()
         return True
+
+    def _lends(self, request: Request, parts: Sequence[Part]) -> bool:
+        """Whether the last of the parts is to be lent, which are the request's that is unsent."""
+        return (request.may_lend and len(self._unsent) == 1 and len(parts[-1]) >= pages.LEAST
+                and pages.can_lend())
 
     def _lend(self, request: Request, parts: Sequence[Part]) -> None:
         """Sends what stands before a request's long part, or lends that."""

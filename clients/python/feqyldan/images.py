@@ -88,10 +88,10 @@ class AnyImage(Readable):
         """
         described = self._described
         fmt, width, height, content = samples_of(samples, described)
-        words = f"write samples to {self}"
         if (fmt, width, height) != described:
-            words = f"write {width} by {height} {fmt} samples to {self}"
             sides_of_frame(width, height)
+        # As str(fmt), which takes longer.
+        words = f"write {width} by {height} {fmt._name_} samples to {self}"
         self.context.tell(words, wire.write_image_head, self.reference, fmt, width, height,
                           content=content,
                           explain=lambda code: "" if code != wire.INVALID_DIMENSION else (

@@ -5,17 +5,15 @@ and no copy is made.
 
 from __future__ import annotations
 
-import ctypes
 import fcntl
 import os
 import select
 import struct
+import sys
 import termios
 from functools import lru_cache
 from itertools import accumulate
 from typing import Any, List
-
-from .samples import numpy_module
 
 # Less is copied: that takes less time.
 LEAST = 1 << 16
@@ -23,22 +21,22 @@ LEAST = 1 << 16
 NONBLOCK = 2
 
 
-class Vector(ctypes.Structure):
-    """A struct iovec."""
-
-    _fields_ = [("start", ctypes.c_void_p), ("length", ctypes.c_size_t)]
-
-
 @lru_cache(maxsize=None)
 def vmsplice() -> Any:
-    """The C function; None where there is none, or no NumPy to tell where memory is."""
+    """The C function; None where there is none."""
+    import ctypes
     try:
         function = ctypes.CDLL(None, use_errno=True).vmsplice
     except (AttributeError, OSError):
         return None
     function.argtypes = ctypes.c_int, ctypes.c_void_p, ctypes.c_size_t, ctypes.c_uint
     function.restype = ctypes.c_ssize_t
-    return None if numpy_module() is None else function
+    return function
+
+
+def can_lend() -> bool:
+    """Whether NumPy is in use, which tells where memory is, and the system can do it."""
+    return "numpy" in sys.modules and vmsplice() is not None
 
 
 def lend(counts: List[int], pipe: int, part: Any) -> None:
@@ -47,9 +45,11 @@ def lend(counts: List[int], pipe: int, part: Any) -> None:
     has taken. They mustn't change until they were read from it. Raises OSError where it takes none:
     BlockingIOError where it is full, another one where memory of this kind can't be lent.
     """
-    numpy = numpy_module()
+    import ctypes
+    import numpy
     start = numpy.frombuffer(part, numpy.uint8).__array_interface__["data"][0]
-    vector = Vector(start, len(part))
+    # A struct iovec.
+    vector = (ctypes.c_size_t * 2)(start, len(part))
     call = map(vmsplice(), (pipe,), (ctypes.byref(vector),), (1,), (NONBLOCK,))
     del counts[:-1]
     # A refused call gives -1.

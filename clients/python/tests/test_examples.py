@@ -89,34 +89,6 @@ class Examples(unittest.TestCase):
         differing = sum(a != b for one, other in zip(rows, made) for a, b in zip(one, other))
         self.assertLessEqual(differing, sides[0] * sides[1] // 1000)
 
-    def test_what_moved_is_where_the_ball_was_and_is(self):
-        lines = self.run_example("camera.py", self.folder).splitlines()
-        self.assertEqual(len(lines), 5)
-        for time, line in enumerate(lines, 1):
-            # The ball's middle is in column 12 + 26 * time; its radius is 9 pixels.
-            words = line.split()
-            x0, x1 = (int(words[words.index("columns") + at]) for at in (1, 3))
-            self.assertLessEqual(abs(x0 - (12 + 26 * (time - 1) - 9)), 3, line)
-            self.assertLessEqual(abs(x1 - (12 + 26 * time + 9)), 3, line)
-        self.assertEqual(sides_of(self.folder, "camera.png"), (5 * 166 - 6, 246))
-
-    def test_what_isnt_background_is_found_while_the_light_changes(self):
-        *found, others = self.run_example("background.py", self.folder).splitlines()
-        self.assertEqual(others, "    nothing in the other 44 pictures")
-        # The ball's middle goes by 10 columns a picture, from 15 to 105 and back, in row 55; its
-        # radius is 7 pixels, of which erosion leaves 6 or less.
-        wanted = [*((20 + at, 15 + 10 * at) for at in range(10)),
-                  *((68 + at, 105 - 10 * at) for at in range(10))]
-        self.assertEqual(len(found), len(wanted))
-        for line, (number, column) in zip(found, wanted):
-            words = line.replace(":", "").split()
-            self.assertEqual(words[:2], ["picture", str(number)])
-            sides = [int(words[words.index(side) + at])
-                     for side in ("columns", "rows") for at in (1, 3)]
-            for side, middle in zip(sides, (column - 5, column + 5, 50, 60)):
-                self.assertLessEqual(abs(side - middle), 1, line)
-        self.assertEqual(sides_of(self.folder, "background.png"), (4 * 126 - 6, 3 * 96 - 6))
-
     @unittest.skipUnless(importlib.util.find_spec("cv2"), "OpenCV isn't installed")
     def test_a_video_is_watched(self):
         """How many frames are dropped is the machine's matter; each is seen or dropped."""
@@ -177,23 +149,6 @@ class Examples(unittest.TestCase):
                 self.assertEqual(found,
                                  (min(columns), min(rows), max(columns) + 1, max(rows) + 1)
                                  if marked else None)
-
-    def test_a_histogram_counts_each_pixel_and_is_drawn(self):
-        lines = self.run_example("histogram.py", self.folder).splitlines()
-        self.assertEqual(sum(int(line.split()[3]) for line in lines[1:]), 256 * 96)
-        self.assertEqual(sides_of(self.folder, "histogram.png"), (256, 96 + 6 + 128))
-
-    def test_edges_of_a_file_are_drawn(self):
-        path = os.path.join(self.folder, "square.pgm")
-        with open(path, "wb") as file:
-            file.write(b"P5\n20 10\n255\n" + 10 * (bytes(10) + 10 * b"\xff"))
-        self.run_example("edges.py", self.folder, path)
-        width, height, rows = picture_of(self.folder, "edges.png")
-        self.assertEqual((width, height), (3 * 26 - 6, 10))
-        # Edges are in the two columns on both sides of the step, of which the smoothed picture has
-        # something.
-        edges = [list(row)[3 * 52::3] for row in rows]
-        self.assertEqual(edges, 10 * [8 * [0] + 4 * [255] + 8 * [0]])
 
 
 if __name__ == "__main__":

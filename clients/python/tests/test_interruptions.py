@@ -20,7 +20,7 @@ import unittest
 from unittest import mock
 
 from program import PROGRAM, ProgramTest, answering, needs_program, vx
-from feqyldan import pages, wire
+from feqyldan import pages, samples, wire
 from feqyldan.connection import Body, Connection, Request
 from feqyldan.pipes import enlarge
 from test_processes import ProcessTest
@@ -145,6 +145,10 @@ class Everywhere:
         return self
 
 
+def can_lend():
+    return samples.numpy_module() is not None and pages.can_lend()
+
+
 def answer_slowly(source, target, got, size):
     """Reads so many bytes with pauses, and then answers."""
     while size:
@@ -234,18 +238,18 @@ class TestEachLine(unittest.TestCase):
         program changes it, which its reader doesn't see."""
         (theirs, writer), (reader, ours) = os.pipe(), os.pipe()
         connection = Connection(writer, reader, lambda _: vx.ServerEnded("ended"), lambda: None)
-        samples, got, is_interrupted = bytearray(b"1" * 300_000), [], False
+        picture, got, is_interrupted = bytearray(b"1" * 300_000), [], False
         server = threading.Thread(target=answer_slowly, args=(theirs, ours, got, 300_004))
         server.start()
         request = Request("one", 7, 1)
         try:
             sys.settrace(Everywhere(interrupted_at))
-            connection.ask(request, [b"head", memoryview(samples)])
+            connection.ask(request, [b"head", memoryview(picture)])
         except KeyboardInterrupt:
             is_interrupted = True
         finally:
             sys.settrace(None)
-        samples[:] = b"2" * len(samples)
+        picture[:] = b"2" * len(picture)
         if request in connection._line:
             connection.wait(request)
         else:
@@ -296,14 +300,14 @@ class TestEachLine(unittest.TestCase):
             number += 1
         self.assertGreater(number, 50)
 
-    @unittest.skipIf(pages.vmsplice() is None, "no memory can be lent here")
+    @unittest.skipUnless(can_lend(), "no memory can be lent here")
     def test_what_was_lent_is_read_as_it_was(self):
         number = 1
         while self.lend(number):
             number += 1
         self.assertGreater(number, 50)
 
-    @unittest.skipIf(pages.vmsplice() is None, "no memory can be lent here")
+    @unittest.skipUnless(can_lend(), "no memory can be lent here")
     def test_memory_that_cant_be_lent_is_copied(self):
         def refuse(*_):
             raise OSError(errno.EINVAL, "no such memory")
