@@ -1,8 +1,8 @@
 /* Refuses growths: preloaded before the C library's allocator, the call with the number in
- * REFUSE_GROWTH (from 1) finds no memory. Where REFUSE_AGAIN is set, nor does the next call that
- * asks for as much again, or for less, before the program writes a reply. The file that GROWTHS names is written when the
- * program ends: the number of calls, and how many bytes of replies were written before the one that
- * was refused. */
+ * REFUSE_GROWTH (from 1) finds no memory. Where REFUSE_AGAIN is set, nor does any later call that
+ * asks for as much or for less, until the program writes a reply. The file that GROWTHS names is
+ * written when the program ends: the number of calls, and how many bytes of replies were written
+ * before the one that was refused. */
 #include <errno.h>
 #include <fcntl.h>
 #include <stdio.h>
@@ -29,9 +29,7 @@ static int is_refused(size_t size) {
   if (calls == refused) {
     asked = getenv("REFUSE_AGAIN") ? size : 0;
     written_before = written;
-  } else if (asked > 0 && size <= asked) {
-    asked = 0;
-  } else {
+  } else if (asked == 0 || size > asked) {
     return 0;
   }
   errno = ENOMEM;

@@ -25,8 +25,8 @@ class Refusing(NamedTuple):
     counts: str
 
     def run(self, stream: bytes, refused: int = 0, again: bool = False) -> Ended:
-        """Runs the program on a stream, refusing the growth of this number (0: none), and the
-        second asking for it where that is to be refused again."""
+        """Runs the program on a stream, refusing the growth of this number (0: none), and
+        where `again` every later asking for as much or less until a reply is written."""
         environment = dict(os.environ, LD_PRELOAD=self.library, REFUSE_GROWTH=str(refused),
                            GROWTHS=self.counts, **({"REFUSE_AGAIN": "1"} if again else {}))
         return subprocess.run(self.command, input=stream, capture_output=True, env=environment,
@@ -68,8 +68,8 @@ def answers(program: Refusing, stream: List[bytes]) -> List[bytes]:
 
 def refuse(program: Refusing, stream: List[bytes], whole: List[bytes], number: int,
            again: bool) -> Refused:
-    """Refuses one growth, or the second asking for it too: exactly one reply is NO_MEMORY, and all
-    others are those of the stream without that frame; or the growth is done without, and all
+    """Refuses one growth, alone or each time that it is asked for: exactly one reply is NO_MEMORY,
+    and all others are those of the stream without that frame; or the growth is done without, and all
     replies are those of the stream."""
     ended = program.run(b"".join(stream), number, again)
     if ended.returncode == 5:
