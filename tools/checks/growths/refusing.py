@@ -69,8 +69,8 @@ def answers(program: Refusing, stream: List[bytes]) -> List[bytes]:
 def refuse(program: Refusing, stream: List[bytes], whole: List[bytes], number: int,
            again: bool) -> Refused:
     """Refuses one growth, alone or each time that it is asked for: exactly one reply is NO_MEMORY,
-    and all others are those of the stream without that frame; or the growth is done without, and all
-    replies are those of the stream."""
+    and all others are those of the stream without that frame; or the growth is done without, and
+    all replies are those of the stream."""
     ended = program.run(b"".join(stream), number, again)
     if ended.returncode == 5:
         check(ended.stdout == b"" and ended.stderr == b"NO_MEMORY\n",
