@@ -14,6 +14,4 @@ mod CallLemmas
 mod ImmediateLemmas
 mod OutcomeLemmas
 mod WriteLemmas
-mod IncomingLemmas
-mod AgainLemmas
 mod DelayLemmas
