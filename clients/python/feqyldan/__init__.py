@@ -21,8 +21,9 @@ from .context import Context, Vxu
 from .errors import (
     BadPicture, BrokerFull, Closed, FeqyldanError, InvalidDimension, InvalidFormat, InvalidGraph,
     InvalidLink, InvalidParameters, InvalidReference, InvalidScope, InvalidType, InvalidValue,
-    MultipleWriters, NoMemory, NoResources, NotYet, OptimizedAway, OrderWarning, ProgramNotFound,
-    Refused, ServerEnded, TimedOut, UnexpectedReply)
+    MultipleWriters, NoMemory, NoResources, NotAPicture, NotYet, OptimizedAway, OrderWarning,
+    ProgramNotFound, Refused, ServerEnded, TimedOut, UnexpectedReply, WrongPicture,
+    WrongPictureFormat, WrongPictureSample, WrongPictureSize)
 from .functions import FUNCTIONS, REPLICATE, UNDEFINED, Border, Policy, constant
 from .graph_files import GraphFile, GraphFileError
 from .graphs import Graph, Node, VirtualImage
@@ -43,17 +44,17 @@ WRAP, SATURATE = Policy.WRAP, Policy.SATURATE
 
 __version__ = "0.1.0"
 __all__ = [
-    "AnyImage", "BadPicture", "Border", "BrokerFull", "Closed", "Context", "Convolution",
-    "Delay", "Description", "Distribution", "Extremes", "FUNCTIONS", "FeqyldanError", "Format",
-    "Graph", "GraphFile", "GraphFileError", "Image", "InvalidDimension", "InvalidFormat",
-    "InvalidGraph", "InvalidLink", "InvalidParameters", "InvalidReference", "InvalidScope",
-    "InvalidType", "InvalidValue", "Lut", "MinMax", "MultipleWriters", "NoMemory",
-    "NoResources", "Node", "NotYet", "OptimizedAway", "OrderWarning", "Picture", "Pipeline",
-    "Policy", "Profile", "ProgramNotFound", "REPLICATE", "Rectangle", "Refused", "Region",
-    "Result", "S16", "SATURATE", "Server", "ServerEnded", "Slot", "SocketServer", "Station",
-    "Threshold", "TimedOut", "Timing", "U32", "U8", "UNDEFINED", "UnexpectedReply", "Usage",
-    "VirtualImage", "Vxu", "WRAP", "connect", "constant", "png", "regions", "status", "stream",
-    "wire", "write_pgm", "write_png"]
+    "AnyImage", "BadPicture", "Border", "BrokerFull", "Closed", "Context", "Convolution", "Delay",
+    "Description", "Distribution", "Extremes", "FUNCTIONS", "FeqyldanError", "Format", "Graph",
+    "GraphFile", "GraphFileError", "Image", "InvalidDimension", "InvalidFormat", "InvalidGraph",
+    "InvalidLink", "InvalidParameters", "InvalidReference", "InvalidScope", "InvalidType",
+    "InvalidValue", "Lut", "MinMax", "MultipleWriters", "NoMemory", "NoResources", "Node",
+    "NotAPicture", "NotYet", "OptimizedAway", "OrderWarning", "Picture", "Pipeline", "Policy",
+    "Profile", "ProgramNotFound", "REPLICATE", "Rectangle", "Refused", "Region", "Result", "S16",
+    "SATURATE", "Server", "ServerEnded", "Slot", "SocketServer", "Station", "Threshold", "TimedOut",
+    "Timing", "U32", "U8", "UNDEFINED", "UnexpectedReply", "Usage", "VirtualImage", "Vxu", "WRAP",
+    "WrongPicture", "WrongPictureFormat", "WrongPictureSample", "WrongPictureSize", "connect",
+    "constant", "png", "regions", "status", "stream", "wire", "write_pgm", "write_png"]
 
 
 def __dir__() -> List[str]:

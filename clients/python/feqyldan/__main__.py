@@ -11,19 +11,21 @@ import argparse
 import csv
 import glob
 import os
+import re
 import sys
 import time
 from contextlib import ExitStack
-from typing import Any, Dict, Iterable, Iterator, List, Optional, Sequence, TextIO
+from typing import (
+    Any, Dict, Iterable, Iterator, List, Optional, Sequence, TextIO, Tuple, Union)
 
 from . import wire
-from .errors import FeqyldanError
+from .errors import FeqyldanError, Refused
 from .files import load
-from .graph_files import GraphFile, drawing_of_file, read_graph
+from .graph_files import GraphFile, drawing_of_file, read_graph, told_by
 from .images import AnyImage
 from .objects import Distribution, MinMax
 from .pictures import write_npy, write_png
-from .samples import numpy_module
+from .samples import Format, numpy_module
 from .server import Server, connect
 
 DESCRIPTION = "Runs a graph that Graph.save() wrote on pictures, or draws it."
@@ -33,13 +35,20 @@ def arguments(words: Optional[Sequence[str]]) -> argparse.Namespace:
     parser = argparse.ArgumentParser(prog="python3 -m feqyldan", description=DESCRIPTION)
     commands = parser.add_subparsers(dest="command", required=True)
     run = commands.add_parser("run", help="run a graph on pictures", description=(
-        "Writes each picture to the graph's input, runs it, and leaves what it wrote: images as "
-        "PNG files in a folder, extremes and counts as lines of a CSV file."))
+        "Writes each picture to the graph's input, runs the graph and saves its results. Images go "
+        "to a folder. Numbers go to a CSV file, a line for each picture: extremes, counts, and of "
+        "each image how many samples aren't 0. Without --out and --csv these lines go to standard "
+        "output."))
     run.add_argument("graph", help="the JSON file of the graph")
     run.add_argument("--in", dest="pictures", required=True, nargs="+", metavar="PATTERN",
-                     help="pictures, by names or quoted patterns as 'parts/*.png'")
-    run.add_argument("--out", metavar="FOLDER", help="where the images go that the graph writes")
-    run.add_argument("--csv", metavar="FILE", help="where extremes, counts and times go")
+                     help="pictures, by names or by quoted patterns such as 'parts/*.png'; the "
+                     "files of a pattern come in natural order, part2 before part10, which "
+                     "matters to a graph with a delay")
+    run.add_argument("--out", metavar="FOLDER", help="the folder for images, which is made if it "
+                     "isn't there: PNG files with the names of the pictures, or NumPy's (.npy) for "
+                     "negative samples and for U32")
+    run.add_argument("--csv", metavar="FILE", help="the file for numbers, whose folder is made if "
+                     "it isn't there")
     run.add_argument("--socket", metavar="PATH", help="use the broker at this socket, and start no "
                      "server")
     run.add_argument("--quiet", action="store_true", help="show no progress")
@@ -76,23 +85,45 @@ def run(told: argparse.Namespace) -> int:
         context = ends.enter_context(server.context())
         station = read_graph(context, told.graph)
         camera = the_input(station, told.graph)
-        report = Report(told, station, ends)
+        report = Report(told, paths, station, ends)
         frames = map(load, progress(paths, told.quiet))
-        for path, (_, values) in zip(paths, station.graph.stream(
-                frames, camera, list(station.outputs.values()))):
-            report.add(path, dict(zip(station.outputs, values)))
+        results = station.graph.stream(frames, camera, list(station.outputs.values()))
+        for path in paths:
+            report.add(path, dict(zip(station.outputs, result_of(path, results))))
     return 0
 
 
+def result_of(path: str, results: Iterator[Tuple[Any, Tuple[Any, ...]]]) -> Tuple[Any, ...]:
+    """What the graph left of a picture. An error says of which file."""
+    try:
+        return next(results)[1]
+    except (FeqyldanError, OSError, ValueError, ImportError) as error:
+        words = str(error)
+        if isinstance(error, Refused):
+            # The place in a program is one of this file.
+            words = words.replace(error.place, error.place.partition(",")[0])
+        raise ValueError(words if path in words else f"{path}: {words}") from None
+
+
 def paths_of(patterns: Sequence[str]) -> List[str]:
-    """The files that patterns stand for, each pattern's in the order of their names."""
+    """The files that patterns stand for, each pattern's in the natural order of their names."""
     found: List[str] = []
     for pattern in patterns:
-        paths = [pattern] if os.path.exists(pattern) else sorted(glob.glob(pattern, recursive=True))
+        if os.path.isdir(pattern):
+            inside = os.path.join(pattern, "*.png")
+            raise IsADirectoryError(f"{pattern} is a folder: name its pictures, as by '{inside}'")
+        paths = [pattern] if os.path.exists(pattern) else sorted(
+            filter(os.path.isfile, glob.glob(pattern, recursive=True)), key=natural)
         if not paths:
             raise FileNotFoundError(f"no file is {pattern}")
         found += paths
     return found
+
+
+def natural(path: str) -> Tuple[List[Union[str, int]], str]:
+    """By which paths are sorted: numbers in them by their values, f2 before f10."""
+    parts = re.split("([0-9]+)", path)
+    return [int(part) if at % 2 else part for at, part in enumerate(parts)], path
 
 
 def the_input(graph: GraphFile, path: str) -> AnyImage:
@@ -128,29 +159,87 @@ class Report:
     """Where the results go: pictures to a folder, numbers to a CSV file, or to standard output
     where neither is named."""
 
-    def __init__(self, told: argparse.Namespace, station: GraphFile, ends: ExitStack) -> None:
+    def __init__(self, told: argparse.Namespace, paths: Sequence[str], station: GraphFile,
+                 ends: ExitStack) -> None:
         self._folder: Optional[str] = told.out
+        self._images = {name: thing for name, thing in station.outputs.items()
+                        if isinstance(thing, AnyImage)}
+        self._look_at_files(told, paths)
         if self._folder is not None:
             os.makedirs(self._folder, exist_ok=True)
-        self._images = [name for name, thing in station.outputs.items()
-                        if isinstance(thing, AnyImage)]
         self._lines: Any = None
         if told.csv is not None or self._folder is None:
-            file: TextIO = sys.stdout if told.csv is None else ends.enter_context(
-                open(told.csv, "w", newline="", encoding="utf-8"))
+            file = sys.stdout if told.csv is None else ends.enter_context(opened(told.csv))
             self._lines = csv.writer(file)
             self._lines.writerow(["picture", *columns_of(station.outputs)])
+
+    def _look_at_files(self, told: argparse.Namespace, paths: Sequence[str]) -> None:
+        """Refuses results that would be written over what is read, or over one another."""
+        read = {identity(path): path for path in (*paths, told.graph, *files_in(told.graph))}
+        if told.csv is not None and identity(told.csv) in read:
+            raise ValueError(f"--csv {told.csv} would be written over what is read: name another "
+                             "file")
+        if self._folder is None:
+            return
+        wrong = [name for name in self._images if "/" in name]
+        if wrong and len(self._images) > 1:
+            raise ValueError(f'{told.graph}: "{wrong[0]}" would be a part of the name of a file in '
+                             '--out: name that image without "/"')
+        writers: Dict[str, str] = {}
+        for path, file in self._files_of(paths):
+            if identity(file) in read:
+                raise ValueError(f"--out {self._folder}: the image of {path} would be written over "
+                                 f"{read[identity(file)]}, which is read: name another folder")
+            other = writers.setdefault(file, path)
+            if identity(other) != identity(path):
+                raise ValueError(f"--out {self._folder}: the images of {other} and of {path} would "
+                                 "have the same name: run them one after the other, each with a "
+                                 "folder of its own")
+
+    def _files_of(self, paths: Sequence[str]) -> Iterator[Tuple[str, str]]:
+        """Each picture with each file that may be written of it."""
+        return ((path, stem + ending) for path in paths
+                for name, stem in self._stems_of(path).items()
+                for ending in ENDINGS[self._images[name].fmt])
+
+    def _stems_of(self, path: str) -> Dict[str, str]:
+        """The files of a picture's images, without their endings."""
+        stem = os.path.join(self._folder or "", os.path.splitext(os.path.basename(path))[0])
+        return {name: f"{stem}.{name}" if len(self._images) > 1 else stem for name in self._images}
 
     def add(self, path: str, values: Dict[str, Any]) -> None:
         """A picture's results."""
         if self._folder is not None:
-            stem = os.path.splitext(os.path.basename(path))[0]
-            for name in self._images:
-                ending = f".{name}" if len(self._images) > 1 else ""
-                write(os.path.join(self._folder, f"{stem}{ending}"), values[name])
+            for name, stem in self._stems_of(path).items():
+                write(stem, values[name])
         if self._lines is not None:
             self._lines.writerow([path, *(number for value in values.values()
                                           for number in numbers_in(value))])
+
+
+def opened(path: str) -> TextIO:
+    """A file to write to, in a folder that is made where it isn't there."""
+    os.makedirs(os.path.dirname(path) or ".", exist_ok=True)
+    return open(path, "w", newline="", encoding="utf-8")
+
+
+def files_in(path: str) -> List[str]:
+    """The pictures that the file of a graph names."""
+    return [os.path.join(os.path.dirname(path), described["file"])
+            for described in told_by(path)["objects"].values() if "file" in described]
+
+
+def identity(path: str) -> Tuple[Any, ...]:
+    """What tells a file from all others, whatever it is called by."""
+    try:
+        there = os.stat(path)
+    except OSError:
+        return (os.path.realpath(path),)
+    return there.st_dev, there.st_ino
+
+
+# How files of an image of each format may end: PNG hasn't all samples.
+ENDINGS = {Format.U8: (".png",), Format.S16: (".png", ".npy"), Format.U32: (".npy",)}
 
 
 def write(path: str, picture: Any) -> None:

@@ -10,15 +10,17 @@ import weakref
 from collections import deque
 from types import TracebackType
 from typing import (
-    TYPE_CHECKING, Any, Callable, Deque, Dict, List, Optional, Sequence, Tuple, Type, TypeVar)
+    TYPE_CHECKING, Any, Callable, Deque, Dict, List, Optional, Sequence, Set, Tuple, Type,
+    TypeVar)
 
 from . import wire
 from .connection import GREATEST_REQUEST, Body, Connection, Explain, Part, Request
 from .errors import Closed, FeqyldanError, InvalidScope
 from .files import load
-from .functions import Call, Functions
+from .functions import FUNCTIONS, Call, Functions, functions_for_names
 from .graph_files import GraphFile, read_graph
 from .graphs import Graph
+from .hints import OF_CONTEXTS, attribute_of
 from .images import AnyImage, Delay, Image
 from .objects import Convolution, Distribution, Lut, Made, MinMax, Named, Threshold, sides_of_frame
 from .pictures import Path, read_bytes, size_of_pgm
@@ -26,7 +28,7 @@ from .pipeline import Pipeline
 from .samples import Format, Numbers, Rows, Samples, Size, entries_of, format_of, samples_of
 from .uncopied import Uncopied
 from .usage import Usage, Used, wanted_bytes
-from .verdicts import formats_in_words
+from .verdicts import formats_in_words, parameter_for
 from .whole import BYTE, SIGNED, UNSIGNED, whole, within
 
 if TYPE_CHECKING:
@@ -55,10 +57,14 @@ class Vxu(Uncopied, Functions[None]):
 
 
 def fault_of(call: Call, code: int) -> str:
-    """What of a call in immediate mode is at fault, for the code that it was refused with."""
+    """What of a call is at fault, by itself, for the code that it was refused with."""
     if code == wire.INVALID_FORMAT:
-        return f"{call.name} takes {formats_in_words(call.name)}."
-    return ""
+        one, other = (getattr(operand, "fmt", None) for operand in call.operands[:2])
+        return (f"{call.name} takes {formats_in_words(call.name)}"
+                f"{parameter_for(call.name, one, other)}.")
+    if code == wire.INVALID_VALUE:
+        return f"Its shift is {call.amount}."
+    return f"Its border is {call.border}." if code == wire.INVALID_PARAMETERS else ""
 
 
 class Death(weakref.ref):  # type: ignore[type-arg]
@@ -83,10 +89,10 @@ class Context(Uncopied):
     """
 
     __slots__ = ("_server", "_connection", "_number", "_vxu", "_pipeline", "_alive", "_dead",
-                 "_unclaimed", "_releasing", "_used", "_is_closed", "__weakref__")
+                 "_unclaimed", "_releasing", "_used", "_barred", "_is_closed", "__weakref__")
     _inner = frozenset((
         "ask", "tell", "send", "create", "claim", "add_node", "look_at", "release", "references_of",
-        "enter_pipeline", "leave_pipeline", "close_within", "connection"))
+        "enter_pipeline", "leave_pipeline", "close_within", "connection", "barred"))
 
     def __init__(self, server: Server, connection: Connection, number: int) -> None:
         self._server, self._connection, self._number = server, connection, number
@@ -104,6 +110,8 @@ class Context(Uncopied):
         # Held by the thread that releases what Python has forgotten.
         self._releasing = threading.RLock()
         self._used = Used()
+        # The threads that run iterators of streams.
+        self._barred: Set[int] = set()
         self._is_closed = False
         self.tell("open a context", wire.open_context)
 
@@ -123,6 +131,12 @@ class Context(Uncopied):
     @property
     def vxu(self) -> Vxu:
         return self._vxu
+
+    if not TYPE_CHECKING:
+        def __getattr__(self, name: str) -> Any:
+            ours = {name: f"vxu.{name}" for name in FUNCTIONS}
+            return attribute_of(self, name,
+                                {**functions_for_names("vxu."), **ours, **OF_CONTEXTS})
 
     # ---- objects
 
@@ -303,11 +317,23 @@ class Context(Uncopied):
 
     def enter_pipeline(self, pipeline: Pipeline) -> None:
         """From here on calls that give nothing don't wait for their replies."""
+        self._look_at_thread("open a pipeline")
         if self._open_pipeline() is not None:
             raise ValueError("a pipeline of this context is open already")
         if self._why_closed is not None:
             raise Closed(f"open a pipeline: {self._why_closed}")
         self._pipeline = weakref.ref(pipeline)
+
+    @property
+    def barred(self) -> Set[int]:
+        """The threads that may not use it, since a stream of it has them run its iterator."""
+        return self._barred
+
+    def _look_at_thread(self, words: str) -> None:
+        if threading.get_ident() in self._barred:
+            raise ValueError(f"{words}: the iterator of a stream can't use the stream's context, "
+                             "which another thread uses: open a context for it by "
+                             "server.context(), or give the stream a list")
 
     def _open_pipeline(self) -> Optional[Pipeline]:
         return None if self._pipeline is None else self._pipeline()
@@ -331,6 +357,8 @@ class Context(Uncopied):
         why_closed = self._why_closed
         if why_closed is not None:
             raise Closed(f"{words}: {why_closed}")
+        if self._barred:
+            self._look_at_thread(words)
         frame = self._frame(words, make, arguments, 0 if content is None else len(content))
         if self._unclaimed or self._dead:
             self._release_forgotten()
@@ -394,11 +422,13 @@ class Context(Uncopied):
         self._alive[name] = death
         self._unclaimed.pop(name, None)
 
-    def add_node(self, words: str, *arguments: Any, added: Callable[[int], None]) -> int:
+    def add_node(self, graph: Graph, call: Call, added: Callable[[int], None]) -> int:
         """Sends a request that adds a node to a graph, waits, and gives its number, with which
         `added` is called: after an interruption too, once the reply comes."""
-        request = self.send(words, wire.add_node, *arguments, waits=True, on_answer=lambda reply: (
-            added(wire.node_of(reply)) if reply[7] == wire.SUCCESS else None))
+        request = self.send(f"add {call} to {graph}", wire.add_node, graph.name,
+                            *call.fields(self.references_of(call)), waits=True,
+                            explain=lambda code: fault_of(call, code), on_answer=lambda reply: (
+                                added(wire.node_of(reply)) if reply[7] == wire.SUCCESS else None))
         return int(wire.node_of(self._reply_to(request)))
 
     def release(self, name: int, words: str) -> None:

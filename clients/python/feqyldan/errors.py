@@ -45,7 +45,8 @@ class NotYet(FeqyldanError, TimeoutError):
 class BadPicture(FeqyldanError):
     """
     What is to be written to an image is no picture of the image's format and size, or no picture at
-    all. Each is a TypeError or a ValueError too, or the server's refusal.
+    all. It is one of NotAPicture, a TypeError; WrongPicture, a ValueError; and the server's
+    refusals WrongPictureSize, WrongPictureFormat and WrongPictureSample.
     """
 
 
@@ -159,7 +160,7 @@ class OptimizedAway(Refused):
 class NoResources(Refused):
     code = wire.NO_RESOURCES
     advice = ("The client's 1,024 objects or its quota are used up: close what isn't needed, or "
-              "start the server with a greater quota.")
+              "start the server with a greater quota, as in vx.Server(quota=2**30).")
 
 
 class BrokerFull(NoResources):
@@ -198,12 +199,12 @@ _OF_A_NODE = ("A node's images are not of one size; what is open in a virtual im
               "its writer's input.")
 _FORMATS_OF_A_NODE = ("The function doesn't take these formats. A virtual image without a format "
                       "gets it from the node that writes it.")
-_OF_A_CALL = ("A policy is vx.WRAP or vx.SATURATE, a border vx.UNDEFINED, vx.REPLICATE or "
-              "vx.constant(value), and one output of sobel3x3 has to be there.")
+_OF_A_CALL = "A border is vx.UNDEFINED, vx.REPLICATE or vx.constant(value)."
 _SHIFTS = ("A shift is out of its range: multiply and accumulate_square have those from 0 to 15, "
            "convert_depth those from 0 to 7.")
 _NO_NODES = ("The virtual images that the nodes write have more bytes than the graph's work bytes: "
-             "use smaller pictures, or start the server with more work bytes.")
+             "use smaller pictures, or start the server with more work bytes, as in "
+             "vx.Server(work=2**30).")
 ADVICE: Dict[Tuple[int, Optional[int]], str] = {
     (wire.INVALID_VALUE, wire.OPEN_CONTEXT):
         "Another program uses this client number: it has a context open.",
@@ -227,7 +228,7 @@ ADVICE: Dict[Tuple[int, Optional[int]], str] = {
         "to 32767 for S16.",
     (wire.INVALID_VALUE, wire.WRITE_IMAGE_PGM): "A sample of the PGM text is above its maxval.",
     (wire.INVALID_FORMAT, wire.READ_IMAGE_PGM):
-        "PGM texts are written of U8 images: convert_depth gives one of S16.",
+        "PGM texts are written of U8 images: convert_depth makes one of an S16 image.",
     (wire.INVALID_FORMAT, wire.CREATE_LUT): "A table is of U8 or of S16.",
     (wire.INVALID_FORMAT, wire.CREATE_THRESHOLD): "A threshold is of U8 or of S16.",
     (wire.INVALID_VALUE, wire.CREATE_THRESHOLD):

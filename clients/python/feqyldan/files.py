@@ -57,7 +57,7 @@ def _module(name: str) -> Any:
 def _by_cv2(cv2: Any, path: str) -> Any:
     pixels = cv2.imread(path, cv2.IMREAD_UNCHANGED)
     if pixels is None:
-        raise WrongPicture(f"{path} has no picture that OpenCV reads")
+        raise unread(path, "OpenCV")
     if pixels.ndim == 2:
         return pixels
     kinds = {3: cv2.COLOR_BGR2GRAY, 4: cv2.COLOR_BGRA2GRAY}
@@ -69,9 +69,26 @@ def _by_pil(pil: Any, path: str) -> Any:
         with pil.open(path) as picture:
             grey = picture if picture.mode in ("L", "I;16", "I", "F") else picture.convert("L")
             pixels = needed_numpy(path).asarray(grey)
-    except pil.UnidentifiedImageError:
-        raise WrongPicture(f"{path} has no picture that PIL reads") from None
+    except (OSError, SyntaxError):
+        # PIL has both for a file that is cut off or damaged.
+        raise unread(path, "PIL") from None
     return pixels
+
+
+# How files begin that have a certain end.
+ENDS = {b"\x89PNG\r\n\x1a\n": (b"IEND", "PNG"), b"\xff\xd8\xff": (b"\xff\xd9", "JPEG")}
+
+
+def unread(path: str, reader: str) -> WrongPicture:
+    """Why a file has no picture."""
+    content = read_bytes(path)
+    if not content:
+        return WrongPicture(f"{path} is empty")
+    for begin, (end, kind) in ENDS.items():
+        if content.startswith(begin) and end not in content[-64:]:
+            return WrongPicture(f"{path} is cut off: it begins as a {kind} file does, and after "
+                                f"{len(content):,} bytes its end is missing; copy it again")
+    return WrongPicture(f"{path} has no picture that {reader} reads")
 
 
 def _narrowed(path: str, pixels: Any) -> Any:

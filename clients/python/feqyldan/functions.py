@@ -10,14 +10,16 @@ samples of an output become 0.
 
 from __future__ import annotations
 
+import functools
 import inspect
 from enum import IntEnum
 from typing import (
     TYPE_CHECKING, Any, Callable, Dict, Generic, NamedTuple, Optional, Sequence, Tuple, TypeVar,
-    Union)
+    Union, cast)
 
 from . import wire
 from .errors import InvalidParameters
+from .hints import OTHERS, attribute_of
 from .images import AnyImage
 from .objects import Convolution, Distribution, Lut, MinMax, Named, Threshold
 from .whole import BYTE, within
@@ -54,6 +56,10 @@ class Border(NamedTuple):
 UNDEFINED, REPLICATE = Border(wire.UNDEFINED), Border(wire.REPLICATE)
 
 
+# A policy may be that of frames too.
+POLICIES = Policy, wire.Policy
+
+
 def constant(value: int) -> Border:
     """The border that is a value everywhere, from 0 to 255."""
     return Border(wire.CONSTANT,
@@ -79,9 +85,49 @@ def function(number: int, openvx: str) -> Callable[[Method], Method]:
         FUNCTIONS[method.__name__] = Function(number, openvx)
         words = inspect.cleandoc(method.__doc__ or "")
         method.__doc__ = f"{words}\n\nOpenVX: vxu{openvx}, vx{openvx}Node."
-        return method
+        return telling_order(method) if "policy" in inspect.signature(method).parameters else method
 
     return entered
+
+
+def telling_order(method: Method) -> Method:
+    """A method that has a policy: where its arguments are too few or too many, says what they are,
+    since the policy is the one that is forgotten."""
+
+    @functools.wraps(method)
+    def called(*arguments: Any, **named: Any) -> Any:
+        try:
+            return method(*arguments, **named)
+        except TypeError as error:
+            # One that was raised within the method has a frame of it.
+            if error.__traceback__ is None or error.__traceback__.tb_next is not None:
+                raise
+            words = str(error)
+        if not any(isinstance(value, POLICIES) for value in (*arguments, *named.values())):
+            words += "; none of them is a policy, vx.WRAP or vx.SATURATE"
+        raise TypeError(f"{words}. It is {order_of(method.__name__)}")
+
+    return cast(Method, called)
+
+
+def functions_for_names(before: str) -> Dict[str, str]:
+    """The functions by their names in OpenCV and in OpenVX, with words before each."""
+    names = {**OTHERS, **{other: name for name, function in FUNCTIONS.items()
+                          for other in (function.openvx, f"vxu{function.openvx}",
+                                        f"vx{function.openvx}Node")}}
+    return {other: f"{before}{name}" for other, name in names.items()}
+
+
+def order_of(name: str) -> str:
+    """A function with its parameters in their order."""
+    parameters = list(inspect.signature(getattr(Functions, name)).parameters)[1:]
+    return f"{name}({', '.join(parameters)})"
+
+
+def place_of(name: str, parameter: str) -> str:
+    """Which argument of a function a parameter is."""
+    parameters = list(inspect.signature(getattr(Functions, name)).parameters)
+    return f"it is argument {parameters.index(parameter)} of {order_of(name)}"
 
 
 class Call(NamedTuple):
@@ -90,7 +136,7 @@ class Call(NamedTuple):
 
     name: str
     operands: Tuple[Optional[Union[Operand, Named]], ...]
-    policy: int
+    policy: Policy
     amount: int
     border: Border
 
@@ -111,7 +157,7 @@ BINARY = {**dict.fromkeys(("and_", "or_", "xor", "add", "subtract", "multiply", 
           "threshold": "its threshold", "table_lookup": "its table", "convolve": "its convolution"}
 
 
-def call_of(name: str, operands: Tuple[Optional[Union[Operand, Named]], ...], policy: int,
+def call_of(name: str, operands: Tuple[Optional[Union[Operand, Named]], ...], policy: Policy,
             amount: int,
             border: Border) -> Call:
     """A call, if a frame can say it."""
@@ -123,9 +169,22 @@ def call_of(name: str, operands: Tuple[Optional[Union[Operand, Named]], ...], po
     if not isinstance(border, Border):
         raise TypeError(f"{name}: a border is vx.UNDEFINED, vx.REPLICATE or vx.constant(value), "
                         f"and not {border!r}")
-    return Call(name, operands, within(policy, f"{name}: a policy", BYTE, "vx.WRAP or vx.SATURATE"),
+    if not isinstance(policy, POLICIES):
+        raise not_a_policy(name, policy)
+    if isinstance(amount, POLICIES):
+        raise TypeError(f"{name}: a shift is a whole number, and not the policy vx.{amount.name}; "
+                        f"{place_of(name, 'shift')}")
+    return Call(name, operands, policy,
                 within(amount, f"{name}: a shift", BYTE,
                        "a whole number up to 15, of convert_depth up to 7"), border)
+
+
+def not_a_policy(name: str, value: Any) -> Exception:
+    """What to raise for something else in the place of a policy: a number may be a shift."""
+    words = f"a policy is vx.WRAP or vx.SATURATE, and not {value!r}; {place_of(name, 'policy')}"
+    if isinstance(value, int):
+        return InvalidParameters(name, None, f"{words[0].upper()}{words[1:]}.")
+    return TypeError(f"{name}: {words}")
 
 
 class Functions(Generic[Given]):
@@ -136,9 +195,18 @@ class Functions(Generic[Given]):
     def _run(self, call: Call) -> Given:
         raise NotImplementedError
 
+    if not TYPE_CHECKING:
+        def __getattr__(self, name: str) -> Any:
+            return attribute_of(self, name, self._others())
+
+    @classmethod
+    def _others(cls) -> Dict[str, str]:
+        """What it has for the names of other libraries."""
+        return functions_for_names("")
+
     def _do(self, name: str, in1: Operand, in2: Optional[Union[Operand, Named]],
             out1: Optional[Union[Operand, Named]], out2: Optional[Operand] = None,
-            policy: int = wire.WRAP, amount: int = 0, border: Border = UNDEFINED) -> Given:
+            policy: Policy = Policy.WRAP, amount: int = 0, border: Border = UNDEFINED) -> Given:
         return self._run(call_of(name, (in1, in2, out1, out2), policy, amount, border))
 
     @function(wire.AND_BITS, "And")
@@ -162,7 +230,7 @@ class Functions(Generic[Given]):
         return self._do("not_", input, None, output)
 
     @function(wire.ADD, "Add")
-    def add(self, in1: Operand, in2: Operand, policy: int, output: Operand) -> Given:
+    def add(self, in1: Operand, in2: Operand, policy: Policy, output: Operand) -> Given:
         """
         a + b by the policy, WRAP or SATURATE. Each of the inputs U8 or S16, to S16; or U8 and U8 to
         U8. A virtual output of open format is S16.
@@ -170,12 +238,12 @@ class Functions(Generic[Given]):
         return self._do("add", in1, in2, output, policy=policy)
 
     @function(wire.SUBTRACT, "Subtract")
-    def subtract(self, in1: Operand, in2: Operand, policy: int, output: Operand) -> Given:
+    def subtract(self, in1: Operand, in2: Operand, policy: Policy, output: Operand) -> Given:
         """a - b by the policy. Formats as for add."""
         return self._do("subtract", in1, in2, output, policy=policy)
 
     @function(wire.MULTIPLY, "Multiply")
-    def multiply(self, in1: Operand, in2: Operand, shift: int, policy: int,
+    def multiply(self, in1: Operand, in2: Operand, shift: int, policy: Policy,
                  output: Operand) -> Given:
         """
         a * b / 2^shift by the policy, the quotient rounded to zero. Formats as for add.
@@ -213,7 +281,7 @@ class Functions(Generic[Given]):
         return self._do("table_lookup", input, lut, output)
 
     @function(wire.CONVERT_DEPTH, "ConvertDepth")
-    def convert_depth(self, input: Operand, output: Operand, policy: int, shift: int) -> Given:
+    def convert_depth(self, input: Operand, output: Operand, policy: Policy, shift: int) -> Given:
         """
         U8 to S16: a * 2^shift. S16 to U8: a / 2^shift, rounded down, by the policy. The shift is
         from 0 to 7.

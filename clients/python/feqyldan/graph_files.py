@@ -13,7 +13,9 @@ are called.
        {"function": "absdiff", "in1": "camera", "in2": "clean", "output": "away"},
        {"function": "threshold", "input": "away", "threshold": "limit", "output": "marks"}]}
 
-A slot of a delay is written as `smooth[0]` or `smooth[-1]`.
+A slot of a delay is written as `smooth[0]` or `smooth[-1]`. An image may have a valid rectangle, as
+`"valid": [x0, y0, x1, y1]`. FIELDS has what an object of each kind is described by; a file that
+says more of one is refused.
 """
 
 from __future__ import annotations
@@ -24,7 +26,7 @@ import json
 import os
 import re
 import zlib
-from typing import TYPE_CHECKING, Any, Dict, List, NamedTuple, Optional, Sequence
+from typing import TYPE_CHECKING, Any, Dict, List, NamedTuple, Optional, Sequence, Tuple
 
 from . import wire
 from .drawing import Box, Drawing
@@ -34,6 +36,7 @@ from .images import AnyImage, Delay, Image, Slot
 from .objects import Convolution, Distribution, Lut, MinMax, Named, Threshold
 from .pictures import Path
 from .samples import Format, samples_of
+from .verdicts import ADDING
 
 if TYPE_CHECKING:
     from .context import Context
@@ -76,7 +79,7 @@ def write_graph(graph: Graph, path: Path, inputs: Optional[Sequence[AnyImage]]) 
 def _inputs_of(graph: Graph, written: Any,
                inputs: Optional[Sequence[AnyImage]]) -> Sequence[AnyImage]:
     if inputs is not None:
-        return inputs
+        return _checked_inputs(graph, inputs)
     found = {operand.reference: operand for call in graph.calls.values()
              for operand in call.operands[:2]
              if isinstance(operand, Image) and operand.reference not in written}
@@ -85,6 +88,34 @@ def _inputs_of(graph: Graph, written: Any,
                          f"({', '.join(map(str, found.values()))}): name those that get a picture "
                          "before each run, as in save(path, inputs=[camera])")
     return list(found.values())
+
+
+def _checked_inputs(graph: Graph, inputs: Any) -> Sequence[AnyImage]:
+    """The images themselves, if a run reads each of them as it is."""
+    if isinstance(inputs, str) or not hasattr(inputs, "__iter__"):
+        raise TypeError("inputs is a list of images, as in save(path, inputs=[camera]), and not "
+                        f"{inputs}")
+    images = list(inputs)
+    for image in images:
+        fault = fault_of_input(graph, image)
+        if fault:
+            raise ValueError(f"{image} is no input of {graph}: {fault}")
+    return images
+
+
+def fault_of_input(graph: Graph, image: Any) -> str:
+    """Why this is no image that gets a picture before each run; empty where it is one."""
+    if isinstance(image, Slot):
+        return ("a slot of a delay gets its picture from a node: let graph.max(camera, camera, "
+                "slot) copy it from an image, which is the input")
+    if not isinstance(image, Image) or image.context is not graph.context:
+        return "an input is an image of its context"
+    for member in graph.members:
+        if any(cell.reference == image.reference for cell in member.outputs):
+            return f"{member}, writes it"
+    is_read = any(cell.reference == image.reference for member in graph.members
+                  for cell in member.inputs)
+    return "" if is_read else "no node reads it"
 
 
 class Names:
@@ -123,14 +154,27 @@ def _description(thing: Any, graph: Graph, written: Any, inputs: Any) -> Dict[st
         described.update({side: value for side, value in sides.items() if value})
     if isinstance(thing, Image) and thing.reference in inputs:
         described["input"] = True
-    elif isinstance(thing, Image) and thing.reference not in written:
-        content = bytes(samples_of(thing.read()).content)
-        described["samples"] = base64.b64encode(zlib.compress(content)).decode()
+    elif isinstance(thing, Image):
+        described.update(_content(thing, graph, thing.reference in written))
     elif isinstance(thing, Delay):
         described.update(slots=len(thing), ages=thing.name in graph.aging)
     else:
         described.update(_parameters(thing))
     return described
+
+
+def _content(image: Image, graph: Graph, is_written: bool) -> Dict[str, Any]:
+    """What an image holds before a run, as far as the run depends on it: samples that no node
+    writes, and the valid rectangle of these and of sums, where that isn't the whole image."""
+    is_sum = any(call.name in ADDING and call.operands[2] is image for call in graph.calls.values())
+    content: Dict[str, Any] = {}
+    if not is_written:
+        samples = bytes(samples_of(image.read()).content)
+        content["samples"] = base64.b64encode(zlib.compress(samples)).decode()
+    if is_sum or not is_written:
+        valid = image.valid
+        content.update({} if valid == (0, 0, image.width, image.height) else {"valid": valid})
+    return content
 
 
 def _parameters(thing: Any) -> Dict[str, Any]:
@@ -160,7 +204,7 @@ def _node(call: Call, names: Names) -> Dict[str, Any]:
             operand = call.operands[OPERANDS[parameter]]
             node[parameter] = None if operand is None else names.of(operand)
         elif parameter == "policy":
-            node[parameter] = Policy(call.policy).name
+            node[parameter] = call.policy.name
         elif parameter == "shift":
             node[parameter] = call.amount
         elif call.border != UNDEFINED:
@@ -227,6 +271,16 @@ def read_graph(context: Context, path: Path) -> GraphFile:
     return Reader(context, os.fspath(path)).read(told_by(path))
 
 
+# What an object of each kind is described by.
+_IMAGE = ("format", "width", "height")
+FIELDS: Dict[str, Tuple[str, ...]] = {
+    "image": (*_IMAGE, "input", "samples", "file", "valid"), "virtual image": _IMAGE,
+    "delay": (*_IMAGE, "slots", "ages"),
+    "threshold": ("format", "above", "between", "true_value", "false_value"),
+    "lookup table": ("format", "entries"), "convolution": ("rows", "scale"),
+    "distribution": ("bins", "offset", "range"), "extremes": ()}
+
+
 class Reader:
     """Makes what a file says, and says where it can't."""
 
@@ -247,6 +301,10 @@ class Reader:
                 self._at(f'object "{name}"', self._graph.register_auto_aging, self._things[name])
         inputs = {name: self._things[name] for name, described in objects.items()
                   if described.get("input")}
+        for name, thing in inputs.items():
+            fault = fault_of_input(self._graph, thing)
+            if fault:
+                raise self._fault(f'object "{name}": it is no input: {fault}')
         return GraphFile(self._graph, inputs, self._outputs(), self._things)
 
     def _outputs(self) -> Dict[str, Any]:
@@ -264,7 +322,7 @@ class Reader:
             call(*arguments)
         except KeyError as error:
             raise self._fault(f"{place}: {error.args[0]!r} is missing") from None
-        except (TypeError, ValueError, OSError, FeqyldanError) as error:
+        except (TypeError, ValueError, OSError, zlib.error, FeqyldanError) as error:
             raise self._fault(f"{place}: {error}") from None
 
     def _make(self, name: str, told: Any) -> None:
@@ -278,9 +336,19 @@ class Reader:
         kind = told["kind"]
         if kind not in makers:
             raise ValueError(f"a kind is one of {', '.join(makers)}, and not {kind!r}")
+        unknown = [field for field in told if field not in ("kind", *FIELDS[kind])]
+        if unknown:
+            raise ValueError(f"the kind {kind!r} has no {unknown[0]!r}; it has "
+                             f"{', '.join(FIELDS[kind]) or 'nothing more'}")
         self._things[name] = makers[kind](name, told)
 
     def _image(self, name: str, told: Dict[str, Any]) -> Image:
+        image = self._whole_image(name, told)
+        if "valid" in told:
+            image.valid = told["valid"]
+        return image
+
+    def _whole_image(self, name: str, told: Dict[str, Any]) -> Image:
         if "file" in told:
             return self._context.load(os.path.join(os.path.dirname(self._path), told["file"]),
                                       name=name)
@@ -349,7 +417,10 @@ class Reader:
         if slot:
             if not isinstance(thing, Delay):
                 raise ValueError(f"{slot[1]!r} is no delay, so it has no slots")
-            return thing[int(slot[2])]
+            try:
+                return thing[int(slot[2])]
+            except IndexError as error:
+                raise ValueError(f"there is no slot {name!r}: {error}") from None
         return thing
 
 

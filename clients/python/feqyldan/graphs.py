@@ -11,13 +11,14 @@ from typing import (
 from . import wire
 from .errors import OptimizedAway, OrderWarning
 from .functions import Call, Functions
+from .hints import OF_GRAPHS
 from .images import AnyImage, Delay
 from .objects import (
     Asked, Description, Distribution, Extremes, Made, MinMax, Named, Rectangle, description_of,
     in_words)
 from .samples import Format, Picture, Readable, format_of
 from .uncopied import Uncopied
-from .verdicts import Member, explained, member_of, overwritten
+from .verdicts import ADDING, Member, explained, member_of, overwritten
 from .whole import UNSIGNED, within
 
 if TYPE_CHECKING:
@@ -127,7 +128,7 @@ class Graph(Named, Functions[Node]):
     """
 
     __slots__ = ("_virtual_images", "_calls", "_aging")
-    _inner = Named._inner | {"remove", "calls", "uses", "members", "aging"}
+    _inner = Named._inner | {"remove", "calls", "uses", "reads", "writes", "members", "aging"}
     kind = "graph"
 
     def __init__(self, context: Context, made: Made) -> None:
@@ -155,7 +156,19 @@ class Graph(Named, Functions[Node]):
     @property
     def uses(self) -> Set[int]:
         """The names of the objects that nodes use."""
-        return {name_of(operand) for call in self._calls.values() for operand in call.operands
+        return self.reads | self.writes
+
+    @property
+    def reads(self) -> Set[int]:
+        """The names of the objects that nodes read; those of delays, of whose slots they do."""
+        return {name_of(operand) for call in self._calls.values()
+                for operand in call.operands[: 3 if call.name in ADDING else 2]
+                if operand is not None}
+
+    @property
+    def writes(self) -> Set[int]:
+        """The names of the objects that nodes write; those of delays, of whose slots they do."""
+        return {name_of(operand) for call in self._calls.values() for operand in call.operands[2:]
                 if operand is not None}
 
     def virtual_image(self, fmt: Optional[Format] = None, width: Optional[int] = None,
@@ -223,9 +236,12 @@ class Graph(Named, Functions[Node]):
 
         Up to `ahead` further frames are sent before a result is there, and a result is yielded as
         soon as it is. Raises at the frame that failed, after the results of those before it: a
-        refusal of one of its requests, BadPicture, or what `frames` raises. An iterator that isn't
-        a list, a tuple or an array is asked for frames in a thread of its own, so it must not use
-        this context.
+        refusal of one of its requests, BadPicture, or what `frames` raises.
+
+        Lists, tuples and arrays of frames are used as they are. Any other iterator runs in a thread
+        of its own, which asks for each frame before the last one was sent. So each has to be an
+        array of its own, and the iterator can't use this context. When the stream is left it gives
+        the frame that it was asked for, and no further one.
         """
         from .streams import Station, stream
         return stream(frames, [Station(self, camera, out)], ahead)
@@ -243,7 +259,8 @@ class Graph(Named, Functions[Node]):
         """
         Writes the graph to a JSON file, with its objects, for Context.load_graph() and the command
         line. `inputs` are the images that get a picture before each run; the file has the samples
-        of all others that nodes read and none writes. Without `inputs` there may be one such image.
+        and the valid rectangles of all others that nodes read and none writes. Without `inputs`
+        there may be one such image.
         """
         from .graph_files import write_graph
         write_graph(self, path, inputs)
@@ -289,6 +306,10 @@ class Graph(Named, Functions[Node]):
         count = len(self._calls)
         return f", {count} node{'' if count == 1 else 's'}"
 
+    @classmethod
+    def _others(cls) -> Dict[str, str]:
+        return {**super()._others(), **OF_GRAPHS}
+
     @property
     def members(self) -> Tuple[Member, ...]:
         """What the nodes are, to say what is at fault."""
@@ -296,16 +317,14 @@ class Graph(Named, Functions[Node]):
 
     def _judge(self, verb: str, make: Callable[..., bytes]) -> None:
         # In a pipeline the graph may be another one when the reply comes.
-        calls = self._calls.copy()
+        calls, work = self._calls.copy(), self._context.server.work
         self._context.tell(f"{verb} {self}", make, self.name,
                            explain=lambda code: explained(code, [
-                               member_of(number, call) for number, call in calls.items()]))
+                               member_of(number, call) for number, call in calls.items()], work))
 
     def _run(self, call: Call) -> Node:
-        references = self._context.references_of(call)
-        number = self._context.add_node(f"add {call} to "
-                                        f"{self}", self.name, *call.fields(references),
-                                        added=lambda number: self._calls.__setitem__(number, call))
+        number = self._context.add_node(self, call, lambda number: (
+            self._calls.__setitem__(number, call)))
         return Node(self, number, call)
 
 

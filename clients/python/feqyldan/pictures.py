@@ -167,8 +167,14 @@ def _raster(picture: Any) -> Raster:
     samples = _samples(picture)
     # The first byte of a sample has its sign.
     is_signed = samples.fmt == Format.S16 and max(bytes(samples.content[::2])) > 127
-    if samples.fmt == Format.U32 or is_signed:
-        raise ValueError("PNG has samples from 0 to 65535: convert_depth gives an image of U8")
+    if samples.fmt == Format.U32:
+        raise ValueError("PNG has samples from 0 to 65535, and this picture is U32: save it as "
+                         ".npy, or scale its array, as (255.0 * array / array.max())"
+                         ".astype(numpy.uint8) does")
+    if is_signed:
+        raise ValueError("PNG has samples from 0 to 65535, and this S16 picture has negative ones: "
+                         "save it as .npy, or convert_depth(image, out, vx.SATURATE, shift) to an "
+                         "image of U8")
     return Raster(samples.width, samples.height, samples.fmt.sample_bytes, samples.content)
 
 

@@ -39,7 +39,8 @@ def find() -> str:
         if built():
             checkout = f"there is no {' and no '.join(built())}"
         raise ProgramNotFound(f"the server's program wasn't found: {VARIABLE} isn't set, "
-                              f"{' and '.join(NAMES)} aren't on PATH, {checkout}. Build it by "
+                              f"{' and '.join(NAMES)} aren't on PATH, this package has none "
+                              f"inside, {checkout}. Install the wheel that has it, build it by "
                               "tools/build, or give its path, as in vx.Server(path)")
     return found
 

@@ -4,8 +4,9 @@ from __future__ import annotations
 
 from typing import Any, List, NamedTuple
 
+from .errors import NotAPicture, WrongPicture
 from .objects import Rectangle
-from .samples import Readable, needed_numpy
+from .samples import Readable, needed_numpy, of_two_sides, refuse_none_and_paths
 
 
 class Region(NamedTuple):
@@ -19,11 +20,12 @@ class Region(NamedTuple):
 
 def regions(marks: Any, least: int = 1) -> List[Region]:
     """
-    The regions of samples that aren't 0 in an image or an array, those of `least` pixels or more,
-    the largest first. Needs NumPy, and OpenCV or SciPy.
+    The regions of samples that aren't 0 in an image or an array of shape (height, width), those of
+    `least` pixels or more, the largest first. What is no such picture raises BadPicture. Needs
+    NumPy, and OpenCV or SciPy.
     """
     numpy = needed_numpy("regions()")
-    pixels = numpy.asarray(marks.read() if isinstance(marks, Readable) else marks) != 0
+    pixels = _pixels_of(numpy, marks) != 0
     try:
         import cv2
     except ImportError:
@@ -32,6 +34,21 @@ def regions(marks: Any, least: int = 1) -> List[Region]:
         found = _by_cv2(cv2, numpy, pixels)
     return sorted((region for region in found if region.pixels >= least),
                   key=lambda region: -region.pixels)
+
+
+def _pixels_of(numpy: Any, marks: Any) -> Any:
+    """The samples of a picture, of any type of numbers, as an array of two sides."""
+    if isinstance(marks, Readable):
+        return numpy.asarray(marks.read())
+    refuse_none_and_paths(marks)
+    try:
+        pixels = numpy.asarray(marks)
+    except ValueError:
+        raise WrongPicture("marks have rows of one length") from None
+    if pixels.dtype.kind not in "buifc":
+        raise NotAPicture("marks are an image, an array or rows of numbers, and no "
+                          f"{type(marks).__name__} of the type {pixels.dtype}")
+    return of_two_sides(pixels)
 
 
 def _by_cv2(cv2: Any, numpy: Any, pixels: Any) -> List[Region]:

@@ -178,13 +178,9 @@ def _of_array(pixels: Any, size: Optional[Size]) -> Samples:
     if fmt is None:
         raise NotAPicture(f"samples are uint8, int16 or uint32, and not {pixels.dtype}: "
                           f"{_conversion_of(pixels.dtype)}")
-    if pixels.ndim == 3 and pixels.shape[2] == 1:
-        pixels = pixels.reshape(pixels.shape[:2])
     if pixels.ndim == 1 and size is not None and pixels.size == size.width * size.height:
         pixels = pixels.reshape(size.height, size.width)
-    if pixels.ndim != 2 or pixels.size == 0:
-        raise WrongPicture("a grey picture has the shape (height, width), and not "
-                           f"{pixels.shape}{_hint_at(pixels.shape)}")
+    pixels = of_two_sides(pixels)
     height, width = pixels.shape
     return Samples(fmt, width, height, _bytes_of(_in_rows(pixels, numpy), numpy))
 
@@ -279,13 +275,28 @@ def _of_rows(value: Any, size: Optional[Size]) -> Samples:
     return Samples(fmt, width, len(rows), content)
 
 
-def _rows_in(value: Any) -> Sequence[Sequence[int]]:
-    """Rows of numbers, if it is such."""
+def refuse_none_and_paths(value: Any) -> None:
+    """Raises BadPicture where it is None or a path, which are often taken for a picture."""
     if value is None:
         raise NotAPicture("None is no picture: cv2.imread() gives it where it can't read a file")
     if isinstance(value, (str, os.PathLike)):
         raise NotAPicture(f"a path is no picture, and this is {os.fspath(value)!r}: "
                           "context.load(path) makes an image of a file")
+
+
+def of_two_sides(pixels: Any) -> Any:
+    """An array of shape (height, width), or (height, width, 1), as one of two sides."""
+    if pixels.ndim == 3 and pixels.shape[2] == 1:
+        pixels = pixels.reshape(pixels.shape[:2])
+    if pixels.ndim != 2 or pixels.size == 0:
+        raise WrongPicture("a grey picture has the shape (height, width), and not "
+                           f"{pixels.shape}{_hint_at(pixels.shape)}")
+    return pixels
+
+
+def _rows_in(value: Any) -> Sequence[Sequence[int]]:
+    """Rows of numbers, if it is such."""
+    refuse_none_and_paths(value)
     try:
         return [list(row) for row in value]
     except TypeError:

@@ -31,7 +31,7 @@ CLIENTS = 65536
 PATIENCE = 10.0
 SAID_BYTES = 4096
 # What the server takes where nobody says it.
-QUOTA = 2**28
+QUOTA = WORK = 2**28
 # Seconds between two tries to reach a socket at which nobody listens, or a broker that is full.
 RETRY_PAUSE = 0.1
 
@@ -42,7 +42,8 @@ class Server(Forked, Uncopied):
 
     `program` is the path of vx_main, or the words of a command that ends with it. Where it isn't
     given, it is what the environment variable FEQYLDAN_PROGRAM says, else `feqyldan` or `vx_main`
-    on PATH, else what tools/build has built in this checkout. The quota is how many bytes of
+    on PATH, else the program inside this package, if its wheel has one, else what tools/build has
+    built in this checkout. The quota is how many bytes of
     samples the images of each context may take, the work bytes how many the virtual images of each
     graph may; both are 2^28 unless told. A request that isn't answered within the timeout, in
     seconds, raises TimedOut and ends the server. Several threads may use one server, each with a
@@ -52,8 +53,8 @@ class Server(Forked, Uncopied):
     process that is forked from this one it is closed.
     """
 
-    __slots__ = ("_lock", "_next_number", "_free_numbers", "_ended_by", "_quota", "_connection",
-                 "_said", "_process", "_input", "_output", "__weakref__")
+    __slots__ = ("_lock", "_next_number", "_free_numbers", "_ended_by", "_quota", "_work",
+                 "_connection", "_said", "_process", "_input", "_output", "__weakref__")
     _inner = frozenset(("give_back", "lose", "why_closed"))
 
     def __init__(self, program: Union[Path, Sequence[str], None] = None, *,
@@ -67,6 +68,7 @@ class Server(Forked, Uncopied):
         # Why it can't be used any more; None while it can.
         self._ended_by: Optional[str] = None
         self._quota: Optional[int] = QUOTA if quota is None else quota
+        self._work: Optional[int] = WORK if work is None else work
         seconds = seconds_of(timeout)
         with OPENING:
             self._start(words)
@@ -109,6 +111,11 @@ class Server(Forked, Uncopied):
     def quota(self) -> Optional[int]:
         """How many bytes the images of each context may take; None where it isn't known."""
         return self._quota
+
+    @property
+    def work(self) -> Optional[int]:
+        """How many bytes the virtual images of each graph may take; None where it isn't known."""
+        return self._work
 
     def context(self) -> Context:
         """Opens a context under a client number that no other context of this server has."""
@@ -230,7 +237,7 @@ class SocketServer(Server):
         self._owner = None if owner is None else user_number(owner)
         self._lock = threading.Lock()
         self._ended_by: Optional[str] = None
-        self._quota = None
+        self._quota = self._work = None
         # All sockets; that of each context; and that of the next one, which shows at once whether
         # somebody listens.
         self._streams: Set[socket.socket] = set()

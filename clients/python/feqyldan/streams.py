@@ -3,16 +3,23 @@ read."""
 
 from __future__ import annotations
 
+import atexit
 import os
 import select
+import sys
 import threading
+import time
+import zlib
 from collections import deque
+from queue import SimpleQueue
 from typing import (
-    TYPE_CHECKING, Any, Deque, Iterable, Iterator, NamedTuple, Optional, Sequence, Tuple,
-    TypeVar, Union)
+    TYPE_CHECKING, Any, Callable, Deque, Dict, Iterable, Iterator, NamedTuple, Optional, Sequence,
+    Tuple, TypeVar, Union)
 
+from .errors import NotAPicture, WrongPicture
+from .graphs import VirtualImage, name_of
 from .images import AnyImage
-from .objects import Distribution, MinMax
+from .objects import Distribution, MinMax, Named
 from .pipeline import Pipeline, Result
 from .samples import is_array
 
@@ -21,6 +28,11 @@ if TYPE_CHECKING:
     from .graphs import Graph
 
 Frame = TypeVar("Frame")
+# How long the end of the program waits for iterators to give the frame that they are asked for, in
+# seconds.
+PATIENCE = 2.0
+# How many rows of a frame are looked at, to see whether its array was filled again.
+PRINTED = 16
 
 
 class Station(NamedTuple):
@@ -43,7 +55,18 @@ def stream(frames: Iterable[Frame], stations: Sequence[Station],
         raise ValueError(f"ahead is how many frames are sent ahead, 0 or more, and not {ahead}")
     if not stations:
         raise ValueError("a stream has one station or more")
-    return _run(frames, [Turn(station) for station in stations], ahead + len(stations))
+    turns = [Turn(station) for station in stations]
+    look_at_frames(frames, stations[0].camera)
+    return _run(frames, turns, ahead + len(stations))
+
+
+def look_at_frames(frames: Any, camera: AnyImage) -> None:
+    """Refuses one picture, whose rows would be taken for frames."""
+    shape: Tuple[int, ...] = getattr(frames, "shape", ()) if is_array(frames) else ()
+    if len(shape) == 2 and shape[1] != camera.size:
+        raise WrongPicture("the frames of a stream are several pictures, and this is one array of "
+                           f"shape {shape}: pass [picture], or an array of shape (frames, height, "
+                           "width)")
 
 
 def _run(frames: Iterable[Frame], turns: Sequence[Turn],
@@ -51,9 +74,10 @@ def _run(frames: Iterable[Frame], turns: Sequence[Turn],
     sent: Deque[Sent] = deque()
     number = 0
     error: Optional[BaseException] = None
-    with source_of(frames) as source:
+    with source_of(frames, [turn.context for turn in turns]) as source:
         while sent or not source.has_ended:
             if sent and sent[0].is_there:
+                source.let_go(sent[0].frame)
                 first = sent.popleft()
                 yield first.frame, first.value()
             elif source.has_frame and len(sent) < window:
@@ -116,18 +140,27 @@ class Turn:
     def __init__(self, station: Station) -> None:
         graph, self._camera, out = station
         self._graph, self._context = graph, graph.context
-        self._is_single = isinstance(out, (AnyImage, Distribution, MinMax))
-        self._out: Tuple[Any, ...] = (out,) if self._is_single else tuple(out)  # type: ignore
-        if not self._out:
-            raise ValueError("a stream reads one thing or more after each run")
+        self._is_single = is_object(out)
+        self._out = (out,) if self._is_single else several(out)
+        self._is_begun = False
         self._context.look_at("a stream", self._camera, *self._out)
+        look_at_camera(self._camera)
+        for thing in self._out:
+            look_at_output(thing)
+
+    @property
+    def context(self) -> Context:
+        return self._context
 
     def send(self, frame: Any, number: int) -> Sent:
         """Sends all requests of a frame."""
+        if not self._is_begun:
+            look_at_nodes(self._graph, self._camera, self._out)
+            self._is_begun = True
         pipeline = FramePipeline(self._context, number)
         self._context.enter_pipeline(pipeline)
         try:
-            self._camera.write(frame)
+            self._write(frame, number)
             self._graph.process()
             results = [pipeline.read(thing) for thing in self._out[:-1]]
             pipeline.is_followed = False
@@ -137,6 +170,60 @@ class Turn:
             # Nothing is left but after an exception.
             self._context.connection.own_unsent()
         return Sent(frame, tuple(results), self._is_single)
+
+    def _write(self, frame: Any, number: int) -> None:
+        try:
+            self._camera.write(frame)
+        except (NotAPicture, WrongPicture) as fault:
+            raise type(fault)(f"frame {number} of the stream: {fault}") from None
+
+
+def is_object(out: Any) -> bool:
+    """Whether it is one thing to read, or what somebody may take for one."""
+    return out is None or isinstance(out, (AnyImage, Named))
+
+
+def several(out: Any) -> Tuple[Any, ...]:
+    """What a sequence of things to read has."""
+    try:
+        things = tuple(out)
+    except TypeError:
+        raise TypeError(f"{_READ}, or a list of them, and no {type(out).__name__}") from None
+    if not things:
+        raise ValueError("a stream reads one thing or more after each run")
+    return things
+
+
+def look_at_camera(camera: Any) -> None:
+    """Raises why frames can't be written to it."""
+    if isinstance(camera, VirtualImage):
+        camera.write(None)
+    if not isinstance(camera, AnyImage):
+        raise TypeError("a stream writes frames to an image or to a slot of a delay, and to no "
+                        f"{type(camera).__name__}")
+
+
+def look_at_output(thing: Any) -> None:
+    """Raises why it can't be read after each run."""
+    if isinstance(thing, VirtualImage):
+        thing.read()
+    if not isinstance(thing, (AnyImage, Distribution, MinMax)):
+        raise TypeError(f"{_READ}, and no {type(thing).__name__}")
+
+
+def look_at_nodes(graph: Graph, camera: AnyImage, out: Sequence[Any]) -> None:
+    """Raises what a graph's nodes don't use: the stream's results would have no meaning."""
+    read, written = graph.reads | graph.aging, graph.writes
+    if name_of(camera) not in read:
+        raise ValueError(f"the frames of a stream go to {camera}, which no node of {graph} reads: "
+                         "call stream(frames, camera, out)")
+    unused = [thing for thing in out if name_of(thing) not in read | written]
+    if unused or not any(name_of(thing) in written for thing in out):
+        raise ValueError(f"a stream reads {(unused or out)[0]}, which no node of {graph} writes: "
+                         "call stream(frames, camera, out)")
+
+
+_READ = "a stream reads images, distributions and extremes"
 
 
 class Source:
@@ -162,6 +249,9 @@ class Source:
 
     def take(self) -> Any:
         raise NotImplementedError
+
+    def let_go(self, frame: Any) -> None:
+        """The result of a frame is there. Raises BadPicture if frames changed before that."""
 
     def close(self) -> None:
         """No more frames are taken."""
@@ -190,24 +280,111 @@ class Listed(Source):
         self._at = len(self._frames)
 
 
+class Taker(threading.Thread):
+    """The thread that runs an iterator. `leave` has it take no more frames."""
+
+    def __init__(self, take_all: Callable[[Iterator[Any]], None], frames: Iterator[Any],
+                 leave: Callable[[], None]) -> None:
+        super().__init__(target=take_all, args=(frames,), daemon=True)
+        self.leave = leave
+
+
+def leave_all() -> None:
+    """
+    Has all iterators that still run end with the frame that they are asked for, and waits for them.
+
+    A program that ends while one of its threads is in C++, as OpenCV's, is aborted: Python ends the
+    thread by an exception there.
+    """
+    takers = [thread for thread in threading.enumerate() if isinstance(thread, Taker)]
+    for taker in takers:
+        taker.leave()
+    until = time.monotonic() + PATIENCE
+    for taker in takers:
+        taker.join(max(0.0, until - time.monotonic()))
+
+
+atexit.register(leave_all)
+
+
+class Prints:
+    """
+    The arrays that are frames without a result, by where their samples begin in memory: a print of
+    some rows of each. So an array that is filled again too early is found out.
+    """
+
+    def __init__(self) -> None:
+        self._prints: Dict[int, int] = {}
+        self._fault: Optional[str] = None
+
+    def take(self, frame: Any) -> None:
+        """A frame that the iterator gave just now."""
+        if is_pixels(frame):
+            start, found = start_of(frame), print_of(frame)
+            if self._prints.get(start, found) != found:
+                self._fault = ("the iterator of a stream filled an array again before the result "
+                               "of the frame in it was there, so that two frames were mixed: yield "
+                               "array.copy()")
+            self._prints[start] = found
+
+    def let_go(self, frame: Any) -> None:
+        """Its result is there."""
+        if self._fault is not None:
+            raise WrongPicture(self._fault)
+        if is_pixels(frame):
+            self._prints.pop(start_of(frame), None)
+
+
+def is_pixels(frame: Any) -> bool:
+    """Whether it is an array of NumPy's with rows."""
+    numpy = sys.modules.get("numpy")
+    return numpy is not None and isinstance(frame, numpy.ndarray) and frame.ndim > 1
+
+
+def start_of(pixels: Any) -> int:
+    return int(pixels.__array_interface__["data"][0])
+
+
+def print_of(pixels: Any) -> int:
+    """What changes, as good as always, where another frame is written to an array."""
+    return zlib.crc32(pixels[:: max(1, len(pixels) // PRINTED)].tobytes())
+
+
 class Threaded(Source):
     """Frames that a thread takes from an iterator, one before it is wanted, so that results can be
-    yielded while a camera is waited for."""
+    yielded while a camera is waited for. The thread may not use the contexts of the stream."""
 
-    def __init__(self, frames: Iterable[Any]) -> None:
+    def __init__(self, frames: Iterable[Any], contexts: Sequence[Context]) -> None:
+        self._contexts = contexts
         self._ready: Deque[Any] = deque()
-        self._wanted = threading.Semaphore(1)
+        self._prints = Prints()
+        # An item for each frame that may be taken. An interruption within a semaphore, which is in
+        # Python, might leave that locked.
+        self._wanted: SimpleQueue[None] = SimpleQueue()
+        self._wanted.put(None)
         self._lock = threading.Lock()
         self._is_closed = self._is_over = False
         self.descriptor, self._writer = os.pipe()
-        threading.Thread(target=self._take_all, args=(iter(frames),), daemon=True).start()
+        Taker(self._take_all, iter(frames), self.close).start()
 
     def _take_all(self, frames: Iterator[Any]) -> None:
+        thread = threading.get_ident()
+        for context in self._contexts:
+            context.barred.add(thread)
+        try:
+            self._take_each(frames)
+        finally:
+            # Another thread may get the number.
+            for context in self._contexts:
+                context.barred.discard(thread)
+
+    def _take_each(self, frames: Iterator[Any]) -> None:
         try:
             for frame in frames:
+                self._prints.take(frame)
                 self._ready.append(frame)
                 self._tell()
-                self._wanted.acquire()
+                self._wanted.get()
                 if self._is_closed:
                     return
         except BaseException as error:
@@ -231,8 +408,11 @@ class Threaded(Source):
     def take(self) -> Any:
         os.read(self.descriptor, 1)
         frame = self._ready.popleft()
-        self._wanted.release()
+        self._wanted.put(None)
         return frame
+
+    def let_go(self, frame: Any) -> None:
+        self._prints.let_go(frame)
 
     def close(self) -> None:
         with self._lock:
@@ -240,10 +420,10 @@ class Threaded(Source):
                 self._is_closed = True
                 os.close(self.descriptor)
                 os.close(self._writer)
-        self._wanted.release()
+        self._wanted.put(None)
 
 
-def source_of(frames: Iterable[Any]) -> Source:
+def source_of(frames: Iterable[Any], contexts: Sequence[Context]) -> Source:
     if isinstance(frames, (list, tuple)) or is_array(frames):
         return Listed(frames)  # type: ignore[arg-type]
-    return Threaded(frames)
+    return Threaded(frames, contexts)

@@ -68,6 +68,15 @@ def _inputs_in_words(function: str, output: Optional[Format]) -> str:
     return " or ".join(" and ".join(str(Format(fmt)) for fmt in pair if fmt) for pair in pairs)
 
 
+def parameter_for(function: str, fmt: Optional[Format], other: Optional[Format]) -> str:
+    """How to make the threshold or the table for an input of a format, where the one that is given
+    is of another; empty where that isn't so."""
+    if function not in _PARAMETERS or fmt == other or fmt not in (U8, S16):
+        return ""
+    makes = {"threshold": "threshold", "table_lookup": "lut"}[function]
+    return f"; context.{makes}(vx.{fmt}, ..) makes one for this input"
+
+
 class Cell(NamedTuple):
     """
     What a node names: an object, or the image in a slot of a delay. The reference tells it from all
@@ -122,14 +131,15 @@ def _cell_of(operand: Any) -> Cell:
                 getattr(operand, "fmt", None), width, height)
 
 
-def explained(code: int, members: Sequence[Member]) -> str:
+def explained(code: int, members: Sequence[Member], work: Optional[int]) -> str:
     """What is at fault in a graph of these nodes, which the server refused with a code; empty where
-    it isn't known."""
-    verdict = verdict_on(members, code)
+    it isn't known. The work bytes are None where they aren't known."""
+    verdict = verdict_on(members, code, work)
     return verdict.fault if verdict is not None and verdict.code == code else ""
 
 
-def verdict_on(members: Sequence[Member], refused_with: int = wire.SUCCESS) -> Optional[Verdict]:
+def verdict_on(members: Sequence[Member], refused_with: int = wire.SUCCESS,
+               work: Optional[int] = None) -> Optional[Verdict]:
     """
     The first fault of a graph; None where there is none. That it has too many bytes is the server's
     to say, which knows how many it may have: so this is a fault where the server refused it with
@@ -150,8 +160,9 @@ def verdict_on(members: Sequence[Member], refused_with: int = wire.SUCCESS) -> O
         if verdict is not None:
             return verdict
     if refused_with == wire.NO_RESOURCES:
+        limit = "more than its work bytes" if work is None else f"and its work bytes are {work:,}"
         return Verdict(wire.NO_RESOURCES,
-                       f"Its virtual images have {_virtual_bytes(known):,} bytes.")
+                       f"Its virtual images have {_virtual_bytes(known):,} bytes, {limit}.")
     return None
 
 
@@ -251,7 +262,8 @@ def _fault_of(member: Member, known: Dict[bytes, Cell],
     for output in member.outputs:
         formats = in1.fmt, None if in2 is None else in2.fmt, known[output.reference].fmt
         if formats not in TAKEN[member.function]:
-            takes = f"{member.function} takes {formats_in_words(member.function)}"
+            takes = (f"{member.function} takes {formats_in_words(member.function)}"
+                     f"{parameter_for(member.function, *formats[:2])}")
             return Verdict(wire.INVALID_FORMAT, f"{node}: {takes}.{found}")
     if any((cell.width, cell.height) != (in1.width, in1.height)
            for cell in others if cell.is_image):
@@ -264,16 +276,21 @@ def _found(member: Member, known: Dict[bytes, Cell], members: Sequence[Member]) 
     writers = {cell.reference: other for other in members for cell in other.outputs}
     cells = {cell.reference: cell for cell in (*member.inputs, *member.outputs)
              if cell != known[cell.reference]}
-    return "".join(_closing(cell, known[cell.reference], writers[cell.reference])
-                   for cell in cells.values())
+    return "".join(_closing(cell, writers[cell.reference], known) for cell in cells.values())
 
 
-def _closing(cell: Cell, now: Cell, writer: Member) -> str:
-    """What a virtual image has from its writer, and how to give it something else."""
+def _closing(cell: Cell, writer: Member, known: Dict[bytes, Cell]) -> str:
+    """What a virtual image has from its writer, and how to give it another format, if the writer
+    can."""
+    now = known[cell.reference]
     words = f" {cell.words[0].upper()}{cell.words[1:]} is {in_words(*now[4:])[1:-1]}, because "
     words += f"node {writer.number}, {writer.function}, writes it"
     if cell.fmt is None:
-        words += " and its format is open; graph.virtual_image(vx.U8) has one"
+        inputs = [known[read.reference].fmt for read in (writer.in1, writer.in2) if read]
+        as_bytes = (*inputs, *[None] * (2 - len(inputs)), U8)
+        is_free = now.fmt != U8 and as_bytes in TAKEN[writer.function]
+        words += " and its format is open"
+        words += "; graph.virtual_image(vx.U8) has one" if is_free else ""
     return f"{words}."
 
 

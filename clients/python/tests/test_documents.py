@@ -32,7 +32,8 @@ class TestAll(unittest.TestCase):
                           "Files and the command line": 1, "asyncio": 1,
                           "Pictures over a cluster": 1,
                           "Compare with a reference, and tolerate small shifts": 1,
-                          "Find the regions of marks": 1, "Several recipes in one station": 1,
+                          "Find the regions of marks": 1, "Measure a part of a picture": 1,
+                          "Several recipes in one station": 1,
                           "A live camera": 1, "A robot that survives the end of a server": 1,
                           "A background that follows the light": 1})
         self.assertEqual(len(programs_in("clients", "python", "README.md")[""]), 1)
@@ -215,6 +216,34 @@ class TestRecipes(ProgramTest):
         self.assertEqual(good, [])
         self.assertEqual(len(bad), 1)
 
+    def test_a_part(self):
+        camera = self.context.image(vx.U8, SIDE, SIDE)
+        graph, extremes, counts = self.names["measuring"](self.context, camera,
+                                                          vx.Rectangle(10, 20, 25, 22))
+        for value in (7, 200):
+            picture = numpy.full((SIDE, SIDE), 99, numpy.uint8)
+            picture[20:22, 10:25] = value
+            picture[21, 24] = value + 1
+            camera.write(picture)
+            graph.process()
+            self.assertEqual(extremes.read(), (value, value + 1, 29, 1, (10, 20), (24, 21)))
+            self.assertEqual(counts.read()[value // 16], 30)
+
+    def test_a_part_of_a_wide_picture(self):
+        """As the text has it for S16; and the valid rectangle of the picture itself is lost."""
+        camera, window = (self.context.image(vx.S16, SIDE, SIDE) for _ in range(2))
+        window.fill(-32768)
+        window.valid = (10, 20, 25, 22)
+        graph, extremes = self.context.graph(), self.context.min_max()
+        inside = graph.virtual_image(vx.S16)
+        graph.max(camera, window, inside)
+        graph.min_max_loc(inside, extremes)
+        camera.valid = (0, 0, 1, 1)
+        camera.fill(-300)
+        graph.process()
+        self.assertEqual(extremes.read()[:3], (-300, -300, 30))
+        self.assertEqual(camera.valid, (0, 0, SIDE, SIDE))
+
     def test_a_station(self):
         station = self.names["Station"](self.context, {
             name: numpy.roll(self.reference, 7 * name, 0) for name in range(5)})
@@ -225,10 +254,10 @@ class TestRecipes(ProgramTest):
             self.assertGreater(station.marks_of(name, 255 - picture).max(), 0)
 
     def test_a_live_camera(self):
-        frames = (numpy.full((SIDE, SIDE), shade, numpy.uint8) for shade in (0, 10, 90))
+        frames = (numpy.full((SIDE, SIDE), shade, numpy.uint8) for shade in (50, 60, 140))
         found = [(frame[0, 0], moved[9, 9]) for frame, moved in
                  self.names["watch"](frames, self.context, SIDE, SIDE)]
-        self.assertEqual(found, [(0, 0), (10, 0), (90, 255)])
+        self.assertEqual(found, [(60, 0), (140, 255)])
 
     def test_a_background(self):
         camera, background = (self.context.image(vx.U8, 4, 3) for _ in range(2))

@@ -7,6 +7,7 @@ import tempfile
 import unittest
 from unittest import mock
 
+from documents import ROOT
 from program import ProgramTest, answering, vx
 from feqyldan import errors, wire
 
@@ -38,6 +39,23 @@ class TestCodes(unittest.TestCase):
     def test_advice_for_a_request(self):
         for (code, op), advice in errors.ADVICE.items():
             self.assertIn(advice, str(errors.refusal(code, "some request", op)))
+
+
+class TestNames(unittest.TestCase):
+    def test_each_is_called_in_vx_and_in_the_manual_what_a_traceback_calls_it(self):
+        with open(os.path.join(ROOT, "docs", "python.md"), encoding="utf-8") as file:
+            manual = file.read()
+        kinds = {vx.OrderWarning, *self.below(vx.FeqyldanError)}
+        self.assertIn(errors.WrongPictureSize, kinds)
+        for kind in kinds:
+            self.assertIs(getattr(vx, kind.__name__, None), kind)
+            self.assertIn(kind.__name__, vx.__all__)
+            self.assertIn(f"`vx.{kind.__name__}`", manual)
+
+    def below(self, kind):
+        """The class and all of this package that inherit from it."""
+        ours = (other for other in kind.__subclasses__() if other.__module__.startswith("feqyldan"))
+        return {kind}.union(*map(self.below, ours))
 
 
 class TestRefusals(ProgramTest):

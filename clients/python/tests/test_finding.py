@@ -58,9 +58,9 @@ class TestFinding(unittest.TestCase):
         with self.assertRaises(vx.ProgramNotFound) as caught:
             vx.Server()
         self.assertIsInstance(caught.exception, FileNotFoundError)
-        for words in ("FEQYLDAN_PROGRAM isn't "
-                      "set", "feqyldan and vx_main aren't on PATH", "stands in no checkout",
-                      "tools/build", "vx.Server(path)"):
+        for words in ("FEQYLDAN_PROGRAM isn't set", "feqyldan and vx_main aren't on PATH",
+                      "has none inside", "in no checkout", "the wheel that has it", "tools/build",
+                      "vx.Server(path)"):
             self.assertIn(words, str(caught.exception))
         os.makedirs(self.crate)
         with self.assertRaisesRegex(vx.ProgramNotFound, r"there is no .*crate/out/vx_main-default"):

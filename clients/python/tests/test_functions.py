@@ -34,7 +34,7 @@ PARAMETERS = {
 Case = namedtuple("Case", "name in1 in2 out1 out2 policy amount border")
 
 
-def case(name, in1, in2, out1, out2=None, policy=0, amount=0, border=None):
+def case(name, in1, in2, out1, out2=None, policy=vx.WRAP, amount=0, border=None):
     return Case(name, in1, in2, out1, out2, policy, amount, border)
 
 

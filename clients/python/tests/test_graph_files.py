@@ -15,6 +15,7 @@ from unittest import mock
 from program import HERE, PROGRAM, ProgramTest, needs_program, vx
 from feqyldan import files, graph_files, samples
 from feqyldan.functions import FUNCTIONS
+from feqyldan.pictures import read_bytes
 
 numpy = samples.numpy_module()
 PACKAGE = os.path.realpath(os.path.join(HERE, ".."))
@@ -103,17 +104,80 @@ class TestFiles(FolderTest, ProgramTest):
                                     r"inputs=\[camera\]"):
             graph.save(self.path("a.json"))
 
+    def test_what_is_no_input(self):
+        camera, out, other = (self.context.image(vx.U8, 2, 1, name=name)
+                              for name in ("camera", "out", "other"))
+        graph, delay = self.context.graph(), self.context.delay(camera, 2)
+        virtual = graph.virtual_image()
+        graph.not_(camera, virtual)
+        graph.max(virtual, delay[0], out)
+        for inputs, kind, words in (
+                ([camera, out], ValueError, r'"out" .* is no input of graph 4: node 2, max\(.*\), '
+                                            "writes it"),
+                ([other], ValueError, '"other" .* no node reads it'),
+                ([delay[0]], ValueError, "slot 0 of .*: a slot of a delay gets its picture from a "
+                                         r"node: let graph.max\(camera, camera, slot\)"),
+                ([virtual], ValueError, "virtual image 6 .* an input is an image"),
+                (["camera"], ValueError, "camera is no input .* an input is an image"),
+                (camera, TypeError, r"a list of images, as in save\(path, inputs=\[camera\]\), and "
+                                    'not image 1 "camera"'),
+                ("camera", TypeError, "a list of images, .*, and not camera")):
+            with self.subTest(words), self.assertRaisesRegex(kind, words):
+                graph.save(self.path("a.json"), inputs=inputs)
+        self.assertEqual(os.listdir(self.folder), [])
+        with self.server.context() as stranger:
+            foreign = stranger.image(vx.U8, 2, 1)
+            with self.assertRaisesRegex(ValueError, "an input is an image of its context"):
+                graph.save(self.path("a.json"), inputs=[foreign])
+        for inputs in ((camera,), {"camera": camera}.values(), iter([camera])):
+            graph.save(self.path("a.json"), inputs=inputs)
+            self.assertEqual([*self.context.load_graph(self.path("a.json")).inputs], ["camera"])
+
+    def test_valid_rectangles_come_back(self):
+        """Of an image that is only read, and of sums; statistics count no more than before."""
+        camera, window = (self.context.image(vx.U8, 8, 6, name=name)
+                          for name in ("camera", "window"))
+        sums, bins = self.context.image(vx.S16, 8, 6), self.context.distribution(1, name="bins")
+        window.fill(255)
+        window.valid, sums.valid = (1, 2, 5, 6), (3, 0, 8, 6)
+        graph, found = self.context.graph(), self.context.min_max(name="found")
+        part = graph.virtual_image(vx.U8)
+        graph.and_(camera, window, part)
+        graph.histogram(part, bins)
+        graph.accumulate(camera, sums)
+        graph.min_max_loc(sums, found)
+        graph.save(self.path("a.json"), inputs=[camera])
+        again = self.context.load_graph(self.path("a.json"))
+        for one, outputs in ((graph, {"bins": bins, "found": found}), (again.graph, again.outputs)):
+            one.process()
+            self.assertEqual(outputs["bins"].read(), (16,))
+            self.assertEqual(outputs["found"].read().min_count, 30)
+        self.assertEqual(again.objects["window"].valid, (1, 2, 5, 6))
+
     def test_each_function_can_be_said(self):
         for function in FUNCTIONS:
             for parameter in graph_files.parameters_of(function):
                 self.assertTrue(parameter in graph_files.OPERANDS
                                 or parameter in ("policy", "shift", "border"), parameter)
 
+    def test_each_kind_has_its_fields(self):
+        graph, camera = station(self.context)
+        graph.multiply(camera, graph.virtual_image(), 0, vx.WRAP, graph.virtual_image(vx.S16, 8))
+        graph.save(self.path("a.json"), inputs=[camera])
+        with open(self.path("a.json")) as file:
+            objects = json.load(file)["objects"].values()
+        self.assertEqual({described["kind"] for described in objects}, set(graph_files.FIELDS))
+        for described in objects:
+            self.assertLessEqual(set(described), {"kind", *graph_files.FIELDS[described["kind"]]})
+
     def test_a_picture_of_another_file(self):
         vx.write_pgm(self.path("clean.pgm"), [[9, 8]])
         path = self.put("a.json", {"feqyldan": 1, "nodes": [], "objects": {
-            "clean": {"kind": "image", "file": "clean.pgm"}}})
-        self.holds(self.context.load_graph(path).objects["clean"], [[9, 8]])
+            "clean": {"kind": "image", "file": "clean.pgm"},
+            "part": {"kind": "image", "file": "clean.pgm", "valid": [1, 0, 2, 1]}}})
+        objects = self.context.load_graph(path).objects
+        self.holds(objects["clean"], [[9, 8]])
+        self.holds(objects["part"], [[0, 8]])
 
     def test_what_is_wrong_and_where(self):
         image = {"kind": "image", "format": "U8", "width": 2, "height": 1}
@@ -123,6 +187,8 @@ class TestFiles(FolderTest, ProgramTest):
                                                        "U32, and not 'U9'"),
                 ({"a": {"kind": "image", "format": "U8"}}, [], "object \"a\": 'width' is missing"),
                 ({"a": {**image, "width": 9000}}, [], 'object "a": create a U8 image of 9000 by 1'),
+                ({"a": {**image, "valid": [0, 0, 3, 1]}}, [], 'object "a": make .* the valid rect'),
+                ({"a": {**image, "valid": 3}}, [], 'object "a": .*int.* not iterable'),
                 ({"a": {"kind": "film"}}, [], 'object "a": a kind is one of image, .*\'film\''),
                 ({"a": 7}, [], 'object "a": an object is described by'),
                 ({"a": {"kind": "image", "file": "none.pgm"}}, [], 'object "a": .*none.pgm'),
@@ -137,6 +203,21 @@ class TestFiles(FolderTest, ProgramTest):
                  "node 1: not_ has no 'policy'; it has input, output"),
                 (both, [{"function": "add", "in1": "a", "in2": "a", "output": "b", "policy": "X"}],
                  "node 1: a policy is one of WRAP, SATURATE, and not 'X'"),
+                ({**both, "b": {**image, "input": True}},
+                 [{"function": "not_", "input": "a", "output": "b"}],
+                 'object "b": it is no input: node 1, not_.*, writes it'),
+                ({**both, "old": {**image, "kind": "delay", "slots": 2}},
+                 [{"function": "not_", "input": "old[-2]", "output": "b"}],
+                 r"node 1: there is no slot 'old\[-2\]': a delay of 2 slots has those from 0 down "
+                 "to -1"),
+                ({"a": {**image, "samples": "AAAA"}}, [], 'object "a": Error -3 while decomp'),
+                ({"a": {"kind": "threshold", "format": "U8", "above": 9, "true_valeu": 0}}, [],
+                 "object \"a\": the kind 'threshold' has no 'true_valeu'; it has format, above, "
+                 "between, true_value, false_value$"),
+                ({"a": {"kind": "extremes", "bins": 3}}, [],
+                 "object \"a\": the kind 'extremes' has no 'bins'; it has nothing more$"),
+                ({"a": {**image, "slots": 3}}, [], "object \"a\": the kind 'image' has no 'slots'"),
+                ({"a": {**image, "input": True}}, [], 'object "a": it is no input: no node reads'),
                 (both, [{"function": "box3x3", "input": "a", "output": "b", "border": "X"}],
                  "node 1: a border is UNDEFINED, REPLICATE or a number")):
             path = self.put("a.json", {"feqyldan": 1, "objects": objects, "nodes": nodes})
@@ -235,6 +316,9 @@ class TestHelpers(FolderTest, ProgramTest):
         cv2.imwrite(self.path("wide.png"), wide)
         cv2.imwrite(self.path("wider.png"), wide * 2)
         self.put("text.png", "no picture")
+        self.put("empty.png", "")
+        with open(self.path("cut.png"), "wb") as file:
+            file.write(read_bytes(self.path("colours.png"))[:-30])
         for missing in ((), ("cv2",), ("PIL.Image",)):
             importer = importlib.import_module
             with mock.patch.object(files.importlib, "import_module", lambda name: (
@@ -245,8 +329,10 @@ class TestHelpers(FolderTest, ProgramTest):
                 self.holds(self.context.load(self.path("wide.png")), [[0, 32767, 5]])
                 with self.assertRaisesRegex(vx.BadPicture, r"0 to 65534, which S16 has no"):
                     self.context.load(self.path("wider.png"))
-                with self.assertRaisesRegex(vx.BadPicture, "text.png has no picture"):
-                    self.context.load(self.path("text.png"))
+                for name, fault in (("text", "has no picture"), ("empty", "is empty"),
+                                    ("cut", "is cut off: it begins as a PNG file does, and after")):
+                    with self.assertRaisesRegex(vx.BadPicture, f"{name}.png {fault}"):
+                        self.context.load(self.path(f"{name}.png"))
         with mock.patch.object(files, "_module", return_value=None):
             with self.assertRaisesRegex(ImportError, "needs OpenCV or PIL"):
                 self.context.load(self.path("wide.png"))
@@ -273,6 +359,18 @@ class TestHelpers(FolderTest, ProgramTest):
                 self.assertEqual(len(vx.regions(marks.read(), least=2)), 2)
         with mock.patch.dict(sys.modules, {"cv2": None, "scipy": None}):
             self.assertRaisesRegex(ImportError, "neither is installed", vx.regions, marks)
+        for mask in (pixels > 0, pixels.astype("float32"), pixels.tolist(), pixels[..., None]):
+            self.assertEqual(len(vx.regions(mask)), 3)
+        for wrong, words in (
+                ("marks.png", "this is 'marks.png': context.load"), (None, "None is no picture"),
+                (numpy.zeros((4, 5, 3), "uint8"), r"\(4, 5, 3\): make a grey one of it"),
+                (numpy.zeros((0, 5), "uint8"), r"not \(0, 5\)"), (pixels[0], r"not \(30,\)"),
+                (numpy.array([["a"]]), "no ndarray of the type <U1"),
+                (self.context.min_max(), "no MinMax"), ([[1], [2, 3]], "marks")):
+            with self.subTest(words), self.assertRaisesRegex(vx.BadPicture, words):
+                vx.regions(wrong)
+        with self.assertRaisesRegex(vx.OptimizedAway, "virtual image"):
+            vx.regions(self.context.graph().virtual_image(vx.U8))
 
 
 @needs_program
@@ -324,11 +422,82 @@ class TestCommandLine(FolderTest):
                 (("run", "station.json", "--in", "none*.pgm"), "no file is none*.pgm"),
                 (("run", "none.json", "--in", "part1.pgm"), "none.json"),
                 (("run", "part1.pgm", "--in", "part1.pgm"), "part1.pgm"),
-                (("run", "station.json", "--in", "part1.pgm", "short.pgm"), "frame 2 of the str")):
+                (("run", "station.json", "--in", "."), "feqyldan: . is a folder: name its pic"),
+                (("run", "station.json", "--in", "part1.pgm", "short.pgm"),
+                 "feqyldan: short.pgm: write 2 by 1 U8 samples to image 2 \"camera\" (U8, 8 by 6) "
+                 "(frame 2 of the stream): INVALID_DIMENSION")):
             _, said = self.run_command(*words, status=1)
             self.assertIn(fault, said)
             self.assertEqual(len(said.splitlines()), 1, said)
         self.run_command("walk", status=2)
+
+    def plain(self, *outputs):
+        """A graph with these outputs in a file, and twelve pictures of two samples, also as PNG."""
+        image = {"kind": "image", "format": "U8", "width": 2, "height": 1}
+        vx.write_pgm(self.path("clean.pgm"), [[0, 0]])
+        self.put("plain.json", {
+            "feqyldan": 1, "objects": {"camera": {**image, "input": True},
+                                       "clean": {"kind": "image", "file": "clean.pgm"},
+                                       **{name: image for name in outputs}},
+            "nodes": [{"function": "not_", "input": "camera", "output": name} for name in outputs]})
+        for folder in ("a", "b"):
+            os.mkdir(self.path(folder))
+            for number in range(12):
+                vx.write_pgm(self.path(f"{folder}/f{number}.pgm"), [[number, 0]])
+                vx.write_png(self.path(f"{folder}/f{number}.png"), [[number, 0]])
+
+    def contents(self, folder):
+        """Its files."""
+        return {name: read_bytes(self.path(f"{folder}/{name}"))
+                for name in os.listdir(self.path(folder))}
+
+    def test_nothing_is_written_over_what_is_read(self):
+        self.plain("marks")
+        os.symlink("a", self.path("link"))
+        before = self.contents("a")
+        for words in (("--out", "a"), ("--out", "link"), ("--csv", "a/f7.png"),
+                      ("--csv", "plain.json"), ("--csv", "clean.pgm")):
+            with self.subTest(words):
+                _, said = self.run_command("run", "plain.json", "--in", "a/*.png", *words, status=1)
+                self.assertIn("written over", said)
+        self.assertEqual(self.contents("a"), before)
+        # Of other names they may be where the pictures are.
+        self.run_command("run", "plain.json", "--in", "b/f1.pgm", "--out", "b", "--csv", "b/b.csv")
+        self.assertTrue(os.path.exists(self.path("b/b.csv")))
+
+    def test_pictures_of_one_name(self):
+        self.plain("marks")
+        _, said = self.run_command("run", "plain.json", "--in", "a/*.pgm", "b/*.pgm", "--out",
+                                   "marks", status=1)
+        self.assertIn("the images of a/f0.pgm and of b/f0.pgm would have the same name", said)
+        self.assertFalse(os.path.exists(self.path("marks")))
+        # One picture several times is no fault.
+        self.run_command("run", "plain.json", "--in", "a/*.pgm", "a/f1.pgm", "--out", "marks")
+        self.assertEqual(len(os.listdir(self.path("marks"))), 12)
+
+    def test_outputs_with_a_slash(self):
+        self.plain("marks", "../evil")
+        words = "run", "plain.json", "--in", "a/f1.pgm"
+        _, said = self.run_command(*words, "--out", "marks", status=1)
+        self.assertIn('plain.json: "../evil" would be a part of the name of a file', said)
+        self.run_command(*words)
+
+    def test_natural_order(self):
+        """Folders aren't pictures; the folder of the CSV file is made."""
+        self.plain("marks")
+        os.mkdir(self.path("a/f30.pgm"))
+        self.run_command("run", "plain.json", "--in", "a/*.pgm", "--csv", "new/found.csv")
+        with open(self.path("new/found.csv"), newline="") as file:
+            lines = [*csv.DictReader(file)]
+        self.assertEqual([line["picture"] for line in lines],
+                         [f"a/f{number}.pgm" for number in range(12)])
+
+    def test_help(self):
+        said, _ = self.run_command("run", "--help")
+        said = " ".join(said.split())
+        for words in ("natural order", "standard output", "(.npy) for negative", "folder is made"):
+            self.assertIn(words, said)
+        self.assertNotIn("times", said)
 
 
 if __name__ == "__main__":

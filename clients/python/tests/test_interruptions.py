@@ -130,15 +130,16 @@ class TestAtRandom(unittest.TestCase):
 
 
 class Everywhere:
-    """Raises KeyboardInterrupt before the n-th line of the package's connections that runs."""
+    """Raises KeyboardInterrupt before the n-th line of the package's connections that runs, or the
+    n-th event of other files."""
 
-    def __init__(self, number):
-        self.left = number
+    def __init__(self, number, files=("connection.py", "pipeline.py"), events=("line",)):
+        self.left, self.files, self.events = number, files, events
 
     def __call__(self, frame, event, _):
-        if not frame.f_code.co_filename.endswith(("connection.py", "pipeline.py")):
+        if not frame.f_code.co_filename.endswith(self.files):
             return None
-        if event == "line":
+        if event in self.events:
             self.left -= 1
             if self.left == 0:
                 raise KeyboardInterrupt
@@ -327,6 +328,46 @@ class TestEachLine(unittest.TestCase):
         while self.exchange(number):
             number += 1
         self.assertGreater(number, 100)
+
+
+class TestStreams(ProgramTest):
+    def interrupted(self, number):
+        """Whether a stream was, at the n-th line or return of its code or the locks that it uses.
+        It ends, and another one goes on."""
+        loop = self.loop
+        trace = Everywhere(number, ("streams.py", "threading.py"), ("line", "return"))
+        stream = loop.graph.stream(iter(loop.pictures), loop.part, loop.out)
+        # Its thread is there.
+        next(stream)
+        try:
+            sys.settrace(trace)
+            for _ in stream:
+                pass
+        except KeyboardInterrupt:
+            sys.settrace(None)
+            with self.assertRaises(StopIteration):
+                next(stream)
+            loop.one(loop.pictures[0])
+            return True
+        finally:
+            sys.settrace(None)
+        return False
+
+    def test_each_line_of_a_stream(self):
+        self.loop, number = Loop(self.context, 4, 4, False), 1
+
+        def stuck(*_):
+            raise AssertionError(f"stuck after the {number}th event")
+
+        before = signal.signal(signal.SIGALRM, stuck)
+        try:
+            signal.alarm(60)
+            while self.interrupted(number):
+                number += 1
+        finally:
+            signal.alarm(0)
+            signal.signal(signal.SIGALRM, before)
+        self.assertGreater(number, 50)
 
 
 LOOP = """

@@ -1,13 +1,16 @@
 """What is said of pictures that aren't any, of formats, and of things that a call doesn't take."""
 
 import array
+import os
 import pathlib
+import re
 import unittest
 import unittest.mock
 import warnings
 
+from documents import ROOT
 from program import ProgramTest, vx
-from feqyldan import samples, verdicts
+from feqyldan import hints, samples, verdicts
 from feqyldan.functions import FUNCTIONS
 
 numpy = samples.numpy_module()
@@ -132,6 +135,65 @@ class TestCalls(ProgramTest):
                 r"it and its format is open; graph.virtual_image\(vx.U8\) has one. "):
             graph.verify()
 
+    def test_a_threshold_of_another_format(self):
+        """What is advised can be followed: U8 can't be written by absdiff of S16."""
+        byte, wide = self.context.image(vx.U8, 4, 3), self.context.image(vx.S16, 4, 3)
+        graph, limit = self.context.graph(), self.context.threshold(vx.U8, above=9)
+        far = graph.virtual_image(name="far")
+        graph.absdiff(wide, wide, far)
+        node = graph.threshold(far, limit, byte)
+        with self.assertRaisesRegex(
+                vx.InvalidFormat,
+                r"and a threshold of the input's format; context.threshold\(vx.S16, ..\) makes one "
+                r'for this input. Virtual image 5 "far" \(open\) is S16, 4 by 3, because node 1, '
+                "absdiff, writes it and its format is open. The function"):
+            graph.verify()
+        node.remove()
+        graph.threshold(far, self.context.threshold(vx.S16, above=9), byte)
+        graph.verify()
+        graph = self.context.graph()
+        less = graph.virtual_image()
+        graph.subtract(byte, byte, vx.WRAP, less)
+        graph.table_lookup(less, self.context.lut(vx.U8, range(256)), self.context.image_like(byte))
+        with self.assertRaisesRegex(vx.InvalidFormat, r"context.lut\(vx.S16, ..\) makes one for "
+                                    r"this input. .*; graph.virtual_image\(vx.U8\) has one"):
+            graph.verify()
+        with self.assertRaisesRegex(vx.InvalidFormat, r"context.threshold\(vx.S16, ..\) makes one"):
+            self.context.vxu.threshold(wide, limit, byte)
+
+    def test_policies_and_shifts(self):
+        """Neither is taken for the other; what a policy isn't is said with its place."""
+        byte, wide = self.context.image(vx.U8, 4, 3), self.context.image(vx.S16, 4, 3)
+        order = r"convert_depth\(input, output, policy, shift\)"
+        for functions in (self.context.vxu, self.context.graph()):
+            for call, kind, words in (
+                    (lambda: functions.convert_depth(wide, byte, 0, vx.SATURATE),
+                     vx.InvalidParameters, "convert_depth: INVALID_PARAMETERS. A policy is vx.WRAP "
+                     f"or vx.SATURATE, and not 0; it is argument 3 of {order}"),
+                    (lambda: functions.convert_depth(wide, byte, vx.WRAP, vx.SATURATE), TypeError,
+                     "a shift is a whole number, and not the policy vx.SATURATE; it is argument 4 "
+                     f"of {order}"),
+                    (lambda: functions.multiply(byte, byte, vx.SATURATE, 0, byte),
+                     vx.InvalidParameters, r"and not 0; it is argument 4 of multiply\(in1, in2, "
+                                           r"shift, policy, output\)"),
+                    (lambda: functions.add(byte, byte, True, wide), vx.InvalidParameters, "True"),
+                    (lambda: functions.subtract(byte, byte, "WRAP", wide), TypeError,
+                     r"and not 'WRAP'; it is argument 3 of subtract\(in1, in2, policy, output\)"),
+                    (lambda: functions.subtract(byte, byte, wide), TypeError,
+                     "missing 1 required positional argument: 'output'; none of them is a policy, "
+                     r"vx.WRAP or vx.SATURATE. It is subtract\(in1, in2, policy, output\)$"),
+                    (lambda: functions.add(byte, byte, vx.WRAP), TypeError,
+                     r"missing 1 .*: 'output'. It is add\(in1, in2, policy, output\)$"),
+                    (lambda: functions.multiply(byte, byte, 16, vx.WRAP, wide), vx.InvalidValue,
+                     "Its shift is 16. A shift is out of its range"),
+                    (lambda: functions.box3x3(byte, byte, vx.Border(9)), vx.InvalidParameters,
+                     r"Its border is Border\(mode=9, value=0\). A border is")):
+                with self.subTest(words), self.assertRaisesRegex(kind, words):
+                    call()
+        wide.fill(300)
+        self.context.vxu.convert_depth(wide, byte, vx.wire.SATURATE, 0)
+        self.assertEqual(byte.read()[0, 0], 255)
+
     def test_none(self):
         out = self.context.image(vx.U8, 4, 3)
         for call, words in ((lambda f: f.not_(None, out), "not_: .*Its input is None."),
@@ -196,6 +258,50 @@ class TestCalls(ProgramTest):
             graph.not_(late, mean)
             graph.not_(part, late)
             graph.verify()
+
+
+class TestNames(ProgramTest):
+    """Names of other libraries and slips of the pen, in the text of the error itself."""
+
+    def hints(self, thing, name, words):
+        with self.subTest(name), self.assertRaises(AttributeError) as caught:
+            getattr(thing, name)
+        self.assertEqual(str(caught.exception),
+                         f"{type(thing).__name__!r} object has no attribute {name!r}{words}")
+        self.assertFalse(hasattr(thing, name))
+
+    def test_of_functions(self):
+        graph, vxu = self.context.graph(), self.context.vxu
+        for thing in (graph, vxu):
+            for name, ours in (("medianBlur", "median3x3"), ("GaussianBlur", "gaussian3x3"),
+                               ("vxuAbsDiff", "absdiff"), ("vxMinMaxLocNode", "min_max_loc"),
+                               ("Convolve", "convolve"), ("inRange", "threshold")):
+                self.hints(thing, name, f": here it is {ours}")
+            for name, ours in (("medain3x3", "median3x3"), ("gaussian", "gaussian3x3"),
+                               ("AbsDif", "absdiff")):
+                self.hints(thing, name, f": did you mean {ours!r}?")
+            for name in ("qqqq", "_repr_json_", "_medianBlur", "__array_interface__"):
+                self.hints(thing, name, "")
+        self.hints(graph, "run", ": here it is process()")
+        self.hints(graph, "proces", ": did you mean 'process'?")
+        for name, ours in (("absdiff", "vxu.absdiff"), ("medianBlur", "vxu.median3x3"),
+                           ("imread", "load(path)")):
+            self.hints(self.context, name, f": here it is {ours}")
+        self.hints(self.context, "imge", ": did you mean 'image'?")
+
+    def test_those_of_the_manual(self):
+        with open(os.path.join(ROOT, "docs", "from_opencv.md"), encoding="utf-8") as file:
+            rows = re.findall(r"^\| `vxu.*?\| (.*?) \| `f\.(.*) \|$", file.read(), re.M)
+        names = {name for row, _ in rows for name in re.findall(r"`(?:Mat::)?(\w+)", row)}
+        names -= {*FUNCTIONS, "THRESH_BINARY"}
+        self.assertGreater(len(names), 12)
+        self.assertLessEqual(names, set(hints.OTHERS))
+        self.assertLessEqual(set(hints.OTHERS.values()), set(FUNCTIONS))
+
+    def test_an_error_within_a_property_is_not_hidden(self):
+        with unittest.mock.patch.object(vx.Graph, "nodes", property(lambda graph: graph.label.x)):
+            with self.assertRaisesRegex(AttributeError, "'str' object has no attribute 'x'"):
+                self.context.graph().nodes
 
 
 if __name__ == "__main__":

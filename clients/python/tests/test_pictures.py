@@ -51,8 +51,11 @@ class TestPng(unittest.TestCase):
     def test_two_bytes(self):
         shaped = memoryview(struct.pack("=3h", 0, 256, 32767)).cast("B").cast("h", [1, 3])
         self.assertEqual(decoded(vx.png(shaped)), (3, 1, 16, 0, [b"\0\0\1\0\x7f\xff"]))
-        self.assertRaises(ValueError, vx.png,
-                          memoryview(struct.pack("=2h", 0, -1)).cast("B").cast("h", [1, 2]))
+        for kind, words in (("h", r"S16 .* negative ones: save it as .npy, or convert_depth\("),
+                            ("I", r"U32: save it as .npy, or scale its array, as \(255.0 ")):
+            wrong = memoryview(struct.pack(f"=2{kind}", 0, 65535 if kind == "I" else -1))
+            with self.assertRaisesRegex(ValueError, words):
+                vx.png(wrong.cast("B").cast(kind, [1, 2]))
 
     def test_coloured(self):
         rows = [[(255, 0, 0), (0, 255, 0)], [(0, 0, 255), (1, 2, 3)], [(4, 5, 6), (7, 8, 9)]]

@@ -6,8 +6,9 @@ import time
 import unittest
 from unittest import mock
 
-from program import ProgramTest, answering, vx
-from feqyldan import wire
+from program import ProgramTest, answering, needs_program, vx
+from feqyldan import samples, wire
+from test_processes import ProcessTest
 
 OPENED = wire.reply_frame(0, wire.OPEN_CONTEXT)
 PATIENCE = 60
@@ -185,6 +186,24 @@ class TestStreams(StationTest):
                 pass
         self.assertRegex(caught.exception.place, "^frame 2 of the stream, test_streams.py:")
 
+    def test_what_is_no_picture_says_which_frame(self):
+        for wrong, kind, fault in ((None, TypeError, "None is no picture"),
+                                   ([[1, 256]], ValueError, "a sample of U8 is")):
+            with self.assertRaisesRegex(vx.BadPicture, f"frame 2 of the stream: {fault}") as caught:
+                [*self.graph.stream([self.picture(0), wrong], self.part, self.out)]
+            self.assertIsInstance(caught.exception, kind)
+
+    @unittest.skipUnless(samples.numpy_module(), "NumPy isn't installed")
+    def test_one_array(self):
+        numpy = samples.numpy_module()
+        picture = numpy.full((4, 6), 7, numpy.uint8)
+        self.assertRaisesRegex(vx.BadPicture, r"one array of shape \(4, 6\): pass \[picture\]",
+                               self.graph.stream, picture, self.part, self.out)
+        # Frames by rows, as bytes have them, and an array of frames.
+        for frames in (picture.reshape(1, 24), picture[None]):
+            (_, out), = self.graph.stream(frames, self.part, self.out)
+            self.assertEqual(out[0, 0], 7)
+
     def test_an_error_of_the_frames(self):
         def camera():
             yield self.picture(1)
@@ -210,6 +229,53 @@ class TestStreams(StationTest):
             shades.append(result[0, 0])
             seen.release()
         self.assertEqual(shades, list(range(5)))
+
+    def test_an_iterator_that_uses_the_context(self):
+        """Another context of the server is its own."""
+        def camera(context):
+            for number in range(5):
+                with context.image(vx.U8, 6, 4) as image:
+                    image.fill(number)
+                    yield image.read().tolist()
+
+        with self.server.context() as other:
+            stream = self.graph.stream(camera(other), self.part, self.out)
+            self.assertEqual(self.shades(stream), [(number, number) for number in range(5)])
+        with self.assertRaisesRegex(ValueError, "create a U8 image .*: the iterator of a stream"):
+            [*self.graph.stream(camera(self.context), self.part, self.out)]
+        with self.assertRaisesRegex(ValueError, "open a pipeline: the iterator of a stream"):
+            [*self.graph.stream((self.context.pipeline().__enter__() for _ in range(1)), self.part,
+                                self.out)]
+        self.assertEqual(self.shades(self.graph.stream(iter([self.picture(3)]), self.part,
+                                                       self.out)), [(3, 3)])
+        until = time.monotonic() + PATIENCE
+        while self.context.barred and time.monotonic() < until:
+            time.sleep(0.001)
+        self.assertEqual(self.context.barred, set())
+
+    @unittest.skipUnless(samples.numpy_module(), "NumPy isn't installed")
+    def test_an_array_that_is_filled_again(self):
+        """Too early it is found out; once the result is there it may be."""
+        numpy = samples.numpy_module()
+        seen, buffer = threading.Semaphore(1), numpy.zeros((4, 6), numpy.uint8)
+
+        def camera(count, waits=False):
+            for number in range(count):
+                if waits:
+                    self.assertTrue(seen.acquire(timeout=PATIENCE))
+                buffer[3] = number
+                yield buffer
+
+        with self.assertRaisesRegex(vx.BadPicture, "filled an array again .*: yield array.copy()"):
+            [*self.graph.stream(camera(100), self.part, self.out)]
+        shades = []
+        for _, out in self.graph.stream(camera(9, waits=True), self.part, self.out):
+            shades.append(out[3, 3])
+            seen.release()
+        self.assertEqual(shades, [*range(9)])
+        # Arrays of their own, and one that stays as it is.
+        for frames in ((frame.copy() for frame in camera(9)), itertools.repeat(buffer, 9)):
+            self.assertEqual(len([*self.graph.stream(frames, self.part, self.out)]), 9)
 
     def test_a_stream_that_is_left(self):
         """Frames without an end; the context goes on."""
@@ -237,14 +303,113 @@ class TestStreams(StationTest):
             found = self.shades(vx.stream([*map(self.picture, range(5))], stations))
         self.assertEqual(found, [(0, 0), (1, 254), (2, 2), (3, 252), (4, 4)])
 
+    def test_virtual_images(self):
+        virtual = self.graph.virtual_image(vx.U8)
+        for camera, out in ((virtual, self.out), (self.part, virtual), (self.part, [virtual])):
+            self.assertRaisesRegex(vx.OptimizedAway, "virtual image 4.* only while its graph runs",
+                                   self.graph.stream, [], camera, out)
+
+    def test_what_the_graph_doesnt_use(self):
+        """Also its input and its output the wrong way round."""
+        other, frames = self.context.image(vx.U8, 6, 4), [self.picture(1)]
+        for camera, out, fault in (
+                (self.out, self.part, "frames of a stream go to image 2"),
+                (other, self.out, "frames of a stream go to image 4"),
+                (self.part, other, "a stream reads image 4"),
+                (self.part, [self.out, other], "a stream reads image 4"),
+                (self.part, self.part, "a stream reads image 1"),
+                (self.part, self.context.min_max(), "a stream reads extremes 5")):
+            with self.subTest(fault):
+                with self.assertRaisesRegex(ValueError, f"{fault}.*which no node of graph 3"):
+                    next(self.graph.stream(frames, camera, out))
+
+    def test_all_that_the_graph_uses(self):
+        """Inputs beside an output; slots of a delay, of which the graph may name others; sums that
+        frames are added to; and nodes that are added after the stream was opened."""
+        delay, sums = self.context.delay(self.part, 2), self.context.image(vx.S16, 6, 4)
+        stream = self.graph.stream([self.picture(1)], self.part, [self.out, self.part, delay[-1]])
+        self.graph.not_(self.part, delay[0])
+        self.graph.register_auto_aging(delay)
+        self.assertEqual([out[0, 0] for out in next(stream)[1]], [1, 1, 254])
+        adding = self.context.graph()
+        adding.accumulate(self.part, sums)
+        self.assertEqual(next(adding.stream([self.picture(2)], sums, sums))[1][0, 0], 3)
+        reading = self.context.graph()
+        reading.not_(delay[-1], self.out)
+        reading.register_auto_aging(delay)
+        frames = [self.picture(3), self.picture(4)]
+        self.assertEqual(self.shades(reading.stream(frames, delay[0], self.out)),
+                         [(3, 1), (4, 252)])
+        aging = self.context.graph()
+        aging.not_(self.part, self.out)
+        aging.register_auto_aging(delay)
+        self.assertEqual(len([*aging.stream(frames, delay[0], self.out)]), 2)
+
     def test_what_is_no_stream(self):
         for call in (lambda: self.graph.stream([], self.part, self.out, ahead=-1),
                      lambda: vx.stream([], []),
                      lambda: [*self.graph.stream([], self.part, [])]):
             self.assertRaises(ValueError, call)
+        self.assertRaisesRegex(TypeError, "a list of them, and no int", self.graph.stream, [],
+                               self.part, 5)
+        for wrong in (None, "out", self.context.delay(self.part, 2), [self.out, None]):
+            with self.subTest(wrong):
+                self.assertRaisesRegex(TypeError, "distributions and extremes|other objects",
+                                       self.graph.stream, [], self.part, wrong)
+        self.assertRaisesRegex(TypeError, "to an image", self.graph.stream, [], None, self.out)
         with self.server.context() as other:
             with self.assertRaises(vx.InvalidScope):
                 next(self.graph.stream([[[1]]], other.image(vx.U8, 1, 1), self.out))
+
+
+LEFT = """
+import os, sys, time
+import feqyldan as vx
+
+def say(word):
+    os.write(1, word.encode() + b" ")
+
+def camera():
+    try:
+        yield [[1]]
+        say("asked")
+        time.sleep(SECONDS)
+        say("taken")
+        yield [[2]]
+    finally:
+        say("left")
+
+with vx.Server(sys.argv[1]) as server, server.context() as context:
+    part, out = (context.image(vx.U8, 1, 1) for _ in range(2))
+    graph = context.graph()
+    graph.not_(part, out)
+    stream = graph.stream(camera(), part, out)
+    next(stream)
+    say("first")
+    if HOW == "fault":
+        raise ValueError("a fault of mine")
+    if HOW == "close":
+        stream.close()
+"""
+
+
+@needs_program
+class TestEnds(ProcessTest):
+    """Programs that end while the iterator of a stream waits for a frame."""
+
+    def ended(self, seconds, how):
+        """The exit status, and what was printed."""
+        client = self.start(f"SECONDS, HOW = {seconds}, {how!r}\n{LEFT}")
+        said = client.communicate(timeout=PATIENCE)[0]
+        return client.returncode, sorted(said.split())
+
+    def test_an_iterator_is_left_before_the_program_ends(self):
+        """What a thread does in C++ at the end would abort the program."""
+        for how, status in (("close", 0), ("fault", 1), ("nothing", 0)):
+            self.assertEqual(self.ended(0.3, how), (status, ["asked", "first", "left", "taken"]))
+
+    def test_an_iterator_that_hangs(self):
+        self.assertEqual(self.ended(1e6, "close"), (0, ["asked", "first"]))
 
 
 if __name__ == "__main__":

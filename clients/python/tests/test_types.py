@@ -64,6 +64,9 @@ with vx.Server() as server, server.context() as context:
     context.image(17, 3, 4)                 # error: arg-type
     context.image(vx.U8, 3.5, 4)            # error: arg-type
     context.vxu.absdiff(out, "oops", out)   # error: arg-type
+    context.vxu.convert_depth(out, out, 0, 0)   # error: arg-type
+    g.medianBlur(out, out)                  # error: attr-defined
+    context.imread("part.png")              # error: attr-defined
     out.width = 3                           # error: misc
     out.vaild = 3                           # error: attr-defined
 """

@@ -92,7 +92,20 @@ class TestWords(ProgramTest):
     def test_work_bytes(self):
         self.graph.convert_depth(self.context.image(U8, 10, 6), self.graph.virtual_image(), vx.WRAP,
                                  0)
-        self.says(vx.NoResources, "Its virtual images have 120 bytes.")
+        self.says(vx.NoResources, "Its virtual images have 120 bytes, and its work bytes are 100.")
+        verdict = verdicts.verdict_on(self.graph.members, wire.NO_RESOURCES)
+        self.assertEqual(verdict.fault,
+                         "Its virtual images have 120 bytes, more than its work bytes.")
+
+    def test_work_bytes_that_nobody_said(self):
+        with vx.Server() as server, server.context() as context:
+            self.assertEqual(server.work, 2**28)
+            camera, graph = context.image(U8, 8192, 8192), context.graph()
+            for _ in range(5):
+                graph.not_(camera, graph.virtual_image())
+            with self.assertRaisesRegex(vx.NoResources, "335,544,320 bytes, and its work bytes are "
+                                        r"268,435,456\. .*vx.Server\(work="):
+                graph.verify()
 
     def test_nodes_that_were_removed(self):
         node = self.graph.not_(self.source, self.source)

@@ -14,4 +14,7 @@ mod CallLemmas
 mod ImmediateLemmas
 mod OutcomeLemmas
 mod WriteLemmas
+mod IncomingLemmas
+mod AgainLemmas
 mod DelayLemmas
+mod KeptLemmas

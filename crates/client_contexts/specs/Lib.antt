@@ -5,4 +5,4 @@ pub mod Lookup
 pub mod Steps
 pub mod Blocks
 pub mod Kept
-pub mod Spare
+pub mod Incoming

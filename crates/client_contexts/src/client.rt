@@ -1,23 +1,25 @@
 //! A client's context: its objects, and its graphs that were found able to run.
-ghost use Rattle.std.specs.Prelude.{◌≡◌, ◌≢◌, false, [], Some, Ok, Err, IfOk, IfErr, OnOk};
+ghost use Rattle.std.specs.Prelude.{◌≡◌, ◌≢◌, false, [], Some, Ok, Err, IfSome, IfOk, IfErr, OnOk, OnErr};
+ghost use Rattle.std.specs.BTreeMap.{is_at};
+ghost use Rattle.std.specs.Map.{lookup};
+ghost use Rattle.std.specs.Option.{option_map};
+ghost use Rattle.std.specs.Ordering.{nat_cmp};
 ghost use Rattle.vx_base.specs.declared.format.Format.TheVariants.{U8 as FormatU8};
 ghost use Rattle.vx_base.specs.Image.{IsImage};
-ghost use Rattle.vx_base.specs.Picture.{picture_of};
+ghost use Rattle.vx_base.specs.Picture.{PictureValue, picture_of};
 ghost use Rattle.pgm_images.specs.Writing.{pgm_text};
 ghost use Rattle.client_model.specs.declared.request.Request.TheVariants.{ReleaseContext};
 ghost use Rattle.client_model.specs.declared.reply.Reply.TheVariants as replies;
+ghost use Rattle.client_model.specs.declared.reply.Reply.TheVariants.{Empty};
 ghost use Rattle.client_model.specs.Request.{TakesMemory};
 ghost use Rattle.client_model.specs.Images.{write_image, write_text, read_image, read_text};
-ghost use Rattle.client_model.specs.Operands.{image_of};
 ghost use Rattle.client_model.specs.Answer.{outcome_of};
 ghost use Rattle.client_model.specs.States.{KeepsLimits};
 ghost use Rattle.object_table.specs.Blocks.{blocks_in, LendsAtLeast, LendsLess, Balances};
-ghost use Rattle.object_table.specs.Blocks.{KeepsBlocks};
 ghost use Rattle.object_table.specs.Context.{new_context};
-ghost use Rattle.client_contexts.specs.Kept.{KeepsVerified, runs_graph};
-ghost use Rattle.client_contexts.specs.Lookup.{IsImageFor, refusal_for};
-ghost use Rattle.client_contexts.specs.Steps.{ComesTo, MayComeTo, WantsMemory, IsContext, Keeps};
-ghost use Rattle.client_contexts.specs.Steps.{told_of};
+ghost use Rattle.client_contexts.specs.Kept.{IsKept, KeepsVerified, runs_graph};
+ghost use Rattle.client_contexts.specs.Incoming.{IsRead, SaysWhyUnwritten, IsRefusedFor};
+ghost use Rattle.client_contexts.specs.Steps.{MayComeTo, WantsMemory, IsContext, Keeps, told_of};
 
 use crate::delays::{age_delay, create_delay, register_auto_aging};
 use crate::fault::RequestFault;
@@ -25,13 +27,14 @@ use crate::graphs::{
     add_node, create_graph, create_virtual_image, process_graph, remove_node, verify_graph,
 };
 use crate::images::{
-    create_image, find_image_for, find_text_image, give_picture, query_image, read_image,
-    read_text, set_valid, write_image, write_text,
+    create_image, find_text_image, query_image, read_image, read_text, set_valid, write_image,
 };
 use crate::immediate::run_at_once;
+use crate::incoming::{write_from, write_text};
 use crate::kept::{Kept, forget};
 use crate::lookup::find_image;
 use crate::objects::release;
+use crate::source::{FillsSamples, WriteFault};
 use crate::statistics::{create_distribution, create_min_max, read_distribution, read_min_max};
 use crate::tables::{create_convolution, create_lut, create_threshold};
 use client_model::{Limits, Refusal, Reply, Request};
@@ -40,7 +43,7 @@ use pixel_pool::Pool;
 use std::alloc::Global;
 use std::collections::BTreeMap;
 use std::marker::Model;
-use vx_base::{Desc, ObjRef, Picture, Samples};
+use vx_base::{Desc, ObjRef};
 
 /// The objects that a client holds, and what was found of its graphs that can run. What is kept of
 /// a graph holds until a node is added to it or removed from it; nothing else changes it.
@@ -70,6 +73,16 @@ impl Client {
             table: Table::new(alloc),
             kept: BTreeMap::new(alloc),
         }
+    }
+
+    /// What is kept of the graph of a name, if anything: its verification, and a plan of the slots of
+    /// its virtual images, both of the nodes that the graph has now.
+    pub fn kept(&self, graph: u32) -> Option<&Kept>
+        ensures holds { IfSome result (λ kept. IsKept self.now.context graph kept.now) }
+        ensures work { option_map (λ kept. kept.now.work) result
+            ≡ lookup (is_at (nat_cmp graph)) self.now.verified }
+    {
+        self.kept.get(&graph)
     }
 
     /// Gives the blocks of all images back, and drops the objects. It takes no memory.
@@ -123,59 +136,55 @@ impl Client {
         }
     }
 
-    /// Writes a picture to an image, whose samples are the picture's own from then on. Those that
-    /// no image has then are left in `spare`. It takes no memory.
-    pub fn write(
+    /// Writes a picture of this description to an image; its samples are read from the source. Where
+    /// it is refused, or there is no memory for it, nothing is read.
+    pub fn write_from<F: FillsSamples>(
         &mut self,
+        pool: &mut Pool,
         reference: ObjRef,
-        picture: Picture,
-        spare: &mut Option<Samples>,
-    ) -> Result<Reply, Refusal>
-        requires { IsContext self.old.context }
-        ensures comes { ComesTo (write_image self.old.context reference picture)
-            self.old.context self.new.context result }
+        desc: Desc,
+        source: &mut F,
+    ) -> Result<(), WriteFault<F::Fault>>
+        requires context { IsContext self.old.context }
+        requires can_fill { F.can_fill source.old }
+        ensures done { OnOk result ((p : PictureValue) ×
+            IsRead F.fills desc source.old source.new p (Ok tt) ×
+            (write_image self.old.context reference p ≡ Ok (Empty, Some self.new.context))) }
+        ensures err { IfErr result (SaysWhyUnwritten F.fills desc source.old source.new
+            (IsRefusedFor self.old.context reference desc)) }
+        ensures same { OnErr result (self.new ≡ self.old) }
         ensures kept { Keeps self.old.context self.new.context }
-        ensures blocks { KeepsBlocks self.old.context.objects self.new.context.objects }
+        ensures balances { Balances pool.old pool.new
+            self.old.context.objects self.new.context.objects }
         ensures verified { self.new.verified ≡ self.old.verified }
     {
-        // The laws of requests speak of these.
+        // The laws of requests speak of it.
         reference.is_cell();
-        let _samples = picture.samples();
-        give_picture(&mut self.table, reference, picture, spare)
+        write_from(&mut self.table, pool, reference, desc, source)
     }
 
-    /// Writes the picture for which a PGM text stands to an image, whose samples are then in memory
-    /// of `spare` or of the allocator. Those that no image has then are left in `spare`.
+    /// Writes the picture for which a PGM text stands to an image; its samples are read from the
+    /// text.
     pub fn write_text(
         &mut self,
-        alloc: Global,
+        pool: &mut Pool,
         reference: ObjRef,
         text: &[u8],
-        spare: &mut Option<Samples>,
     ) -> Result<Reply, RequestFault>
         requires { IsContext self.old.context }
         ensures comes { MayComeTo (write_text self.old.context reference text.now)
             self.old.context self.new.context result }
         ensures kept { Keeps self.old.context self.new.context }
-        ensures blocks { KeepsBlocks self.old.context.objects self.new.context.objects }
+        ensures balances { Balances pool.old pool.new
+            self.old.context.objects self.new.context.objects }
         ensures verified { self.new.verified ≡ self.old.verified }
     {
         // The laws of requests speak of it.
         reference.is_cell();
-        write_text(&mut self.table, alloc, reference, text, spare)
+        write_text(&mut self.table, pool, reference, text)
     }
 
-    /// Whether a picture of this description can be written to the image that a reference names.
-    /// Else the refusal.
-    pub fn accepts(&self, reference: ObjRef, picture: Desc) -> Result<(), Refusal>
-        ensures ok { OnOk result (IsImageFor self.now.context.objects reference picture) }
-        ensures err { IfErr result (λ refusal.
-            refusal_for (image_of self.now.context.objects reference) picture ≡ Some refusal) }
-    {
-        find_image_for(&self.table, reference, picture)
-    }
-
-    /// The image with samples that a reference names, or why it names none.
+    /// Returns the image that a reference names, or why it names no image with samples.
     pub fn image(&self, reference: ObjRef) -> Result<&Stored, Refusal>
         requires { IsContext self.now.context }
         ensures ok { IfOk result (λ image. read_image self.now.context reference
@@ -187,7 +196,7 @@ impl Client {
         find_image(&self.table, reference)
     }
 
-    /// The U8 image that a reference names, or why it names none.
+    /// Returns the U8 image that a reference names, or why it names none.
     pub fn text_image(&self, reference: ObjRef) -> Result<&Stored, Refusal>
         requires { IsContext self.now.context }
         ensures ok { IfOk result (λ image. read_text self.now.context reference
@@ -225,7 +234,7 @@ fn answer(
         Request::QueryImage(reference) => Ok(query_image(table, *reference)?),
         Request::WriteImage(reference, picture) => Ok(write_image(table, *reference, picture)?),
         Request::WriteImagePgm(reference, text) => {
-            write_text(table, alloc, *reference, text.bytes(), &mut None)
+            write_text(table, pool, *reference, text.bytes())
         }
         Request::ReadImage(reference) => read_image(table, alloc, *reference),
         Request::ReadImagePgm(reference) => read_text(table, alloc, *reference),

@@ -37,7 +37,8 @@ pub fn create_graph(table: &mut Table, limits: Limits) -> Result<Reply, RequestF
     hold(table, limits, Object::new(Content::Graph(graph)))
 }
 
-/// Creates a virtual image of the graph with this name, of this outline.
+/// Creates a virtual image of the graph of this name. `declared` is its partial description: width,
+/// height and format, each of which may be left open.
 pub fn create_virtual_image(
     table: &mut Table,
     limits: Limits,

@@ -1,5 +1,5 @@
 //! Requests on images: creating and querying them, writing and reading their samples, also as PGM
-//! texts, and making a part of them valid.
+//! texts, and making a part of them valid. `incoming` has the writes from a source and from a text.
 ghost use Rattle.std.specs.Prelude.{◌≡◌, Some, Ok, Err, IfOk, IfErr, OnOk};
 ghost use Rattle.vx_base.specs.declared.format.Format.TheVariants.{U8 as FormatU8};
 ghost use Rattle.vx_base.specs.Image.{IsImage};
@@ -7,7 +7,7 @@ ghost use Rattle.vx_base.specs.Picture.{picture_of};
 ghost use Rattle.pgm_images.specs.Writing.{pgm_text};
 ghost use Rattle.client_model.specs.declared.reply.Reply.TheVariants as replies;
 ghost use Rattle.client_model.specs.Images.{create_image, described, described_virtual};
-ghost use Rattle.client_model.specs.Images.{query_image, write_image, write_text, read_image};
+ghost use Rattle.client_model.specs.Images.{query_image, write_image, read_image};
 ghost use Rattle.client_model.specs.Images.{read_text, set_valid, picture_refusal, valid_refusal};
 ghost use Rattle.client_model.specs.Operands.{image_of};
 ghost use Rattle.client_model.specs.States.{KeepsLimits};
@@ -18,12 +18,11 @@ ghost use Rattle.client_contexts.specs.Steps.{ComesTo, MayComeTo, IsContext, Kee
 use crate::fault::RequestFault;
 use crate::lookup::{find, find_image};
 use crate::room::{hold_images, look_for_room};
-use crate::spare::room_for;
 use client_model::{Described, Limits, Refusal, Reply, Text};
 use object_table::{Content, Object, Stored, Table};
 use pixel_pool::Pool;
 use std::alloc::Global;
-use vx_base::{Desc, Format, Kind, ObjRef, Outline, Picture, Rect, Samples};
+use vx_base::{Desc, Format, Kind, ObjRef, Outline, Picture, Rect};
 
 /// Creates an image that is 0 everywhere and wholly valid.
 pub fn create_image(
@@ -122,59 +121,6 @@ pub fn write_image(
     let _samples = picture.samples();
     table.write(reference, picture);
     Ok(Reply::Empty)
-}
-
-/// Writes a picture to an image, whose samples are the picture's own from then on: none is copied.
-/// What no image has then is left in `spare`: the samples that the image had, or the picture's
-/// where it is refused. It takes no memory.
-pub fn give_picture(
-    table: &mut Table,
-    reference: ObjRef,
-    picture: Picture,
-    spare: &mut Option<Samples>,
-) -> Result<Reply, Refusal>
-    requires { IsContext table.old }
-    ensures comes { ComesTo (write_image table.old reference picture)
-        table.old table.new result }
-    ensures kept { Keeps table.old table.new }
-    ensures blocks { KeepsBlocks table.old.objects table.new.objects }
-{
-    let desc = picture.desc();
-    let samples = picture.into_samples();
-    if let Err(refusal) = find_image_for(table, reference, desc) {
-        *spare = Some(samples);
-        return Err(refusal);
-    }
-    let (_, left) = table.take(reference);
-    table.put(reference, samples, desc.whole());
-    *spare = Some(left);
-    Ok(Reply::Empty)
-}
-
-/// Writes the picture for which a PGM text stands to an image. Its samples are read from the text
-/// to where the image has them from then on: into memory of `spare`, where that suits, else of the
-/// allocator. What no image has then is left in `spare`, as `give_picture` does.
-pub fn write_text(
-    table: &mut Table,
-    alloc: Global,
-    reference: ObjRef,
-    text: &[u8],
-    spare: &mut Option<Samples>,
-) -> Result<Reply, RequestFault>
-    requires { IsContext table.old }
-    ensures comes { MayComeTo (write_text table.old reference text.now) table.old table.new result }
-    ensures kept { Keeps table.old table.new }
-    ensures blocks { KeepsBlocks table.old.objects table.new.objects }
-{
-    find_image(table, reference)?;
-    let desc = pgm_images::described(text)?;
-    let mut samples = room_for(spare, alloc, desc)?;
-    if let Err(fault) = pgm_images::read_into(text, &mut samples) {
-        *spare = Some(samples);
-        return Err(RequestFault::from(fault));
-    }
-    let picture = Picture::new(desc, samples);
-    Ok(give_picture(table, reference, picture, spare)?)
 }
 
 /// The samples of an image, in memory of the allocator.

@@ -4,10 +4,9 @@
 //! model, the other clients' states are as they were, and where memory was wanted nothing is
 //! changed; so no client sees or moves what another holds. A graph that was verified or has run is
 //! kept as verified until its nodes change or it ends, and so long VerifyGraph of it takes no
-//! memory. Beside it, samples go straight into their image and out of it: `accepts` tells whether a
-//! picture can be written, `room` has memory for its samples, `write` gives them to the image,
-//! `write_text` reads those of a PGM text into it, and `image` and `text_image` lend an image to
-//! who reads it. What they answer is what `apply` would.
+//! memory. Three more ways move samples with no copy: `write_from` reads a picture from a source,
+//! `write_text` from a PGM text, and `image` and `text_image` lend an image to its reader. They
+//! answer what `apply` would.
 //! Each client names its objects by 1, 2, .. in the order in which it made them, and holds at most
 //! 1,024, of which images are charged against its quota. Nodes read their inputs where they stand.
 //! What a node uses is held for it after its name has ended, and a run of a graph takes all its
@@ -22,7 +21,7 @@
 //!   create them and their virtual images, to add and remove nodes, to verify and to run them),
 //!   `immediate` (nodes that run at once), `delays` (to create and age them)
 //! - `kept`: graphs that were found able to run, and are kept as they were verified
-//! - `spare`: memory that no image has, for the samples of a picture that comes
+//! - `source`, `incoming`: pictures that are read from a source or a text, into a block of the pool
 //! - `client`: a client's context, which answers all requests but those that open or release it
 //! - `runtime`: all clients, and the pool of blocks in which the samples of their images are;
 //!   contexts are opened and released there
@@ -35,6 +34,7 @@ mod fault;
 mod graphs;
 mod images;
 mod immediate;
+mod incoming;
 mod kept;
 pub mod laws;
 mod lookup;
@@ -42,9 +42,11 @@ mod memory;
 mod objects;
 mod room;
 mod runtime;
-mod spare;
+mod source;
 mod statistics;
 mod tables;
 
+pub use kept::Kept;
 pub use memory::NoMemory;
 pub use runtime::Runtime;
+pub use source::{FillsSamples, WriteFault};

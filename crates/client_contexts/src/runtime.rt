@@ -1,31 +1,37 @@
 //! All clients, and what their requests do.
-ghost use Rattle.std.specs.Prelude.{◌≡◌, ◌≤◌, [], length, None, Ok, IfOk, IfErr, OnOk};
+ghost use Rattle.std.specs.Prelude.{◌≡◌, ◌≤◌, [], None, Some, Ok, IfSome, IfOk, IfErr, OnOk, OnErr};
+ghost use Rattle.std.specs.BTreeMap.{is_at};
+ghost use Rattle.std.specs.Map.{lookup};
+ghost use Rattle.std.specs.Option.{option_map};
+ghost use Rattle.std.specs.Ordering.{nat_cmp};
 ghost use Rattle.vx_base.specs.declared.format.Format.TheVariants.{U8 as FormatU8};
-ghost use Rattle.vx_base.specs.Description.{sample_count};
 ghost use Rattle.vx_base.specs.Image.{IsImage};
-ghost use Rattle.vx_base.specs.Picture.{PictureValue, values, samples_format, picture_of};
+ghost use Rattle.vx_base.specs.Picture.{PictureValue, picture_of};
 ghost use Rattle.pgm_images.specs.Writing.{pgm_text};
 ghost use Rattle.client_model.specs.declared.request.Request.TheVariants.{ReleaseContext};
 ghost use Rattle.client_model.specs.declared.request.Request.TheVariants.{WriteImage, ReadImage};
 ghost use Rattle.client_model.specs.declared.request.Request.TheVariants.{WriteImagePgm};
 ghost use Rattle.client_model.specs.declared.request.Request.TheVariants.{ReadImagePgm};
 ghost use Rattle.client_model.specs.declared.reply.Reply.TheVariants as replies;
-ghost use Rattle.client_model.specs.Answer.{answer_to};
 ghost use Rattle.client_contexts.specs.Applies.{Applies, AppliesToKept, IsAnswered};
 ghost use Rattle.client_contexts.specs.Blocks.{clients_blocks};
-ghost use Rattle.client_contexts.specs.World.{state_of};
+ghost use Rattle.client_contexts.specs.Incoming.{IsRead, SaysWhyUnwritten, IsRefused};
+ghost use Rattle.client_contexts.specs.Kept.{IsKept};
+ghost use Rattle.client_contexts.specs.World.{state_of, verified_of};
+ghost use Rattle.object_table.specs.Context.{Context};
 
 use crate::client::Client;
 use crate::fault::RequestFault;
+use crate::kept::Kept;
 use crate::memory::NoMemory;
-use crate::spare::room_for;
+use crate::source::{FillsSamples, WriteFault};
 use client_model::{Limits, Reply, Request};
 use object_table::Stored;
 use pixel_pool::Pool;
 use std::alloc::Global;
 use std::collections::BTreeMap;
 use std::marker::Model;
-use vx_base::{Code, Desc, Format, ObjRef, Picture, Samples};
+use vx_base::{Code, Desc, Format, ObjRef};
 
 /// The contexts of the clients, each of which has at most one, and the pool in whose blocks the
 /// samples of their images are.
@@ -35,9 +41,6 @@ pub struct Runtime {
     limits: Limits,
     contexts: BTreeMap<u16, Client>,
     pool: Pool,
-
-    /// Memory that no image has, for the picture that comes next.
-    spare: Option<Samples>,
 }
 
 impl Model for Runtime {
@@ -62,7 +65,6 @@ impl Runtime {
             limits,
             contexts: BTreeMap::new(alloc),
             pool: Pool::new(alloc),
-            spare: None,
         }
     }
 
@@ -81,13 +83,49 @@ impl Runtime {
         self.pool.blocks(format)
     }
 
-    /// Drops the blocks that aren't lent, and what the last `write` was left with: their memory
-    /// goes back to the system. No client notices.
+    /// What is kept of a client's graph, if anything: its verification, and a plan of the slots of
+    /// its virtual images, both of the nodes that the graph has now. VerifyGraph and ProcessGraph
+    /// that succeed keep them; a change of the graph's nodes and its end drop them.
+    pub fn kept(&self, client: u16, graph: u32) -> Option<&Kept>
+        ensures holds { IfSome result (λ kept. (context : Context) ×
+            (state_of client self.now ≡ Some context) × IsKept context graph kept.now) }
+        ensures work { option_map (λ kept. kept.now.work) result
+            ≡ lookup (is_at (nat_cmp graph)) (verified_of client self.now) }
+    {
+        self.contexts.get(&client)?.kept(graph)
+    }
+
+    /// Drops the free blocks: their memory goes back to the system. No client notices.
     pub fn drop_free(&mut self)
         ensures { self.new ≡ self.old }
     {
         self.pool.drop_free();
-        self.spare = None;
+    }
+
+    /// Returns what `ask` gives. Where it finds no memory, the free blocks are dropped and it is
+    /// asked once more.
+    pub fn ask_again<T: Drop, F: Fn() -> Result<T, NoMemory> + Drop>(
+        &mut self,
+        ask: F,
+    ) -> Result<T, NoMemory>
+        requires { F.IsAlwaysCallable ask }
+        ensures given { F.post ask result }
+        ensures same { self.new ≡ self.old }
+    {
+        match ask() {
+            Ok(given) => Ok(given),
+            Err(NoMemory) => {
+                self.drop_free();
+                ask()
+            }
+        }
+    }
+
+    /// Drops free blocks until not too many stay.
+    fn trim(&mut self)
+        ensures { self.new ≡ self.old }
+    {
+        self.pool.trim();
     }
 
     /// Answers a request of a client; a reply that holds samples is made with the allocator.
@@ -103,9 +141,29 @@ impl Runtime {
         ensures applies { Applies client request.now self.old self.new result }
         ensures kept { AppliesToKept client request.now self.old self.new result }
     {
-        let result = self.answer(alloc, client, request);
-        self.pool.trim();
+        let result = self.answer_or_again(alloc, client, request);
+        self.trim();
         result
+    }
+
+    /// Answers a request of a client, as `apply` does. Where it finds no memory, the free blocks are
+    /// dropped and it is answered once more.
+    fn answer_or_again(
+        &mut self,
+        alloc: Global,
+        client: u16,
+        request: &Request,
+    ) -> Result<Reply, NoMemory>
+        ensures applies { Applies client request.now self.old self.new result }
+        ensures kept { AppliesToKept client request.now self.old self.new result }
+    {
+        match self.answer(alloc, client, request) {
+            Ok(reply) => Ok(reply),
+            Err(NoMemory) => {
+                self.drop_free();
+                self.answer(alloc, client, request)
+            }
+        }
     }
 
     /// Answers a request of a client, as `apply` does.
@@ -127,56 +185,56 @@ impl Runtime {
         }
     }
 
-    /// Whether a picture of this description can be written to the image that a client's reference
-    /// names, whatever its samples are. Else the code that WriteImage of it is answered.
-    pub fn accepts(&self, client: u16, reference: ObjRef, picture: Desc) -> Result<(), Code>
-        ensures ok { OnOk result ((p : PictureValue) → p.description ≡ picture →
-            (answer_to self.now.limits (state_of client self.now) (WriteImage reference p)).0
-            ≡ replies.Empty) }
-        ensures err { IfErr result (λ code. (p : PictureValue) → p.description ≡ picture →
-            IsAnswered client (WriteImage reference p) self.now (replies.Refused code)) }
+    /// Writes a picture of this description to an image of a client; its samples are read from the
+    /// source, into the block that the image has from then on. Where the picture is refused,
+    /// whatever its samples are, or there is no memory for it, nothing is read.
+    pub fn write_from<F: FillsSamples>(
+        &mut self,
+        client: u16,
+        reference: ObjRef,
+        desc: Desc,
+        source: &mut F,
+    ) -> Result<(), WriteFault<F::Fault>>
+        requires { F.can_fill source.old }
+        ensures written { OnOk result ((p : PictureValue) ×
+            IsRead F.fills desc source.old source.new p (Ok tt) ×
+            Applies client (WriteImage reference p) self.old self.new (Ok replies.Empty) ×
+            AppliesToKept client (WriteImage reference p) self.old self.new (Ok replies.Empty)) }
+        ensures err { IfErr result (SaysWhyUnwritten F.fills desc source.old source.new
+            (IsRefused client reference desc self.old)) }
+        ensures same { OnErr result (self.new ≡ self.old) }
     {
-        match self.contexts.get(&client) {
-            Some(held) => match held.accepts(reference, picture) {
-                Ok(()) => Ok(()),
-                Err(refusal) => Err(refusal.code()),
-            },
-            None => Err(Code::InvalidReference),
-        }
+        let result = self.write_once(client, reference, desc, source);
+        self.trim();
+        result
     }
 
-    /// Memory for the samples of a picture that a client is about to write: what the last `write`
-    /// was left with, where that suits, else new memory. The samples may be anything: who takes
-    /// them writes each of them.
-    pub fn room(&mut self, desc: Desc) -> Result<Samples, NoMemory>
-        ensures format { IfOk result (λ samples. samples_format samples ≡ desc.format) }
-        ensures count { IfOk result (λ samples. length (values samples) ≡ sample_count desc) }
-        ensures same { self.new ≡ self.old }
-    {
-        Ok(room_for(&mut self.spare, self.alloc, desc)?)
-    }
-
-    /// Writes a picture to an image of a client, whose samples are the picture's own from then on:
-    /// none is copied. It takes no memory.
-    pub fn write(&mut self, client: u16, reference: ObjRef, picture: Picture) -> Reply
-        ensures applies { Applies client (WriteImage reference picture)
-            self.old self.new (Ok result) }
-        ensures kept { AppliesToKept client (WriteImage reference picture)
-            self.old self.new (Ok result) }
+    /// Writes a picture, as `write_from` does.
+    fn write_once<F: FillsSamples>(
+        &mut self,
+        client: u16,
+        reference: ObjRef,
+        desc: Desc,
+        source: &mut F,
+    ) -> Result<(), WriteFault<F::Fault>>
+        requires { F.can_fill source.old }
+        ensures written { OnOk result ((p : PictureValue) ×
+            IsRead F.fills desc source.old source.new p (Ok tt) ×
+            Applies client (WriteImage reference p) self.old self.new (Ok replies.Empty) ×
+            AppliesToKept client (WriteImage reference p) self.old self.new (Ok replies.Empty)) }
+        ensures err { IfErr result (SaysWhyUnwritten F.fills desc source.old source.new
+            (IsRefused client reference desc self.old)) }
+        ensures same { OnErr result (self.new ≡ self.old) }
     {
         let Some(held) = self.contexts.get_mut(&client) else {
-            self.spare = Some(picture.into_samples());
-            return Reply::Refused(Code::InvalidReference);
+            return Err(WriteFault::Refused(Code::InvalidReference));
         };
-        match held.write(reference, picture, &mut self.spare) {
-            Ok(reply) => reply,
-            Err(refusal) => Reply::Refused(refusal.code()),
-        }
+        held.write_from(&mut self.pool, reference, desc, source)
     }
 
     /// Writes the picture for which a PGM text stands to an image of a client. Its samples are read
-    /// from the text to where the image has them from then on, into memory as `room` has it.
-    /// `NoMemory` is told only where memory was refused, and nothing is changed then.
+    /// from the text into the block that the image has from then on. `NoMemory` is told only where
+    /// memory was refused, and nothing is changed then.
     pub fn write_text(
         &mut self,
         client: u16,
@@ -188,11 +246,27 @@ impl Runtime {
         ensures kept { AppliesToKept client (WriteImagePgm reference text.now)
             self.old self.new result }
     {
-        let alloc = self.alloc;
+        let result = self.write_text_once(client, reference, text);
+        self.trim();
+        result
+    }
+
+    /// Writes the picture of a text, as `write_text` does.
+    fn write_text_once(
+        &mut self,
+        client: u16,
+        reference: ObjRef,
+        text: &[u8],
+    ) -> Result<Reply, NoMemory>
+        ensures applies { Applies client (WriteImagePgm reference text.now)
+            self.old self.new result }
+        ensures kept { AppliesToKept client (WriteImagePgm reference text.now)
+            self.old self.new result }
+    {
         let Some(held) = self.contexts.get_mut(&client) else {
             return Ok(Reply::Refused(Code::InvalidReference));
         };
-        match held.write_text(alloc, reference, text, &mut self.spare) {
+        match held.write_text(&mut self.pool, reference, text) {
             Ok(reply) => Ok(reply),
             Err(RequestFault::Refused(refusal)) => Ok(Reply::Refused(refusal.code())),
             Err(RequestFault::NoMemory) => Err(NoMemory),

@@ -35,7 +35,7 @@ pub fn create_distribution(
     )
 }
 
-/// The counts of a distribution, in memory of the allocator.
+/// Returns a copy of the counts of the distribution of this name, in memory of `alloc`.
 pub fn read_distribution(table: &Table, alloc: Global, name: u32) -> Result<Reply, RequestFault>
     ensures { MayComeTo (read_distribution table.now name) table.now table.now result }
 {
@@ -49,7 +49,7 @@ pub fn read_distribution(table: &Table, alloc: Global, name: u32) -> Result<Repl
     }
 }
 
-/// Creates extremes that were found nowhere.
+/// Creates extremes, all of whose numbers are 0.
 pub fn create_min_max(table: &mut Table, limits: Limits) -> Result<Reply, RequestFault>
     ensures comes { MayComeTo (create limits table.old (ExtremesObject no_extremes))
         table.old table.new result }
@@ -68,7 +68,8 @@ pub fn create_min_max(table: &mut Table, limits: Limits) -> Result<Reply, Reques
     hold(table, limits, Object::new(Content::Extremes(extremes)))
 }
 
-/// The extremes with this name.
+/// Returns the extremes of this name, or why there are none: the client holds no object of this
+/// name, or an object of another kind.
 pub fn read_min_max(table: &Table, name: u32) -> Result<Reply, Refusal>
     ensures { ComesTo (read_min_max table.now name) table.now table.now result }
 {

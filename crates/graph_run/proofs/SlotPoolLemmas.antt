@@ -1,5 +1,5 @@
 -- Blocks of a pool that slots take and give back.
-use Rattle.std.proofs.Common.{◌≡◌, ◌≢◌, ℕ, zero, suc, ◌+◌, ◌*◌, ◌≤◌, ◌⊎◌, List, [], ◌∷◌, ◌++◌, length, map, max, refl, sym, ap, ◌∙◌, arith, if◌then◌else◌, sum_by, append_assoc, Option, Some, None}
+use Rattle.std.proofs.Common.{◌≡◌, ◌≢◌, ℕ, zero, suc, ◌+◌, ◌*◌, ◌≤◌, ◌⊎◌, List, [], ◌∷◌, ◌++◌, length, map, refl, sym, ap, ◌∙◌, arith, if◌then◌else◌, sum_by, append_assoc, Option, Some, None}
 use Rattle.graph_run.proofs.Common.{range_with_len, map-append, Format, values, samples_format, same_format, lent_of, blocks_of, Slot, room_of, slot_blocks}
 use Rattle.std.proofs.lemmas.List.FromFn.{map-range_with_len_more}
 use Rattle.std.proofs.lemmas.List.Sums.{sum_by_push, sum_by-cons, sum_by-append}
@@ -16,9 +16,9 @@ formats : (f g : Format) → ((f ≡ g) × (one_of g f ≡ 1)) ⊎ ((f ≢ g) ×
 formats f g = grind arith
 
 -- a block that is taken adds at most one
-pub taken_adds : (old new : Pool) (format : Format) → Lends old new format → blocks_of new format ≡ max (blocks_of old format) (lent_of new format) → KeepsOtherFree old new format
+pub taken_adds : (old new : Pool) (format : Format) → Lends old new format → blocks_of new format ≤ blocks_of old format + 1 → KeepsOtherFree old new format
     → (f : Format) → blocks_of new f ≤ blocks_of old f + one_of format f
-taken_adds old new format lends blocks others f = grind (arith, formats)
+taken_adds old new format lends most others f = grind (arith, formats)
 
 -- ---- one slot more
 

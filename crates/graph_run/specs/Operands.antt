@@ -35,9 +35,13 @@ pub record CellsStand (is : Cell → Operand) (nodes : List Node) (objects : Lis
   pub found : (n : Node) (cell : Cell) → In n nodes → names_cell n cell ≡ true → HoldsOperand objects cell (is cell)
   pub kinds : (n : Node) (cell : Cell) → In n nodes → writes n cell ≡ true → StandsFor (is cell) (parameters n.function).output
 
+-- what a cell is that isn't held: as a delay, no function takes it
+abbrev pub missing : Operand
+missing = Delay
+
 -- what a cell is to a graph whose node names it
 abbrev pub operand_held : List Named → Cell → Operand
-operand_held objects cell = unwrap_or (option_map operand_of (held objects cell)) Delay
+operand_held objects cell = unwrap_or (option_map operand_of (held objects cell)) missing
 
 -- a verified graph that can run: nothing refuses it, and each cell that its nodes name holds what their functions have there
 pub record IsReady (objects : List Named) (nodes : List Node) (v : Verified) : Type 0 where

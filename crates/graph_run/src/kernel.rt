@@ -20,7 +20,7 @@ use pixel_kernels::{
 };
 use stat_kernels::integral;
 use vx_base::{Function, Node, Output};
-use window_kernels::{box3, convolve, dilate3, erode3, gaussian3, median3, sobel_x3, sobel_y3};
+use window_kernels::{box3, convolve, dilate3, erode3, gaussian3, median3, sobel3};
 
 /// Writes what the node's function gives to one of its outputs, an image, or to the rows of it that
 /// are lent: each sample, and the rectangle.
@@ -118,8 +118,8 @@ fn run_on_one(node: &Node, which: Output, first: &Image<'_>, output: &mut ImageM
         Function::Erode => erode3(first, output, border),
         Function::Dilate => dilate3(first, output, border),
         Function::Sobel => match which {
-            Output::First => sobel_x3(first, output, border),
-            Output::Second => sobel_y3(first, output, border),
+            Output::First => sobel3(first, Some(output), None, border),
+            Output::Second => sobel3(first, None, Some(output), border),
         },
         Function::Integral => integral(first, output),
         _ => unreachable!(),

@@ -111,7 +111,8 @@ impl Stage {
         self.slots.iter().position(|slot| slot.is_of(name))
     }
 
-    /// The image that a cell holds, lent to who reads it.
+    /// Returns a read-only view of the image to which a reference refers, in a slot or in the
+    /// table.
     pub fn image(&self, cell: ObjRef) -> Image<'_>
         requires stage { IsArranged self.now }
         requires there { HoldsImage (scene self.now).objects cell }

@@ -461,6 +461,6 @@ fn run_both(
 {
     let mut x = ImageMut::new(desc_x, samples_x);
     let mut y = ImageMut::new(desc_y, samples_y);
-    sobel3(image, &mut x, &mut y, node.border);
+    sobel3(image, Some(&mut x), Some(&mut y), node.border);
     (x.valid(), y.valid())
 }

@@ -24,7 +24,7 @@ pub fn integrates(node: &Node) -> bool
     matches!(node.function, Function::Integral)
 }
 
-/// Writes the band of the integral image to the output of a node, if it is there.
+/// Writes the band of `strip` of a node's integral image to the node's output, if it has one.
 pub fn sum_output(stage: &mut Stage, node: &Node, strip: Strip)
     requires stage { IsStage stage.old }
     requires strip { IsWithinRows strip }

@@ -74,7 +74,7 @@ fn operand_held_if(table: &Table, cell: Option<ObjRef>) -> Option<Operand>
     }
 }
 
-/// What a cell is to a node of a graph, for which its name needn't be live.
+/// Returns what a reference is as an operand of a graph's node. Its name may have been released.
 pub fn operand_held(table: &Table, cell: ObjRef) -> Operand
     ensures { result ≡ operand_held table.now.objects cell }
 {

@@ -136,8 +136,8 @@ fn changes(right: u16, down: u16) -> Option<([i16; 3], [i16; 3])>
     );
     sobel3(
         &image,
-        &mut right_target,
-        &mut down_target,
+        Some(&mut right_target),
+        Some(&mut down_target),
         Border::Replicate,
     );
     Some((to_right, below))

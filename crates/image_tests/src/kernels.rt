@@ -91,7 +91,12 @@ fn gradients(border: Border) -> Option<[[i16; 9]; 2]> {
     let (mut right, mut down) = ([77; 9], [77; 9]);
     let mut right_target = ImageMut::new(desc, &mut right);
     let mut down_target = ImageMut::new(desc, &mut down);
-    sobel3(&image, &mut right_target, &mut down_target, border);
+    sobel3(
+        &image,
+        Some(&mut right_target),
+        Some(&mut down_target),
+        border,
+    );
     Some([right, down])
 }
 

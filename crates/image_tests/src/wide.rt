@@ -52,7 +52,12 @@ fn changes() -> Option<([i16; 7], [i16; 7])> {
     convolve(&image, &matrix, &mut target, Border::Replicate);
     let mut target = ImageMut::new(wide, &mut right);
     let mut other = ImageMut::new(wide, &mut down);
-    sobel3(&image, &mut target, &mut other, Border::Replicate);
+    sobel3(
+        &image,
+        Some(&mut target),
+        Some(&mut other),
+        Border::Replicate,
+    );
     let (mut right_part, mut share_part) = ([77; 7], [77; 7]);
     right_part.copy_from_slice(&right[1021..1028]);
     share_part.copy_from_slice(&shares[1021..1028]);

@@ -9,7 +9,7 @@ use crate::images::lend;
 use image_core::{Image, ImageMut};
 use lane_rows::{Nine, Three, max9, median9, min9, sobel_x, sobel_y};
 use vx_base::{Border, Desc, Format, Rect};
-use window_kernels::{box3, dilate3, erode3, gaussian3, median3, sobel_x3, sobel_y3};
+use window_kernels::{box3, dilate3, erode3, gaussian3, median3, sobel3};
 
 const LENGTHS: [usize; 9] = [0, 1, 15, 16, 17, 31, 33, 64, 65];
 
@@ -129,7 +129,7 @@ fn windows(rows: &[[u8; LONGEST]; 9], count: usize) -> Nine<'_>
     }
 }
 
-/// Whether these are what the function gives at so many places of nine rows, and 77 after them.
+/// Whether the first `count` numbers are what the function gives of nine rows, and the others 77.
 fn are_of_nine<T: Copy + Into<i32>>(
     function: Function,
     rows: &[[u8; LONGEST]; 9],
@@ -244,8 +244,8 @@ fn write_shorts(function: Function, image: &Image<'_>, output: &mut ImageMut<'_>
     requires { WindowFits S16 image.now output.old }
 {
     match function {
-        Function::SobelX => sobel_x3(image, output, border),
-        _ => sobel_y3(image, output, border),
+        Function::SobelX => sobel3(image, Some(output), None, border),
+        _ => sobel3(image, None, Some(output), border),
     }
 }
 

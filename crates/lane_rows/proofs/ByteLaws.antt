@@ -45,10 +45,10 @@ where_w8 t a b = elim t as (λ v. cond (top 7 (cond v 255 0)) a b ≡ cond v a b
 greater_lane : (x y : ℕ) → cond (ltb x y) y x ≡ max x y
 greater_lane x y = grind arith
 
-smallest_at : (x y : ℕ) → cond (top 7 (less x y)) x y ≡ min x y
+pub smallest_at : (x y : ℕ) → cond (top 7 (less x y)) x y ≡ min x y
 smallest_at x y = where_w8 (ltb x y) x y ∙ smaller_lane x y
 
-largest_at : (x y : ℕ) → cond (top 7 (less x y)) y x ≡ max x y
+pub largest_at : (x y : ℕ) → cond (top 7 (less x y)) y x ≡ max x y
 largest_at x y = where_w8 (ltb x y) y x ∙ greater_lane x y
 
 below : (x y : ℕ) → x < y → pos x -ℤ pos y ≡ negsuc (y - suc x)

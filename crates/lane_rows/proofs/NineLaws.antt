@@ -1,6 +1,6 @@
 -- What is computed in lanes of the nine samples of windows, lane by lane.
-use Rattle.std.proofs.Common.{◌≡◌, ℕ, ℤ, pos, List, [], ◌∷◌, length, map, Bool, true, false, cond, min, max, ltb, refl, ap, ◌∙◌, sym, arith}
-use Rattle.lane_rows.proofs.Common.{range_with_len, sel_l, zip2, length-map, put_chunk_whole, top}
+use Rattle.std.proofs.Common.{◌≡◌, ℕ, ℤ, pos, List, [], ◌∷◌, length, map, Bool, cond, refl, ap, ◌∙◌, sym}
+use Rattle.lane_rows.proofs.Common.{range_with_len, sel_l, zip2, length-map, put_chunk_whole}
 use Rattle.std.specs.Simd.Lanes.{put_chunk}
 use Rattle.std.proofs.lemmas.Simd.{map-map}
 use Rattle.vx_base.specs.Image.{run}
@@ -21,21 +21,6 @@ pub chosen_turned : (t : ℕ → Bool) (m : ℕ → ℕ → ℕ) (f : ℕ → �
 chosen_turned t m f same [] ys = refl
 chosen_turned t m f same (x ∷ xs) [] = refl
 chosen_turned t m f same (x ∷ xs) (y ∷ ys) = cc (same x y, chosen_turned t m f same xs ys)
-
-chosen_w8 : (t : Bool) (a b : ℕ) → cond (top 7 (cond t 255 0)) a b ≡ cond t a b
-chosen_w8 t a b = elim t as (λ v. cond (top 7 (cond v 255 0)) a b ≡ cond v a b) [ true ↦ refl | false ↦ refl ]
-
-smaller_lane : (x y : ℕ) → cond (ltb x y) x y ≡ min x y
-smaller_lane x y = grind arith
-
-greater_lane : (x y : ℕ) → cond (ltb x y) y x ≡ max x y
-greater_lane x y = grind arith
-
-pub less : (x y : ℕ) → cond (top 7 (cond (ltb x y) 255 0)) x y ≡ min x y
-less x y = chosen_w8 (ltb x y) x y ∙ smaller_lane x y
-
-pub more : (x y : ℕ) → cond (top 7 (cond (ltb x y) 255 0)) y x ≡ max x y
-more x y = chosen_w8 (ltb x y) y x ∙ greater_lane x y
 
 pub same_three : {A B : Type 0} (g : A → A → A → B) {a b c p q r : A} → a ≡ p → b ≡ q → c ≡ r → g a b c ≡ g p q r
 same_three g x y z = cc (x, y, z)

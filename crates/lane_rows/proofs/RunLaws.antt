@@ -59,7 +59,7 @@ pub whole_run : {T : Type 0} (value : T → ℤ) (g : ℕ → ℤ) (out : List T
 whole_run value g out i n long end is = ap (map value) (sym (take_all i out (omega (arith, long, end)))) ∙ is ∙ ap (λ m. run 0 m g) end
 
 -- items of a row that are loaded
-pub loaded_is : (n : ℕ) (xs : List ℕ) (i : ℕ) → i + n ≤ length xs → chunk 0 n (take (i + n - i) (drop i xs)) ≡ map (λ k. get_or xs k 0) (range_with_len i n)
-loaded_is n xs i inside =
+pub loaded_is : {A : Type 0} (n : ℕ) (xs : List A) (i : ℕ) (d : A) → i + n ≤ length xs → chunk 0 n (take (i + n - i) (drop i xs)) ≡ map (λ k. get_or xs k d) (range_with_len i n)
+loaded_is n xs i d inside =
     let e : i + n - i ≡ n = omega arith in
-    ap (λ m. take n (take m (drop i xs))) e ∙ take-take n n (drop i xs) (omega arith) ∙ sym (pick_l-range_with_len 0 xs i n inside)
+    ap (λ m. take n (take m (drop i xs))) e ∙ take-take n n (drop i xs) (omega arith) ∙ sym (pick_l-range_with_len d xs i n inside)

@@ -1,21 +1,15 @@
 -- Three rows of numbers that are added up, in lanes.
-use Rattle.std.proofs.Common.{◌≡◌, ℕ, ℤ, pos, negsuc, zero, suc, ◌+◌, ◌-◌, ◌/◌, ◌%◌, ◌<◌, ◌≤◌, ◌+ℤ◌, ◌*ℤ◌, List, [], ◌∷◌, length, map, take, drop, get_or, refl, ap, ◌∙◌, sym, subst, arith, take-take, w16, of_z, to_z, map-id}
-use Rattle.lane_rows.proofs.Common.{range_with_len, zip2, chunk, ints, Each1, length-map, length-zip2, put_chunk_whole}
+use Rattle.std.proofs.Common.{◌≡◌, ℕ, ℤ, pos, negsuc, zero, suc, ◌+◌, ◌/◌, ◌%◌, ◌<◌, ◌≤◌, ◌+ℤ◌, ◌*ℤ◌, List, [], ◌∷◌, length, map, get_or, refl, ap, ◌∙◌, sym, subst, arith, w16, of_z, to_z, map-id}
+use Rattle.lane_rows.proofs.Common.{zip2, ints, Each1, length-map, length-zip2, put_chunk_whole}
 use Rattle.std.proofs.Math.Dec.{T}
 use mir.Val.{Fits}
 use lib.IntN.{nat_abs}
 use lib.Signed.{non_neg}
 use Rattle.std.specs.Simd.Lanes.{put_chunk}
-use Rattle.std.proofs.lemmas.Simd.{pick_l-range_with_len}
 use Rattle.std.proofs.Math.ListN.{get_or-map}
-use Rattle.lane_rows.specs.Threes.{IsUpTo, AreUpTo, number_at, zip3}
+use Rattle.lane_rows.specs.Threes.{IsUpTo, AreTaken, AreUpTo, number_at, zip3}
 
 -- ---- numbers that are loaded
-
-pub chunk_is : {A : Type 0} (n : ℕ) (xs : List A) (i : ℕ) (d : A) → i + n ≤ length xs → chunk 0 n (take (i + n - i) (drop i xs)) ≡ map (λ k. get_or xs k d) (range_with_len i n)
-chunk_is n xs i d inside =
-    let e : i + n - i ≡ n = omega arith in
-    ap (λ m. take n (take m (drop i xs))) e ∙ take-take n n (drop i xs) (omega arith) ∙ sym (pick_l-range_with_len d xs i n inside)
 
 -- bytes
 pub bytes_loaded : (xs : List ℕ) (ks : List ℕ) → map pos (map (λ n. n) (map (λ k. get_or xs k 0) ks)) ≡ map (number_at (map pos xs)) ks
@@ -132,10 +126,19 @@ zip3_of_maps f p q r ks xs ys zs one two three = rw (one, two, three) (zip3-map 
 
 -- ---- one item
 
+pub item_at : {A : Type 0} (value : A → ℤ) (xs : List A) (i : ℕ) (d : A) → i < length xs → value (get_or xs i d) ≡ number_at (map value xs) i
+item_at value [] i d below = absurd (omega (arith, below))
+item_at value (x ∷ xs) zero d below = refl
+item_at value (x ∷ xs) (suc i) d below = item_at value xs i d (omega (arith, below))
+
 pub item_is : {A : Type 0} (value : A → ℤ) (xs : List A) (i : ℕ) (x : A) → i < length xs → x ≡ get_or xs i x → value x ≡ number_at (map value xs) i
-item_is value [] i x below is = absurd (omega (arith, below))
-item_is value (y ∷ ys) zero x below is = ap value is
-item_is value (y ∷ ys) (suc i) x below is = item_is value ys i x (omega (arith, below)) is
+item_is value xs i x below is = ap value is ∙ item_at value xs i x below
+
+pub item_taken : {A : Type 0} (takes : ℤ → Type 0) (value : A → ℤ) (xs : List A) (i : ℕ) (d : A) → i < length xs → AreTaken takes (map value xs) → takes (value (get_or xs i d))
+item_taken takes value xs i d below all = subst takes (sym (item_at value xs i d below)) (all i)
+
+pub item_is_taken : {A : Type 0} (takes : ℤ → Type 0) (value : A → ℤ) (xs : List A) (i : ℕ) (x : A) → i < length xs → x ≡ get_or xs i x → AreTaken takes (map value xs) → takes (value x)
+item_is_taken takes value xs i x below is all = subst takes (sym (item_is value xs i x below is)) (all i)
 
 -- ---- numbers that are stored
 

@@ -10,9 +10,13 @@ IsUpTo limit z = (pos 0 ≤ℤ z) × (z ≤ℤ pos limit)
 abbrev pub number_at : List ℤ → ℕ → ℤ
 number_at row i = slice_index_or row i (pos 0)
 
+-- each number of a row is one that is taken
+abbrev pub AreTaken : (ℤ → Type 0) → List ℤ → Type 0
+AreTaken takes row = (i : ℕ) → takes (number_at row i)
+
 -- each number of a row is from 0 to the limit
 abbrev pub AreUpTo : ℕ → List ℤ → Type 0
-AreUpTo limit row = (i : ℕ) → IsUpTo limit (number_at row i)
+AreUpTo limit row = AreTaken (IsUpTo limit) row
 
 -- a function of three numbers, at each place of three rows
 abbrev pub zip3 : (ℤ → ℤ → ℤ → ℤ) → List ℤ → List ℤ → List ℤ → List ℤ

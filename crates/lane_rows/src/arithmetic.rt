@@ -1,4 +1,6 @@
 //! Kernels of two U8 or S16 items, at the formats that they may have.
+#![tactic(auto, using(crate::proofs::ShortLaws::fit_as_bits))]
+
 ghost use Rattle.std.specs.Prelude.{◌≡◌, ℤ, pos, map, length, FitsSigned};
 ghost use Rattle.std.specs.Int.{w16};
 ghost use Rattle.std.specs.Simd.Lanes.{zip2, Each1};

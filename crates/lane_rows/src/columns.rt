@@ -1,11 +1,11 @@
-//! Kernels of three rows, by which gradients go down the columns of three rows of bytes and then
-//! across three columns.
+//! Kernels of three rows, by which windows go down the columns of three rows of bytes and then
+//! across three columns, and those of gradients.
 //!
-//! They are plain loops, which the compiler computes in lanes as wide as the processor's. Lanes of
-//! 32 numbers of 16 bits take 1.1 to 1.2 times as long on processors with lanes of 16 bytes.
+//! Gradients are plain loops, which the compiler computes in lanes as wide as the processor's. Lanes
+//! of 32 numbers of 16 bits take 1.1 to 1.2 times as long on processors with lanes of 16 bytes.
 ghost use Rattle.std.specs.Prelude.{◌≡◌, ◌≤◌, ◌+ℤ◌, ◌-ℤ◌, ◌*ℤ◌, ℤ, pos, map, length, unsigned_abs};
 ghost use Rattle.vx_base.specs.Image.{run};
-ghost use Rattle.lane_rows.specs.Threes.{number_at};
+ghost use Rattle.lane_rows.specs.Threes.{AreTaken, number_at};
 
 use crate::item::Item;
 
@@ -45,13 +45,33 @@ impl Change {
     }
 }
 
-/// A function of three numbers.
+/// A kernel of three rows.
 pub trait OfColumn<A: Item, T: Item> {
     ghost formula: { ℤ → ℤ → ℤ → ℤ };
 
+    /// The numbers that it takes.
+    ghost takes: { ℤ → Type 0 };
+
     /// Returns what it gives of three items.
     fn item(first: A, second: A, third: A) -> T
+        requires { takes (A.value first) × takes (A.value second) × takes (A.value third) }
         ensures { T.value result ≡ formula (A.value first) (A.value second) (A.value third) };
+
+    /// Writes what it gives at each place of three rows, item by item.
+    fn write(first: &[A], second: &[A], third: &[A], out: &mut [T])
+        requires first_len { length first.now ≡ length out.old }
+        requires second_len { length second.now ≡ length out.old }
+        requires third_len { length third.now ≡ length out.old }
+        requires taken { AreTaken takes (map A.value first.now)
+            × AreTaken takes (map A.value second.now) × AreTaken takes (map A.value third.now) }
+        ensures { map T.value out.new ≡ run 0 (length out.old)
+            (λ i. formula (number_at (map A.value first.now) i)
+            (number_at (map A.value second.now) i) (number_at (map A.value third.now) i)) }
+    {
+        for (i, item) in out.iter_mut().enumerate() {
+            *item = Self::item(first[i], second[i], third[i]);
+        }
+    }
 }
 
 /// The sum of three numbers, the middle one twice.
@@ -61,6 +81,8 @@ pub struct Weighted;
 impl OfColumn<u8, WeightedSum> for Weighted {
     ghost formula = { λ a b c. a +ℤ pos 2 *ℤ b +ℤ c };
 
+    ghost takes = { λ _. Unit {0} };
+
     fn item(first: u8, second: u8, third: u8) -> WeightedSum {
         let sum = u16::from(first) + 2 * u16::from(second) + u16::from(third);
         WeightedSum { sum }
@@ -69,6 +91,8 @@ impl OfColumn<u8, WeightedSum> for Weighted {
 
 impl OfColumn<Change, i16> for Weighted {
     ghost formula = { λ a b c. a +ℤ pos 2 *ℤ b +ℤ c };
+
+    ghost takes = { λ _. Unit {0} };
 
     fn item(first: Change, second: Change, third: Change) -> i16 {
         first.change + 2 * second.change + third.change
@@ -82,6 +106,8 @@ pub struct Rise;
 impl OfColumn<u8, Change> for Rise {
     ghost formula = { λ a _ c. c -ℤ a };
 
+    ghost takes = { λ _. Unit {0} };
+
     fn item(first: u8, _second: u8, third: u8) -> Change {
         let change = i16::from(third) - i16::from(first);
         Change { change }
@@ -91,26 +117,9 @@ impl OfColumn<u8, Change> for Rise {
 impl OfColumn<WeightedSum, i16> for Rise {
     ghost formula = { λ a _ c. c -ℤ a };
 
+    ghost takes = { λ _. Unit {0} };
+
     fn item(first: WeightedSum, _second: WeightedSum, third: WeightedSum) -> i16 {
         third.sum as i16 - first.sum as i16
-    }
-}
-
-/// Writes the function at each place of three rows.
-pub fn write_columns<A: Item, T: Item, K: OfColumn<A, T>>(
-    first: &[A],
-    second: &[A],
-    third: &[A],
-    out: &mut [T],
-)
-    requires first { length first.now ≡ length out.old }
-    requires second { length second.now ≡ length out.old }
-    requires third { length third.now ≡ length out.old }
-    ensures { map T.value out.new ≡ run 0 (length out.old)
-        (λ i. K.formula (number_at (map A.value first.now) i)
-        (number_at (map A.value second.now) i) (number_at (map A.value third.now) i)) }
-{
-    for (i, item) in out.iter_mut().enumerate() {
-        *item = K::item(first[i], second[i], third[i]);
     }
 }

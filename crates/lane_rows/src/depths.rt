@@ -1,4 +1,6 @@
 //! Items of one format from those of another.
+#![tactic(auto, using(crate::proofs::ShortLaws::fit_as_bits))]
+
 ghost use Rattle.std.specs.Prelude.{◌≡◌, ◌≤◌, ◌^◌, ◌*ℤ◌, pos, map, length};
 ghost use Rattle.vx_base.specs.declared.format.Format.TheVariants.{U8};
 ghost use Rattle.vx_base.specs.Pixelwise.{converted};

@@ -18,11 +18,14 @@
 //!   where first
 //! - `tallies`: how often each byte stands in a row
 //! - `running`: running sums of a row, beside those above it
+//! - `places`: rows that are written place by place, in blocks of 32 places of which the last may
+//!   overlap the one before
 //! - `nine_rows`, `nine`: the nine samples of windows as nine rows, and rows of what a kernel gives
-//!   of them, written 32 places at a time
-//! - `ranks`, `gradients`: the kernels of nine samples
+//!   of them
+//! - `ranks`, `gradients`: the kernels of nine samples, and choices of three
 //! - `threes`: sums and means of three rows of numbers that aren't negative
-//! - `columns`: weighted sums and differences of three rows, which may be negative, for gradients
+//! - `columns`: what a kernel of three rows is; weighted sums and differences, which may be
+//!   negative, for gradients
 //! - `axpy`: a coefficient times a row of bytes, added to sums
 //! - `matrix_rows`: sums of rows of samples, each times a coefficient of a matrix, by `pairs` of
 //!   coefficients
@@ -82,6 +85,7 @@ mod nine_rows;
 mod occurrences;
 mod overflow;
 mod pairs;
+mod places;
 mod products;
 mod ranks;
 mod rows;
@@ -98,7 +102,7 @@ pub use accumulation::{Accumulated, Squared, accumulate, accumulate_square};
 pub use arithmetic::{Arithmetic, OfSamples};
 pub use axpy::axpy_i32;
 pub use bits::{And, Not, Or, Xor, and_u8, not_u8, or_u8, xor_u8};
-pub use columns::{Change, OfColumn, Rise, Weighted, WeightedSum, write_columns};
+pub use columns::{Change, OfColumn, Rise, Weighted, WeightedSum};
 pub use compared::Compared;
 pub use depths::{Narrowed, ShiftedUp, narrow, shift_up, widen};
 pub use distances::{Distance, absdiff_s16, absdiff_u8};
@@ -114,12 +118,12 @@ pub use nine_rows::{Nine, Three};
 pub use occurrences::{count_of, first_of};
 pub use overflow::{Overflow, Saturated, Wrapped};
 pub use products::{Product, mul_s16, mul_u8};
-pub use ranks::{Greatest, Least, Median, max3, max9, median9, min3, min9};
+pub use ranks::{ByChoice, Greatest, Least, Median, max9, median9, min9};
 pub use rows::{map_row, update_row, zip_rows};
 pub use running::running_sums;
 pub use scales::{Clamped, Scale, scale_s16, scale_u8};
 pub use stores::store_bytes;
 pub use sums::{Difference, Sum, add_s16, add_u8, sub_s16, sub_u8};
 pub use tallies::tally_row;
-pub use threes::{Addend, ninths, sixteenths, sum3, weighted3};
+pub use threes::{Addend, Ninth, Sixteenth, SumOfThree, WeightedSumOfThree, sum3, weighted3};
 pub use thresholds::{Above, Between, Tested, threshold_s16, threshold_u8};

@@ -1,11 +1,12 @@
 //! Kernels of the nine samples of windows.
-ghost use Rattle.std.specs.Prelude.{◌≡◌, ◌+◌, ◌-◌, ◌*◌, ◌<◌, ◌≤◌, ℕ, ℤ, List, map, take, length};
+ghost use Rattle.std.specs.Prelude.{◌≡◌, ◌+◌, ◌<◌, ◌≤◌, ℕ, ℤ, List, map, length};
 ghost use Rattle.vx_base.specs.Image.{run};
 ghost use Rattle.lane_rows.specs.Windows.{three_of, nine_of, nine_at, places};
 ghost use Rattle.lane_rows.specs.Windows.{three_from, nine_from};
 
 use crate::item::Item;
 use crate::nine_rows::{Nine, Three};
+use crate::places::{AtPlaces, write_places};
 
 /// Three samples, from left to right or from above to below.
 pub type ThreeItems = (u8, u8, u8);
@@ -69,56 +70,34 @@ impl<'a> Nine<'a> {
     }
 }
 
-/// Writes what the kernel gives at so many times 32 places.
-fn write_blocks<T: Item, K: OfNine<T>>(kernel: &K, nine: &Nine<'_>, blocks: usize, out: &mut [T])
-    requires len { places nine.now ≡ length out.old }
-    requires inside { 32 * blocks ≤ length out.old }
-    ensures { map T.value (take (32 * blocks) out.new) ≡ run 0 (32 * blocks)
-        (λ i. K.formula kernel.now (nine_at nine.now i)) }
-{
-    for k in 0..blocks {
-        let start = 32 * k;
-        kernel.lanes(nine, start, &mut out[start..start + 32]);
+/// What a kernel gives at each place of nine rows.
+#[derive(Drop)]
+struct NineAt<'a, 'b, K> {
+    kernel: &'a K,
+    nine: &'a Nine<'b>,
+}
+
+impl<T: Item, K: OfNine<T>> AtPlaces<T> for NineAt<'_, '_, K> {
+    ghost count = { λ s. places s.nine.now };
+
+    ghost at = { λ s i. K.formula s.kernel.now (nine_at s.nine.now i) };
+
+    fn item(&self, place: usize) -> T {
+        let nine = self.nine;
+        let (above, here) = (nine.above.items(place), nine.here.items(place));
+        self.kernel.item(above, here, nine.below.items(place))
+    }
+
+    fn lanes(&self, place: usize, out: &mut [T]) {
+        self.kernel.lanes(self.nine, place, out);
     }
 }
 
-/// Writes what the kernel gives at the last 32 places, where those before them are written. Some of
-/// them may be written already.
-fn write_last<T: Item, K: OfNine<T>>(kernel: &K, nine: &Nine<'_>, out: &mut [T])
-    requires len { places nine.now ≡ length out.old }
-    requires room { 32 ≤ length out.old }
-    ensures { map T.value (take (length out.old - 32) out.old) ≡ run 0 (length out.old - 32)
-        (λ i. K.formula kernel.now (nine_at nine.now i)) →
-        map T.value (take (length out.old) out.new) ≡ run 0 (length out.old)
-        (λ i. K.formula kernel.now (nine_at nine.now i)) }
-{
-    let place = out.len() - 32;
-    kernel.lanes(nine, place, &mut out[place..place + 32]);
-}
-
-/// Writes what the kernel gives at each place, one by one.
-fn write_items<T: Item, K: OfNine<T>>(kernel: &K, nine: &Nine<'_>, out: &mut [T])
-    requires { places nine.now ≡ length out.old }
-    ensures { map T.value out.new ≡ run 0 (length out.old)
-        (λ i. K.formula kernel.now (nine_at nine.now i)) }
-{
-    for i in 0..out.len() {
-        out[i] = kernel.item(nine.above.items(i), nine.here.items(i), nine.below.items(i));
-    }
-}
-
-/// Writes what the kernel gives at each place of nine rows: in blocks of 32 places, of which the
-/// last may overlap the one before, or in a shorter row one by one.
+/// Writes what the kernel gives at each place of nine rows.
 pub fn write_nine<T: Item, K: OfNine<T>>(kernel: &K, nine: &Nine<'_>, out: &mut [T])
     requires { places nine.now ≡ length out.old }
     ensures { map T.value out.new ≡ run 0 (length out.old)
         (λ i. K.formula kernel.now (nine_at nine.now i)) }
 {
-    let count = out.len();
-    if count < 32 {
-        write_items(kernel, nine, out);
-    } else {
-        write_blocks(kernel, nine, count / 32, out);
-        write_last(kernel, nine, out);
-    }
+    write_places(&NineAt { kernel, nine }, out);
 }

@@ -1,8 +1,7 @@
 //! The least, the greatest and the middle one of the nine samples of windows.
-ghost use Rattle.std.specs.Prelude.{◌≡◌, ◌+◌, ◌-◌, ◌*◌, ◌≤◌, ℕ, ℤ, pos, min, max, map, take, length};
-ghost use Rattle.std.specs.Prelude.{List, [], ◌∷◌, slice_index};
+ghost use Rattle.std.specs.Prelude.{◌≡◌, ℕ, ℤ, pos, min, max, map, length};
+ghost use Rattle.std.specs.Prelude.{List, [], ◌∷◌};
 ghost use Rattle.std.specs.Int.{int_min, int_max};
-ghost use Rattle.std.specs.List.{range_with_len};
 ghost use Rattle.std.specs.Simd.Lanes.{zip2};
 ghost use Rattle.vx_base.specs.Image.{run};
 ghost use Rattle.vx_base.specs.Window.{least_of, greatest_of, median};
@@ -10,10 +9,13 @@ ghost use Rattle.lane_rows.specs.Windows.{nine_at, places};
 ghost use Rattle.lane_rows.specs.Ranks.{chosen_of_nine, middle_of_three, middle_of_nine};
 ghost use Rattle.lane_rows.specs.RankLaws.{least_is_least, greatest_is_greatest};
 ghost use Rattle.lane_rows.specs.RankLaws.{lesser_number, greater_number};
-ghost use Rattle.lane_rows.specs.Threes.{number_at, chosen_at};
+ghost use Rattle.lane_rows.specs.Threes.{chosen_at};
 
+use crate::columns::OfColumn;
 use crate::nine::{OfNine, ThreeItems, write_nine};
 use crate::nine_rows::{Nine, Three, ThreeLanes, three_lanes};
+use crate::places::{AtPlaces, write_places};
+use std::marker::PhantomData;
 use std::simd::prelude::*;
 
 /// A kernel that chooses the lesser of two samples, or the greater, and so of three and of nine.
@@ -39,6 +41,7 @@ trait Choice {
 }
 
 /// The least of the nine samples of a window.
+#[derive(Drop)]
 pub struct Least;
 
 impl Choice for Least {
@@ -62,6 +65,7 @@ impl Choice for Least {
 }
 
 /// The greatest of them.
+#[derive(Drop)]
 pub struct Greatest;
 
 impl Choice for Greatest {
@@ -112,62 +116,51 @@ impl<C: Choice> OfNine<u8> for C {
     }
 }
 
-/// Writes what is chosen of three rows at 32 places.
-fn choose_block<C: Choice>(rows: &Three<'_>, place: usize, out: &mut [u8])
-    requires room { place + 32 ≤ length rows.now.left.now }
-    requires out_len { length out.old ≡ 32 }
-    ensures { map pos out.new ≡ run place 32 (chosen_at C.of_numbers rows.now) }
-{
-    chosen_lanes::<C>(three_lanes(rows, place)).copy_to_slice(out);
+/// What is chosen at each place of three rows.
+#[derive(Drop)]
+struct ChosenAt<'a, 'b, C> {
+    choice: PhantomData<C>,
+    rows: &'a Three<'b>,
 }
 
-/// Writes what is chosen at so many times 32 places.
-fn choose_blocks<C: Choice>(rows: &Three<'_>, blocks: usize, out: &mut [u8])
-    requires len { length rows.now.left.now ≡ length out.old }
-    requires inside { 32 * blocks ≤ length out.old }
-    ensures { map pos (take (32 * blocks) out.new) ≡ run 0 (32 * blocks)
-        (chosen_at C.of_numbers rows.now) }
-{
-    for k in 0..blocks {
-        let start = 32 * k;
-        choose_block::<C>(rows, start, &mut out[start..start + 32]);
+impl<C: Choice> AtPlaces<u8> for ChosenAt<'_, '_, C> {
+    ghost count = { λ s. length s.rows.now.left.now };
+
+    ghost at = { λ s. chosen_at C.of_numbers s.rows.now };
+
+    fn item(&self, place: usize) -> u8 {
+        chosen::<C>(self.rows.items(place))
+    }
+
+    fn lanes(&self, place: usize, out: &mut [u8]) {
+        chosen_lanes::<C>(three_lanes(self.rows, place)).copy_to_slice(out);
     }
 }
 
-/// Writes what is chosen at the last 32 places, where those before them are written.
-fn choose_last<C: Choice>(rows: &Three<'_>, out: &mut [u8])
-    requires len { length rows.now.left.now ≡ length out.old }
-    requires room { 32 ≤ length out.old }
-    ensures { map pos (take (length out.old - 32) out.old) ≡ run 0 (length out.old - 32)
-        (chosen_at C.of_numbers rows.now) →
-        map pos (take (length out.old) out.new) ≡ run 0 (length out.old)
-        (chosen_at C.of_numbers rows.now) }
-{
-    let place = out.len() - 32;
-    choose_block::<C>(rows, place, &mut out[place..place + 32]);
-}
+/// A choice as a kernel of three rows.
+#[derive(Drop)]
+pub struct ByChoice<C>(pub C);
 
-/// Writes what is chosen at each place, one by one.
-fn choose_items<C: Choice>(rows: &Three<'_>, out: &mut [u8])
-    requires { length rows.now.left.now ≡ length out.old }
-    ensures { map pos out.new ≡ run 0 (length out.old) (chosen_at C.of_numbers rows.now) }
-{
-    for i in 0..out.len() {
-        out[i] = chosen::<C>(rows.items(i));
+impl<C: Choice> OfColumn<u8, u8> for ByChoice<C> {
+    ghost formula = { λ a b c. C.of_numbers (C.of_numbers a b) c };
+
+    ghost takes = { λ _. Unit {0} };
+
+    fn item(first: u8, second: u8, third: u8) -> u8 {
+        chosen::<C>((first, second, third))
     }
-}
 
-/// Writes what is chosen at each place of three rows, as `write_nine` does of nine.
-fn choose<C: Choice>(rows: &Three<'_>, out: &mut [u8])
-    requires { length rows.now.left.now ≡ length out.old }
-    ensures { map pos out.new ≡ run 0 (length out.old) (chosen_at C.of_numbers rows.now) }
-{
-    let count = out.len();
-    if count < 32 {
-        choose_items::<C>(rows, out);
-    } else {
-        choose_blocks::<C>(rows, count / 32, out);
-        choose_last::<C>(rows, out);
+    fn write(first: &[u8], second: &[u8], third: &[u8], out: &mut [u8]) {
+        let rows = Three {
+            left: first,
+            middle: second,
+            right: third,
+        };
+        let row = ChosenAt::<C> {
+            choice: PhantomData,
+            rows: &rows,
+        };
+        write_places(&row, out);
     }
 }
 
@@ -271,42 +264,4 @@ pub fn median9(nine: &Nine<'_>, out: &mut [u8])
     ensures { map pos out.new ≡ run 0 (length out.old) (λ i. median (nine_at nine.now i)) }
 {
     write_nine(&Median, nine, out);
-}
-
-/// Writes the least of the three bytes at each place of three rows.
-pub fn min3(first: &[u8], second: &[u8], third: &[u8], out: &mut [u8])
-    requires first_len { length first.now ≡ length out.old }
-    requires second_len { length second.now ≡ length out.old }
-    requires third_len { length third.now ≡ length out.old }
-    ensures { map pos out.new ≡ run 0 (length out.old) (λ i. int_min (int_min
-        (number_at (map pos first.now) i) (number_at (map pos second.now) i))
-        (number_at (map pos third.now) i)) }
-{
-    choose::<Least>(
-        &Three {
-            left: first,
-            middle: second,
-            right: third,
-        },
-        out,
-    );
-}
-
-/// Writes the greatest of the three bytes at each place of three rows.
-pub fn max3(first: &[u8], second: &[u8], third: &[u8], out: &mut [u8])
-    requires first_len { length first.now ≡ length out.old }
-    requires second_len { length second.now ≡ length out.old }
-    requires third_len { length third.now ≡ length out.old }
-    ensures { map pos out.new ≡ run 0 (length out.old) (λ i. int_max (int_max
-        (number_at (map pos first.now) i) (number_at (map pos second.now) i))
-        (number_at (map pos third.now) i)) }
-{
-    choose::<Greatest>(
-        &Three {
-            left: first,
-            middle: second,
-            right: third,
-        },
-        out,
-    );
 }

@@ -1,4 +1,6 @@
 //! Numbers over a power of two, rounded toward zero and clamped.
+#![tactic(auto, using(crate::proofs::ShortLaws::fit_as_bits))]
+
 ghost use Rattle.std.specs.Prelude.{◌≡◌, ◌≤◌, ◌^◌, ℤ, pos, int_div, map, length, FitsSigned};
 ghost use Rattle.std.specs.Int.{w32};
 ghost use Rattle.std.specs.Simd.Lanes.{Each1};

@@ -1,4 +1,6 @@
 //! S16 numbers in 16 lanes.
+#![tactic(auto, using(crate::proofs::ShortLaws::fit_as_bits))]
+
 ghost use Rattle.std.specs.Prelude.{◌≡◌, ◌≤◌, ◌+ℤ◌, ◌-ℤ◌, ◌*ℤ◌, ◌^◌, pos, map, length};
 ghost use Rattle.std.specs.Prelude.{FitsSigned};
 ghost use Rattle.std.specs.Int.{w16, w32, int_div_euclid};

@@ -1,6 +1,6 @@
 //! Sums and means of three rows of numbers that aren't negative, as windows of three columns need
 //! them: down the columns of three rows of samples, and then across three of these sums.
-ghost use Rattle.std.specs.Prelude.{◌≡◌, ◌+◌, ◌-◌, ◌*◌, ◌≤◌, ◌+ℤ◌, ◌*ℤ◌, ℕ, ℤ, pos, map, take, length};
+ghost use Rattle.std.specs.Prelude.{◌≡◌, ◌+◌, ◌≤◌, ◌+ℤ◌, ◌*ℤ◌, ℕ, ℤ, pos, map, length};
 ghost use Rattle.std.specs.Int.{int_div_euclid};
 ghost use Rattle.std.specs.List.{range_with_len};
 ghost use Rattle.std.specs.Simd.Lanes.{Each1};
@@ -8,7 +8,10 @@ ghost use Rattle.vx_base.specs.Image.{run};
 ghost use Rattle.lane_rows.specs.Threes.{IsUpTo, AreUpTo, number_at, zip3};
 ghost use Rattle.lane_rows.specs.Limits.{greatest_addend, greatest_sum, greatest_weighted_sum};
 
+use crate::columns::OfColumn;
 use crate::item::Item;
+use crate::places::{AtPlaces, write_places};
+use std::marker::PhantomData;
 use std::simd::prelude::*;
 
 /// Numbers that are added up: `u8` and `i16`.
@@ -81,12 +84,12 @@ trait OfThree<T: Stored> {
 
     ghost formula: { ℤ → ℤ → ℤ → ℤ };
 
-    fn item(a: u16, b: u16, c: u16) -> T
+    fn of_three(a: u16, b: u16, c: u16) -> T
         requires limit { (a ≤ limit) × (b ≤ limit) × (c ≤ limit) }
         ensures { T.value result ≡ formula (pos a) (pos b) (pos c) };
 
     /// What it gives of three numbers in each of 32 lanes.
-    fn lanes(a: u16x32, b: u16x32, c: u16x32) -> u16x32
+    fn of_three_lanes(a: u16x32, b: u16x32, c: u16x32) -> u16x32
         requires len { (length a ≡ 32) × (length b ≡ 32) × (length c ≡ 32) }
         requires limit { Each1 (λ n. n ≤ limit) a × Each1 (λ n. n ≤ limit) b
             × Each1 (λ n. n ≤ limit) c }
@@ -96,144 +99,82 @@ trait OfThree<T: Stored> {
     ghost small: { limit ≤ 8191 };
 }
 
-/// Writes what the kernel gives at 32 places.
-fn write_block<A: Addend, T: Stored, K: OfThree<T>>(
-    first: &[A],
-    second: &[A],
-    third: &[A],
-    place: usize,
-    out: &mut [T],
-)
-    requires first_room { place + 32 ≤ length first.now }
-    requires second_room { place + 32 ≤ length second.now }
-    requires third_room { place + 32 ≤ length third.now }
-    requires first { AreUpTo K.limit (map A.value first.now) }
-    requires second { AreUpTo K.limit (map A.value second.now) }
-    requires third { AreUpTo K.limit (map A.value third.now) }
-    requires out_len { length out.old ≡ 32 }
-    ensures { map T.value out.new ≡ run place 32
-        (λ i. K.formula (number_at (map A.value first.now) i)
-        (number_at (map A.value second.now) i) (number_at (map A.value third.now) i)) }
-{
-    let numbers = K::lanes(
-        A::numbers(first, place),
-        A::numbers(second, place),
-        A::numbers(third, place),
-    );
-    T::store(numbers, out);
+/// What a kernel gives at each place of three rows.
+#[derive(Drop)]
+struct ThreeAt<'a, A: Addend, T: Stored, K: OfThree<T>> {
+    kernel: PhantomData<(T, K)>,
+    first: &'a [A],
+    second: &'a [A],
+    third: &'a [A],
+    ghost second_len: { length second.now ≡ length first.now },
+    ghost third_len: { length third.now ≡ length first.now },
+    ghost limit: { AreUpTo K.limit (map A.value first.now)
+        × AreUpTo K.limit (map A.value second.now) × AreUpTo K.limit (map A.value third.now) },
 }
 
-/// Writes what the kernel gives at so many times 32 places.
-fn write_blocks<A: Addend, T: Stored, K: OfThree<T>>(
-    first: &[A],
-    second: &[A],
-    third: &[A],
-    blocks: usize,
-    out: &mut [T],
-)
-    requires first_len { length first.now ≡ length out.old }
-    requires second_len { length second.now ≡ length out.old }
-    requires third_len { length third.now ≡ length out.old }
-    requires first { AreUpTo K.limit (map A.value first.now) }
-    requires second { AreUpTo K.limit (map A.value second.now) }
-    requires third { AreUpTo K.limit (map A.value third.now) }
-    requires inside { 32 * blocks ≤ length out.old }
-    ensures { map T.value (take (32 * blocks) out.new) ≡ run 0 (32 * blocks)
-        (λ i. K.formula (number_at (map A.value first.now) i)
-        (number_at (map A.value second.now) i) (number_at (map A.value third.now) i)) }
+/// What a kernel gives of three items.
+fn of_items<A: Addend, T: Stored, K: OfThree<T>>(a: A, b: A, c: A) -> T
+    requires { IsUpTo K.limit (A.value a) × IsUpTo K.limit (A.value b)
+        × IsUpTo K.limit (A.value c) }
+    ensures { T.value result ≡ K.formula (A.value a) (A.value b) (A.value c) }
 {
-    for k in 0..blocks {
-        let start = 32 * k;
-        write_block::<A, T, K>(first, second, third, start, &mut out[start..start + 32]);
+    K::of_three(a.number(), b.number(), c.number())
+}
+
+impl<A: Addend, T: Stored, K: OfThree<T>> AtPlaces<T> for ThreeAt<'_, A, T, K> {
+    ghost count = { λ s. length s.first.now };
+
+    ghost at = { λ s i. K.formula (number_at (map A.value s.first.now) i)
+        (number_at (map A.value s.second.now) i) (number_at (map A.value s.third.now) i) };
+
+    fn item(&self, place: usize) -> T {
+        of_items::<A, T, K>(self.first[place], self.second[place], self.third[place])
+    }
+
+    fn lanes(&self, place: usize, out: &mut [T]) {
+        let numbers = K::of_three_lanes(
+            A::numbers(self.first, place),
+            A::numbers(self.second, place),
+            A::numbers(self.third, place),
+        );
+        T::store(numbers, out);
     }
 }
 
-/// Writes what the kernel gives at the last 32 places, where those before them are written.
-fn write_last<A: Addend, T: Stored, K: OfThree<T>>(
-    first: &[A],
-    second: &[A],
-    third: &[A],
-    out: &mut [T],
-)
-    requires first_len { length first.now ≡ length out.old }
-    requires second_len { length second.now ≡ length out.old }
-    requires third_len { length third.now ≡ length out.old }
-    requires first { AreUpTo K.limit (map A.value first.now) }
-    requires second { AreUpTo K.limit (map A.value second.now) }
-    requires third { AreUpTo K.limit (map A.value third.now) }
-    requires room { 32 ≤ length out.old }
-    ensures { map T.value (take (length out.old - 32) out.old) ≡ run 0 (length out.old - 32)
-        (λ i. K.formula (number_at (map A.value first.now) i)
-        (number_at (map A.value second.now) i) (number_at (map A.value third.now) i)) →
-        map T.value (take (length out.old) out.new) ≡ run 0 (length out.old)
-        (λ i. K.formula (number_at (map A.value first.now) i)
-        (number_at (map A.value second.now) i) (number_at (map A.value third.now) i)) }
-{
-    let place = out.len() - 32;
-    write_block::<A, T, K>(first, second, third, place, &mut out[place..place + 32]);
-}
+impl<A: Addend, T: Stored, K: OfThree<T>> OfColumn<A, T> for K {
+    ghost formula = { K.OfThree.formula };
 
-/// Writes what the kernel gives at each place, one by one.
-fn write_items<A: Addend, T: Stored, K: OfThree<T>>(
-    first: &[A],
-    second: &[A],
-    third: &[A],
-    out: &mut [T],
-)
-    requires first_len { length first.now ≡ length out.old }
-    requires second_len { length second.now ≡ length out.old }
-    requires third_len { length third.now ≡ length out.old }
-    requires first { AreUpTo K.limit (map A.value first.now) }
-    requires second { AreUpTo K.limit (map A.value second.now) }
-    requires third { AreUpTo K.limit (map A.value third.now) }
-    ensures { map T.value out.new ≡ run 0 (length out.old)
-        (λ i. K.formula (number_at (map A.value first.now) i)
-        (number_at (map A.value second.now) i) (number_at (map A.value third.now) i)) }
-{
-    for i in 0..out.len() {
-        out[i] = K::item(first[i].number(), second[i].number(), third[i].number());
+    ghost takes = { IsUpTo K.limit };
+
+    fn item(first: A, second: A, third: A) -> T {
+        of_items::<A, T, K>(first, second, third)
     }
-}
 
-/// Writes what the kernel gives at each place of three rows, as `write_nine` does of nine.
-fn write_three<A: Addend, T: Stored, K: OfThree<T>>(
-    first: &[A],
-    second: &[A],
-    third: &[A],
-    out: &mut [T],
-)
-    requires first_len { length first.now ≡ length out.old }
-    requires second_len { length second.now ≡ length out.old }
-    requires third_len { length third.now ≡ length out.old }
-    requires first { AreUpTo K.limit (map A.value first.now) }
-    requires second { AreUpTo K.limit (map A.value second.now) }
-    requires third { AreUpTo K.limit (map A.value third.now) }
-    ensures { map T.value out.new ≡ run 0 (length out.old)
-        (λ i. K.formula (number_at (map A.value first.now) i)
-        (number_at (map A.value second.now) i) (number_at (map A.value third.now) i)) }
-{
-    let count = out.len();
-    if count < 32 {
-        write_items::<A, T, K>(first, second, third, out);
-    } else {
-        write_blocks::<A, T, K>(first, second, third, count / 32, out);
-        write_last::<A, T, K>(first, second, third, out);
+    fn write(first: &[A], second: &[A], third: &[A], out: &mut [T]) {
+        let row = ThreeAt::<A, T, K> {
+            kernel: PhantomData,
+            first,
+            second,
+            third,
+        };
+        write_places(&row, out);
     }
 }
 
 /// The sum of three numbers.
-struct Sum;
+#[derive(Drop)]
+pub struct SumOfThree;
 
-impl OfThree<i16> for Sum {
+impl OfThree<i16> for SumOfThree {
     ghost limit = { 8191 };
 
     ghost formula = { λ a b c. a +ℤ b +ℤ c };
 
-    fn item(a: u16, b: u16, c: u16) -> i16 {
+    fn of_three(a: u16, b: u16, c: u16) -> i16 {
         (a + b + c) as i16
     }
 
-    fn lanes(a: u16x32, b: u16x32, c: u16x32) -> u16x32 {
+    fn of_three_lanes(a: u16x32, b: u16x32, c: u16x32) -> u16x32 {
         a + b + c
     }
 
@@ -241,18 +182,19 @@ impl OfThree<i16> for Sum {
 }
 
 /// The sum of three numbers, the middle one counted twice.
-struct WeightedSum;
+#[derive(Drop)]
+pub struct WeightedSumOfThree;
 
-impl OfThree<i16> for WeightedSum {
+impl OfThree<i16> for WeightedSumOfThree {
     ghost limit = { 8191 };
 
     ghost formula = { λ a b c. a +ℤ pos 2 *ℤ b +ℤ c };
 
-    fn item(a: u16, b: u16, c: u16) -> i16 {
+    fn of_three(a: u16, b: u16, c: u16) -> i16 {
         (a + 2 * b + c) as i16
     }
 
-    fn lanes(a: u16x32, b: u16x32, c: u16x32) -> u16x32 {
+    fn of_three_lanes(a: u16x32, b: u16x32, c: u16x32) -> u16x32 {
         a + (b + b) + c
     }
 
@@ -260,18 +202,19 @@ impl OfThree<i16> for WeightedSum {
 }
 
 /// The sum of three numbers over 9, rounded down.
-struct Ninth;
+#[derive(Drop)]
+pub struct Ninth;
 
 impl OfThree<u8> for Ninth {
     ghost limit = { 765 };
 
     ghost formula = { λ a b c. int_div_euclid (a +ℤ b +ℤ c) (pos 9) };
 
-    fn item(a: u16, b: u16, c: u16) -> u8 {
+    fn of_three(a: u16, b: u16, c: u16) -> u8 {
         ((a + b + c) / 9) as u8
     }
 
-    fn lanes(a: u16x32, b: u16x32, c: u16x32) -> u16x32 {
+    fn of_three_lanes(a: u16x32, b: u16x32, c: u16x32) -> u16x32 {
         (a + b + c) / u16x32::splat(9)
     }
 
@@ -279,18 +222,19 @@ impl OfThree<u8> for Ninth {
 }
 
 /// The sum of three numbers, the middle one counted twice, over 16, rounded down.
-struct Sixteenth;
+#[derive(Drop)]
+pub struct Sixteenth;
 
 impl OfThree<u8> for Sixteenth {
     ghost limit = { 1020 };
 
     ghost formula = { λ a b c. int_div_euclid (a +ℤ pos 2 *ℤ b +ℤ c) (pos 16) };
 
-    fn item(a: u16, b: u16, c: u16) -> u8 {
+    fn of_three(a: u16, b: u16, c: u16) -> u8 {
         ((a + 2 * b + c) / 16) as u8
     }
 
-    fn lanes(a: u16x32, b: u16x32, c: u16x32) -> u16x32 {
+    fn of_three_lanes(a: u16x32, b: u16x32, c: u16x32) -> u16x32 {
         (a + (b + b) + c) >> 4
     }
 
@@ -308,7 +252,7 @@ pub fn sum3<A: Addend>(first: &[A], second: &[A], third: &[A], out: &mut [i16])
     ensures { out.new ≡ run 0 (length out.old) (λ i. number_at (map A.value first.now) i
         +ℤ number_at (map A.value second.now) i +ℤ number_at (map A.value third.now) i) }
 {
-    write_three::<A, i16, Sum>(first, second, third, out);
+    SumOfThree::write(first, second, third, out);
 }
 
 /// Writes the sums of three numbers from 0 to 8,191, the middle one counted twice.
@@ -322,36 +266,5 @@ pub fn weighted3<A: Addend>(first: &[A], second: &[A], third: &[A], out: &mut [i
     ensures { out.new ≡ run 0 (length out.old) (λ i. number_at (map A.value first.now) i
         +ℤ pos 2 *ℤ number_at (map A.value second.now) i +ℤ number_at (map A.value third.now) i) }
 {
-    write_three::<A, i16, WeightedSum>(first, second, third, out);
-}
-
-/// Writes the sums of three numbers from 0 to 765 over 9, rounded down: the mean of nine samples,
-/// from the sums of three each.
-pub fn ninths(first: &[i16], second: &[i16], third: &[i16], out: &mut [u8])
-    requires first_len { length first.now ≡ length out.old }
-    requires second_len { length second.now ≡ length out.old }
-    requires third_len { length third.now ≡ length out.old }
-    requires first { AreUpTo 765 first.now }
-    requires second { AreUpTo 765 second.now }
-    requires third { AreUpTo 765 third.now }
-    ensures { map pos out.new ≡ run 0 (length out.old) (λ i. int_div_euclid
-        (number_at first.now i +ℤ number_at second.now i +ℤ number_at third.now i) (pos 9)) }
-{
-    write_three::<i16, u8, Ninth>(first, second, third, out);
-}
-
-/// Writes the sums of three numbers from 0 to 1,020, the middle one counted twice, over 16, rounded
-/// down: the weighted mean of nine samples, from the weighted sums of three each.
-pub fn sixteenths(first: &[i16], second: &[i16], third: &[i16], out: &mut [u8])
-    requires first_len { length first.now ≡ length out.old }
-    requires second_len { length second.now ≡ length out.old }
-    requires third_len { length third.now ≡ length out.old }
-    requires first { AreUpTo 1020 first.now }
-    requires second { AreUpTo 1020 second.now }
-    requires third { AreUpTo 1020 third.now }
-    ensures { map pos out.new ≡ run 0 (length out.old) (λ i. int_div_euclid
-        (number_at first.now i +ℤ pos 2 *ℤ number_at second.now i +ℤ number_at third.now i)
-        (pos 16)) }
-{
-    write_three::<i16, u8, Sixteenth>(first, second, third, out);
+    WeightedSumOfThree::write(first, second, third, out);
 }

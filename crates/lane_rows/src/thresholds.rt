@@ -1,4 +1,6 @@
 //! Thresholds.
+#![tactic(auto, using(crate::proofs::ShortLaws::fit_as_bits))]
+
 ghost use Rattle.std.specs.Prelude.{◌≡◌, IsTrue, pos, int_lt, int_le, map, length};
 ghost use Rattle.vx_base.specs.declared.format.Format.{Format};
 ghost use Rattle.vx_base.specs.declared.format.Format.TheVariants.{U8, S16};

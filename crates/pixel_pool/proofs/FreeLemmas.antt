@@ -1,12 +1,11 @@
 -- Lemmas on how many blocks of each class are free.
-use Rattle.std.proofs.Common.{◌≡◌, ◌≢◌, ℕ, zero, suc, ◌+◌, ◌*◌, ◌^◌, ◌<◌, ◌≤◌, ◌⊎◌, false, List, [], ◌∷◌, length, Option, Some, None, IfNone, get_or, set, refl, sym, ap, ◌∙◌, add-one, inl, inr, arith}
+use Rattle.std.proofs.Common.{◌≡◌, ◌≢◌, ℕ, zero, suc, ◌+◌, ◌*◌, ◌^◌, ◌<◌, ◌≤◌, ◌⊎◌, List, [], ◌∷◌, length, Option, Some, None, IfNone, get_or, set, refl, sym, ap, ◌∙◌, add-one, inl, inr, arith}
 use Rattle.std.proofs.lemmas.List.{length-map, map-set, get_or_past, get_or-set_same, get_or-set_other}
-use Rattle.std.proofs.lemmas.Bool.Decides.{nat_tests}
 use Rattle.std.proofs.Math.Nat.{mul-le-mul}
 use Rattle.std.proofs.Math.ListN.{get_or-map}
 use Rattle.std.proofs.lemmas.List.Sums.{sum_by-cons, get_or-le-sum_by}
 use Rattle.pixel_pool.specs.Classes.{class_room, class_count, FitsIn}
-use Rattle.pixel_pool.specs.Free.{free_count, HasFree, HasRoom, UsesBest, UsesLargest, GetsFree, IsTrim, suits_better, without_one, room_below}
+use Rattle.pixel_pool.specs.Free.{free_count, HasRoom, GetsFree, IsTrim, room_below}
 use Rattle.pixel_pool.proofs.ClassLemmas.{room_mono, room_small, room_steps}
 use Rattle.pixel_pool.specs.Shelf.{lengths, no_stack, stack_at}
 use Rattle.pixel_pool.specs.declared.stacks.Stack.{Stack}
@@ -52,12 +51,6 @@ below_or : (free : List ℕ) (class : ℕ) → (class < length free) ⊎ (length
 below_or [] class = inr (omega arith)
 below_or (n ∷ free) zero = inl (omega arith)
 below_or (n ∷ free) (suc class) = elim (below_or free class) [ inl p ↦ inl (omega arith) | inr p ↦ inr (omega arith) ]
-
-no_better : (count room than : ℕ) → count ≤ than → (count ≤ room → than ≤ room) → suits_better count room than ≡ false
-no_better count room than fits rises = grind (arith, nat_tests)
-
-none_larger : (count room than : ℕ) → (count ≤ than → ⊥) → room ≤ than → suits_better count room than ≡ false
-none_larger count room than small below = grind (arith, nat_tests)
 
 -- of a class no more blocks are free than of all
 pub class_within : (free : List ℕ) (class : ℕ) → get_or free class 0 ≤ free_count free
@@ -111,32 +104,6 @@ room_set free class n (suc top) inside below =
           let more : room_below (set free class n) (top + 1) ≡ room_below (set free class n) top + get_or free top 0 * class_room top = rw e at (below_more (set free class n) top) in
           rw (← add-one) (omega (arith, more, below_more free top, room_set free class n top inside (omega arith)))
     ]
-
--- the smallest of the rooms in which so many samples fit suits them best
-pub fit_is_best : (count : ℕ) (free : List ℕ) (class : ℕ) → HasFree free class → count ≤ class_room class
-    → ((other : ℕ) → HasFree free other → count ≤ class_room other → class ≤ other) → UsesBest count free (without_one free class)
-fit_is_best count free class some fits least =
-    record {
-      class = class;
-      free = some;
-      used = refl;
-      best = λ other has. no_better count (class_room other) (class_room class) fits (λ enough. room_mono class other (least other has enough));
-    }
-
--- where they fit in none, the largest does
-pub largest_is_best : (count : ℕ) (free : List ℕ) (class : ℕ) → HasFree free class → (count ≤ class_room class → ⊥)
-    → ((other : ℕ) → HasFree free other → other ≤ class) → UsesBest count free (without_one free class)
-largest_is_best count free class some too_small greatest =
-    record {
-      class = class;
-      free = some;
-      used = refl;
-      best = λ other has. none_larger count (class_room other) (class_room class) too_small (room_mono other class (greatest other has));
-    }
-
-pub lent_is_best : (count : ℕ) (old new : List ℕ) → ((class : ℕ) → HasFree old class → count ≤ class_room class → ⊥) → UsesLargest old new → UsesBest count old new
-lent_is_best count old new none used =
-    rw used.used (largest_is_best count old used.class used.free (none used.class used.free) used.greatest)
 
 -- where no class has a free block, none is free
 pub none_left : (found : Option ℕ) (stacks : List Stack) (class : ℕ) → 193 ≤ class → length stacks ≡ 193

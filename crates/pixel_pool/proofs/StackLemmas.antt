@@ -5,8 +5,8 @@ use Rattle.std.proofs.lemmas.List.Sums.{sum_by-set, get_or-le-sum_by}
 use Rattle.std.proofs.lemmas.List.Folds.{sum_by-replicate}
 use Rattle.slab.specs.Slab.{Slab, get, slab_len, Updates}
 use Rattle.pixel_pool.specs.Classes.{class_room, class_count, IsClassOf}
-use Rattle.pixel_pool.proofs.FreeLemmas.{fit_is_best, same_or_not, length_at, lengths_set, free_within, no_room, room_set}
-use Rattle.pixel_pool.specs.Free.{free_count, room_below, HasFree, without_one, GetsFree, UsesBest}
+use Rattle.pixel_pool.proofs.FreeLemmas.{same_or_not, length_at, lengths_set, free_within, no_room, room_set}
+use Rattle.pixel_pool.specs.Free.{free_count, room_below, HasFree, without_one, GetsFree}
 use Rattle.pixel_pool.specs.Shelf.{ShelfValue, block_count, lengths, no_stack, stack_at, IsTopOf, IsStack, IsStacked, AreStacks}
 use Rattle.pixel_pool.specs.declared.shelf.Free.{Free}
 use Rattle.pixel_pool.specs.declared.stacks.Stack.{Stack}
@@ -252,6 +252,23 @@ module _ {T : Type 0} where
         counted = omega (arith, counted_set stacks block.class (record { top = key; len = block.under.len + 1 }) inside, are.counted, ap (λ (s : Stack). s.len) under);
       }
 
+  -- more room leaves as many values
+  pub len_with_room : (old new : Slab (Free T)) → new ≡ record old { capacity = new.capacity } → slab_len new ≡ slab_len old
+  len_with_room old new same = rw same refl
+
+  -- stacks stay when their slab gets more room
+  pub with_room : (stacks : List Stack) (old new : Slab (Free T)) → AreStacks stacks old → new ≡ record old { capacity = new.capacity } → AreStacks stacks new
+  with_room stacks old new are same =
+      rw same (record {
+        all = are.all;
+        tops = are.tops;
+        each = λ key block is.
+            let x = are.each key block is in
+            record { room = x.room; room_known = x.room_known; within = x.within; linked = x.linked };
+        alone = are.alone;
+        counted = are.counted;
+      })
+
   -- a slab without slots has no values
   pub no_values : (free : Slab (Free T)) → free.slots ≡ [] → slab_len free ≡ 0
   no_values free none = rw none refl
@@ -299,13 +316,6 @@ pub back_count : (stacks : List Stack) (class lent key : ℕ) (was : ShelfValue)
     → (lent - 1) + free_count (lengths (set stacks class (record { top = key; len = (stack_at stacks class).len + 1 }))) ≡ block_count was
 back_count stacks class lent key was is some inside =
     rw (← is) (omega (arith, some, counted_set stacks class (record { top = key; len = (stack_at stacks class).len + 1 }) inside))
-
--- the block that was lent suits best
-pub taken_best : (stacks : List Stack) (lent count class : ℕ) (was new : ShelfValue) → ◌≡◌ {A = ShelfValue} (record { lent = lent; free = lengths stacks }) was
-    → ◌≡◌ {A = ShelfValue} new (record { lent = was.lent + 1; free = without_one was.free class }) → HasFree (lengths stacks) class → count ≤ class_room class
-    → ((other : ℕ) → HasFree (lengths stacks) other → count ≤ class_room other → class ≤ other) → UsesBest count was.free new.free
-taken_best stacks lent count class was new is new_is some fits least =
-    rw (new_is, ← is) (fit_is_best count (lengths stacks) class some fits least)
 
 pub lent_some : (stacks : List Stack) (lent : ℕ) (was : ShelfValue) → ◌≡◌ {A = ShelfValue} (record { lent = lent; free = lengths stacks }) was → 1 ≤ was.lent → 1 ≤ lent
 lent_some stacks lent was is some = rw (← is) at some

@@ -1,5 +1,5 @@
 -- Free blocks: how many there are of each class.
-use Rattle.std.specs.Prelude.{◌≡◌, ◌≤◌, ◌<◌, ◌+◌, ◌-◌, ◌*◌, ℕ, zero, suc, Bool, false, ◌&&◌, nat_le, nat_lt, if◌then◌else◌, List, slice_index, slice_set, sum_by}
+use Rattle.std.specs.Prelude.{◌≡◌, ◌≤◌, ◌<◌, ◌+◌, ◌-◌, ◌*◌, ℕ, zero, suc, List, slice_index, slice_set, sum_by}
 use Rattle.pixel_pool.specs.Classes.{class_room, class_count, IsClassOf}
 
 -- how many blocks are free
@@ -10,7 +10,7 @@ free_count free = sum_by (λ n. n) free
 abbrev pub HasFree : List ℕ → ℕ → Type 0
 HasFree free class = 0 < slice_index free class
 
--- a free block has room for so many samples
+-- this many samples fit in a free block
 abbrev pub HasRoom : List ℕ → ℕ → Type 0
 HasRoom free count = (class : ℕ) × HasFree free class × (count ≤ class_room class)
 
@@ -22,25 +22,13 @@ without_one free class = slice_set free class (slice_index free class - 1)
 abbrev pub with_one : List ℕ → ℕ → List ℕ
 with_one free class = slice_set free class (slice_index free class + 1)
 
--- whether a room suits so many samples better than another: they fit in it alone, or it is the
--- smaller of two in which they fit, or the larger of two in which they don't
-abbrev pub suits_better : ℕ → ℕ → ℕ → Bool
-suits_better count room than =
-    if nat_le count than then (nat_le count room && nat_lt room than) else nat_lt than room
-
--- a free block of one class was used, and none of another class suits so many samples better
-pub record UsesBest (count : ℕ) (old new : List ℕ) : Type 0 where
+-- of the free blocks in which this many samples fit, one of the smallest class was used
+pub record UsesSmallest (count : ℕ) (old new : List ℕ) : Type 0 where
   pub class : ℕ
   pub free : HasFree old class
+  pub fits : count ≤ class_room class
+  pub smallest : (other : ℕ) → HasFree old other → count ≤ class_room other → class ≤ other
   pub used : new ≡ without_one old class
-  pub best : (other : ℕ) → HasFree old other → suits_better count (class_room other) (class_room class) ≡ false
-
--- a free block of the greatest class was used
-pub record UsesLargest (old new : List ℕ) : Type 0 where
-  pub class : ℕ
-  pub free : HasFree old class
-  pub used : new ≡ without_one old class
-  pub greatest : (other : ℕ) → HasFree old other → other ≤ class
 
 -- a block that has room for so many samples came to the free ones
 pub record GetsFree (room : ℕ) (old new : List ℕ) : Type 0 where

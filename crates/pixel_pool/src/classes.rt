@@ -2,11 +2,10 @@
 ghost use Rattle.std.specs.Prelude.{◌≡◌, ◌<◌, ◌≤◌, ◌^◌};
 ghost use Rattle.pixel_pool.specs.Classes.{class_count, class_room, class_step, IsClassOf, FitsIn};
 
-/// How many classes there are. The last has room for 67,108,864 samples, as many as the largest
-/// image has.
+/// The number of classes. The last has room for 67,108,864 samples, as many as the largest image has.
 pub const CLASSES: usize = 193;
 
-/// For how many samples more a class has room than the one below it.
+/// Returns for how many samples more a class has room than the one below it.
 #[tactic(auto, using(crate::proofs::ClassLemmas::step_small))]
 pub fn step(class: usize) -> usize
     requires { class < class_count }
@@ -16,8 +15,8 @@ pub fn step(class: usize) -> usize
     1 << (class / 8).saturating_sub(1)
 }
 
-/// The class of a block that has room for so many samples: the greatest that it has the room of; and
-/// for how many samples this class has room.
+/// Returns the class of a block with room for `room` samples: the greatest that has no more room. The
+/// second number is the room of this class.
 #[tactic(auto, using(crate::proofs::ClassLemmas::room_steps))]
 pub fn class_of(room: usize) -> (usize, usize)
     ensures class { IsClassOf room result.0 }
@@ -34,8 +33,8 @@ pub fn class_of(room: usize) -> (usize, usize)
     (class, within)
 }
 
-/// For how many samples a new block has room into which so many fit: for as many as a class has,
-/// unless they fit in none.
+/// Returns the room of a new block for `count` samples: that of the least class in which they fit, or
+/// `count` where they fit in none.
 #[tactic(auto, using(crate::proofs::ClassLemmas::room_steps))]
 pub fn room_for(count: usize) -> usize
     ensures enough { count ≤ result }

@@ -1,10 +1,10 @@
 //! Blocks of samples that are used again.
 //!
-//! A block is the memory of an image's samples. Who needs samples takes a `Block` of so many from
-//! the `Pool`, which it lends: the block is in one hand then, and in nobody else's. At the end it
-//! is given back: then it is free, with its memory, and nothing of it is cleared. The pool counts
-//! how many blocks of each format are lent. Its free blocks lie in a slab for each format, and those
-//! of a size class are linked by their keys: so no call looks at more than one of a class.
+//! A block is the memory of an image's samples. The `Pool` lends a `Block` of as many samples as are
+//! asked for. A lent block is in one hand, since it can't be copied. When it is given back it is free,
+//! with its memory, and its samples aren't cleared. The pool counts the blocks of each format that
+//! are lent. The free blocks of a format lie in a slab, and those of a size class are linked by their
+//! keys: so no call looks at more than one block of a class.
 //!
 //! - `block`: a block in a hand
 //! - `pool`: the blocks of all formats

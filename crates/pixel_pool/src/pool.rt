@@ -1,9 +1,9 @@
 //! The blocks of all formats.
-ghost use Rattle.std.specs.Prelude.{◌≡◌, ◌≢◌, length, max, pos, replicate};
+ghost use Rattle.std.specs.Prelude.{◌≡◌, ◌≤◌, ◌+◌, length, pos, replicate};
 ghost use Rattle.std.specs.Prelude.{IfOk, IsOk, OnErr, OnOk};
 ghost use Rattle.vx_base.specs.Picture.{values, samples_format};
 ghost use Rattle.pixel_pool.specs.Classes.{class_count, FitsIn};
-ghost use Rattle.pixel_pool.specs.Free.{HasRoom, UsesBest, IsTrim, IsFewer, GetsFree, free_count};
+ghost use Rattle.pixel_pool.specs.Free.{HasRoom, UsesSmallest, IsTrim, IsFewer, GetsFree, free_count};
 ghost use Rattle.pixel_pool.specs.Pool.{lent_of, free_of, blocks_of, room_of, HasLent, Lends};
 ghost use Rattle.pixel_pool.specs.Pool.{GetsBack, KeepsLent, KeepsBlockCounts, KeepsOtherFree};
 
@@ -35,22 +35,24 @@ impl Pool {
         }
     }
 
-    /// Lends a block of a format with so many samples, which may hold anything.
+    /// Lends a block of a format with `count` samples, which may hold anything.
     ///
-    /// Of the free blocks one is used that none suits better: the smallest that has room for the
-    /// samples, else the largest, which gets new memory. Where none is free a block is added; so
-    /// there are never more than were lent at once. What has room for more than 1,024 samples
-    /// and for more than twice those asked for is made smaller. A new block has room for at most an
-    /// eighth more samples than are asked for.
+    /// Of the free blocks in which the samples fit, the smallest is used; where they fit in none, a
+    /// block is added. A block that has room for more than 1,024 samples and for more than twice
+    /// those asked for is made smaller. A new block has room for at most an eighth more samples than
+    /// are asked for.
     pub fn take(&mut self, format: Format, count: usize) -> Result<Block, AllocError>
         ensures format { IfOk result (λ taken. samples_format taken ≡ format) }
         ensures count { IfOk result (λ taken. length (values taken) ≡ count) }
         ensures room { IfOk result (λ taken. FitsIn count (room_of taken)) }
         ensures lends { OnOk result (Lends self.old self.new format) }
-        ensures blocks { OnOk result (blocks_of self.new format ≡
-            max (blocks_of self.old format) (lent_of self.new format)) }
-        ensures best { OnOk result (free_count (free_of self.old format) ≢ 0 →
-            UsesBest count (free_of self.old format) (free_of self.new format)) }
+        ensures used { OnOk result (HasRoom (free_of self.old format) count →
+            UsesSmallest count (free_of self.old format) (free_of self.new format)) }
+        ensures added { (HasRoom (free_of self.old format) count → ⊥) →
+            free_of self.new format ≡ free_of self.old format }
+        ensures most { blocks_of self.new format ≤ blocks_of self.old format + 1 }
+        ensures none { HasRoom (free_of self.old format) count →
+            blocks_of self.new format ≡ blocks_of self.old format }
         ensures other_free { KeepsOtherFree self.old self.new format }
         ensures err { OnErr result (self.new ≡ self.old) }
 
@@ -69,10 +71,13 @@ impl Pool {
         ensures format { IfOk result (λ taken. samples_format taken ≡ format) }
         ensures zero { IfOk result (λ taken. values taken ≡ replicate count (pos 0)) }
         ensures lends { OnOk result (Lends self.old self.new format) }
-        ensures blocks { OnOk result (blocks_of self.new format ≡
-            max (blocks_of self.old format) (lent_of self.new format)) }
-        ensures best { OnOk result (free_count (free_of self.old format) ≢ 0 →
-            UsesBest count (free_of self.old format) (free_of self.new format)) }
+        ensures used { OnOk result (HasRoom (free_of self.old format) count →
+            UsesSmallest count (free_of self.old format) (free_of self.new format)) }
+        ensures added { (HasRoom (free_of self.old format) count → ⊥) →
+            free_of self.new format ≡ free_of self.old format }
+        ensures most { blocks_of self.new format ≤ blocks_of self.old format + 1 }
+        ensures none { HasRoom (free_of self.old format) count →
+            blocks_of self.new format ≡ blocks_of self.old format }
         ensures other_free { KeepsOtherFree self.old self.new format }
         ensures err { OnErr result (self.new ≡ self.old) }
         ensures fits { HasRoom (free_of self.old format) count → IsOk result }

@@ -1,8 +1,8 @@
 //! The blocks of one format.
-ghost use Rattle.std.specs.Prelude.{◌≡◌, ◌≢◌, ℕ, ◌+◌, ◌≤◌, ◌<◌, [], length, max, replicate, IfOk, OnErr, OnOk};
+ghost use Rattle.std.specs.Prelude.{◌≡◌, ℕ, ◌+◌, ◌≤◌, ◌<◌, [], length, replicate, IfOk, OnErr, OnOk};
 ghost use Rattle.std.specs.Prelude.{IsOk, IsTrue, ◌↔◌, IfSome, IfNone, vec_capacity, slice_index};
 ghost use Rattle.pixel_pool.specs.Classes.{class_count, class_room, FitsIn};
-ghost use Rattle.pixel_pool.specs.Free.{HasFree, HasRoom, UsesBest, UsesLargest, IsTrim, IsFewer, free_count};
+ghost use Rattle.pixel_pool.specs.Free.{HasFree, HasRoom, UsesSmallest, IsTrim, IsFewer, free_count};
 ghost use Rattle.pixel_pool.specs.Free.{without_one, GetsFree};
 ghost use Rattle.pixel_pool.specs.Shelf.{block_count};
 
@@ -96,73 +96,40 @@ impl<T: Copy + Drop> Shelf<T> {
         self.free.len()
     }
 
-    /// Lends a block of so many samples, which may hold anything. No more than one block of each
-    /// class is looked at.
+    /// Lends a block of `count` samples, which may hold anything. It looks at no more than one block
+    /// of each class.
     pub fn take(&mut self, zero: T, count: usize) -> Result<Vec<T>, AllocError>
         ensures count { IfOk result (λ samples. length samples.items ≡ count) }
         ensures room { IfOk result (λ samples. FitsIn count (vec_capacity samples)) }
         ensures lent { OnOk result (self.new.lent ≡ self.old.lent + 1) }
-        ensures blocks { OnOk result (block_count self.new ≡
-            max (block_count self.old) self.new.lent) }
-        ensures best { OnOk result (free_count self.old.free ≢ 0 →
-            UsesBest count self.old.free self.new.free) }
+        ensures used { OnOk result (HasRoom self.old.free count →
+            UsesSmallest count self.old.free self.new.free) }
+        ensures added { (HasRoom self.old.free count → ⊥) → self.new.free ≡ self.old.free }
+        ensures most { block_count self.new ≤ block_count self.old + 1 }
+        ensures none { HasRoom self.old.free count → block_count self.new ≡ block_count self.old }
         ensures fits { HasRoom self.old.free count → IsOk result }
         ensures err { OnErr result (self.new ≡ self.old) }
     {
         match smallest(&self.stacks, count) {
             Some(class) => Ok(resized(self.lend(class), zero, count)),
-            None => self.take_new(zero, count),
+            None => self.add(zero, count),
         }
     }
 
-    /// Lends a block of so many samples, for which no free block has room, in new memory.
-    fn take_new(&mut self, zero: T, count: usize) -> Result<Vec<T>, AllocError>
-        requires { (class : ℕ) → HasFree self.old.free class → count ≤ class_room class → ⊥ }
+    /// Adds a block of `count` samples, and lends it. There is a place for it among the free blocks
+    /// too, so that it can be given back without memory.
+    fn add(&mut self, zero: T, count: usize) -> Result<Vec<T>, AllocError>
         ensures count { IfOk result (λ samples. length samples.items ≡ count) }
         ensures room { IfOk result (λ samples. FitsIn count (vec_capacity samples)) }
-        ensures lent { OnOk result (self.new.lent ≡ self.old.lent + 1) }
-        ensures blocks { OnOk result (block_count self.new ≡
-            max (block_count self.old) self.new.lent) }
-        ensures best { OnOk result (free_count self.old.free ≢ 0 →
-            UsesBest count self.old.free self.new.free) }
-        ensures err { OnErr result (self.new ≡ self.old) }
-    {
-        let samples = new_samples(self.alloc, zero, count)?;
-        self.lend_for_new()?;
-        Ok(samples)
-    }
-
-    /// Counts one more block as lent: a free one of the greatest class, whose memory is given up, or
-    /// where none is free a new one.
-    fn lend_for_new(&mut self) -> Result<(), AllocError>
-        ensures lent { OnOk result (self.new.lent ≡ self.old.lent + 1) }
-        ensures blocks { OnOk result (block_count self.new ≡
-            max (block_count self.old) self.new.lent) }
-        ensures largest { OnOk result (free_count self.old.free ≢ 0 →
-            UsesLargest self.old.free self.new.free) }
-        ensures err { OnErr result (self.new ≡ self.old) }
-    {
-        match largest(&self.stacks) {
-            Some(class) => {
-                drop(self.lend(class));
-                Ok(())
-            }
-            None => self.add(),
-        }
-    }
-
-    /// Counts one more block as lent, where none is free. There is a place for it among the free
-    /// ones too, so that it can be given back without memory.
-    fn add(&mut self) -> Result<(), AllocError>
-        requires { free_count self.old.free ≡ 0 }
         ensures ok { OnOk result
             (self.new ≡ record { lent = self.old.lent + 1; free = self.old.free }) }
         ensures err { OnErr result (self.new ≡ self.old) }
     {
+        let samples = new_samples(self.alloc, zero, count)?;
         let lent = self.lent.checked_add(1).ok_or(AllocError)?;
         self.free.reserve(lent)?;
         self.lent = lent;
-        Ok(())
+        Ok(samples)
     }
 
     /// Lends the free block of a class that came last.
@@ -254,7 +221,7 @@ impl<T: Copy + Drop> Shelf<T> {
     }
 }
 
-/// So many samples in new memory, as much as a block of their class has.
+/// Returns `count` samples in new memory, as much as a block of their class has.
 fn new_samples<T: Copy + Drop>(alloc: Global, zero: T, count: usize) -> Result<Vec<T>, AllocError>
     ensures count { IfOk result (λ samples. length samples.items ≡ count) }
     ensures room { IfOk result (λ samples. FitsIn count (vec_capacity samples)) }
@@ -264,8 +231,8 @@ fn new_samples<T: Copy + Drop>(alloc: Global, zero: T, count: usize) -> Result<V
     Ok(samples)
 }
 
-/// The same memory with so many samples, which fit. What is far too large is made smaller, so that
-/// few samples can't keep much memory; where that is refused, it stays as it is.
+/// Returns the same memory with `count` samples, which fit. Memory that is far too large is made
+/// smaller, so that few samples can't keep much; where the system refuses, it stays as it is.
 fn resized<T: Copy + Drop>(mut samples: Vec<T>, zero: T, count: usize) -> Vec<T>
     requires { count ≤ vec_capacity samples }
     ensures count { length result.items ≡ count }

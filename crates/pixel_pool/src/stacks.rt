@@ -17,7 +17,7 @@ pub struct Stack {
 /// A stack without blocks.
 pub const EMPTY: Stack = Stack { top: 0, len: 0 };
 
-/// The least class of which a block is free that has room for so many samples.
+/// Returns the least class with a free block in which `count` samples fit.
 #[tactic(auto, using(crate::proofs::FreeLemmas::stack_steps))]
 pub fn smallest(stacks: &[Stack; CLASSES], count: usize) -> Option<usize>
     ensures free { IfSome result (HasFree (lengths stacks.now)) }
@@ -37,7 +37,7 @@ pub fn smallest(stacks: &[Stack; CLASSES], count: usize) -> Option<usize>
     None
 }
 
-/// The greatest class of which a block is free.
+/// Returns the greatest class with a free block.
 #[tactic(auto, using(crate::proofs::FreeLemmas::stack_steps))]
 pub fn largest(stacks: &[Stack; CLASSES]) -> Option<usize>
     ensures free { IfSome result (HasFree (lengths stacks.now)) }

@@ -69,7 +69,7 @@ fn the_smallest_that_fits_is_taken(rt: HostRuntime) -> Result<(), Fail> {
     pool.give_back(first);
     pool.give_back(second);
     let grown = pool.take(Format::U8, 500)?;
-    assert!(rt; (pool.blocks(Format::U8), pool.free(Format::U8)) == (2, 1));
+    assert!(rt; (pool.blocks(Format::U8), pool.free(Format::U8)) == (3, 2));
     assert!(rt; give_back(&mut pool, grown) == 512);
     let small = pool.take(Format::U8, 60)?;
     assert!(rt; give_back(&mut pool, small) == 104);
@@ -105,6 +105,17 @@ fn sizes_that_rise_keep_one_block(rt: HostRuntime) -> Result<(), Fail> {
 }
 
 #[test]
+fn large_blocks_and_small_ones_are_used_again(rt: HostRuntime) -> Result<(), Fail> {
+    let mut pool = Pool::new(rt.alloc());
+    for _ in 0..3 {
+        taken_and_given_back(&mut pool, Format::U8, 2_000_000)?;
+        taken_and_given_back(&mut pool, Format::U8, 60_000)?;
+    }
+    assert!(rt; pool.blocks(Format::U8) == 2);
+    Ok(())
+}
+
+#[test]
 fn free_blocks_are_given_up(rt: HostRuntime) -> Result<(), Fail> {
     let mut pool = Pool::new(rt.alloc());
     let lent = pool.take(Format::S16, 12)?;
@@ -118,7 +129,7 @@ fn free_blocks_are_given_up(rt: HostRuntime) -> Result<(), Fail> {
 }
 
 #[test]
-fn free_blocks_are_trimmed_to_so_many_samples(rt: HostRuntime) -> Result<(), Fail> {
+fn the_room_of_free_blocks_is_trimmed(rt: HostRuntime) -> Result<(), Fail> {
     for (count, kept) in [(33_554_432, 2), (33_554_433, 1)] {
         let mut pool = Pool::new(rt.alloc());
         let first = pool.take(Format::U8, count)?;

@@ -87,7 +87,8 @@ fn what_is_released_leaves_room(rt: HostRuntime) -> Result<(), Fail> {
     Ok(())
 }
 
-/// A runtime in which client 1 has images 1 and 2 of one sample, graph 3 and its virtual image 4.
+/// Returns a runtime in which client 1 has images 1 and 2 of one sample, graph 3, and virtual image
+/// 4 of that graph.
 pub fn with_a_graph(alloc: Global, limits: Limits) -> Result<Runtime, Fail> {
     let desc = Desc::new(1, 1, Format::U8).ok_or("within the limits")?;
     let open = Outline::new(None, None, None).ok_or("nothing is declared")?;

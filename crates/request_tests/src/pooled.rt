@@ -199,12 +199,37 @@ fn a_chain_runs_through_two_blocks_and_gives_them_back(rt: HostRuntime) -> Resul
     Ok(())
 }
 
+/// How many slots of U8 the plan has that is kept of graph 3 of client 1, if one is.
+fn kept_slots(runtime: &Runtime) -> Option<usize> {
+    match runtime.kept(1, 3) {
+        Some(kept) => Some(kept.plan.slot_count(Format::U8)),
+        None => None,
+    }
+}
+
 #[test]
-fn images_in_turn_use_one_block(rt: HostRuntime) -> Result<(), Fail> {
+fn a_verified_graph_is_kept_with_its_plan_until_its_nodes_change(
+    rt: HostRuntime,
+) -> Result<(), Fail> {
+    let alloc = rt.alloc();
+    let mut runtime = with_a_graph(alloc, Limits::default())?;
+    add_chain(alloc, &mut runtime)?;
+    assert!(rt; kept_slots(&runtime) == None);
+    succeed(alloc, &mut runtime, &Request::VerifyGraph(3))?;
+    assert!(rt; kept_slots(&runtime) == Some(2));
+    succeed(alloc, &mut runtime, &Request::ProcessGraph(3))?;
+    assert!(rt; kept_slots(&runtime) == Some(2));
+    succeed(alloc, &mut runtime, &Request::RemoveNode(3, 6))?;
+    assert!(rt; kept_slots(&runtime) == None);
+    Ok(())
+}
+
+#[test]
+fn images_that_get_smaller_use_one_block(rt: HostRuntime) -> Result<(), Fail> {
     let alloc = rt.alloc();
     let mut runtime = opened(alloc)?;
-    for side in 1..65 {
-        let desc = Desc::new(side, 65 - side, Format::U32).ok_or("within the limits")?;
+    for less in 0..64 {
+        let desc = Desc::new(64 - less, 65, Format::U32).ok_or("within the limits")?;
         let name = create(alloc, &mut runtime, &Request::CreateImage(desc))?;
         assert!(rt; has(&runtime, [0, 0, 1], [0, 0, 1]));
         succeed(alloc, &mut runtime, &Request::Release(name))?;

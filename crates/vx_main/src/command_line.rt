@@ -21,7 +21,7 @@ Images may take twice their quota, and the graph that runs twice its work bytes.
                   with room for 67108864 samples together, so 469762048 bytes in all
   kept plans      of each graph that was found able to run, until its nodes change or its name
                   ends: with its nodes up to 70000 bytes each
-  next picture    the samples whose place the last picture took: at most 268435456 bytes
+  next picture    the one that is being read, in a block of its own: at most 268435456 bytes
   frame, reply    those that it is at
 Free blocks and kept plans are charged to no client. Where memory is refused, free blocks are given
 up; a request that finds none is answered NO_MEMORY.";

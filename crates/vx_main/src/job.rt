@@ -4,10 +4,10 @@ ghost use Rattle.vx_main.specs.Job.{function_of, node_of, operation_told, border
 
 use vx_base::{Border, Function, Node, NodeSpec, ObjRef, Policy};
 
-/// The name of the image that is read, the first of its context.
+/// The name of the input image, the first name in its context.
 pub const SOURCE: u32 = 1;
 
-/// The name of the image that is written, the second.
+/// The name of the output image, the second name.
 pub const RESULT: u32 = 2;
 
 /// A function that makes one U8 image of one other.

@@ -1,10 +1,23 @@
 -- What a WriteImage frame is answered, once the head of its body was read.
 use Rattle.std.proofs.Common.{◌≡◌, ◌≢◌, ℕ, ℤ, ◌*◌, ◌-◌, ◌<◌, ◌^◌, List, ◌++◌, Option, Some, Result, Ok, Err, inl, inr, ◌⊎◌, refl, arith, length, sym, ap, subst, ◌∙◌, length-append, All, OnOk, IfOk, IfErr}
 use Rattle.vx_requests.proofs.Common.{Consumes, Consumes-trans, All-append, Cell, Description, sample_count, byte_count, PictureValue, sample_bytes, Code, NoMemory, Request, WriteImage, Reply, Refused, Allowance, State, answer_to, BodyFault, op_numbered, parse_fault, fault_code, said_of, decoded, StreamFault, Content, Made, frame_of, ReadsPart, ReadsSome, ReadsSamples, spelled, IsReply, reply_frame, AnswersBody}
+use Rattle.std.specs.Prelude.{⊤}
+use Rattle.vx_base.specs.declared.format.Format.{Format}
+use Rattle.client_contexts.specs.Incoming.{IsRead, SaysWhyUnwritten}
+use Rattle.client_contexts.specs.declared.source.WriteFault.{WriteFault}
+use Rattle.client_contexts.specs.declared.source.WriteFault.TheVariants.{Refused as FaultRefused, Source as FaultSource}
 use Rattle.vx_wire.specs.declared.op.Op.TheVariants as ops
 use Rattle.vx_wire.specs.Images.{write_image_in, write_image_of}
 use Rattle.vx_requests.proofs.Pieces.{part_after}
 use Rattle.vx_requests.proofs.FrameReplies.{lost_reply, refused_reply, kept_reply}
+
+-- why a picture isn't written, taken apart
+module _ {S E : Type 0} (fills : S → S → Format → List ℤ → Result ⊤ E → Type 0) (d : Description) (from to : S) (refuses : Code → Type 0) where
+  pub unread : (why : WriteFault E) (code : Code) → why ≡ FaultRefused code → SaysWhyUnwritten fills d from to refuses why → (to ≡ from) × ((code ≡ NoMemory) ⊎ refuses code)
+  unread why code is said = subst (SaysWhyUnwritten fills d from to refuses) is said
+
+  pub read_in_part : (why : WriteFault E) (fault : E) → why ≡ FaultSource fault → SaysWhyUnwritten fills d from to refuses why → (p : PictureValue) × IsRead fills d from to p (Err fault)
+  read_in_part why fault is said = subst (SaysWhyUnwritten fills d from to refuses) is said
 
 module _ (limits : Allowance) (old new : ℕ → State) (client op len : ℕ) (head : List ℕ) where
   -- a body with a fault is refused
@@ -44,9 +57,11 @@ module _ (limits : Allowance) (a b c : Option (List ℕ)) (old new : ℕ → Sta
   past_rest (Err e) reply long ten bytes front read made part same replies = (part_after a b c head (len - 10) len e front (omega arith) part, same)
 
   -- less than the samples was read
-  pub cut_samples : (d : Description) (e : StreamFault) → 64 < len → length head ≡ 10 → Consumes a b head → len - 10 ≡ byte_count d → ReadsPart b c (byte_count d) e
-      → ((each : ℕ) → new each ≡ old each) → AnswersBody limits a c old new client op len (Err e)
-  cut_samples d e long ten front whole part same = (part_after a b c head (byte_count d) len e front (omega (arith, whole)) part, same)
+  pub cut_samples : (d : Description) (many : ℕ) (e : StreamFault) → many ≡ sample_count d → 64 < len → length head ≡ 10 → Consumes a b head → len - 10 ≡ byte_count d
+      → ReadsPart b c (many * sample_bytes d.format) e → ((each : ℕ) → new each ≡ old each) → AnswersBody limits a c old new client op len (Err e)
+  cut_samples d many e all long ten front whole part same =
+      let bytes : many * sample_bytes d.format ≡ len - 10 = ap (λ n. n * sample_bytes d.format) all ∙ sym whole in
+      (part_after a b c head (many * sample_bytes d.format) len e front (omega (arith, bytes)) part, same)
 
   -- the samples were read, and the runtime wrote the picture
   pub wrote_picture : (image : Cell) (d : Description) (p : PictureValue) (reply : Reply) → op_numbered op ≡ Some ops.WriteImage → 64 < len → length head ≡ 10 → All (λ x. x < 2 ^ 8) head

@@ -11,4 +11,3 @@ pub use limits::fits_a_frame;
 pub use reader::{Reader, number_of_two};
 pub use replies::{code_of, write_image, write_image_text, write_reply};
 pub use requests::write_request;
-pub use samples::read_samples;

@@ -1,4 +1,5 @@
 mod Common
+mod Computed
 mod ProductLaws
 mod MatrixLaws
 mod RowLaws

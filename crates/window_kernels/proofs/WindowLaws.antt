@@ -1,23 +1,12 @@
 -- What the windows of rows that are read where they stand give.
-use Rattle.std.proofs.Common.{◌≡◌, ℕ, ℤ, pos, ◌+◌, ◌<◌, ◌+ℤ◌, ◌-ℤ◌, ◌*ℤ◌, ◌*◌, ◌≤◌, zero, suc, List, [], ◌∷◌, ◌++◌, length, map, take, drop, get_or, refl, ap, ◌∙◌, sym, subst, arith, zero-add, replicate, w8, Fits, get_or-drop}
+use Rattle.std.proofs.Common.{◌≡◌, ℕ, ℤ, pos, ◌+◌, ◌<◌, ◌+ℤ◌, ◌-ℤ◌, ◌≤◌, zero, suc, List, [], ◌∷◌, ◌++◌, length, map, take, drop, get_or, refl, ap, ◌∙◌, sym, subst, arith, zero-add, replicate, w8, Fits, get_or-drop}
 use Rattle.window_kernels.proofs.Common.{ints, get_or-map, map-append, run, run-append, get_or-run, run_shifted, nine_around}
 use Rattle.std.proofs.lemmas.List.{drop-map, length-replicate, take-map}
 use Rattle.vx_base.proofs.ZeroLaws.{map-replicate}
 use Rattle.std.proofs.lemmas.Simd.{get_or-chunk}
 use Rattle.vx_base.proofs.TableLaws.{run-same}
 use Rattle.lane_rows.specs.Windows.{nine_from}
-use Rattle.lane_rows.specs.Threes.{IsUpTo, AreUpTo, number_at}
-use Rattle.std.specs.Int.{int_div_euclid}
-use Rattle.vx_base.specs.Window.{box_mean, gaussian_mean}
-
-pub same_three : (f : ℤ → ℤ → ℤ → ℤ) {a b c p q r : ℤ} → a ≡ p → b ≡ q → c ≡ r → f a b c ≡ f p q r
-same_three f x y z = cc (x, y, z)
-
--- an item of a row, as a number
-pub item_of : {A : Type 0} (value : A → ℤ) (xs : List A) (i : ℕ) (x : A) → i < length xs → x ≡ get_or xs i x → value x ≡ number_at (map value xs) i
-item_of value [] i x below is = absurd (omega (arith, below))
-item_of value (y ∷ ys) zero x below is = ap value is
-item_of value (y ∷ ys) (suc i) x below is = item_of value ys i x (omega (arith, below)) is
+use Rattle.lane_rows.specs.Threes.{AreTaken, number_at}
 
 -- a row of one sample
 pub all_are : (n v : ℕ) (z : ℤ) → pos v ≡ z → map pos (replicate n v) ≡ replicate (length (replicate n v)) z
@@ -62,28 +51,41 @@ parts_joined value f x n m last xs ys zs one two three to_last whole =
 pub bytes_at : (row : List ℕ) (i : ℕ) → number_at (map pos row) i ≡ pos (get_or row i 0)
 bytes_at row i = get_or-map pos row i 0
 
-pub bytes_up_to : (limit : ℕ) (row : List ℕ) → 255 ≤ limit → ((i : ℕ) → Fits w8 (get_or row i 0)) → AreUpTo limit (map pos row)
-bytes_up_to limit row more fits i = subst (IsUpTo limit) (sym (bytes_at row i)) (omega (arith, ints), omega (arith, ints, (fits i).fits))
+pub bytes_taken : (takes : ℤ → Type 0) → ((n : ℕ) → n < 256 → takes (pos n)) → (row : List ℕ) → ((i : ℕ) → Fits w8 (get_or row i 0)) → AreTaken takes (map pos row)
+bytes_taken takes law row fits i = subst takes (sym (bytes_at row i)) (law (get_or row i 0) (fits i).fits)
 
-run_up_to : (limit : ℕ) (f : ℕ → ℤ) (x n : ℕ) → ((i : ℕ) → IsUpTo limit (f i)) → AreUpTo limit (run x n f)
-run_up_to limit f x zero all i = (omega (arith, ints), omega (arith, ints))
-run_up_to limit f x (suc n) all zero = all x
-run_up_to limit f x (suc n) all (suc i) = run_up_to limit f (x + 1) n all i
+module _ (takes : ℤ → Type 0) (takes_zero : takes (pos 0)) where
+  run_taken : (f : ℕ → ℤ) (x n : ℕ) → ((i : ℕ) → takes (f i)) → AreTaken takes (run x n f)
+  run_taken f x zero all i = takes_zero
+  run_taken f x (suc n) all zero = all x
+  run_taken f x (suc n) all (suc i) = run_taken f (x + 1) n all i
 
-take_up_to : (limit n : ℕ) (xs : List ℤ) → AreUpTo limit xs → AreUpTo limit (take n xs)
-take_up_to limit zero xs all i = (omega (arith, ints), omega (arith, ints))
-take_up_to limit (suc n) [] all i = (omega (arith, ints), omega (arith, ints))
-take_up_to limit (suc n) (x ∷ xs) all zero = all 0
-take_up_to limit (suc n) (x ∷ xs) all (suc i) = take_up_to limit n xs (λ j. all (suc j)) i
+  take_taken : (n : ℕ) (xs : List ℤ) → AreTaken takes xs → AreTaken takes (take n xs)
+  take_taken zero xs all i = takes_zero
+  take_taken (suc n) [] all i = takes_zero
+  take_taken (suc n) (x ∷ xs) all zero = all 0
+  take_taken (suc n) (x ∷ xs) all (suc i) = take_taken n xs (λ j. all (suc j)) i
 
-pub part_up_to : (limit a n m : ℕ) (f : ℕ → ℤ) (xs : List ℤ) → xs ≡ run 0 m f → ((i : ℕ) → IsUpTo limit (f i)) → AreUpTo limit (take n (drop a xs))
-part_up_to limit a n m f xs is all =
-    let whole : AreUpTo limit xs = subst (AreUpTo limit) (sym is) (run_up_to limit f 0 m all) in
-    take_up_to limit n (drop a xs) (λ i. subst (IsUpTo limit) (sym (get_or-drop a xs i (pos 0))) (whole (a + i)))
+  part_taken : (a n : ℕ) (xs : List ℤ) → AreTaken takes xs → AreTaken takes (take n (drop a xs))
+  part_taken a n xs all = take_taken n (drop a xs) (λ i. subst takes (sym (get_or-drop a xs i (pos 0))) (all (a + i)))
 
 part_at : (f : ℕ → ℤ) (m a n p i : ℕ) (xs : List ℤ) → xs ≡ run 0 m f → p ≡ n → i < n → a + i < m → number_at (take p (drop a xs)) i ≡ f (a + i)
 part_at f m a n p i xs is same below inside =
     get_or-chunk a p xs i (pos 0) (omega arith) ∙ ap (λ l. number_at l (a + i)) is ∙ get_or-run f 0 m (a + i) (pos 0) inside ∙ ap f (zero-add (a + i))
+
+part_of : {S : Type 0} (value : S → ℤ) (columns : List S) (k a : ℕ) → map value (take k (drop a columns)) ≡ take k (drop a (map value columns))
+part_of value columns k a = sym (take-map value k (drop a columns)) ∙ ap (take k) (sym (drop-map value a columns))
+
+-- columns of bytes are taken across
+pub columns_taken : (down : ℤ → ℤ → ℤ → ℤ) {S : Type 0} (value : S → ℤ) (takes : ℤ → Type 0) → takes (pos 0) → ((a b c : ℕ) → a < 256 → b < 256 → c < 256 → takes (down (pos a) (pos b) (pos c)))
+    → (above here below : List ℕ) (m : ℕ) (columns : List S) → ((i : ℕ) → Fits w8 (get_or above i 0)) → ((i : ℕ) → Fits w8 (get_or here i 0)) → ((i : ℕ) → Fits w8 (get_or below i 0))
+    → map value columns ≡ run 0 m (λ i. down (number_at (map pos above) i) (number_at (map pos here) i) (number_at (map pos below) i))
+    → (a n : ℕ) → AreTaken takes (map value (take n (drop a columns)))
+columns_taken down value takes takes_zero law above here below m columns p q r is a n =
+    let f : ℕ → ℤ = λ i. down (number_at (map pos above) i) (number_at (map pos here) i) (number_at (map pos below) i) in
+    let all : (i : ℕ) → takes (f i) =
+    λ i. subst takes (sym (cc (bytes_at above i, bytes_at here i, bytes_at below i))) (law (get_or above i 0) (get_or here i 0) (get_or below i 0) (p i).fits (q i).fits (r i).fits) in
+    subst (AreTaken takes) (sym (part_of value columns n a)) (part_taken takes takes_zero a n (map value columns) (subst (AreTaken takes) (sym is) (run_taken takes takes_zero f 0 m all)))
 
 module _ (down across : ℤ → ℤ → ℤ → ℤ) (of_nine : List ℤ → ℤ)
     (law : (a b c d e f g h i : ℤ) → across (down a d g) (down b e h) (down c f i) ≡ of_nine (a ∷ b ∷ c ∷ d ∷ e ∷ f ∷ g ∷ h ∷ i ∷ [])) where
@@ -110,18 +112,4 @@ module _ (down across : ℤ → ℤ → ℤ → ℤ) (of_nine : List ℤ → ℤ
       → map value columns ≡ run 0 m (λ i. down (number_at (map pos above) i) (number_at (map pos here) i) (number_at (map pos below) i)) → m ≡ n + 2 → p ≡ n → q ≡ n → r ≡ n
       → run 0 n (λ i. across (number_at (map value (take p (drop 0 columns))) i) (number_at (map value (take q (drop 1 columns))) i) (number_at (map value (take r (drop 2 columns))) i)) ≡ run 0 n (λ i. of_nine (nine_from above here below i))
   across_columns value above here below m n p q r columns is long pp qq rr =
-      let part : (k a : ℕ) → map value (take k (drop a columns)) ≡ take k (drop a (map value columns)) = λ k a. sym (take-map value k (drop a columns)) ∙ ap (take k) (sym (drop-map value a columns)) in
-      rw (part p 0, part q 1, part r 2) (by_columns above here below m n p q r (map value columns) is long pp qq rr)
-
--- the sums of columns a d g, b e h and c f i are those of the nine samples
-pub box_is_box : (a b c d e f g h i : ℤ) → int_div_euclid (((a +ℤ d +ℤ g) +ℤ (b +ℤ e +ℤ h)) +ℤ (c +ℤ f +ℤ i)) (pos 9) ≡ box_mean (a ∷ b ∷ c ∷ d ∷ e ∷ f ∷ g ∷ h ∷ i ∷ [])
-box_is_box a b c d e f g h i = ap (λ z. int_div_euclid z (pos 9)) (omega (arith, ints))
-
-pub gaussian_is_gaussian : (a b c d e f g h i : ℤ) → int_div_euclid (((a +ℤ pos 2 *ℤ d +ℤ g) +ℤ pos 2 *ℤ (b +ℤ pos 2 *ℤ e +ℤ h)) +ℤ (c +ℤ pos 2 *ℤ f +ℤ i)) (pos 16) ≡ gaussian_mean (a ∷ b ∷ c ∷ d ∷ e ∷ f ∷ g ∷ h ∷ i ∷ [])
-gaussian_is_gaussian a b c d e f g h i = ap (λ z. int_div_euclid z (pos 16)) (omega (arith, ints))
-
-pub sum_up_to : (limit : ℕ) (a b c : ℤ) → IsUpTo limit a → IsUpTo limit b → IsUpTo limit c → IsUpTo (3 * limit) (a +ℤ b +ℤ c)
-sum_up_to limit a b c p q r = (omega (arith, ints, p.0, q.0, r.0), omega (arith, ints, p.1, q.1, r.1))
-
-pub weighted_up_to : (limit : ℕ) (a b c : ℤ) → IsUpTo limit a → IsUpTo limit b → IsUpTo limit c → IsUpTo (4 * limit) (a +ℤ pos 2 *ℤ b +ℤ c)
-weighted_up_to limit a b c p q r = (omega (arith, ints, p.0, q.0, r.0), omega (arith, ints, p.1, q.1, r.1))
+      rw (part_of value columns p 0, part_of value columns q 1, part_of value columns r 2) (by_columns above here below m n p q r (map value columns) is long pp qq rr)

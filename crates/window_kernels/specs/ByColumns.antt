@@ -1,9 +1,10 @@
 -- That three columns give what the nine samples do. Their samples are numbered by rows: column a d g is the left one.
-use Rattle.std.specs.Prelude.{ℤ, ◌≡◌, [], ◌∷◌, pos, ◌+ℤ◌, ◌-ℤ◌, ◌*ℤ◌}
-use Rattle.std.specs.Int.{int_min, int_max}
+use Rattle.std.specs.Prelude.{ℕ, ℤ, ◌≡◌, ◌<◌, [], ◌∷◌, pos, ◌+ℤ◌, ◌-ℤ◌, ◌*ℤ◌}
+use Rattle.std.specs.Int.{int_min, int_max, int_div_euclid}
 use Rattle.std.proofs.Common.{arith, ap, ◌∙◌}
 use Rattle.std.proofs.lemmas.Int.{ints}
-use Rattle.vx_base.specs.Window.{least_of, greatest_of, gradient_x, gradient_y}
+use Rattle.vx_base.specs.Window.{least_of, greatest_of, gradient_x, gradient_y, box_mean, gaussian_mean}
+use Rattle.lane_rows.specs.Threes.{IsUpTo}
 
 -- of an operation whose order doesn't matter
 module _ (op : ℤ → ℤ → ℤ) (assoc : (x y z : ℤ) → op x (op y z) ≡ op (op x y) z) (turned : (x y z u : ℤ) → op (op x y) (op z u) ≡ op (op x z) (op y u)) where
@@ -47,3 +48,30 @@ x_is_x a b c d e f g h i = omega (arith, ints)
 
 pub y_is_y : (a b c d e f g h i : ℤ) → ((g -ℤ a) +ℤ pos 2 *ℤ (h -ℤ b)) +ℤ (i -ℤ c) ≡ gradient_y (a ∷ b ∷ c ∷ d ∷ e ∷ f ∷ g ∷ h ∷ i ∷ [])
 y_is_y a b c d e f g h i = omega (arith, ints)
+
+-- sums of three columns
+
+pub box_is_box : (a b c d e f g h i : ℤ) → int_div_euclid ((a +ℤ d +ℤ g) +ℤ (b +ℤ e +ℤ h) +ℤ (c +ℤ f +ℤ i)) (pos 9) ≡ box_mean (a ∷ b ∷ c ∷ d ∷ e ∷ f ∷ g ∷ h ∷ i ∷ [])
+box_is_box a b c d e f g h i = ap (λ z. int_div_euclid z (pos 9)) (omega (arith, ints))
+
+pub gaussian_is_gaussian : (a b c d e f g h i : ℤ) → int_div_euclid ((a +ℤ pos 2 *ℤ d +ℤ g) +ℤ pos 2 *ℤ (b +ℤ pos 2 *ℤ e +ℤ h) +ℤ (c +ℤ pos 2 *ℤ f +ℤ i)) (pos 16) ≡ gaussian_mean (a ∷ b ∷ c ∷ d ∷ e ∷ f ∷ g ∷ h ∷ i ∷ [])
+gaussian_is_gaussian a b c d e f g h i = ap (λ z. int_div_euclid z (pos 16)) (omega (arith, ints))
+
+-- ---- which numbers are taken
+
+-- bytes down columns, and across three columns what that gives
+pub record AreBytesTaken (down across : ℤ → Type 0) (formula : ℤ → ℤ → ℤ → ℤ) : Type 0 where
+  pub bytes : (n : ℕ) → n < 256 → down (pos n)
+  pub columns : (a b c : ℕ) → a < 256 → b < 256 → c < 256 → across (formula (pos a) (pos b) (pos c))
+  pub zero : across (pos 0)
+
+pub all_taken : {f : ℤ → ℤ → ℤ → ℤ} → AreBytesTaken (λ _. Unit {0}) (λ _. Unit {0}) f
+all_taken = record { bytes = λ _ _. tt; columns = λ _ _ _ _ _ _. tt; zero = tt }
+
+pub sums_taken : AreBytesTaken (IsUpTo 8191) (IsUpTo 765) (λ a b c. a +ℤ b +ℤ c)
+sums_taken =
+    record { bytes = λ n p. (omega (arith, ints), omega (arith, ints, p)); columns = λ a b c p q r. (omega (arith, ints), omega (arith, ints, p, q, r)); zero = (omega (arith, ints), omega (arith, ints)) }
+
+pub weighted_sums_taken : AreBytesTaken (IsUpTo 8191) (IsUpTo 1020) (λ a b c. a +ℤ pos 2 *ℤ b +ℤ c)
+weighted_sums_taken =
+    record { bytes = λ n p. (omega (arith, ints), omega (arith, ints, p)); columns = λ a b c p q r. (omega (arith, ints), omega (arith, ints, p, q, r)); zero = (omega (arith, ints), omega (arith, ints)) }

@@ -1,4 +1,5 @@
 pub mod Fits
+pub mod Given
 pub mod Turned
 pub mod Examples
 pub mod ByColumns

@@ -16,27 +16,22 @@ ghost use Rattle.lane_rows.specs.Pairs.{IsNear, alternating};
 ghost use Rattle.window_kernels.specs.Turned.{turned, turned_pairs, turned_tables};
 
 use crate::pieces::PIECE;
+use crate::windows::SampleItem;
 use border_rows::{load_row, window_valid};
 use image_core::{Image, ImageMut, RowFormula, Sample};
 use lane_rows::{Clamped, MatrixRows};
 use vx_base::{Border, Convolution, Format, Rect};
 
 /// Samples that convolution writes: U8 and S16.
-trait Convolved: Sample + Clamped {
-    ghost same: { (z : Self) → Self.Item.value z ≡ Self.Number.value z };
-
+trait Convolved: SampleItem + Clamped {
     ghost same_format: { Self.Clamped.format ≡ Self.Sample.format };
 }
 
 impl Convolved for u8 {
-    ghost same = { λ _. refl };
-
     ghost same_format = { refl };
 }
 
 impl Convolved for i16 {
-    ghost same = { λ _. refl };
-
     ghost same_format = { refl };
 }
 
@@ -218,7 +213,8 @@ fn write_convolved<T: Convolved>(
     requires input_format { image.now.format ≡ U8 }
     requires format { (written output.old).format ≡ T.Sample.format }
     requires scratch { 9 * (min image.now.width PIECE + 48) ≤ length scratch.old }
-    ensures { Writes (from_matrix T.Sample.format convolution.now border image.now) output.old output.new }
+    ensures { Writes (from_matrix T.Sample.format convolution.now border image.now)
+        output.old output.new }
 {
     let (columns, rows) = (convolution.columns() / 2, convolution.rows() / 2);
     let area = window_valid(border, u16::from(columns), u16::from(rows), image.valid());

@@ -1,4 +1,6 @@
 //! Worked examples: what the definitions give, in numbers.
+#![tactic(auto, using(crate::proofs::Computed::computed))]
+
 ghost use Rattle.std.specs.Prelude.{◌≡◌, ℤ, List, [], ◌∷◌, pos, negsuc};
 ghost use Rattle.vx_base.specs.declared.format.Format.TheVariants.{U8, S16};
 ghost use Rattle.vx_base.specs.declared.border.Border.TheVariants.{Undefined, Constant, Replicate};

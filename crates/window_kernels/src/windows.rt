@@ -1,6 +1,6 @@
 //! Images of the nine samples around each place.
 ghost use Rattle.std.specs.Prelude.{◌≡◌, ◌+◌, ◌*◌, ◌<◌, ◌≤◌, ℕ, ℤ, List, pos, map, length};
-ghost use Rattle.std.specs.Prelude.{replicate};
+ghost use Rattle.std.specs.Prelude.{replicate, refl};
 ghost use Rattle.vx_base.specs.declared.format.Format.TheVariants.{U8};
 ghost use Rattle.vx_base.specs.Image.{run};
 ghost use Rattle.vx_base.specs.Window.{look, nine_around, window_valid, from_nine};
@@ -11,8 +11,21 @@ ghost use Rattle.lane_rows.specs.Windows.{nine_of, nine_from};
 
 use border_rows::{row_in_place, seen_around, value_beside, window_valid};
 use image_core::{Image, ImageMut, RowFormula, Sample, set_all};
-use lane_rows::ThreeItems;
+use lane_rows::{Item, ThreeItems};
 use vx_base::{Border, GREATEST_SIDE, Rect};
+
+/// Samples that are items of rows, the same numbers: U8 and S16.
+pub trait SampleItem: Sample + Item {
+    ghost same: { (z : Self) → Self.Item.value z ≡ Self.Number.value z };
+}
+
+impl SampleItem for u8 {
+    ghost same = { λ _. refl };
+}
+
+impl SampleItem for i16 {
+    ghost same = { λ _. refl };
+}
 
 /// A kernel of the nine samples around a place.
 pub trait OfWindow<T: Sample, S> {

@@ -1,5 +1,5 @@
 -- What reading the parts of a frame does.
-use Rattle.std.specs.Prelude.{◌≡◌, ℕ, ℤ, ◌+◌, ◌*◌, ◌<◌, ◌^◌, List, [], length, All, Option, Some, None, Result, Ok, Err}
+use Rattle.std.specs.Prelude.{◌≡◌, ℕ, ℤ, ◌+◌, ◌*◌, ◌<◌, ◌^◌, List, [], length, All, Option, Some, None, Result, Ok, Err, ⊤, OnOk, IfErr}
 use Rattle.std.specs.Int.{w32, to_be_bytes}
 use Rattle.std.specs.Io.KnownBytes.{Consumes, IsAtEnd}
 use Rattle.vx_base.specs.declared.format.Format.{Format}
@@ -59,3 +59,9 @@ pub record KeepsCount {S T : Type 0} (reads failures : S → ℕ) (old new : Rea
   pub source : new.source.ghost_name ≡ old.source.ghost_name
   pub counted : CountsReads (reads old.source.now) (reads new.source.now) old.budget new.budget result
   pub failed : failures new.source.now ≡ failures old.source.now + read_failures result
+
+-- samples of a format were read over others from a reader; or it failed, and less than they take was read
+pub record ReadsOver {S : Type 0} (left : S → Option (List ℕ)) (reads failures : S → ℕ) (old new : Reader S) (format : Format) (samples : List ℤ) (result : Result ⊤ StreamFault) : Type 0 where
+  pub ok : OnOk result (ReadsSamples (left old.source.now) (left new.source.now) format samples)
+  pub err : IfErr result (ReadsPart (left old.source.now) (left new.source.now) (length samples * sample_bytes format))
+  pub counted : KeepsCount reads failures old new result

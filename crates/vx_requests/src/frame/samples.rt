@@ -9,6 +9,7 @@ ghost use Rattle.vx_wire.specs.Samples.{encoded_sample};
 
 use crate::frame::reader::Reader;
 use crate::stream::{Sink, Source, StreamFault, write_all};
+use client_contexts::FillsSamples;
 use vx_base::Samples;
 use vx_wire::{WideSample, decode_wide, encode};
 
@@ -60,11 +61,22 @@ fn write_block<S: WideSample, K: Sink>(
     write_all(sink, bytes)
 }
 
+impl<S: Source> FillsSamples for Reader<'_, S> {
+    ghost use Rattle.vx_requests.specs.Frame.Reading.{CanRead, ReadsOver};
+
+    type Fault = StreamFault;
+
+    ghost can_fill = { CanRead S.reads S.failures };
+
+    ghost fills = { ReadsOver S.left S.reads S.failures };
+
+    fn fill(&mut self, samples: &mut Samples) -> Result<(), StreamFault> {
+        read_samples(self, samples)
+    }
+}
+
 /// Reads samples of any format over those that are there, within a frame.
-pub fn read_samples<S: Source>(
-    reader: &mut Reader<S>,
-    samples: &mut Samples,
-) -> Result<(), StreamFault>
+fn read_samples<S: Source>(reader: &mut Reader<S>, samples: &mut Samples) -> Result<(), StreamFault>
     requires { CanRead S.reads S.failures reader.old }
     ensures ok { OnOk result (ReadsSamples
         (S.left reader.old.source.now) (S.left reader.new.source.now)

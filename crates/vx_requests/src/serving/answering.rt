@@ -16,7 +16,7 @@ use crate::serving::texts::answer_write_image_pgm;
 use crate::stream::{Source, StreamFault};
 use client_contexts::{NoMemory, Runtime};
 use client_model::{Reply, Request};
-use std::alloc::{AllocError, Global};
+use std::alloc::Global;
 use vx_base::Code;
 use vx_wire::{Op, parse};
 
@@ -107,31 +107,18 @@ fn answer_large<S: Source>(
 {
     match Op::from_number(op) {
         Some(Op::WriteImage) => answer_write_image(reader, runtime, client, op, count),
-        _ => match room_for(alloc, runtime, count) {
+        _ => match runtime.ask_again(|| zeros(alloc, count)) {
             Ok(mut body) => answer_in(alloc, reader, runtime, client, op, body.as_mut_slice()),
-            Err(AllocError) => lose_body(reader, client, op, count),
+            Err(NoMemory) => lose_body(reader, client, op, count),
         },
     }
 }
 
-/// Memory for so many bytes. Where there is none, blocks that no image has are given up for it.
-fn room_for(alloc: Global, runtime: &mut Runtime, count: usize) -> Result<Vec<u8>, AllocError>
-    ensures count { IfOk result (λ bytes. length bytes.items ≡ count) }
-    ensures same { runtime.new ≡ runtime.old }
-{
-    match zeros(alloc, count) {
-        Ok(bytes) => Ok(bytes),
-        Err(AllocError) => {
-            runtime.drop_free();
-            zeros(alloc, count)
-        }
-    }
-}
-
-fn zeros(alloc: Global, count: usize) -> Result<Vec<u8>, AllocError>
+/// Memory for so many bytes.
+fn zeros(alloc: Global, count: usize) -> Result<Vec<u8>, NoMemory>
     ensures { IfOk result (λ bytes. length bytes.items ≡ count) }
 {
-    vec![in alloc; 0u8; count]
+    Ok(vec![in alloc; 0u8; count]?)
 }
 
 /// Reads a frame's body into the buffer, which it fills, and answers the frame.
@@ -195,7 +182,8 @@ fn answer_frame(alloc: Global, runtime: &mut Runtime, frame: &RequestFrame) -> C
 {
     let content = content_for(alloc, runtime, frame);
     if let Content::Made(Reply::Refused(Code::NoMemory)) = content {
-        // Who asks again finds what was kept in blocks that no image has.
+        // The body may have found no memory as it was parsed. A client that asks again finds what
+        // free blocks held.
         runtime.drop_free();
     }
     content

@@ -14,7 +14,7 @@ use crate::fields::Fields;
 use std::alloc::{AllocError, Global};
 use vx_base::{Format, Samples};
 
-/// The bytes of so many samples of a format.
+/// Takes the bytes of `count` samples of a format from the fields of a body.
 pub fn take_samples<'a>(
     fields: &mut Fields<'a>,
     format: Format,
@@ -94,7 +94,8 @@ impl WideSample for u32 {
     }
 }
 
-/// So many samples of a format, from their bytes. All of the memory is taken at once.
+/// Returns `count` samples of a format, decoded from their big-endian bytes. Takes all of its
+/// memory before it decodes any.
 pub fn decode(
     alloc: Global,
     format: Format,
@@ -121,7 +122,7 @@ pub fn decode(
     }
 }
 
-/// Decodes as many samples as there is room for.
+/// Decodes bytes into `samples`, all of which they fill.
 pub fn decode_wide<S: WideSample>(bytes: &[u8], samples: &mut [S])
     requires { length bytes.now ≡ length samples.old * sample_bytes S.format }
     ensures { map S.value samples.new ≡ decoded S.format (length samples.old) bytes.now }

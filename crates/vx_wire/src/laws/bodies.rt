@@ -5,7 +5,7 @@ ghost use Rattle.vx_wire.specs.Op.{op_number, op_of};
 ghost use Rattle.vx_wire.specs.Requests.{request_of, body_of};
 ghost use Rattle.client_model.specs.Request.{IsRequest};
 
-/// A request is read back from its op and body.
+/// Parsing the op and the body of a request gives the request back.
 pub fn read_back()
     ensures { (request : Request) → IsRequest request →
         request_of (op_number (op_of request)) (body_of request) ≡ Ok request }

@@ -6,7 +6,7 @@ use crate::body_fault::BodyFault;
 use crate::fields::Fields;
 use client_model::Request;
 
-/// An empty body.
+/// Parses the body of OpenContext, which is empty.
 pub fn open_context(body: &[u8]) -> Result<Request, BodyFault>
     ensures { result ≡ open_context_in body.now }
 {
@@ -14,7 +14,7 @@ pub fn open_context(body: &[u8]) -> Result<Request, BodyFault>
     Ok(Request::OpenContext)
 }
 
-/// An empty body.
+/// Parses the body of ReleaseContext, which is empty.
 pub fn release_context(body: &[u8]) -> Result<Request, BodyFault>
     ensures { result ≡ release_context_in body.now }
 {

@@ -9,7 +9,7 @@ use crate::fields::slots::take_slots;
 use crate::requests::name_alone;
 use client_model::Request;
 
-/// A reference to the exemplar, and the number of slots.
+/// Parses the body of CreateDelay: a reference to the exemplar, and the number of slots.
 pub fn create_delay(body: &[u8]) -> Result<Request, BodyFault>
     ensures { result ≡ create_delay_in body.now }
 {
@@ -20,14 +20,14 @@ pub fn create_delay(body: &[u8]) -> Result<Request, BodyFault>
     Ok(Request::CreateDelay(exemplar, slots))
 }
 
-/// A name.
+/// Parses the body of AgeDelay: the name of a delay.
 pub fn age_delay(body: &[u8]) -> Result<Request, BodyFault>
     ensures { result ≡ age_delay_in body.now }
 {
     Ok(Request::AgeDelay(name_alone(body)?))
 }
 
-/// The name of a graph, and that of a delay.
+/// Parses the body of RegisterAutoAging: the name of a graph, and that of a delay.
 pub fn register_auto_aging(body: &[u8]) -> Result<Request, BodyFault>
     ensures { result ≡ register_auto_aging_in body.now }
 {

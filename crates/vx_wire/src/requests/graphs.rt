@@ -10,7 +10,7 @@ use crate::fields::outline::take_outline;
 use crate::requests::name_alone;
 use client_model::Request;
 
-/// An empty body.
+/// Parses the body of CreateGraph, which is empty.
 pub fn create_graph(body: &[u8]) -> Result<Request, BodyFault>
     ensures { result ≡ create_graph_in body.now }
 {
@@ -18,7 +18,7 @@ pub fn create_graph(body: &[u8]) -> Result<Request, BodyFault>
     Ok(Request::CreateGraph)
 }
 
-/// The name of the graph, and an outline.
+/// Parses the body of CreateVirtualImage: the name of the graph, and a partial description.
 pub fn create_virtual_image(body: &[u8]) -> Result<Request, BodyFault>
     ensures { result ≡ create_virtual_image_in body.now }
 {
@@ -29,7 +29,7 @@ pub fn create_virtual_image(body: &[u8]) -> Result<Request, BodyFault>
     Ok(Request::CreateVirtualImage(graph, declared))
 }
 
-/// The name of the graph, and a node.
+/// Parses the body of AddNode: the name of the graph, and a node.
 pub fn add_node(body: &[u8]) -> Result<Request, BodyFault>
     ensures { result ≡ add_node_in body.now }
 {
@@ -40,7 +40,7 @@ pub fn add_node(body: &[u8]) -> Result<Request, BodyFault>
     Ok(Request::AddNode(graph, node))
 }
 
-/// The name of the graph, and the number of a node.
+/// Parses the body of RemoveNode: the name of the graph, and the number of a node.
 pub fn remove_node(body: &[u8]) -> Result<Request, BodyFault>
     ensures { result ≡ remove_node_in body.now }
 {
@@ -51,14 +51,14 @@ pub fn remove_node(body: &[u8]) -> Result<Request, BodyFault>
     Ok(Request::RemoveNode(graph, number))
 }
 
-/// The name of the graph.
+/// Parses the body of VerifyGraph: the name of the graph.
 pub fn verify_graph(body: &[u8]) -> Result<Request, BodyFault>
     ensures { result ≡ verify_graph_in body.now }
 {
     Ok(Request::VerifyGraph(name_alone(body)?))
 }
 
-/// The name of the graph.
+/// Parses the body of ProcessGraph: the name of the graph.
 pub fn process_graph(body: &[u8]) -> Result<Request, BodyFault>
     ensures { result ≡ process_graph_in body.now }
 {

@@ -20,7 +20,7 @@ use client_model::{Request, Text};
 use std::alloc::Global;
 use vx_base::{Desc, ObjRef, Picture};
 
-/// A description.
+/// Parses the body of CreateImage: a format, a width and a height.
 pub fn create_image(body: &[u8]) -> Result<Request, BodyFault>
     ensures { result ≡ create_image_in body.now }
 {
@@ -30,14 +30,14 @@ pub fn create_image(body: &[u8]) -> Result<Request, BodyFault>
     Ok(Request::CreateImage(desc))
 }
 
-/// A reference.
+/// Parses the body of QueryImage: a reference.
 pub fn query_image(body: &[u8]) -> Result<Request, BodyFault>
     ensures { result ≡ query_image_in body.now }
 {
     Ok(Request::QueryImage(reference_alone(body)?))
 }
 
-/// A reference and a picture.
+/// Parses the body of WriteImage: a reference and a picture.
 pub fn write_image(alloc: Global, body: &[u8]) -> Result<Request, ParseFault>
     ensures ok { IfOk result (λ request. write_image_in body.now ≡ Ok request) }
     ensures err { IfErr result (MayFailWith (write_image_in body.now)) }
@@ -52,9 +52,9 @@ pub fn write_image(alloc: Global, body: &[u8]) -> Result<Request, ParseFault>
     Ok(Request::WriteImage(image, Picture::new(desc, samples)))
 }
 
-/// The image that a WriteImage request names and the description of its picture, from the first ten
-/// bytes of its body, after which so many follow. What these are makes no difference: whoever has
-/// as many of them as the description says has a request.
+/// Parses the first ten bytes of the body of WriteImage: a reference, and the description of the
+/// picture. `rest` is the number of bytes that follow. They have to be as many as the description
+/// says; their values make no difference.
 pub fn write_image_head(head: &[u8; 10], rest: usize) -> Result<(ObjRef, Desc), BodyFault>
     ensures ok { IfOk result (λ found. (samples : List ℕ) → length samples ≡ rest →
         write_image_in (head.now ++ samples) ≡ Ok (write_image_of found.0 found.1 samples)) }
@@ -72,8 +72,8 @@ pub fn write_image_head(head: &[u8; 10], rest: usize) -> Result<(ObjRef, Desc), 
     }
 }
 
-/// The image that a WriteImagePgm request names and its text, from its body: a reference, and all
-/// bytes that are left, which nothing reads here. It takes no memory.
+/// Splits the body of WriteImagePgm into its reference and its text: all bytes that are left, which
+/// aren't parsed here. Takes no memory.
 pub fn write_image_pgm_fields(body: &[u8]) -> Result<(ObjRef, &[u8]), BodyFault>
     ensures ok { IfOk result (λ found.
         write_image_pgm_in body.now ≡ Ok (WriteImagePgm found.0 found.1.now)) }
@@ -84,7 +84,7 @@ pub fn write_image_pgm_fields(body: &[u8]) -> Result<(ObjRef, &[u8]), BodyFault>
     Ok((image, fields.rest()))
 }
 
-/// A reference and a text.
+/// Parses the body of WriteImagePgm: a reference and a text.
 pub fn write_image_pgm(alloc: Global, body: &[u8]) -> Result<Request, ParseFault>
     ensures ok { IfOk result (λ request. write_image_pgm_in body.now ≡ Ok request) }
     ensures err { IfErr result (MayFailWith (write_image_pgm_in body.now)) }
@@ -95,21 +95,21 @@ pub fn write_image_pgm(alloc: Global, body: &[u8]) -> Result<Request, ParseFault
     }
 }
 
-/// A reference.
+/// Parses the body of ReadImage: a reference.
 pub fn read_image(body: &[u8]) -> Result<Request, BodyFault>
     ensures { result ≡ read_image_in body.now }
 {
     Ok(Request::ReadImage(reference_alone(body)?))
 }
 
-/// A reference.
+/// Parses the body of ReadImagePgm: a reference.
 pub fn read_image_pgm(body: &[u8]) -> Result<Request, BodyFault>
     ensures { result ≡ read_image_pgm_in body.now }
 {
     Ok(Request::ReadImagePgm(reference_alone(body)?))
 }
 
-/// A reference and a rectangle.
+/// Parses the body of SetValid: a reference and a rectangle.
 pub fn set_valid(body: &[u8]) -> Result<Request, BodyFault>
     ensures { result ≡ set_valid_in body.now }
 {

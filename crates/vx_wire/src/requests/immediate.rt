@@ -1,4 +1,4 @@
-//! The bodies of nodes that run at once.
+//! The body of Immediate.
 ghost use Rattle.std.specs.Prelude.{◌≡◌};
 ghost use Rattle.vx_wire.specs.Immediate.{immediate_in};
 
@@ -7,7 +7,7 @@ use crate::fields::Fields;
 use crate::fields::node::take_node;
 use client_model::Request;
 
-/// A node.
+/// Parses the body of Immediate: a node.
 pub fn immediate(body: &[u8]) -> Result<Request, BodyFault>
     ensures { result ≡ immediate_in body.now }
 {

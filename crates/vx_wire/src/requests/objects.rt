@@ -6,7 +6,7 @@ use crate::body_fault::BodyFault;
 use crate::requests::name_alone;
 use client_model::Request;
 
-/// A name.
+/// Parses the body of Release: a name.
 pub fn release(body: &[u8]) -> Result<Request, BodyFault>
     ensures { result ≡ release_in body.now }
 {

@@ -9,7 +9,7 @@ use crate::fields::bins::take_bins;
 use crate::requests::name_alone;
 use client_model::Request;
 
-/// Bins.
+/// Parses the body of CreateDistribution: a number of bins, an offset and a range.
 pub fn create_distribution(body: &[u8]) -> Result<Request, BodyFault>
     ensures { result ≡ create_distribution_in body.now }
 {
@@ -19,14 +19,14 @@ pub fn create_distribution(body: &[u8]) -> Result<Request, BodyFault>
     Ok(Request::CreateDistribution(bins))
 }
 
-/// A name.
+/// Parses the body of ReadDistribution: the name of a distribution.
 pub fn read_distribution(body: &[u8]) -> Result<Request, BodyFault>
     ensures { result ≡ read_distribution_in body.now }
 {
     Ok(Request::ReadDistribution(name_alone(body)?))
 }
 
-/// An empty body.
+/// Parses the body of CreateMinMax, which is empty.
 pub fn create_min_max(body: &[u8]) -> Result<Request, BodyFault>
     ensures { result ≡ create_min_max_in body.now }
 {
@@ -34,7 +34,7 @@ pub fn create_min_max(body: &[u8]) -> Result<Request, BodyFault>
     Ok(Request::CreateMinMax)
 }
 
-/// A name.
+/// Parses the body of ReadMinMax: the name of extremes.
 pub fn read_min_max(body: &[u8]) -> Result<Request, BodyFault>
     ensures { result ≡ read_min_max_in body.now }
 {

@@ -14,7 +14,7 @@ use client_model::Request;
 use std::alloc::Global;
 use vx_base::Lut;
 
-/// A format and its table's entries.
+/// Parses the body of CreateLut: a format, and the entries of a table of this format.
 pub fn create_lut(alloc: Global, body: &[u8]) -> Result<Request, ParseFault>
     ensures ok { IfOk result (λ request. create_lut_in body.now ≡ Ok request) }
     ensures err { IfErr result (MayFailWith (create_lut_in body.now)) }
@@ -28,7 +28,7 @@ pub fn create_lut(alloc: Global, body: &[u8]) -> Result<Request, ParseFault>
     Ok(Request::CreateLut(Lut::of(entries)))
 }
 
-/// A threshold.
+/// Parses the body of CreateThreshold: a threshold.
 pub fn create_threshold(body: &[u8]) -> Result<Request, BodyFault>
     ensures { result ≡ create_threshold_in body.now }
 {
@@ -38,7 +38,7 @@ pub fn create_threshold(body: &[u8]) -> Result<Request, BodyFault>
     Ok(Request::CreateThreshold(threshold))
 }
 
-/// A convolution.
+/// Parses the body of CreateConvolution: a convolution.
 pub fn create_convolution(body: &[u8]) -> Result<Request, BodyFault>
     ensures { result ≡ create_convolution_in body.now }
 {

@@ -3,7 +3,7 @@ use Rattle.graph_run.proofs.KernelLemmas.{gradient_written}
 use Rattle.graph_run.proofs.kernel.run_on_one.Goals as goal
 
 pub returns-in-First : goal.returns-in-First
-returns-in-First c = gradient_written c.args.node.now c.args.which _ c.args.first.now c.args.output.now c.sobel_x3.new.output c.in-Sobel.is c.in-First.is (search rules) c.sobel_x3.ensures
+returns-in-First c = gradient_written c.args.node.now c.args.which _ c.args.first.now c.args.output.now c.sobel3.new.output_x.0 c.in-Sobel.is c.in-First.is (search rules) c.sobel3.ensures.x
 
 pub returns-in-Second : goal.returns-in-Second
-returns-in-Second c = gradient_written c.args.node.now c.args.which _ c.args.first.now c.args.output.now c.sobel_y3.new.output c.in-Sobel.is c.in-Second.is (search rules) c.sobel_y3.ensures
+returns-in-Second c = gradient_written c.args.node.now c.args.which _ c.args.first.now c.args.output.now c.sobel3-in-Second.new.output_y.0 c.in-Sobel.is c.in-Second.is (search rules) c.sobel3-in-Second.ensures.y

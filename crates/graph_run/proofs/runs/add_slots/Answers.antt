@@ -23,6 +23,6 @@ loop-k-preserved c =
           c.in_ok-samples.ensures.lends (c.loop-k.invariant.lends f));
       adds = λ f.
           adds_more format f k (blocks_of c.args.pool.now f) (blocks_of c.loop-k.pool f) (blocks_of c.take.new.self f)
-          (taken_adds c.loop-k.pool c.take.new.self format c.in_ok-samples.ensures.lends c.in_ok-samples.ensures.blocks c.in_ok-samples.ensures.other_free f)
+          (taken_adds c.loop-k.pool c.take.new.self format c.in_ok-samples.ensures.lends c.in_ok-samples.ensures.most c.in_ok-samples.ensures.other_free f)
           (c.loop-k.invariant.adds f);
     }

@@ -1,15 +1,9 @@
 use Rattle.std.proofs.Common.{ℤ, List, map, ap, ◌∙◌, sym, w16, map-id}
 use Rattle.lane_rows.proofs.Common.{zip2, length-map, length-zip2, S16}
-use Rattle.lane_rows.proofs.ShortLaws.{of_bits, fit_as_bits}
+use Rattle.lane_rows.proofs.ShortLaws.{of_bits}
 use Rattle.lane_rows.proofs.ShortLanes.{read_both}
 use Rattle.lane_rows.proofs.StoreLaws.{stored}
 use Rattle.lane_rows.proofs.arithmetic.write_sixteen.Goals as goal
-
-pub shorts-samples-requires-clause-a_fits : goal.shorts-samples-requires-clause-a_fits
-shorts-samples-requires-clause-a_fits g c = fit_as_bits w16 c.shorts-a.result c.shorts-a.ensures.fits
-
-pub shorts-samples-requires-clause-b_fits : goal.shorts-samples-requires-clause-b_fits
-shorts-samples-requires-clause-b_fits g c = fit_as_bits w16 c.shorts-b.result c.shorts-b.ensures.fits
 
 pub returns : goal.returns
 returns g c =

@@ -1,6 +1,6 @@
 use Rattle.std.proofs.Common.{◌≡◌, ℕ, ℤ, ◌^◌, pos, int_div, List, length, map, refl, ap, ◌∙◌, sym, subst, w16, w32, FitsSigned, to_z, of_z, ◌*ℤ◌}
 use Rattle.lane_rows.proofs.Common.{zip2, Each1, length-zip2, S16, Policy, narrow, product, exchanged, Width}
-use Rattle.lane_rows.proofs.ShortLaws.{of_bits, fit_as_bits, told, products_fit}
+use Rattle.lane_rows.proofs.ShortLaws.{of_bits, told, products_fit}
 use Rattle.lane_rows.proofs.QuarterLaws.{written_out, Each1-exchanged}
 use Rattle.lane_rows.proofs.NarrowLaws.{quotients_fit, products_narrowed, narrow_fits, narrowed_products_fit}
 use Rattle.lane_rows.proofs.shorts.multiplied.Goals as goal
@@ -54,12 +54,6 @@ module _ (a b : List ℤ) (f : Each1 (FitsSigned w16) a) (g : Each1 (FitsSigned 
           ∙ written_out (pos 0) (λ u. exchanged (map (narrow S16 policy) (over n (exchanged u))) ≡ map (narrow S16 policy) (over n u)) (zip2 ◌*ℤ◌ a b) (length-zip2 ◌*ℤ◌ a b (p ∙ sym q) ∙ p) refl
           ∙ products_narrowed policy n a b)
           (narrowed_products_fit policy n a b f g)
-
-pub products-requires-clause-a_fits : goal.products-requires-clause-a_fits
-products-requires-clause-a_fits c = fit_as_bits w16 c.args.a c.requires.a_fits
-
-pub products-requires-clause-b_fits : goal.products-requires-clause-b_fits
-products-requires-clause-b_fits c = fit_as_bits w16 c.args.b c.requires.b_fits
 
 pub scaled_lanes-requires-clause-fits : goal.scaled_lanes-requires-clause-fits
 scaled_lanes-requires-clause-fits c = read_fit c.args.a c.args.b c.requires.a_fits c.requires.b_fits c.products.result c.products.ensures

@@ -1,15 +1,9 @@
 use Rattle.std.proofs.Common.{map, ap, ◌∙◌, subst, sym, w16, w32, FitsSigned}
 use Rattle.lane_rows.proofs.Common.{S16, Wrap, Saturate, narrow, Each1}
-use Rattle.lane_rows.proofs.ShortLaws.{of_bits, fit_as_bits, told}
+use Rattle.lane_rows.proofs.ShortLaws.{of_bits, told}
 use Rattle.lane_rows.proofs.NarrowLaws.{narrow_fits}
 use Rattle.lane_rows.proofs.shorts.narrowed.Goals.{in-Wrap, in-Saturate}
 use Rattle.lane_rows.proofs.shorts.narrowed.Goals as goal
-
-pub wrapped-requires-clause-fits : goal.wrapped-requires-clause-fits
-wrapped-requires-clause-fits c = fit_as_bits w32 c.args.numbers c.requires.fits
-
-pub clamped-requires-clause-fits : goal.clamped-requires-clause-fits
-clamped-requires-clause-fits c = fit_as_bits w32 c.args.numbers c.requires.fits
 
 pub returns-clause-value : goal.returns-clause-value
 returns-clause-value c =

@@ -1,12 +1,9 @@
 use Rattle.std.proofs.Common.{pos, map, take, take_all, ap, ◌∙◌, sym, w16, map-id, arith}
 use Rattle.lane_rows.proofs.Common.{zip2, S16, length-map, length-zip2}
 use Rattle.vx_base.specs.Pixelwise.{accumulated}
-use Rattle.lane_rows.proofs.ShortLaws.{of_bits, fit_as_bits}
+use Rattle.lane_rows.proofs.ShortLaws.{of_bits}
 use Rattle.lane_rows.proofs.StoreLaws.{stored}
 use Rattle.lane_rows.proofs.accumulation.AccumulatedOfSumU8I16.lanes.Goals as goal
-
-pub accumulated_shorts-requires-clause-fits : goal.accumulated_shorts-requires-clause-fits
-accumulated_shorts-requires-clause-fits c = fit_as_bits w16 c.shorts.result c.shorts.ensures.fits
 
 pub returns : goal.returns
 returns c =

@@ -1,12 +1,9 @@
 use Rattle.std.proofs.Common.{pos, map, ap, ◌∙◌, sym, w16, map-id}
 use Rattle.lane_rows.proofs.Common.{U8, length-map}
 use Rattle.vx_base.specs.Pixelwise.{converted}
-use Rattle.lane_rows.proofs.ShortLaws.{of_bits, fit_as_bits}
+use Rattle.lane_rows.proofs.ShortLaws.{of_bits}
 use Rattle.lane_rows.proofs.StoreLaws.{stored}
 use Rattle.lane_rows.proofs.depths.NarrowedLanesOfItemI16U8.lanes.Goals as goal
-
-pub shifted_down-requires-clause-fits : goal.shifted_down-requires-clause-fits
-shifted_down-requires-clause-fits g c = fit_as_bits w16 c.shorts_of.result c.shorts_of.ensures.fits
 
 pub returns : goal.returns
 returns g c =

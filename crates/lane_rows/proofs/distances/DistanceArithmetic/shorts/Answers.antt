@@ -1,15 +1,8 @@
-use Rattle.std.proofs.Common.{w16, w32, pos}
+use Rattle.std.proofs.Common.{w32, pos}
 use Rattle.lane_rows.proofs.Common.{Saturate}
 use Rattle.vx_base.specs.Sample.{distance}
-use Rattle.lane_rows.proofs.ShortLaws.{fit_as_bits}
 use Rattle.lane_rows.proofs.ShortLanes.{made_fit, narrow_is, distance_fits}
 use Rattle.lane_rows.proofs.distances.DistanceArithmetic.shorts.Goals as goal
-
-pub short_distances-requires-clause-a_fits : goal.short_distances-requires-clause-a_fits
-short_distances-requires-clause-a_fits c = fit_as_bits w16 c.args.a c.requires.a_fits
-
-pub short_distances-requires-clause-b_fits : goal.short_distances-requires-clause-b_fits
-short_distances-requires-clause-b_fits c = fit_as_bits w16 c.args.b c.requires.b_fits
 
 pub narrowed-requires-clause-fits : goal.narrowed-requires-clause-fits
 narrowed-requires-clause-fits c = made_fit (λ x y. pos (distance x y)) w32 distance_fits c.args.a c.args.b c.requires.a_fits c.requires.b_fits c.short_distances.result c.short_distances.ensures
@@ -17,6 +10,3 @@ narrowed-requires-clause-fits c = made_fit (λ x y. pos (distance x y)) w32 dist
 pub returns-clause-value : goal.returns-clause-value
 returns-clause-value c =
     narrow_is (λ x y. pos (distance x y)) w32 distance_fits c.args.a c.args.b c.requires.a_fits c.requires.b_fits c.short_distances.result c.short_distances.ensures Saturate c.narrowed.result c.narrowed.ensures.value c.narrowed.ensures.result_fits
-
-pub returns-clause-fits : goal.returns-clause-fits
-returns-clause-fits c = fit_as_bits w16 c.narrowed.result c.narrowed.ensures.result_fits

@@ -1,14 +1,7 @@
 use Rattle.std.proofs.Common.{w16}
 use Rattle.vx_base.specs.Pixelwise.{greater}
-use Rattle.lane_rows.proofs.ShortLaws.{fit_as_bits}
 use Rattle.lane_rows.proofs.ShortLanes.{made_are, made_fit, max_fits}
 use Rattle.lane_rows.proofs.extremes.GreaterArithmetic.shorts.Goals as goal
-
-pub greater_shorts-requires-clause-a_fits : goal.greater_shorts-requires-clause-a_fits
-greater_shorts-requires-clause-a_fits c = fit_as_bits w16 c.args.a c.requires.a_fits
-
-pub greater_shorts-requires-clause-b_fits : goal.greater_shorts-requires-clause-b_fits
-greater_shorts-requires-clause-b_fits c = fit_as_bits w16 c.args.b c.requires.b_fits
 
 pub returns-clause-value : goal.returns-clause-value
 returns-clause-value c = made_are greater w16 max_fits c.args.a c.args.b c.requires.a_fits c.requires.b_fits c.greater_shorts.result c.greater_shorts.ensures

@@ -1,14 +1,7 @@
 use Rattle.std.proofs.Common.{w16}
 use Rattle.vx_base.specs.Pixelwise.{smaller}
-use Rattle.lane_rows.proofs.ShortLaws.{fit_as_bits}
 use Rattle.lane_rows.proofs.ShortLanes.{made_are, made_fit, min_fits}
 use Rattle.lane_rows.proofs.extremes.SmallerArithmetic.shorts.Goals as goal
-
-pub smaller_shorts-requires-clause-a_fits : goal.smaller_shorts-requires-clause-a_fits
-smaller_shorts-requires-clause-a_fits c = fit_as_bits w16 c.args.a c.requires.a_fits
-
-pub smaller_shorts-requires-clause-b_fits : goal.smaller_shorts-requires-clause-b_fits
-smaller_shorts-requires-clause-b_fits c = fit_as_bits w16 c.args.b c.requires.b_fits
 
 pub returns-clause-value : goal.returns-clause-value
 returns-clause-value c = made_are smaller w16 min_fits c.args.a c.args.b c.requires.a_fits c.requires.b_fits c.smaller_shorts.result c.smaller_shorts.ensures

@@ -1,14 +1,7 @@
 use Rattle.std.proofs.Common.{◌∙◌, ap, map, subst, sym, w16, FitsSigned, to_z, of_z}
 use Rattle.lane_rows.proofs.Common.{zip2, Each1, S16, product}
-use Rattle.lane_rows.proofs.ShortLaws.{fit_as_bits}
 use Rattle.lane_rows.proofs.NarrowLaws.{products_told, narrowed_products_fit}
 use Rattle.lane_rows.proofs.products.ProductArithmetic.shorts.Goals as goal
-
-pub multiplied-requires-clause-a_fits : goal.multiplied-requires-clause-a_fits
-multiplied-requires-clause-a_fits g c = fit_as_bits w16 c.args.a c.requires.a_fits
-
-pub multiplied-requires-clause-b_fits : goal.multiplied-requires-clause-b_fits
-multiplied-requires-clause-b_fits g c = fit_as_bits w16 c.args.b c.requires.b_fits
 
 pub returns-clause-value : goal.returns-clause-value
 returns-clause-value g c =

@@ -1,12 +1,9 @@
 use Rattle.std.proofs.Common.{map, ap, ◌∙◌, sym, w16, w32, map-id}
 use Rattle.lane_rows.proofs.Common.{S16, Saturate, narrow, length-map}
-use Rattle.lane_rows.proofs.ShortLaws.{of_bits, fit_as_bits, told}
+use Rattle.lane_rows.proofs.ShortLaws.{of_bits, told}
 use Rattle.lane_rows.proofs.NarrowLaws.{narrow_fits}
 use Rattle.lane_rows.proofs.StoreLaws.{stored}
 use Rattle.lane_rows.proofs.scales.I16Clamped.store_nearest.Goals as goal
-
-pub clamped-requires-clause-fits : goal.clamped-requires-clause-fits
-clamped-requires-clause-fits c = fit_as_bits w32 c.args.numbers c.requires.fits
 
 pub returns : goal.returns
 returns c =

@@ -16,9 +16,6 @@ module _ (k : ℕ) (row ns ms : List ℤ) (read : ns ≡ row) (fits : Each1 (Fit
   pub clamped_are : (f : ℤ → ℤ) → map f (map (to_z w32) (map (of_z w32) ms)) ≡ map (λ z. f (int_div z (pos (2 ^ k)))) row
   clamped_are f = ap (map f) (of_bits w32 ms divided_fit ∙ divided ∙ ap (map (λ z. int_div z (pos (2 ^ k)))) read) ∙ map-map f (λ z. int_div z (pos (2 ^ k))) row
 
-pub scaled_lanes-requires-clause-fits : goal.scaled_lanes-requires-clause-fits
-scaled_lanes-requires-clause-fits g c = fit_as_bits w32 c.sixteen.result c.sixteen.ensures.fits
-
 pub store_nearest-requires-clause-fits : goal.store_nearest-requires-clause-fits
 store_nearest-requires-clause-fits g c =
     fit_as_bits w32 c.scaled_lanes.result (divided_fit c.args.self.now.exponent c.args.row.now c.sixteen.result c.scaled_lanes.result c.sixteen.ensures.value c.sixteen.ensures.fits c.scaled_lanes.ensures)

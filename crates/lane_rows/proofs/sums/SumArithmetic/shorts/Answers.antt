@@ -1,15 +1,8 @@
-use Rattle.std.proofs.Common.{◌∙◌, ap, w16, w32, ◌+ℤ◌}
+use Rattle.std.proofs.Common.{◌∙◌, ap, w32, ◌+ℤ◌}
 use Rattle.lane_rows.proofs.Common.{zip2, S16}
 use Rattle.vx_base.specs.Pixelwise.{sum}
-use Rattle.lane_rows.proofs.ShortLaws.{fit_as_bits}
 use Rattle.lane_rows.proofs.ShortLanes.{made_fit, narrow_is, sum_fits}
 use Rattle.lane_rows.proofs.sums.SumArithmetic.shorts.Goals as goal
-
-pub short_sums-requires-clause-a_fits : goal.short_sums-requires-clause-a_fits
-short_sums-requires-clause-a_fits g c = fit_as_bits w16 c.args.a c.requires.a_fits
-
-pub short_sums-requires-clause-b_fits : goal.short_sums-requires-clause-b_fits
-short_sums-requires-clause-b_fits g c = fit_as_bits w16 c.args.b c.requires.b_fits
 
 pub narrowed-requires-clause-fits : goal.narrowed-requires-clause-fits
 narrowed-requires-clause-fits g c = made_fit ◌+ℤ◌ w32 sum_fits c.args.a c.args.b c.requires.a_fits c.requires.b_fits c.short_sums.result c.short_sums.ensures
@@ -18,6 +11,3 @@ pub returns-clause-value : goal.returns-clause-value
 returns-clause-value g c =
     narrow_is ◌+ℤ◌ w32 sum_fits c.args.a c.args.b c.requires.a_fits c.requires.b_fits c.short_sums.result c.short_sums.ensures c.policy.result c.narrowed.result c.narrowed.ensures.value c.narrowed.ensures.result_fits
     ∙ ap (λ p. zip2 (sum S16 p) c.args.a c.args.b) c.policy.ensures
-
-pub returns-clause-fits : goal.returns-clause-fits
-returns-clause-fits g c = fit_as_bits w16 c.narrowed.result c.narrowed.ensures.result_fits

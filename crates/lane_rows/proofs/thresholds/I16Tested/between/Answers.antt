@@ -2,11 +2,8 @@ use Rattle.std.proofs.Common.{ℤ, map, ap, ◌∙◌, sym, w16, to_z, of_z, map
 use Rattle.vx_base.specs.declared.threshold.ThresholdKind.TheVariants.{Range}
 use Rattle.lane_rows.proofs.Common.{to_z-of_z}
 use Rattle.lane_rows.specs.Chosen.{chosen}
-use Rattle.lane_rows.proofs.ShortLaws.{of_bits, fit_as_bits}
+use Rattle.lane_rows.proofs.ShortLaws.{of_bits}
 use Rattle.lane_rows.proofs.thresholds.I16Tested.between.Goals as goal
-
-pub shorts_between-requires-clause-fits : goal.shorts_between-requires-clause-fits
-shorts_between-requires-clause-fits c = fit_as_bits w16 c.shorts_of.result c.shorts_of.ensures.fits
 
 pub returns : goal.returns
 returns c =

@@ -37,7 +37,7 @@ returns g c =
     let sum : ℕ → ℕ → ℕ → ℤ = λ pairs count i. sum_of_rows rows line s.tables.now pairs count i in
     let format = g.T.Sample.format in
     let pairs : c.from-3.result / 2 + 1 ≡ m.columns / 2 + 1 = omega (arith, c.from-3.ensures, c.columns.ensures.value) in
-    same_values g.T.Number.value g.T.Item.value (λ z. sym (g.met.T.Convolved.same z)) c.write.new.out
+    same_values g.T.Number.value g.T.Item.value (λ z. sym (g.met.T.SampleItem.same z)) c.write.new.out
     ∙ c.write.ensures
     ∙ ap (λ (v : Format). run 0 n (λ i. over v c.exponent.result (sum (c.from-3.result / 2 + 1) c.rows-count.result i))) g.met.T.Convolved.same_format
     ∙ ap (λ e. run 0 n (λ i. over format e (sum (c.from-3.result / 2 + 1) c.rows-count.result i))) c.exponent.ensures.value

@@ -1,0 +1,115 @@
+-- Pictures that are read from a source: what was read, and what the client's context and the world are then.
+use Rattle.std.specs.Prelude.{⊤}
+use Rattle.std.proofs.Common.{◌≡◌, ◌∙◌, ℕ, false, List, ℤ, Some, length, Result, Ok, Err, inl, inr, OnOk, OnErr, IfErr, refl, sym, ap, subst, ne_eqb}
+use Rattle.client_contexts.proofs.Common.{is_at, lookup, nat_cmp, option_map, AppliesToKept, Cell, Description, Format, Context, Empty, Request, Reply, WriteImage, answered, write_image, Allowance, KeepsLimits, AreKept, Kept, Opened, World}
+use Rattle.vx_base.specs.Cell.{IsCell}
+use Rattle.vx_base.specs.Picture.{PictureValue, IsPicture, Describes, values, samples_format}
+use Rattle.vx_base.specs.declared.code.Code.{Code}
+use Rattle.vx_base.specs.declared.samples.Samples.{Samples}
+use Rattle.client_model.specs.Answer.{answer_to}
+use Rattle.client_model.specs.Operands.{image_of}
+use Rattle.client_contexts.specs.Applies.{Applies}
+use Rattle.client_contexts.specs.Incoming.{IsRead, SaysWhyUnwritten, IsRefusedFor, IsRefused}
+use Rattle.client_contexts.specs.World.{state_of}
+use Rattle.client_contexts.specs.declared.memory.NoMemory.{NoMemory}
+use Rattle.client_contexts.specs.declared.source.WriteFault.{WriteFault}
+use Rattle.client_contexts.specs.declared.source.WriteFault.TheVariants.{Refused, Source}
+use Rattle.client_contexts.proofs.ForgetLemmas.{apart}
+use Rattle.client_contexts.proofs.KeptGraphLemmas.{kept_written}
+use Rattle.client_contexts.proofs.WriteLemmas.{write_refused}
+use Rattle.client_contexts.proofs.RuntimeLemmas.{applies_to_kept}
+use Rattle.client_contexts.proofs.VerifiedLemmas.{same_keeps}
+use Rattle.std.specs.Map.{set_value}
+use Rattle.std.proofs.lemmas.Map.Steps.{set_value_same}
+
+abbrev pub picture_in : Description → Samples → PictureValue
+picture_in d samples = record { description = d; samples = values samples }
+
+module _ {S E : Type 0} (fills : S → S → Format → List ℤ → Result ⊤ E → Type 0) (d : Description) (old new : S) where
+  -- what was read over samples that a description fits
+  pub read_is : (before after : Samples) (result : Result ⊤ E) → Describes d before → length (values after) ≡ length (values before)
+      → fills old new (samples_format before) (values after) result → IsRead fills d old new (picture_in d after) result
+  read_is before after result h size came =
+      record { described = refl; size = size ∙ h.size; came = subst (λ (f : Format). fills old new f (values after) result) h.format came }
+
+  -- what is said of a refusal may be less
+  pub unwritten_weaker : (P Q : Code → Type 0) (fault : WriteFault E) → ((code : Code) → P code → Q code) → SaysWhyUnwritten fills d old new P fault → SaysWhyUnwritten fills d old new Q fault
+  unwritten_weaker P Q (Refused code) weaker (same, inl none) = (same, inl none)
+  unwritten_weaker P Q (Refused code) weaker (same, inr why) = (same, inr (weaker code why))
+  unwritten_weaker P Q (Source fault) weaker read = read
+
+  -- the graphs that were found able to run still are
+  pub incoming_keeps : (limits : Allowance) (c later : Context) (cell : Cell) (kept : List (ℕ × Kept)) (result : Result ⊤ (WriteFault E)) → KeepsLimits limits c → IsCell cell
+      → OnOk result ((p : PictureValue) × IsPicture p × IsRead fills d old new p (Ok tt) × (write_image c cell p ≡ Ok (Empty, Some later))) → OnErr result (later ≡ c) → AreKept c kept → AreKept later kept
+  incoming_keeps limits c later cell kept (Ok x) h is (p, picture, read, done) back are =
+      let written : Result Reply ⊤ = Ok Empty in
+      kept_written limits c later (WriteImage cell p) (write_image c cell p) written kept h (is, picture) refl (λ name. refl) refl done tt are
+  incoming_keeps limits c later cell kept (Err e) h is done back are = rw back are
+
+-- ---- the world
+
+-- a client's picture is refused by its context
+refused_by : (client : ℕ) (world : World) (c : Context) (cell : Cell) (d : Description) (code : Code) → state_of client world ≡ Some c → IsRefusedFor c cell d code → IsRefused client cell d world code
+refused_by client world c cell d code is (refusal, told, why) = λ p described.
+    let refused = write_refused (image_of c.objects cell) c cell p refusal (rw described why) in
+    rw (is, refused, told) refl
+
+-- the client's entry becomes another, as the request's answer has it, and all others stay
+applies_done : (limits : Allowance) (client : ℕ) (request : Request) (reply : Reply) (old new : List (ℕ × Opened)) (o n : Opened) → lookup (is_at (nat_cmp client)) old ≡ Some o
+    → lookup (is_at (nat_cmp client)) new ≡ Some n → ((other : ℕ) → is_at (nat_cmp client) other ≡ false → lookup (is_at (nat_cmp other)) new ≡ lookup (is_at (nat_cmp other)) old)
+    → answer_to limits (Some o.context) request ≡ (reply, Some n.context)
+    → Applies client request (record { limits = limits; contexts = old }) (record { limits = limits; contexts = new }) (Ok reply)
+applies_done limits client request reply old new o n was is others answers =
+    record {
+      limits = refl;
+      reply = rw (was, answers) refl;
+      own = rw (was, is, answers) refl;
+      others = λ other differs. rw (others other (apart client other (ne_eqb client other (λ same. differs (sym same))))) refl;
+      no_memory = tt;
+      takes = tt;
+    }
+
+module _ {S E : Type 0} (fills : S → S → Format → List ℤ → Result ⊤ E → Type 0) (d : Description) (old new : S) (limits : Allowance) (client : ℕ) (before after : List (ℕ × Opened)) (world : World)
+    (shown : record { limits = limits; contexts = before } ≡ world) (o n : Opened) (was : lookup (is_at (nat_cmp client)) before ≡ Some o) (result : Result ⊤ (WriteFault E)) (cell : Cell) where
+  abbrev later : World
+  later = record { limits = limits; contexts = after }
+
+  -- the picture is written
+  pub write_applies : lookup (is_at (nat_cmp client)) after ≡ Some n
+      → ((other : ℕ) → is_at (nat_cmp client) other ≡ false → lookup (is_at (nat_cmp other)) after ≡ lookup (is_at (nat_cmp other)) before) → n.verified ≡ o.verified
+      → OnOk result ((p : PictureValue) × IsRead fills d old new p (Ok tt) × (write_image o.context cell p ≡ Ok (Empty, Some n.context)))
+      → OnOk result ((p : PictureValue) × IsRead fills d old new p (Ok tt) × Applies client (WriteImage cell p) world later (Ok Empty) × AppliesToKept client (WriteImage cell p) world later (Ok Empty))
+  write_applies is others same done = go result done
+    where
+      go : (r : Result ⊤ (WriteFault E)) → OnOk r ((p : PictureValue) × IsRead fills d old new p (Ok tt) × (write_image o.context cell p ≡ Ok (Empty, Some n.context)))
+          → OnOk r ((p : PictureValue) × IsRead fills d old new p (Ok tt) × Applies client (WriteImage cell p) world later (Ok Empty) × AppliesToKept client (WriteImage cell p) world later (Ok Empty))
+      go (Err e) none = tt
+      go (Ok x) (p, read, written) =
+          let request : Request = WriteImage cell p in
+          let reply : Result Reply NoMemory = Ok Empty in
+          let answers : answer_to limits (Some o.context) request ≡ (Empty, Some n.context) = ap (answered o.context) written in (
+            p,
+            read,
+            subst (λ (w : World). Applies client request w later reply) shown (applies_done limits client request Empty before after o n was is others answers),
+            subst (λ (w : World). AppliesToKept client request w later reply) shown
+                (applies_to_kept limits client request reply before after (Some o) (Some n) was is others (same_keeps limits.work request refl o.verified n.verified reply same)),
+          )
+
+  -- or it is told why not
+  pub write_told : IfErr result (SaysWhyUnwritten fills d old new (IsRefusedFor o.context cell d)) → IfErr result (SaysWhyUnwritten fills d old new (IsRefused client cell d world))
+  write_told told = go result told
+    where
+      state : state_of client world ≡ Some o.context
+      state = ap (λ (w : World). state_of client w) (sym shown) ∙ ap (option_map (λ (x : Opened). x.context)) was
+
+      go : (r : Result ⊤ (WriteFault E)) → IfErr r (SaysWhyUnwritten fills d old new (IsRefusedFor o.context cell d)) → IfErr r (SaysWhyUnwritten fills d old new (IsRefused client cell d world))
+      go (Ok x) none = tt
+      go (Err fault) said = unwritten_weaker fills d old new (IsRefusedFor o.context cell d) (IsRefused client cell d world) fault (λ code. refused_by client world o.context cell d code state) said
+
+-- where nothing of the client's entry has changed, nothing of the world has
+pub write_same : {T F : Type 0} (limits : Allowance) (client : ℕ) (before after : List (ℕ × Opened)) (world : World) (o n : Opened) (result : Result T F) → record { limits = limits; contexts = before } ≡ world
+    → lookup (is_at (nat_cmp client)) before ≡ Some o → after ≡ set_value (is_at (nat_cmp client)) before n → OnErr result (n ≡ o) → OnErr result (record { limits = limits; contexts = after } ≡ world)
+write_same limits client before after world o n (Ok x) shown was becomes none = tt
+write_same limits client before after world o n (Err fault) shown was becomes is =
+    let stays : after ≡ before = becomes ∙ ap (set_value (is_at (nat_cmp client)) before) is ∙ set_value_same (is_at (nat_cmp client)) before o was in
+    ap (λ (contexts : List (ℕ × Opened)). let w : World = record { limits = limits; contexts = contexts } in w) stays ∙ shown

@@ -1,0 +1,40 @@
+-- A picture whose samples are read from a source, to be written to an image.
+use Rattle.std.specs.Prelude.{ℕ, ℤ, ◌≡◌, ◌⊎◌, ⊤, List, length, Some, Result, Err}
+use Rattle.vx_base.specs.Cell.{Cell}
+use Rattle.vx_base.specs.Description.{Description, sample_count}
+use Rattle.vx_base.specs.Picture.{PictureValue}
+use Rattle.vx_base.specs.declared.code.Code.{Code}
+use Rattle.vx_base.specs.declared.code.Code.TheVariants.{NoMemory}
+use Rattle.vx_base.specs.declared.format.Format.{Format}
+use Rattle.object_table.specs.Context.{Context}
+use Rattle.client_model.specs.declared.refusal.Refusal.{Refusal}
+use Rattle.client_model.specs.Operands.{image_of}
+use Rattle.client_model.specs.declared.reply.Reply.TheVariants as reply
+use Rattle.client_model.specs.declared.request.Request.TheVariants.{WriteImage}
+use Rattle.client_model.specs.Refusal.{refusal_code}
+use Rattle.client_contexts.specs.declared.source.WriteFault.{WriteFault}
+use Rattle.client_contexts.specs.declared.source.WriteFault.TheVariants.{Refused, Source}
+use Rattle.client_contexts.specs.Lookup.{refusal_for}
+use Rattle.client_contexts.specs.World.{World}
+use Rattle.client_contexts.specs.Applies.{IsAnswered}
+
+-- fills: how a call of fill changes a source, the format of the samples and those that are there then, and its result
+module _ {S E : Type 0} (fills : S → S → Format → List ℤ → Result ⊤ E → Type 0) (d : Description) (old new : S) where
+  -- the samples of a picture of this description were read from the source, or it failed and they are any
+  pub record IsRead (p : PictureValue) (result : Result ⊤ E) : Type 0 where
+    pub described : p.description ≡ d
+    pub size : length p.samples ≡ sample_count d
+    pub came : fills old new d.format p.samples result
+
+  -- why a picture isn't written: for want of memory, or by a refusal, and then nothing was read; or the source failed
+  abbrev pub SaysWhyUnwritten : (Code → Type 0) → WriteFault E → Type 0
+  SaysWhyUnwritten refuses (Refused code) = (new ≡ old) × ((code ≡ NoMemory) ⊎ refuses code)
+  SaysWhyUnwritten refuses (Source fault) = (p : PictureValue) × IsRead p (Err fault)
+
+-- a picture of this description is refused with the code by the image that a reference names, or by the reference
+abbrev pub IsRefusedFor : Context → Cell → Description → Code → Type 0
+IsRefusedFor c cell d code = (refusal : Refusal) × (code ≡ refusal_code refusal) × (refusal_for (image_of c.objects cell) d ≡ Some refusal)
+
+-- so is each picture of this description that a client writes to an image
+abbrev pub IsRefused : ℕ → Cell → Description → World → Code → Type 0
+IsRefused client cell d world code = (p : PictureValue) → p.description ≡ d → IsAnswered client (WriteImage cell p) world (reply.Refused code)

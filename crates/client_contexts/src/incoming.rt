@@ -1,0 +1,172 @@
+//! Pictures that are written to images: their samples are read into a block of the pool, which then
+//! changes its memory with the image's block. The block is given back in any case.
+ghost use Rattle.std.specs.Prelude.{◌≡◌, length, Some, Ok, OnOk, IfOk, IfErr, OnErr};
+ghost use Rattle.vx_base.specs.Image.{ImageValue};
+ghost use Rattle.vx_base.specs.Picture.{PictureValue, IsPicture, Describes, values, samples_format};
+ghost use Rattle.pgm_images.specs.Reading.{HasRoom, description_in, reading};
+ghost use Rattle.pixel_pool.specs.Pool.{Lends, KeepsLent};
+ghost use Rattle.client_model.specs.declared.reply.Reply.TheVariants.{Empty};
+ghost use Rattle.client_model.specs.Images.{write_image, write_text};
+ghost use Rattle.client_model.specs.Operands.{image_of};
+ghost use Rattle.object_table.specs.Blocks.{Balances, KeepsBlocks};
+ghost use Rattle.client_contexts.specs.Incoming.{IsRead, SaysWhyUnwritten, IsRefusedFor};
+ghost use Rattle.client_contexts.specs.Lookup.{IsImageFor};
+ghost use Rattle.client_contexts.specs.Steps.{MayComeTo, IsContext, Keeps};
+
+use crate::fault::RequestFault;
+use crate::images::find_image_for;
+use crate::lookup::find_image;
+use crate::source::{FillsSamples, WriteFault};
+use client_model::Reply;
+use object_table::Table;
+use pgm_images::PgmFault;
+use pixel_pool::{Block, Pool};
+use std::alloc::AllocError;
+use vx_base::{Desc, ObjRef};
+
+/// Writes a picture of this description to an image; its samples are read from the source. Where it
+/// is refused, or there is no memory for it, nothing is read.
+pub fn write_from<F: FillsSamples>(
+    table: &mut Table,
+    pool: &mut Pool,
+    reference: ObjRef,
+    desc: Desc,
+    source: &mut F,
+) -> Result<(), WriteFault<F::Fault>>
+    requires context { IsContext table.old }
+    requires can_fill { F.can_fill source.old }
+    ensures done { OnOk result ((p : PictureValue) × IsPicture p ×
+        IsRead F.fills desc source.old source.new p (Ok tt) ×
+        (write_image table.old reference p ≡ Ok (Empty, Some table.new))) }
+    ensures err { IfErr result (SaysWhyUnwritten F.fills desc source.old source.new
+        (IsRefusedFor table.old reference desc)) }
+    ensures same { OnErr result (table.new ≡ table.old) }
+    ensures kept { Keeps table.old table.new }
+    ensures balances { Balances pool.old pool.new table.old.objects table.new.objects }
+{
+    find_image_for(table, reference, desc)?;
+    let mut block = take_block(pool, desc)?;
+    match fill_block(&mut block, source) {
+        Ok(()) => {
+            exchange(table, reference, desc, &mut block);
+            pool.give_back(block);
+            Ok(())
+        }
+        Err(fault) => {
+            pool.give_back(block);
+            Err(WriteFault::Source(fault))
+        }
+    }
+}
+
+/// Writes the picture for which a PGM text stands to an image; its samples are read from the text.
+pub fn write_text(
+    table: &mut Table,
+    pool: &mut Pool,
+    reference: ObjRef,
+    text: &[u8],
+) -> Result<Reply, RequestFault>
+    requires { IsContext table.old }
+    ensures comes { MayComeTo (write_text table.old reference text.now) table.old table.new result }
+    ensures kept { Keeps table.old table.new }
+    ensures balances { Balances pool.old pool.new table.old.objects table.new.objects }
+{
+    find_image(table, reference)?;
+    let desc = pgm_images::described(text)?;
+    let mut block = take_block(pool, desc)?;
+    let written = give_text(table, reference, desc, text, &mut block);
+    pool.give_back(block);
+    written
+}
+
+/// A block for the samples of a picture, which may hold anything. Where there is no memory for it,
+/// the free blocks are dropped and it is asked for once more.
+fn take_block(pool: &mut Pool, desc: Desc) -> Result<Block, AllocError>
+    ensures described { IfOk result (Describes desc) }
+    ensures lends { OnOk result (Lends pool.old pool.new desc.format) }
+    ensures err { OnErr result (KeepsLent pool.old pool.new) }
+{
+    let (format, count) = (desc.format(), desc.sample_count());
+    match pool.take(format, count) {
+        Ok(block) => Ok(block),
+        Err(AllocError) => {
+            pool.drop_free();
+            pool.take(format, count)
+        }
+    }
+}
+
+/// Reads samples from a source over those of a block.
+fn fill_block<F: FillsSamples>(block: &mut Block, source: &mut F) -> Result<(), F::Fault>
+    requires { F.can_fill source.old }
+    ensures fills { F.fills source.old source.new
+        (samples_format block.old) (values block.new) result }
+    ensures format { samples_format block.new ≡ samples_format block.old }
+    ensures size { length (values block.new) ≡ length (values block.old) }
+{
+    let mut samples = block.lift();
+    let filled = source.fill(&mut samples);
+    block.put(samples);
+    filled
+}
+
+/// Reads the samples of a text over those of a block.
+fn read_text(block: &mut Block, text: &[u8]) -> Result<(), PgmFault>
+    requires { HasRoom text.now block.old }
+    ensures ok { OnOk result ((d : _) → description_in text.now ≡ Ok d →
+        reading text.now ≡ Ok (record { description = d; samples = values block.new })) }
+    ensures err { IfErr result (λ fault. reading text.now ≡ Err fault) }
+    ensures format { samples_format block.new ≡ samples_format block.old }
+    ensures size { length (values block.new) ≡ length (values block.old) }
+{
+    let mut samples = block.lift();
+    let read = pgm_images::read_into(text, &mut samples);
+    block.put(samples);
+    read
+}
+
+/// Reads a text into a block, and writes its picture to an image, whose memory the block has then.
+fn give_text(
+    table: &mut Table,
+    reference: ObjRef,
+    desc: Desc,
+    text: &[u8],
+    block: &mut Block,
+) -> Result<Reply, RequestFault>
+    requires context { IsContext table.old }
+    requires image { (image : ImageValue) × (image_of table.old.objects reference ≡ Ok image) }
+    requires told { description_in text.now ≡ Ok desc }
+    requires described { Describes desc block.old }
+    ensures comes { MayComeTo (write_text table.old reference text.now) table.old table.new result }
+    ensures kept { Keeps table.old table.new }
+    ensures blocks { KeepsBlocks table.old.objects table.new.objects }
+    ensures format { samples_format block.new ≡ samples_format block.old }
+{
+    read_text(block, text)?;
+    find_image_for(table, reference, desc)?;
+    exchange(table, reference, desc, block);
+    Ok(Reply::Empty)
+}
+
+/// Makes the samples of a block those of an image, which is wholly valid then. The block has the
+/// image's memory.
+fn exchange(table: &mut Table, reference: ObjRef, desc: Desc, block: &mut Block)
+    requires context { IsContext table.old }
+    requires image { IsImageFor table.old.objects reference desc }
+    requires described { Describes desc block.old }
+    ensures written { write_image table.old reference
+        (record { description = desc; samples = values block.old })
+        ≡ Ok (Empty, Some table.new) }
+    ensures picture { IsPicture (record { description = desc; samples = values block.old }) }
+    ensures kept { Keeps table.old table.new }
+    ensures blocks { KeepsBlocks table.old.objects table.new.objects }
+    ensures format { samples_format block.new ≡ samples_format block.old }
+{
+    let samples = block.lift();
+    // Their contracts say that it is a picture.
+    desc.has_sides();
+    samples.are_samples();
+    let (_, left) = table.take(reference);
+    table.put(reference, samples, desc.whole());
+    block.put(left);
+}
