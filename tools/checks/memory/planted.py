@@ -99,6 +99,16 @@ class Copying(Server):
         return super().answer(request)
 
 
+class Losing(Server):
+    """Has the memory of each new image once more, until it ends."""
+
+    def answer(self, request: bytes) -> bytes:
+        if request[6] == wire.CREATE_IMAGE:
+            super().answer(wire.open_context(KEEPER))
+            super().answer(wire.frame(KEEPER, wire.CREATE_IMAGE, request[7:12]))
+        return super().answer(request)
+
+
 class InKib(Server):
     def memory(self, field: str = "VmRSS") -> int:
         return super().memory(field) // 1024
@@ -146,7 +156,7 @@ READERS: Tuple[Measure, ...] = (small_in_great, soak)
 PLANTED = (
     Planted("blocks that are far too large stay so", small_in_great, TooMuchMemory, keeps="shrunk"),
     Planted("no free block is given up", rising, TooMuchMemory, keeps="great"),
-    Planted("each block that is replaced is kept", soak, TooMuchMemory, keeps="great"),
+    Planted("the memory of each new image is lost", soak, TooMuchMemory, Losing),
     Planted("what is registered is kept", registered, TooMuchMemory, keeps="small"),
     *(Planted(words, again, TooMuchMemory, keeping(*event)) for words, event in (
         ("a new image leaves a block", (wire.CREATE_IMAGE,)),
