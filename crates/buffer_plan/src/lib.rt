@@ -17,5 +17,4 @@ mod lives;
 mod plan;
 mod slots;
 
-pub use lives::steps_before;
 pub use plan::Plan;

@@ -33,7 +33,7 @@ fn uses(node: &Node, cell: ObjRef) -> bool
 }
 
 /// How many steps there are before the first that writes a cell.
-pub fn steps_before(steps: &[Node], cell: ObjRef) -> Option<usize>
+fn steps_before(steps: &[Node], cell: ObjRef) -> Option<usize>
     ensures { result ≡ position (λ n. writes n cell) steps.now }
 {
     steps.iter().position(|node| writes(node, cell))

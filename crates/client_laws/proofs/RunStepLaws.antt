@@ -26,7 +26,7 @@ use Rattle.client_model.proofs.GraphStepLaws.{of_graph}
 use Rattle.client_laws.proofs.RoundLaws.{rounds_last}
 use Rattle.client_model.proofs.BegunLaws.{IsSmall, object_small, rounds_small, begun_is_object, slot_as_begun, image_as_begun, Taken, taken_as_begun, kind_as_begun, SecondTaken, give_as_taken}
 use Rattle.graph_run.proofs.BegunLaws.{begun_if, virtual_as_operand}
-use Rattle.graph_run.proofs.SettledLemmas.{forgotten_lasts}
+use Rattle.graph_run.proofs.SolutionStepsReturns.{forgotten_lasting}
 use Rattle.object_table.proofs.SkeletonLaws.{map-told}
 
 -- ---- the cells of a node
@@ -227,4 +227,4 @@ process_graph_keeps limits c name h =
     let left : List Named = rounds_of_nodes nodes (length nodes) begin in
     let aged = aged_under_last graph.delays run (forgotten_are objects left h.objects ran.objects) in
     alike_leaves limits (λ name. false) c h (aged_under graph.delays run)
-    (record { objects = aged.objects; lasting = aged.lasting ∙ forgotten_lasts known nodes objects left ran.lasting })))
+    (record { objects = aged.objects; lasting = aged.lasting ∙ forgotten_lasting known nodes objects left ran.lasting })))

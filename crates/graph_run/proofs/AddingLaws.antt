@@ -1,6 +1,6 @@
 -- The order in which nodes were added makes no difference.
 use Rattle.std.proofs.Common.{◌≡◌, ℕ, zero, suc, ◌<◌, Bool, false, List, length, map, refl, sym, ap, subst, ◌∙◌, arith}
-use Rattle.graph_run.proofs.Common.{list_any, AllPairs, cases_Bool, Node, Cell, Named, Operand, AllIn, writes, OneWriter, resolved, two_writers, one_writer, In-from_any, any-from_In, AllIn-permutation, AllIn-permutation_back, rounds_of_nodes, run_of_graph, WritesNo, label_of}
+use Rattle.graph_run.proofs.Common.{list_any, AllPairs, cases_Bool, Node, Cell, Named, Operand, AllIn, writes, resolved, two_writers, one_writer, In-from_any, any-from_In, AllIn-permutation, AllIn-permutation_back, rounds_of_nodes, run_of_graph, WritesNo, label_of}
 use Rattle.std.specs.List.Sorted.{IsPermutation}
 use Rattle.std.proofs.lemmas.List.Sorted.{length_permutation}
 use Rattle.vx_base.specs.declared.kind.Kind.TheVariants as kind

@@ -70,14 +70,6 @@ operand_there objects cell h = ap (λ o. unwrap_or (option_map operand_of o) Del
 pub held_image : (objects : List Named) (cell : Cell) → HoldsImage objects cell → held objects cell ≡ Some (ImageObject (image_held objects cell))
 held_image objects cell h = grind arith
 
--- where a cell is no slot, it holds what stands under its name
-pub held_whole : (objects : List Named) (cell : Cell) → cell.slot ≡ None → held objects cell ≡ object_held objects cell.name
-held_whole objects cell none = grind (arith, none)
-
--- and is the cell of that name
-pub one_cell : (a b : Cell) → a.name ≡ b.name → a.slot ≡ None → b.slot ≡ None → a ≡ b
-one_cell a b name one other = grind (arith, name, one, other)
-
 -- ---- what lasts
 
 -- where names increase, what holds of the object of a name holds of each of that name

@@ -1,6 +1,6 @@
 -- What of objects is kept as nodes write: kinds, formats and bins.
 use Rattle.std.proofs.Common.{arith, ◌≡◌, ◌≢◌, Bool, true, false, [], Option}
-use Rattle.graph_run.proofs.Common.{Format, Node, Output, ImageValue, ObjectValue, DelayObject, object_kind, node_image, node_output, form_of}
+use Rattle.graph_run.proofs.Common.{Node, Output, ObjectValue, DelayObject, object_kind, node_output, form_of}
 use Rattle.vx_base.specs.declared.kind.Kind.TheVariants as kind
 
 -- ---- a delay as a whole
@@ -30,10 +30,6 @@ pub not_delay : (x : ObjectValue) → object_kind x ≢ kind.Delay → is_delay 
 not_delay other h = grind arith
 
 -- ---- what a node gives
-
--- an image keeps its format
-pub format-node_image : (n : Node) (output : Output) (format : Format) (a : ImageValue) (second : Option ObjectValue) → (node_image n output format a second).format ≡ format
-format-node_image n output format a z4 = grind arith
 
 -- an output keeps its form
 pub form-node_output : (n : Node) (output : Output) (first : ObjectValue) (second : Option ObjectValue) (out : ObjectValue) → form_of (node_output n output first second out) ≡ form_of out

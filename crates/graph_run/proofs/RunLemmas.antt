@@ -1,6 +1,6 @@
 -- Nodes on what their cells hold, and what they write.
-use Rattle.std.proofs.Common.{◌≡◌, ◌≢◌, ℕ, Bool, true, false, List, [], ◌∷◌, ◌++◌, Option, Some, None, refl, sym, ap, subst, ◌∙◌, arith, rules, All, ◌&&◌, is_some, is_none, unwrap_or, if◌then◌else◌, IfSome, option_to_list, option_map, option_and_then, eq-eqb}
-use Rattle.graph_run.proofs.Common.{list_any, list_all, IsStrictlyIncreasing, list_any-append, and_parts, or_parts, Function, Output, First, Second, Kind, Node, Cell, same_cell, cell_of, parameters, accumulates, ImageValue, IsImage, extremes, IsNode, is_node, given, outputs, second_kind, ObjectValue, ImageObject, ExtremesObject, IsObject, object_kind, object_format, DistributionObject, node_image, beside_first, node_output, written_in, written_by, SecondHasSize, Operands, Operand, has_twice, operand_of, operands_of, operand_format, are_of_one_size, writes_twice, reads_own_output, node_fault, Named, held, with_object, with_written, image_value, object_under, cell_object, image_held, names_of, held_is, lasting, Lasts, operand_held, Holds, AreApart, RunsOn, RunsTo, counted_in, with_output, HoldsKind, CanRunNow, node_image_is, accumulated_image_is}
+use Rattle.std.proofs.Common.{◌≡◌, ◌≢◌, Bool, true, false, List, [], ◌∷◌, ◌++◌, Option, Some, None, refl, sym, ap, subst, ◌∙◌, arith, rules, All, ◌&&◌, is_some, is_none, unwrap_or, if◌then◌else◌, IfSome, option_to_list, option_map, option_and_then, eq-eqb}
+use Rattle.graph_run.proofs.Common.{list_any, list_all, IsStrictlyIncreasing, list_any-append, and_parts, or_parts, Function, Output, First, Second, Kind, Node, Cell, same_cell, parameters, accumulates, ImageValue, IsImage, IsNode, is_node, given, outputs, second_kind, ObjectValue, ImageObject, IsObject, object_kind, object_format, DistributionObject, node_image, beside_first, node_output, written_in, written_by, SecondHasSize, Operands, Operand, has_twice, operand_of, operands_of, operand_format, are_of_one_size, writes_twice, reads_own_output, node_fault, Named, held, with_object, with_written, cell_object, names_of, held_is, lasting, Lasts, operand_held, Holds, AreApart, RunsOn, RunsTo, with_output, HoldsKind, CanRunNow, node_image_is, accumulated_image_is}
 use Rattle.graph_run.specs.Steps.{output_of}
 use Rattle.std.proofs.lemmas.List.Folds.{list_all-append}
 use Rattle.vx_base.specs.declared.kind.Kind.TheVariants as kind
@@ -9,7 +9,7 @@ use Rattle.graph_verify.proofs.SuitLemmas.{passed, met, Suits, no_fault_suits}
 use Rattle.graph_run.proofs.FoundLemmas.{OfOperands, of_operands}
 use Rattle.graph_run.proofs.CellLemmas.{object_beside, object_if_beside, holds_beside, hold_beside, image_beside, there_is, kind_there, holds_there, operand_there, Lasts-with_object}
 use Rattle.graph_run.proofs.LastingLemmas.{images-last, Lasts-trans, Lasts-names}
-use Rattle.graph_run.proofs.OutputLemmas.{image_of_object, description_kept, length-histogram}
+use Rattle.graph_run.proofs.OutputLemmas.{description_kept, length-histogram}
 use Rattle.graph_run.proofs.OperandLaws.{no_delay_written}
 
 -- ---- cells
@@ -21,7 +21,7 @@ apart objects a b k l no_k no_l h i differ names = grind (arith, eq-eqb a.name b
 -- ---- what a node's function has
 
 -- no function reads a delay as a whole
-second_no_delay : (function : Function) → unwrap_or (parameters function).second_input kind.Image ≢ kind.Delay
+pub second_no_delay : (function : Function) → unwrap_or (parameters function).second_input kind.Image ≢ kind.Delay
 second_no_delay other = grind arith
 
 pub has_of_node : (n : Node) → is_node n ≡ true → has_operands (parameters n.function) n ≡ true
@@ -45,7 +45,7 @@ in2_reads : (cell : Option Cell) (xs ys : List Cell) → list_any (λ a. list_an
 in2_reads cell xs ys e = grind (arith, or_parts, list_any-append)
 
 -- writes one after the other
-with_written-append : (objects : List Named) (written others : List (Cell × ObjectValue)) → with_written objects (written ++ others) ≡ with_written (with_written objects written) others
+pub with_written-append : (objects : List Named) (written others : List (Cell × ObjectValue)) → with_written objects (written ++ others) ≡ with_written (with_written objects written) others
 with_written-append objects [] others = refl
 with_written-append objects (w ∷ written) others = with_written-append (with_object objects w.0 w.1) written others
 
@@ -197,44 +197,6 @@ module _ (n : Node) where
         grind (arith, with_written-append objects (written_in n First n.out1 (held objects) (held objects)) (written_in n Second n.out2 (held objects) (held objects)), written_one objects First n.out1 h.out1 (same_first n.out1), same_first n.out1, written_one (with_output objects n First n.out1) Second n.out2 h.out2 (same_second n.out1 n.out2 runs_first runs_second two_outputs), same_second n.out1 n.out2 runs_first runs_second two_outputs)
 
 -- ---- what is written is an object
-
--- an output that isn't an image is an object as a whole
-whole_cell : (l : List Named) (output : Cell) → Holds l output → object_kind (cell_object l output) ≢ kind.Image → output.slot ≡ None
-whole_cell l output holds other = grind arith
-
-as_whole : (output : Cell) → output.slot ≡ None → cell_of output.name ≡ output
-as_whole output none = ap (λ (slot : Option ℕ). let q : Cell = record { name = output.name; slot = slot } in q) (sym none)
-
-under_whole : (l : List Named) (name : ℕ) → cell_object l (cell_of name) ≡ object_under l name
-under_whole l name = grind arith
-
-extremes_written : (n : Node) (which : Output) (first : ObjectValue) (second : Option ObjectValue) (out : ObjectValue) → object_kind first ≡ kind.Image → object_kind out ≡ kind.Extremes → ExtremesObject (extremes (image_value first)) ≡ node_output n which first second out
-extremes_written n which (ImageObject a) second (ExtremesObject x) e f = refl
-extremes_written n which (ImageObject a) second other e f = cc
-extremes_written n which first second out e f = cc
-
-counts_written : (n : Node) (which : Output) (first : ObjectValue) (second : Option ObjectValue) (out : ObjectValue) → object_kind first ≡ kind.Image → object_kind out ≡ kind.Distribution → counted_in (image_value first) out ≡ node_output n which first second out
-counts_written n which first second other e f = grind arith
-
-module _ (l : List Named) (n : Node) (which : Output) (output : Cell) (runs : RunsTo l n output) where
-  -- an output that isn't an image stands under its name
-  module _ (k : Kind) (is : (parameters n.function).output ≡ k) (other : k ≢ kind.Image) where
-    whole : output.slot ≡ None
-    whole = whole_cell l output runs.out (λ image. other (sym (runs.runs.out_kind ∙ is) ∙ image))
-
-    object_is_under : cell_object l output ≡ object_under l output.name
-    object_is_under = ap (cell_object l) (sym (as_whole output whole)) ∙ under_whole l output.name
-
-  -- extremes that were found
-  pub located_is : (parameters n.function).output ≡ kind.Extremes → with_object l (cell_of output.name) (ExtremesObject (extremes (image_held l n.in1))) ≡ with_output l n which (Some output)
-  located_is e = grind (arith, as_whole, whole, extremes_written)
-
-  -- counts that were made
-  pub counted_is : (parameters n.function).output ≡ kind.Distribution → with_object l (cell_of output.name) (counted_in (image_held l n.in1) (object_under l output.name)) ≡ with_output l n which (Some output)
-  counted_is e = grind (arith, as_whole, whole, object_is_under, counts_written)
-
-  pub reads_an_image : IsImage (image_held l n.in1)
-  reads_an_image = image_of_object (cell_object l n.in1) runs.runs.first_kind runs.runs.first_is
 
 -- an image, of which as much lasts as of another
 abbrev LastsAs : ImageValue → ImageValue → Type 0

@@ -17,7 +17,7 @@ use Rattle.graph_run.proofs.RoundLaws.{form-rounds, seen-rounds, labels-rounds}
 use Rattle.graph_run.proofs.ValueLaws.{given_first, reads_alone, given_same, same_rounds, Follows-rounds}
 
 -- what is seen of a cell that holds no delay as a whole is what it holds
-unshown : (o p : Option ObjectValue) → option_map object_kind p ≢ Some kind.Delay → option_map shown o ≡ option_map shown p → o ≡ p
+pub unshown : (o p : Option ObjectValue) → option_map object_kind p ≢ Some kind.Delay → option_map shown o ≡ option_map shown p → o ≡ p
 unshown o p whole h = grind arith
 
 kinds_by_forms : (o p : Option ObjectValue) → option_map form_of o ≡ option_map form_of p → option_map object_kind o ≡ option_map object_kind p
@@ -77,7 +77,7 @@ same_given : (n : Node) (output : Output) (first second old now : Option ObjectV
 same_given n output first second old now image forms = grind arith
 
 -- of a delay as a whole nothing is seen but that it is one
-same_seen : (o p : Option ObjectValue) → option_map form_of o ≡ option_map form_of p → (option_map object_kind p ≢ Some kind.Delay → o ≡ p) → option_map shown o ≡ option_map shown p
+pub same_seen : (o p : Option ObjectValue) → option_map form_of o ≡ option_map form_of p → (option_map object_kind p ≢ Some kind.Delay → o ≡ p) → option_map shown o ≡ option_map shown p
 same_seen o p forms h = grind arith
 
 solution_seen : (nodes : List Node) (before after : List Named) → WritesNo kind.Delay nodes before → ReadImages nodes before → Solves nodes before after

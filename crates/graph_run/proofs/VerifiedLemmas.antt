@@ -1,28 +1,15 @@
 -- A graph that is found able to run: how it runs.
-use Rattle.std.proofs.Common.{◌≡◌, ◌≢◌, ℕ, ◌<◌, Bool, true, false, List, ◌∷◌, map, get_or, zero, suc, Option, Some, None, inl, inr, sym, ap, subst, ◌∙◌, arith, All, ◌==◌, ◌&&◌, unwrap_or, option_map, option_and_then, eq-eqb}
-use Rattle.graph_run.proofs.Common.{AllPairs, list_any, flat_map, IsStrictlyIncreasing, cases_Bool, or_parts, or_left, or_right, and_parts, and_from, length-map, get_or-map, Kind, Node, VirtualImage, Cell, same_cell, Description, IsNode, inputs, outputs, operands, ObjectValue, VirtualObject, object_kind, in_slot, Named, object_held, held, VirtualOutput, Operand, Image, Delay, Operands, Verified, writes, has_twice, is_written, In, operand_of, operand_kind, operands_of, resolved, outlines, verdict, verdict_on, IsVerified, written_description, same-from_In, In-outputs, two_writers-permutation, In-left, In-right, In-from_any, any-from_In, In-filter, In-from_filter, In-map, In-from_map, In-from_flat_map, In-at, AllIn-permutation, AllIn-permutation_back, CanRun, HoldsOperand, names_cell, CellsStand, operand_held, HoldsKind, CanRunNow, AreVirtual, names_of}
+use Rattle.std.proofs.Common.{◌≡◌, ℕ, ◌<◌, true, false, List, Option, Some, None, inl, inr, sym, ap, subst, ◌∙◌, arith, All, unwrap_or, option_map}
+use Rattle.graph_run.proofs.Common.{AllPairs, flat_map, IsStrictlyIncreasing, cases_Bool, or_left, or_right, length-map, get_or-map, Kind, Node, Cell, IsNode, inputs, outputs, operands, ObjectValue, object_kind, Named, held, VirtualOutput, Operand, Image, Delay, Verified, writes, is_written, In, operand_of, operand_kind, operands_of, resolved, outlines, verdict, verdict_on, IsVerified, same-from_In, In-outputs, In-left, In-right, In-from_any, In-filter, In-from_filter, In-map, In-from_map, AllIn-permutation, CanRun, HoldsOperand, names_cell, CellsStand, operand_held, HoldsKind, CanRunNow, names_of}
 use Rattle.graph_verify.specs.Links.{reads}
 use Rattle.graph_verify.proofs.VerdictLemmas.{can_run}
 use Rattle.graph_run.specs.Operands.{StandsFor}
 use Rattle.std.proofs.lemmas.List.Kept.{AllPairs-from_increasing}
-use Rattle.std.proofs.Math.ListN.{get_or-map as get_or-map_default}
 use Rattle.vx_base.specs.declared.kind.Kind.TheVariants as kind
 use Rattle.graph_verify.specs.Operand.{is_virtual as is_virtual_operand}
-use Rattle.graph_verify.proofs.LinkLemmas.{same_cell-is}
-use Rattle.buffer_plan.proofs.VerifiedLemmas.{once_cells}
 use Rattle.graph_run.proofs.LinkLaws.{All-from_In, In-from_All}
 use Rattle.graph_run.proofs.OperandLaws.{outline_of_virtual, known_kept, virtual_written}
 use Rattle.graph_run.proofs.TurnLaws.{each_alone}
-use Rattle.graph_run.proofs.BegunLaws.{begun_under, begun_stays, virtual_as_operand}
-
--- ---- cells that stand in a list once
-
-once_apart : (cs : List Cell) → has_twice cs ≡ false → AllPairs (λ a b. a ≢ b) cs
-once_apart (c ∷ cs) once zero (suc j) d less within =
-    grind (arith, or_parts (list_any (same_cell c) cs) (has_twice cs) once, In-at cs j d (omega (arith, within)), any-from_In, same_cell-is)
-once_apart (c ∷ cs) once (suc i) (suc j) d less within =
-    once_apart cs (or_parts (list_any (same_cell c) cs) (has_twice cs) once).1 i j d (omega (arith, less)) (omega (arith, within))
-once_apart x once i j d less within = grind arith
 
 -- ---- cells that a node names
 
@@ -33,11 +20,8 @@ module _ (n : Node) where
   pub named_by_output : (cell : Cell) → In cell (outputs n) → names_cell n cell ≡ true
   named_by_output cell i = or_right (reads n cell) (writes n cell) (same-from_In cell (outputs n) i)
 
-  operand_named : (operand : Cell × Kind) → In operand (operands n) → names_cell n operand.0 ≡ true
+  pub operand_named : (operand : Cell × Kind) → In operand (operands n) → names_cell n operand.0 ≡ true
   operand_named operand z1 = grind (arith, named_by_output)
-
-  abbrev made : Operand → Option Operand → Option Operand → Option Operand → Operands
-  made a b c d = record { in1 = a; in2 = b; out1 = c; out2 = d }
 
   -- what is the same of each cell that a node names makes the same operands
   pub same_operands : (one other : Cell → Operand) → ((cell : Cell) → names_cell n cell ≡ true → one cell ≡ other cell)
@@ -45,14 +29,6 @@ module _ (n : Node) where
   same_operands one other same = grind (arith, named_by_input, named_by_output, In-left, In-right)
 
 -- ---- the virtual images that nodes write
-
--- the cell of an object by itself
-abbrev pub whole : ℕ → Cell
-whole name = record { name = name; slot = None }
-
--- whether a name is that of an output
-abbrev pub is_output : List VirtualOutput → ℕ → Bool
-is_output outputs name = list_any (λ o. name == o.cell.name) outputs
 
 -- the virtual images that the nodes of a verified graph write
 module _ (is : Cell → Operand) (nodes : List Node) (v : Verified) (how : IsVerified is nodes v) where
@@ -64,12 +40,6 @@ module _ (is : Cell → Operand) (nodes : List Node) (v : Verified) (how : IsVer
   output_in o i =
       In-from_filter (λ cell. is_virtual_operand (is cell)) o.cell (flat_map outputs v.steps.items)
       (subst (λ l. In o.cell l) how.cells (In-map (λ (p : VirtualOutput). p.cell) o written i))
-
-  pub output_written : (o : VirtualOutput) → In o written → is_written nodes o.cell ≡ true
-  output_written o i =
-      let writer = In-from_flat_map outputs o.cell v.steps.items (output_in o i).0 in
-      any-from_In (λ m. writes m o.cell) writer.0 nodes (AllIn-permutation_back nodes v.steps.items how.order.same_nodes writer.0 writer.1)
-      (same-from_In o.cell (outputs writer.0) writer.2)
 
   pub output_known : (o : VirtualOutput) → In o written → resolved is nodes o.cell ≡ Image o.desc
   output_known o i = In-from_All (λ (p : VirtualOutput). resolved is nodes p.cell ≡ Image p.desc) written how.descriptions o i
@@ -83,21 +53,6 @@ module _ (is : Cell → Operand) (nodes : List Node) (v : Verified) (how : IsVer
       In-from_map (λ (p : VirtualOutput). p.cell) cell written
       (subst (λ l. In cell l) (sym how.cells) (In-filter (λ c. is_virtual_operand (is c)) cell (flat_map outputs v.steps.items) out virtual))
 
-  -- what is described is an output
-  pub described_output : (cell : Cell) (d : Description) → written_description is nodes cell ≡ Some d → (o : VirtualOutput) × In o written × (o ≡ record { cell = cell; desc = d })
-  described_output cell d e = elim (cases_Bool (is_virtual_operand (is cell) && is_written nodes cell)) [
-    | inl both ↦
-        (let parts = and_parts (is_virtual_operand (is cell)) (is_written nodes cell) both in
-        let output = in_outputs cell parts.1 parts.0 in
-        let known : resolved is nodes cell ≡ Image output.0.desc = ap (resolved is nodes) output.2 ∙ output_known output.0 output.1 in
-        let desc : output.0.desc ≡ d = grind (arith, both, known, e) in
-        (output.0, output.1, grind (arith, desc, output.2)))
-    | inr none ↦ absurd (grind (arith, none, e))
-  ]
-
-  pub output_described : (o : VirtualOutput) → In o written → written_description is nodes o.cell ≡ Some o.desc
-  output_described o i = grind (arith, and_from, output_in, output_written, output_known)
-
 module _ (objects : List Named) (nodes : List Node) (v : Verified) (work : ℕ) (how : IsVerified (operand_held objects) nodes v)
     (runs : verdict work (operand_held objects) nodes ≡ None) where
   abbrev pub is : Cell → Operand
@@ -106,52 +61,11 @@ module _ (objects : List Named) (nodes : List Node) (v : Verified) (work : ℕ) 
   abbrev pub known : Cell → Operand
   known = resolved is nodes
 
-  abbrev pub outs : List VirtualOutput
-  outs = v.virtual_outputs.items
-
   abbrev pub steps : List Node
   steps = v.steps.items
 
   pub can : CanRun work is nodes
   can = can_run work is nodes runs
-
-  -- it is held under a name without a slot
-  pub output_object : (o : VirtualOutput) → In o outs
-      → (◌≡◌ {A = Option ℕ} o.cell.slot None) × ((image : VirtualImage) × (object_held objects o.cell.name ≡ Some (VirtualObject image)))
-  output_object o i = grind (arith, outline_of_virtual (is o.cell) (output_in is nodes v how o i).1, output_in is nodes v how o i)
-
-  pub output_whole : (o : VirtualOutput) → In o outs → o.cell ≡ whole o.cell.name
-  output_whole o i = ap (λ (s : Option ℕ). let c : Cell = record { name = o.cell.name; slot = s } in c) (output_object o i).0
-
-  once_each : has_twice (map (λ (o : VirtualOutput). o.cell) outs) ≡ false
-  once_each = grind (arith, two_writers-permutation nodes steps how.order.same_nodes can.one_writer, once_cells)
-
-  pub are_virtual : AreVirtual objects outs
-  are_virtual =
-      record {
-        apart = λ i j d less within same.
-            let one = get_or outs i d in
-            let other = get_or outs j d in
-            let cells : List Cell = map (λ (o : VirtualOutput). o.cell) outs in
-            let equal : one.cell ≡ other.cell =
-            output_whole one (In-at outs i d (omega (arith, less, within))) ∙ ap whole same
-            ∙ sym (output_whole other (In-at outs j d within)) in
-            once_apart cells once_each i j d.cell less (omega (arith, within, length-map outs (λ (o : VirtualOutput). o.cell)))
-            (get_or-map_default (λ (o : VirtualOutput). o.cell) outs i d ∙ equal
-            ∙ sym (get_or-map_default (λ (o : VirtualOutput). o.cell) outs j d));
-        held =
-            All-from_In (λ o. option_map object_kind (object_held objects o.cell.name) ≡ Some kind.VirtualImage) outs
-            (λ o i. ap (option_map object_kind) (output_object o i).1.1);
-      }
-
-  -- ---- as the run begins
-
-  own_operand : (o : Named) → object_held objects o.name ≡ Some o.object → is (whole o.name) ≡ operand_of o.object
-  own_operand o there = ap (λ found. unwrap_or (option_map operand_of (option_and_then (in_slot None) found)) Delay) there
-
-  -- what isn't an output begins as it was
-  pub begun_kept : (name : ℕ) (x : ObjectValue) → object_held objects name ≡ Some x → is_output outs name ≡ false → x ≡ begun_under known nodes name x
-  begun_kept name x there none = grind (arith, cases_Bool, in_outputs is nodes v how, own_operand, virtual_as_operand, any-from_In, eq-eqb, begun_stays)
 
   -- ---- each node can run where its cells hold what they were found to be
 

@@ -1,4 +1,3 @@
-pub mod Run
 pub mod Graph
 pub mod Operands
 pub mod Solution
@@ -6,7 +5,12 @@ pub mod Lasting
 pub mod Steps
 pub mod Turns
 pub mod Examples
-pub mod Stage
 pub mod Slots
-pub mod Bands
-pub mod Settle
+pub mod Bind
+pub mod Cells
+pub mod Tasks
+pub mod Results
+pub mod Program
+pub mod Blocks
+pub mod Bound
+pub mod Schedule

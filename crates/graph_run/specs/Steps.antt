@@ -1,53 +1,24 @@
 -- Nodes that run on what their cells hold, and what they write.
-use Rattle.std.specs.Prelude.{ℕ, ◌≡◌, ◌≢◌, IsTrue, is_some, ⊤, List, [], Option, Some, None, IfSome}
+use Rattle.std.specs.Prelude.{ℕ, ◌≡◌, ◌≢◌, IsTrue, is_some, List, Option, Some, None, IfSome}
 use Rattle.std.specs.Option.{option_map, option_and_then}
-use Rattle.vx_base.specs.declared.format.Format.{Format}
-use Rattle.vx_base.specs.declared.format.Format.TheVariants.{S16}
-use Rattle.vx_base.specs.declared.kind.Kind.{Kind}
 use Rattle.vx_base.specs.declared.kind.Kind.TheVariants as kind
 use Rattle.vx_base.specs.declared.node.Node.{Node}
 use Rattle.vx_base.specs.declared.output.Output.{Output}
 use Rattle.vx_base.specs.Cell.{Cell}
-use Rattle.vx_base.specs.Description.{Description}
 use Rattle.vx_base.specs.Formats.{takes_formats}
 use Rattle.vx_base.specs.Function.{parameters}
-use Rattle.vx_base.specs.Image.{ImageValue, image_over}
+use Rattle.vx_base.specs.Image.{IsImage}
 use Rattle.vx_base.specs.Node.{IsNode}
 use Rattle.vx_base.specs.Object.{ObjectValue, IsObject, object_kind, object_format}
-use Rattle.vx_base.specs.Outputs.{node_image, node_output}
-use Rattle.vx_base.specs.Pixelwise.{from_two, formula_of_two}
-use Rattle.vx_base.specs.Rectangle.{empty}
-use Rattle.vx_base.specs.Statistics.{histogram}
-use Rattle.image_core.specs.Fits.{HaveSameSize, SecondHasSize}
-use Rattle.image_core.specs.Second.{second_object}
+use Rattle.vx_base.specs.Outputs.{node_output}
+use Rattle.image_core.specs.Fits.{SecondHasSize}
 use Rattle.object_table.specs.Named.{Named, held, with_object}
-use Rattle.object_table.specs.Object.{image_value, distribution_value, with_counts}
-use Rattle.object_table.specs.Table.{cell_object, HoldsImage}
-use Rattle.graph_run.specs.declared.step.Making.{Making}
+use Rattle.object_table.specs.Object.{image_value}
+use Rattle.object_table.specs.Table.{cell_object, image_held, HoldsImage}
 
 -- a cell holds an object
 abbrev pub Holds : List Named → Cell → Type 0
 Holds objects cell = IsTrue (is_some (held objects cell))
-
--- a node and an image that it can read, with what stands beside that, and an image that it can write
-pub record CanRunTo (n : Node) (a : ImageValue) (second : Option ObjectValue) (out : ImageValue) : Type 0 where
-  pub node : IsNode n
-  pub kind : IfSome second (λ object. (parameters n.function).second_input ≡ Some (object_kind object))
-  pub formats : IsTrue (takes_formats n.function a.format (option_and_then object_format second) (Some out.format))
-  pub size : HaveSameSize out a
-  pub second_size : SecondHasSize a second
-
--- so can a node with what it reads
-abbrev pub CanMake : Making → Description → Type 0
-CanMake m d = CanRunTo m.node.now m.first (second_object m.second) (image_over d empty [])
-
--- what it makes then for its output, an image of this format
-abbrev pub made_as : Format → Making → ImageValue
-made_as format m = node_image m.node.now m.which format m.first (second_object m.second)
-
--- what comes of an image of S16 to which a node adds what it gives of another
-abbrev pub added_to : Node → ImageValue → ImageValue → ImageValue
-added_to n a sums = from_two S16 (formula_of_two n.function S16 n.policy n.amount) a sums
 
 -- a node and what it reads and writes: objects of the kinds that its function has, of formats and sizes that it takes
 pub record RunsOn (n : Node) (first : ObjectValue) (second : Option ObjectValue) (out : ObjectValue) : Type 0 where
@@ -61,18 +32,6 @@ pub record RunsOn (n : Node) (first : ObjectValue) (second : Option ObjectValue)
   pub formats : IsTrue (takes_formats n.function (image_value first).format (option_and_then object_format second) (object_format out))
   pub second_size : SecondHasSize (image_value first) second
   pub out_size : SecondHasSize (image_value first) (Some out)
-
--- the kinds of what can stand beside a node's first input
-abbrev pub IsRead : Kind → Type 0
-IsRead kind.Image = ⊤
-IsRead kind.Lut = ⊤
-IsRead kind.Threshold = ⊤
-IsRead kind.Convolution = ⊤
-IsRead other = ⊥
-
--- the distribution that has counted the valid samples of an image
-abbrev pub counted_in : ImageValue → ObjectValue → ObjectValue
-counted_in a object = with_counts object (histogram (distribution_value object).bins a)
 
 -- cells of which one can be written without the other: of two names, or two slots of one
 abbrev pub TwoSlots : Option ℕ → Option ℕ → Type 0
@@ -90,6 +49,14 @@ pub record RunsTo (objects : List Named) (n : Node) (output : Cell) : Type 0 whe
   pub in1_apart : AreApart n.in1 output
   pub in2_apart : IfSome n.in2 (λ cell. AreApart cell output)
   pub runs : RunsOn n (cell_object objects n.in1) (option_map (cell_object objects) n.in2) (cell_object objects output)
+
+-- the inputs of a node are there: an image, and beside it an object of the kind that its function reads
+pub record CanRead (objects : List Named) (n : Node) : Type 0 where
+  pub first : HoldsImage objects n.in1
+  pub image : IsImage (image_held objects n.in1)
+  pub second : IfSome n.in2 (Holds objects)
+  pub object : IfSome (option_map (cell_object objects) n.in2) IsObject
+  pub kind : IfSome (option_map (cell_object objects) n.in2) (λ object. (parameters n.function).second_input ≡ Some (object_kind object))
 
 -- what one of the outputs becomes
 abbrev pub output_of : List Named → Node → Output → Cell → ObjectValue

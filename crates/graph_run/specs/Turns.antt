@@ -1,6 +1,5 @@
--- Nodes that run one after the other, and the virtual images that they write.
-use Rattle.std.specs.Prelude.{◌≡◌, ◌≢◌, List, All, Some, None}
-use Rattle.std.specs.List.{AllPairs}
+-- Nodes that run one after the other.
+use Rattle.std.specs.Prelude.{◌≡◌, List, All, Some, None}
 use Rattle.std.specs.Option.{option_map}
 use Rattle.vx_base.specs.declared.kind.Kind.{Kind}
 use Rattle.vx_base.specs.declared.kind.Kind.TheVariants as kind
@@ -8,8 +7,7 @@ use Rattle.vx_base.specs.declared.node.Node.{Node}
 use Rattle.vx_base.specs.Cell.{Cell}
 use Rattle.vx_base.specs.Node.{IsNode, operands}
 use Rattle.vx_base.specs.Object.{object_kind}
-use Rattle.object_table.specs.Named.{Named, object_held, held}
-use Rattle.graph_verify.specs.declared.known.VirtualOutput.{VirtualOutput}
+use Rattle.object_table.specs.Named.{Named, held}
 use Rattle.graph_verify.specs.Operand.{operands_of}
 use Rattle.graph_verify.specs.Verdict.{verdict_on}
 use Rattle.graph_run.specs.Operands.{operand_held}
@@ -23,8 +21,3 @@ pub record CanRunNow (objects : List Named) (n : Node) : Type 0 where
   pub node : IsNode n
   pub kinds : All (HoldsKind objects) (operands n)
   pub verdict : verdict_on n (operands_of (operand_held objects) n) ≡ None
-
--- distinct names, under which virtual images are held
-pub record AreVirtual (objects : List Named) (outputs : List VirtualOutput) : Type 0 where
-  pub apart : AllPairs (λ a b. a.cell.name ≢ b.cell.name) outputs
-  pub held : All (λ o. option_map object_kind (object_held objects o.cell.name) ≡ Some kind.VirtualImage) outputs

@@ -1,43 +1,47 @@
 //! Nodes and graphs that are run.
 //!
-//! `run_node` chooses the kernel that a node's function names, and writes its output: each sample,
-//! and the rectangle. It stands above the crates of all kernels. `run_once` runs a node on the
-//! objects of a table, `verify_in` verifies a graph whose nodes name what a table holds, and `run`
-//! runs it there. What a run of a graph means is defined in rounds of all its nodes at once.
+//! `run_once` runs a node on the objects of a table, `verify_in` verifies a graph whose nodes name
+//! what a table holds, and `run` runs it there. What a run of a graph means is defined in rounds of
+//! all its nodes at once. A graph runs over planes, by the tasks of `graph_steps`.
 //!
-//! - `kernel`: the kernel of each function
 //! - `operand`: objects as operands
-//! - `settle`: whether a graph runs in bands of rows, and how
-//! - `bands`: a graph that runs so, each band going through all nodes before the next one does
-//! - `counting`: what such a graph counts of images, or finds in them
-//! - `adding`: what it adds to images
-//! - `summing`: integral images that it writes
-//! - `part`: rows of images, lent to kernels as images of their own
-//! - `stage`: what nodes run on: a table, and slots in which virtual images are images for a while
-//! - `step`: a node that runs on what its cells hold
+//! - `once`: a node by itself
 //! - `verify`: the verdict on a graph, and the order in which its nodes run
 //! - `runs`: a graph that runs
+//! - `schedule`: how it runs: its cells, slots, tasks, halos, and the rows of a band
+//! - `cells`: the cells of its planes, and their indices
+//! - `task_list`: its tasks in a list
+//! - `sizes`: the halos of its planes, and the rows of a band
+//! - `blocks`: blocks of the pool that its virtual images share
+//! - `virtual_planes`: planes of virtual images, over these blocks
+//! - `bind`: images of clients that leave a table for planes, and come back
+//! - `tables`: tables, thresholds and matrices, lent to its steps
+//! - `tallies`: its histograms and extremes
+//! - `tasks`, `program`, `solution`: laws: its tasks are a program, whose solution is the run
 //! - `laws`: what the definitions of runs mean
 //! - `examples`: runs of small graphs
 #![tactic(auto)]
 
-mod adding;
-mod bands;
-mod counting;
+mod bind;
+mod blocks;
+mod cells;
 pub mod examples;
-mod kernel;
 pub mod laws;
+mod once;
 mod operand;
-mod part;
+mod program;
 mod runs;
-mod settle;
-mod stage;
-mod step;
-mod summing;
+mod schedule;
+mod sizes;
+mod solution;
+mod tables;
+mod tallies;
+mod task_list;
+mod tasks;
 mod verify;
+mod virtual_planes;
 
-pub use kernel::run_node;
+pub use once::run_once;
 pub use operand::{operand_in, operand_of};
 pub use runs::run;
-pub use step::run_once;
 pub use verify::verify_in;

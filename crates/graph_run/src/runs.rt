@@ -1,42 +1,52 @@
-//! Graphs that run: the virtual images that their nodes write stand in slots as they do, and are
-//! themselves again afterwards.
-ghost use Rattle.std.specs.Prelude.{◌≡◌, ◌≤◌, ◌<◌, ◌+◌, ◌++◌, ◌^◌, [], List, length, map, All};
-ghost use Rattle.std.specs.Prelude.{IfOk, IfSome, OnOk, OnErr, slice_get, ℕ, if◌then◌else◌};
+//! A graph that runs over planes: the samples of its images leave the table of objects for planes,
+//! its tasks run, and images and tallies come back.
+ghost use Rattle.std.specs.Prelude.{◌≡◌, ◌≤◌, ◌<◌, ◌+◌, ◌++◌, ℕ, [], List, drop, length, map};
+ghost use Rattle.std.specs.Prelude.{slice_index_or, vec_capacity, All, OnErr, OnOk};
 ghost use Rattle.std.specs.List.Sorted.{IsStrictlyIncreasing};
 ghost use Rattle.vx_base.specs.declared.format.Format.{Format as SampleFormat};
 ghost use Rattle.vx_base.specs.declared.node.Node.{Node as NodeFields};
-ghost use Rattle.vx_base.specs.Cell.{Cell};
+ghost use Rattle.vx_base.specs.Description.{IsDescription};
 ghost use Rattle.vx_base.specs.Object.{IsObject};
-ghost use Rattle.vx_base.specs.Sample.{same_format};
 ghost use Rattle.pixel_pool.specs.Free.{free_count};
-ghost use Rattle.pixel_pool.specs.Pool.{KeepsLent, KeepsBlockCounts, blocks_of, lent_of, free_of};
-ghost use Rattle.object_table.specs.Blocks.{LendsAtLeast, LendsMore, LendsLess};
-ghost use Rattle.object_table.specs.Context.{with_objects};
-ghost use Rattle.graph_verify.specs.declared.operand.Operand.{Operand};
+ghost use Rattle.pixel_pool.specs.Pool.{KeepsLent, blocks_of, free_of};
 ghost use Rattle.graph_verify.specs.Outlines.{resolved};
-ghost use Rattle.graph_verify.specs.Verified.{IsVerified};
 ghost use Rattle.buffer_plan.specs.Places.{told};
-ghost use Rattle.buffer_plan.specs.Plan.{IsPlan};
-ghost use Rattle.graph_run.specs.Bands.{RunsInBands, AreAreas, final_of};
+ghost use Rattle.buffer_plan.specs.Plan.{IsPlan, PlanValue};
 ghost use Rattle.graph_run.specs.Graph.{run_of_graph};
 ghost use Rattle.graph_run.specs.Lasting.{Lasts};
 ghost use Rattle.graph_run.specs.Operands.{operand_held, IsReady};
-ghost use Rattle.graph_run.specs.Stage.{IsStage};
-ghost use Rattle.graph_run.specs.Slots.{room_of, rooms_for, planned_rooms, plan_in, slot_place};
-ghost use Rattle.graph_run.specs.Slots.{AreEmpty, AreShared, claimed_at, slot_blocks};
-ghost use Rattle.graph_run.specs.Turns.{AreVirtual};
+ghost use Rattle.vx_base.specs.Picture.{samples_format};
+ghost use Rattle.image_core.specs.declared.second.Second.{Second as SecondValue};
+ghost use Rattle.image_core.specs.Second.{second_object};
+ghost use Rattle.object_table.specs.Context.{with_objects};
+ghost use Rattle.object_table.specs.Named.{with_written};
+ghost use Rattle.graph_steps.specs.Planes.{PlaneValue, plane};
+ghost use Rattle.graph_steps.specs.Program.{IsProgram};
+ghost use Rattle.graph_steps.specs.Runs.{CanReduceBand};
+ghost use Rattle.graph_steps.specs.Steps.{capacities};
+ghost use Rattle.graph_run.specs.Bind.{AreAllApart, AreFor, HoldImages, bare_images};
+ghost use Rattle.graph_run.specs.Bind.{image_planes, plane_objects};
+ghost use Rattle.graph_run.specs.Blocks.{band_plan, block_size, room_at};
+ghost use Rattle.graph_run.specs.Bound.{AreTalliesFor, LendTables};
+ghost use Rattle.graph_run.specs.Program.{first_blocks, tables_of, tallies_of};
+ghost use Rattle.graph_run.specs.Results.{Leaves, tally_objects};
+ghost use Rattle.graph_run.specs.Schedule.{IsSchedule, schedule_clients, schedule_objects};
+ghost use Rattle.graph_run.specs.Slots.{planned_rooms};
 
-use crate::bands::{Bands, run_bands};
-use crate::settle::bands_of;
-use crate::stage::{Slot, Stage};
-use crate::step::run_step;
+use crate::bind::{put_back, take_out};
+use crate::blocks::{blocks_for, give_back};
+use crate::schedule::{Schedule, clients_of, schedule_of};
+use crate::tables::add_tables;
+use crate::tallies::{set_tallies, tallies_of};
+use crate::virtual_planes::{add_virtual, return_blocks};
 use buffer_plan::Plan;
+use graph_steps::{Plane, Tally};
 use graph_verify::{Verified, VirtualOutput};
+use image_core::Second;
 use object_table::Table;
-use pixel_pool::Pool;
+use pixel_pool::{Block, Pool};
 use std::alloc::{AllocError, Global};
-use std::mem;
-use vx_base::{Format, ObjRef, Rect};
+use vx_base::{Node, ObjRef};
 
 /// Runs a verified graph on what the cells of its nodes hold in a table: its nodes in an order in
 /// which they can run, each once, or on large images each once for each band of rows. The virtual
@@ -70,215 +80,193 @@ pub fn run(
     ensures free { OnOk result ((format : SampleFormat) →
         (told plan.now).slot_count format ≤ free_count (free_of pool.new format)) }
 {
-    let bands = bands_of(alloc, table, verified)?;
-    let slots = slots_for(alloc, pool, plan, &bands)?;
-    let empty = Table::new(table.allocator());
-    let mut stage = Stage {
-        table: mem::replace(table, empty),
-        slots,
-    };
-    run_nodes(&mut stage, verified, plan, bands);
-    let Stage { table: own, slots } = stage;
-    *table = own;
-    give_back(slots, pool);
-    Ok(())
+    let schedule = schedule_of(alloc, table, verified, plan)?;
+    let mut tallies = tallies_of(alloc, table, &verified.steps)?;
+    let mut planes = Vec::with_capacity(alloc, schedule.cells.len())?;
+    let demand = schedule.demand(&verified.virtual_outputs);
+    let mut blocks = blocks_for(alloc, pool, plan, &demand)?;
+    let done = run_schedule(
+        alloc,
+        verified,
+        &schedule,
+        table,
+        &mut blocks,
+        &mut planes,
+        &mut tallies,
+    );
+    give_back(blocks, pool);
+    done
 }
 
-/// Runs the nodes of a verified graph in bands of rows, or one after the other. It takes no memory.
-fn run_nodes(stage: &mut Stage, verified: &Verified, plan: &Plan, bands: Option<Bands>)
-    requires stage { IsStage stage.old }
-    requires empty { AreEmpty stage.old.slots.items }
-    requires rooms { map room_of stage.old.slots.items
-        ≡ planned_rooms (plan_in bands (told plan.now)) }
-    requires ready { (nodes : List NodeFields) ×
-        IsReady stage.old.table.objects nodes verified.now }
-    requires plan { IsPlan verified.now.steps.items verified.now.virtual_outputs.items
-        (told plan.now) }
-    requires rows { IfSome bands (λ b. 1 ≤ b.rows) }
-    requires high { IfSome bands (λ b. 1 ≤ b.height) }
-    requires bands { IfSome bands (λ b. (nodes : List NodeFields) →
-        IsReady stage.old.table.objects nodes verified.now →
-        RunsInBands stage.old.table.objects nodes verified.now b.height b.beside) }
-    requires areas { IfSome bands (λ b. (nodes : List NodeFields) →
-        IsReady stage.old.table.objects nodes verified.now →
-        AreAreas (final_of stage.old.table.objects nodes verified.now) verified.now.steps.items
-        b.areas.items) }
-    ensures value { (nodes : List NodeFields) →
-        IsReady stage.old.table.objects nodes verified.now →
-        stage.new.table ≡ with_objects stage.old.table (run_of_graph
-        (resolved (operand_held stage.old.table.objects) nodes) nodes stage.old.table.objects) }
-    ensures lasts { Lasts stage.old.table.objects stage.new.table.objects }
-    ensures rooms { map room_of stage.new.slots.items ≡ map room_of stage.old.slots.items }
-{
-    match bands {
-        Some(bands) => run_bands(stage, verified, plan, &bands),
-        None => run_steps(stage, verified, plan),
-    }
-}
-
-/// Runs the nodes of a verified graph one after the other. Before a node runs, the virtual images
-/// that it writes claim their slots. It takes no memory.
-fn run_steps(stage: &mut Stage, verified: &Verified, plan: &Plan)
-    requires stage { IsStage stage.old }
-    requires empty { AreEmpty stage.old.slots.items }
-    requires rooms { map room_of stage.old.slots.items ≡ planned_rooms (told plan.now) }
-    requires ready { (nodes : List NodeFields) ×
-        IsReady stage.old.table.objects nodes verified.now }
-    requires plan { IsPlan verified.now.steps.items verified.now.virtual_outputs.items
-        (told plan.now) }
-    ensures value { (nodes : List NodeFields) →
-        IsReady stage.old.table.objects nodes verified.now →
-        stage.new.table ≡ with_objects stage.old.table (run_of_graph
-        (resolved (operand_held stage.old.table.objects) nodes) nodes stage.old.table.objects) }
-    ensures lasts { Lasts stage.old.table.objects stage.new.table.objects }
-    ensures rooms { map room_of stage.new.slots.items ≡ map room_of stage.old.slots.items }
-{
-    for node in &verified.steps {
-        claim_for(stage, verified, plan, node.out1);
-        claim_for(stage, verified, plan, node.out2);
-        run_step(stage, node);
-    }
-}
-
-/// An output of a node claims its slot, if it is a virtual image.
-fn claim_for(stage: &mut Stage, verified: &Verified, plan: &Plan, output: Option<ObjRef>)
-    requires stage { IsStage stage.old }
-    requires verified { (is : Cell → Operand) × (nodes : List NodeFields) ×
-        IsVerified is nodes verified.now }
-    requires plan { IsPlan verified.now.steps.items verified.now.virtual_outputs.items
-        (told plan.now) }
-    requires outputs { AreVirtual stage.old.table.objects verified.now.virtual_outputs.items }
-    requires shared { AreShared (told plan.now) verified.now.virtual_outputs.items
-        stage.old.slots.items }
-    ensures stage { IsStage stage.new }
-    ensures table { stage.new.table ≡ stage.old.table }
-    ensures slots { (k : ℕ) → slice_get stage.new.slots.items k
-        ≡ claimed_at (told plan.now) verified.now.virtual_outputs.items output k
-        (slice_get stage.old.slots.items k) }
-{
-    let Some(cell) = output else {
-        return;
-    };
-    let Some(desc) = verified.desc_of(cell) else {
-        return;
-    };
-    let Some(slot) = plan.slot_of(cell) else {
-        return;
-    };
-    let at = place_of(plan, desc.format(), slot);
-    stage.claim(at, VirtualOutput { cell, desc });
-}
-
-/// The place of a slot of a format among all slots.
-pub fn place_of(plan: &Plan, format: Format, slot: usize) -> usize
-    requires { slot_place (told plan.now) format slot < 2 ^ 64 }
-    ensures { result ≡ slot_place (told plan.now) format slot }
-{
-    match format {
-        Format::U8 => slot,
-        Format::S16 => plan.slot_count(Format::U8) + slot,
-        Format::U32 => plan.slot_count(Format::U8) + plan.slot_count(Format::S16) + slot,
-    }
-}
-
-/// The slots of a plan, in which nothing stands. An error has given back what was taken.
-fn slots_for(
+/// Runs a schedule of a verified graph. An error has changed nothing.
+fn run_schedule(
     alloc: Global,
-    pool: &mut Pool,
-    plan: &Plan,
-    bands: &Option<Bands>,
-) -> Result<Vec<Slot>, AllocError>
-    requires { IfSome bands.now (λ b. 1 ≤ b.height) }
-    ensures rooms { IfOk result (λ slots.
-        map room_of slots.items ≡ planned_rooms (plan_in bands.now (told plan.now))) }
-    ensures empty { IfOk result (λ slots. AreEmpty slots.items) }
-    ensures lends { IfOk result (λ slots.
-        LendsMore pool.old pool.new (slot_blocks slots.items)) }
-    ensures err { OnErr result (KeepsLent pool.old pool.new) }
-    ensures adds { (format : SampleFormat) → blocks_of pool.new format
-        ≤ blocks_of pool.old format + (told plan.now).slot_count format }
-{
-    let mut slots = Vec::new(alloc);
-    match add_all(&mut slots, pool, plan, bands) {
-        Ok(()) => Ok(slots),
-        Err(fault) => {
-            give_back(slots, pool);
-            Err(fault)
-        }
-    }
-}
-
-/// Adds the slots of a plan to none.
-fn add_all(
-    slots: &mut Vec<Slot>,
-    pool: &mut Pool,
-    plan: &Plan,
-    bands: &Option<Bands>,
+    verified: &Verified,
+    schedule: &Schedule,
+    table: &mut Table,
+    blocks: &mut Vec<Block>,
+    planes: &mut Vec<Plane>,
+    tallies: &mut [Tally],
 ) -> Result<(), AllocError>
-    requires none { slots.old.items ≡ [] }
-    requires high { IfSome bands.now (λ b. 1 ≤ b.height) }
-    ensures rooms { OnOk result (map room_of slots.new.items
-        ≡ planned_rooms (plan_in bands.now (told plan.now))) }
-    ensures empty { AreEmpty slots.new.items }
-    ensures lends { LendsMore pool.old pool.new (slot_blocks slots.new.items) }
-    ensures adds { (format : SampleFormat) → blocks_of pool.new format
-        ≤ blocks_of pool.old format + (told plan.now).slot_count format }
+    requires objects { All (λ o. IsObject o.object) table.old.objects }
+    requires names { IsStrictlyIncreasing (map (λ o. o.name) table.old.objects) }
+    requires ready { (nodes : List NodeFields) ×
+        IsReady table.old.objects nodes verified.now }
+    requires schedule { (p : PlanValue) ×
+        IsPlan verified.now.steps.items verified.now.virtual_outputs.items p ×
+        IsSchedule table.old.objects verified.now p schedule.now ×
+        (map block_size blocks.old.items ≡ planned_rooms (band_plan schedule.now.size
+        schedule.now.halos.items verified.now.virtual_outputs.items
+        schedule.now.slots.items p)) }
+    requires none { planes.old.items ≡ [] }
+    requires room { length schedule.now.cells.items ≤ vec_capacity planes.old }
+    requires tallies { tallies.old ≡ tallies_of table.old.objects verified.now.steps.items }
+    ensures value { OnOk result ((nodes : List NodeFields) →
+        IsReady table.old.objects nodes verified.now →
+        table.new ≡ with_objects table.old
+        (run_of_graph (resolved (operand_held table.old.objects) nodes) nodes table.old.objects)) }
+    ensures lasts { Lasts table.old.objects table.new.objects }
+    ensures err { OnErr result (table.new ≡ table.old) }
+    ensures formats { map samples_format blocks.new.items ≡ map samples_format blocks.old.items }
 {
-    add_slots(slots, pool, plan, bands, Format::U8)?;
-    add_slots(slots, pool, plan, bands, Format::S16)?;
-    add_slots(slots, pool, plan, bands, Format::U32)
-}
-
-/// Adds the slots of a format.
-fn add_slots(
-    slots: &mut Vec<Slot>,
-    pool: &mut Pool,
-    plan: &Plan,
-    bands: &Option<Bands>,
-    format: Format,
-) -> Result<(), AllocError>
-    requires empty { AreEmpty slots.old.items }
-    requires high { IfSome bands.now (λ b. 1 ≤ b.height) }
-    ensures rooms { OnOk result (map room_of slots.new.items
-        ≡ map room_of slots.old.items ++ rooms_for (plan_in bands.now (told plan.now)) format) }
-    ensures empty { AreEmpty slots.new.items }
-    ensures lends { (f : SampleFormat) → lent_of pool.new f + slot_blocks slots.old.items f
-        ≡ lent_of pool.old f + slot_blocks slots.new.items f }
-    ensures adds { (f : SampleFormat) → blocks_of pool.new f ≤ blocks_of pool.old f
-        + (if same_format format f then (told plan.now).slot_count format else 0) }
-{
-    let count = plan.slot_count(format);
-    slots.reserve(count)?;
-    for k in 0..count {
-        let samples = pool.take(format, slot_room(plan, bands, format, k))?;
-        slots.push_reserved(Slot {
-            samples,
-            valid: Rect::empty(),
-            holder: None,
-        });
-    }
+    are_described(verified);
+    let tables = Vec::with_capacity(alloc, verified.steps.len())?;
+    let blocks = blocks.as_mut_slice();
+    take(alloc, verified, schedule, table, blocks, planes);
+    let planes = planes.as_mut_slice();
+    run_tasks(table, verified, schedule, tables, planes, tallies);
+    give(verified, schedule, table, blocks, planes, tallies);
     Ok(())
 }
 
-/// How many samples a slot has to hold: those of whole images, or in bands those of a strip's rows.
-fn slot_room(plan: &Plan, bands: &Option<Bands>, format: Format, slot: usize) -> usize
-    requires { IfSome bands.now (λ b. 1 ≤ b.height) }
-    ensures { result ≡ (plan_in bands.now (told plan.now)).slot_samples format slot }
+/// Descriptions have sides that are allowed, which the prover knows of each that is read.
+fn are_described(verified: &Verified)
+    ensures { All (λ o. IsDescription o.desc) verified.now.virtual_outputs.items }
 {
-    let samples = plan.slot_samples(format, slot);
-    match bands {
-        Some(bands) => samples / usize::from(bands.height) * bands.most_rows(),
-        None => samples,
+    for image in &verified.virtual_outputs {
+        image.desc.has_sides();
     }
 }
 
-/// Gives the blocks of slots back.
-fn give_back(slots: Vec<Slot>, pool: &mut Pool)
-    requires { LendsAtLeast pool.old (slot_blocks slots.items) }
-    ensures lent { LendsLess pool.old pool.new (slot_blocks slots.items) }
-    ensures blocks { KeepsBlockCounts pool.old pool.new }
+/// Runs the tasks of a schedule over planes. Tables are lent from the objects meanwhile.
+fn run_tasks<'a>(
+    table: &'a Table,
+    verified: &Verified,
+    schedule: &Schedule,
+    mut tables: Vec<Second<'a>>,
+    planes: &mut [Plane],
+    tallies: &mut [Tally],
+)
+    requires none { tables.items ≡ [] }
+    requires room { length verified.now.steps.items ≤ vec_capacity tables }
+    requires lent { LendTables table.now.objects verified.now.steps.items }
+    requires program { (lent : List SecondValue) →
+        map second_object lent ≡ tables_of table.now.objects verified.now.steps.items →
+        IsProgram lent schedule.now.high schedule.now.size schedule.now.halos.items
+        schedule.now.tasks.items planes.old }
+    requires reduces { CanReduceBand 0 schedule.now.tasks.items planes.old tallies.old }
+    ensures leaves { (lent : List SecondValue) ×
+        (map second_object lent ≡ tables_of table.now.objects verified.now.steps.items) ×
+        Leaves lent schedule.now.tasks.items planes.old tallies.old planes.new tallies.new }
+    ensures blocks { capacities planes.new ≡ capacities planes.old }
 {
-    for slot in slots {
-        pool.give_back(slot.samples);
-    }
+    add_tables(table, &verified.steps, &mut tables);
+    graph_steps::run(
+        &tables,
+        &schedule.tasks,
+        &schedule.halos,
+        schedule.high,
+        schedule.size,
+        planes,
+        tallies,
+    );
+}
+
+/// Moves the samples of a graph's images from the table to planes, behind planes of its virtual
+/// images over blocks.
+fn take(
+    alloc: Global,
+    verified: &Verified,
+    schedule: &Schedule,
+    table: &mut Table,
+    blocks: &mut [Block],
+    planes: &mut Vec<Plane>,
+)
+    requires count { length schedule.now.slots.items ≡ length verified.now.virtual_outputs.items }
+    requires cells { length verified.now.virtual_outputs.items ≤ length schedule.now.cells.items }
+    requires none { planes.old.items ≡ [] }
+    requires room { length schedule.now.cells.items ≤ vec_capacity planes.old }
+    requires within { (k : ℕ) → k < length schedule.now.slots.items →
+        slice_index_or schedule.now.slots.items k 0 < length blocks.old }
+    requires images { HoldImages table.old.objects
+        (schedule_clients verified.now schedule.now) }
+    requires apart { AreAllApart (schedule_clients verified.now schedule.now) }
+    ensures planes { (virtuals : List PlaneValue) ×
+        (map (λ q. q.desc) virtuals ≡ map (λ o. o.desc) verified.now.virtual_outputs.items) ×
+        (capacities virtuals ≡ first_blocks schedule.now.slots.items (room_at blocks.old)) ×
+        (planes.new.items ≡ virtuals ++ image_planes table.old.objects
+        (schedule_clients verified.now schedule.now)) }
+    ensures formats { map samples_format blocks.new ≡ map samples_format blocks.old }
+    ensures left { table.new ≡ with_objects table.old (with_written table.old.objects
+        (bare_images table.old.objects
+        (schedule_clients verified.now schedule.now))) }
+{
+    let images = verified.virtual_outputs.as_slice();
+    add_virtual(alloc, images, &schedule.slots, blocks, planes);
+    take_out(table, clients_of(&schedule.cells, images.len()), planes);
+}
+
+/// Moves the samples of a graph's images back to the table, writes its tallies there, and gives
+/// blocks back to their slots.
+fn give(
+    verified: &Verified,
+    schedule: &Schedule,
+    table: &mut Table,
+    blocks: &mut [Block],
+    planes: &mut [Plane],
+    tallies: &[Tally],
+)
+    requires count { length schedule.now.slots.items ≡ length verified.now.virtual_outputs.items }
+    requires cells { length verified.now.virtual_outputs.items ≤ length schedule.now.cells.items }
+    requires planes { length verified.now.virtual_outputs.items ≤ length planes.old }
+    requires within { (k : ℕ) → k < length schedule.now.slots.items →
+        slice_index_or schedule.now.slots.items k 0 < length blocks.old }
+    requires formats { (k : ℕ) → k < length schedule.now.slots.items →
+        (plane planes.old k).format
+        ≡ (room_at blocks.old (slice_index_or schedule.now.slots.items k 0)).0 }
+    requires images { HoldImages table.old.objects (schedule_clients verified.now schedule.now) }
+    requires apart { AreAllApart (schedule_clients verified.now schedule.now) }
+    requires back { AreFor table.old.objects (schedule_clients verified.now schedule.now)
+        (drop (length verified.now.virtual_outputs.items) planes.old) }
+    requires tallies { AreTalliesFor (with_written table.old.objects
+        (schedule_objects verified.now schedule.now planes.old))
+        schedule.now.tally_cells.items tallies.now }
+    ensures value { table.new ≡ with_objects table.old (with_written
+        (with_written table.old.objects
+        (schedule_objects verified.now schedule.now planes.old))
+        (tally_objects schedule.now.tally_cells.items tallies.now)) }
+    ensures formats { map samples_format blocks.new ≡ map samples_format blocks.old }
+{
+    return_blocks(&schedule.slots, blocks, planes);
+    put_behind(
+        table,
+        verified.virtual_outputs.len(),
+        &schedule.cells,
+        planes,
+    );
+    set_tallies(table, &schedule.tally_cells, tallies);
+}
+
+/// Puts the images of the planes behind those of virtual images back into the table.
+fn put_behind(table: &mut Table, virtuals: usize, cells: &[ObjRef], planes: &mut [Plane])
+    requires cells { virtuals ≤ length cells.now }
+    requires planes { virtuals ≤ length planes.old }
+    requires images { HoldImages table.old.objects (drop virtuals cells.now) }
+    requires apart { AreAllApart (drop virtuals cells.now) }
+    requires back { AreFor table.old.objects (drop virtuals cells.now)
+        (drop virtuals planes.old) }
+    ensures { table.new ≡ with_objects table.old (with_written table.old.objects
+        (plane_objects (drop virtuals cells.now) (drop virtuals planes.old))) }
+{
+    put_back(table, clients_of(cells, virtuals), &mut planes[virtuals..]);
 }

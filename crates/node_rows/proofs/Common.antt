@@ -1,11 +1,10 @@
 -- The names that several proofs cite, passed on from one place. Declares nothing.
-pub use Rattle.node_rows.specs.Parts.{HasInputs, StandsFor, end_right, first_right, part_of, rows_of}
 pub use Rattle.node_rows.specs.Reach.{matrix_in, reach}
 pub use Rattle.node_rows.specs.Rows.{AgreeInRows}
-pub use Rattle.std.proofs.lemmas.Bool.{cases_Bool, cases_lt}
+pub use Rattle.std.proofs.lemmas.Bool.{cases_Bool}
 pub use Rattle.std.proofs.lemmas.Bool.Decides.{nat_tests}
 pub use Rattle.std.proofs.lemmas.Int.{ints}
-pub use Rattle.vx_base.proofs.ImageLaws.{at-made, at-made_outside, column_inside, get_or-table, same_parts}
+pub use Rattle.vx_base.proofs.ImageLaws.{at-made, at-made_outside, column_inside}
 pub use Rattle.vx_base.proofs.RectangleLaws.{both_inside}
 pub use Rattle.vx_base.specs.Convolution.{ConvolutionValue}
 pub use Rattle.vx_base.specs.Description.{Description}
@@ -13,7 +12,7 @@ pub use Rattle.vx_base.specs.Image.{ImageValue, IsImage, at, made}
 pub use Rattle.vx_base.specs.Object.{ConvolutionObject, ImageObject, IsObject, LutObject, ObjectValue, ThresholdObject}
 pub use Rattle.vx_base.specs.Outputs.{image_of_one, node_image}
 pub use Rattle.vx_base.specs.Pixelwise.{formula_of_one, formula_of_two, from_one, from_two, looked_up, thresholded}
-pub use Rattle.vx_base.specs.Rectangle.{Rectangle, bounded, inside, meet_of}
+pub use Rattle.vx_base.specs.Rectangle.{Rectangle, inside, meet_of}
 pub use Rattle.vx_base.specs.Sample.{clamp}
 pub use Rattle.vx_base.specs.Window.{convolved, formula_of_nine, from_matrix, from_nine, holds, look, matrix_product, nearest, nine_around, row_product, window_valid}
 pub use Rattle.vx_base.specs.declared.border.Border.{Border}

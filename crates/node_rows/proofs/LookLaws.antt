@@ -28,26 +28,26 @@ abbrev Agree : Rectangle → ℕ → ℕ → (ℕ → ℕ → ℤ) → (ℕ → 
 Agree r rows y f g = (x z : ℕ) → x < r.x1 → z < r.y1 → y ≤ z + rows → z ≤ y + rows → f x z ≡ g x z
 
 -- the place that is looked at, where it is valid
-pub held_column : (r : Rectangle) (x v : ℤ) → holds r x v ≡ true → unsigned_abs x < r.x1
+held_column : (r : Rectangle) (x v : ℤ) → holds r x v ≡ true → unsigned_abs x < r.x1
 held_column r x v h = grind (arith, ints)
 
-pub held_row : (r : Rectangle) (x v : ℤ) → holds r x v ≡ true → unsigned_abs v < r.y1
+held_row : (r : Rectangle) (x v : ℤ) → holds r x v ≡ true → unsigned_abs v < r.y1
 held_row r x v h = grind (arith, ints)
 
-pub held_above : (r : Rectangle) (x v : ℤ) (rows y : ℕ) → holds r x v ≡ true → pos y ≤ℤ (v +ℤ pos rows) → y ≤ unsigned_abs v + rows
+held_above : (r : Rectangle) (x v : ℤ) (rows y : ℕ) → holds r x v ≡ true → pos y ≤ℤ (v +ℤ pos rows) → y ≤ unsigned_abs v + rows
 held_above r x v rows y h near = grind (arith, ints)
 
-pub held_below : (r : Rectangle) (x v : ℤ) (rows y : ℕ) → holds r x v ≡ true → v ≤ℤ (pos y +ℤ pos rows) → unsigned_abs v ≤ y + rows
+held_below : (r : Rectangle) (x v : ℤ) (rows y : ℕ) → holds r x v ≡ true → v ≤ℤ (pos y +ℤ pos rows) → unsigned_abs v ≤ y + rows
 held_below r x v rows y h near = grind (arith, ints)
 
 -- the nearest valid column, and row
-pub nearest_within : (low high : ℕ) (v : ℤ) → low < high → nearest low high v < high
+nearest_within : (low high : ℕ) (v : ℤ) → low < high → nearest low high v < high
 nearest_within low high v h = grind (arith, ints)
 
-pub nearest_above : (low high y rows : ℕ) (v : ℤ) → low ≤ y → y < high → pos y ≤ℤ (v +ℤ pos rows) → y ≤ nearest low high v + rows
+nearest_above : (low high y rows : ℕ) (v : ℤ) → low ≤ y → y < high → pos y ≤ℤ (v +ℤ pos rows) → y ≤ nearest low high v + rows
 nearest_above low high y rows v a b near = grind (arith, ints)
 
-pub nearest_below : (low high y rows : ℕ) (v : ℤ) → low ≤ y → y < high → v ≤ℤ (pos y +ℤ pos rows) → nearest low high v ≤ y + rows
+nearest_below : (low high y rows : ℕ) (v : ℤ) → low ≤ y → y < high → v ≤ℤ (pos y +ℤ pos rows) → nearest low high v ≤ y + rows
 nearest_below low high y rows v a b near = grind (arith, ints)
 
 -- a row in which something is valid
@@ -90,11 +90,11 @@ nine_near f g x y same =
     cc (above (x -ℤ pos 1), above x, above (x +ℤ pos 1), here (x -ℤ pos 1), here x, here (x +ℤ pos 1), below (x -ℤ pos 1), below x, below (x +ℤ pos 1))
 
 -- sums over a run
-pub sums_same : (p q : ℕ → ℤ) (x n : ℕ) → ((k : ℕ) → x ≤ k → k < x + n → p k ≡ q k) → total (map p (range_with_len x n)) ≡ total (map q (range_with_len x n))
+sums_same : (p q : ℕ → ℤ) (x n : ℕ) → ((k : ℕ) → x ≤ k → k < x + n → p k ≡ q k) → total (map p (range_with_len x n)) ≡ total (map q (range_with_len x n))
 sums_same p q x zero same = refl
 sums_same p q x (suc n) same = cc (same x (omega arith) (omega arith), sums_same p q (x + 1) n (λ k a b. same k (omega arith) (omega arith)))
 
-pub row_same : (c : ConvolutionValue) (f g : ℤ → ℤ) (x : ℤ) (l : ℕ) → ((u : ℤ) → f u ≡ g u) → row_product c f x l ≡ row_product c g x l
+row_same : (c : ConvolutionValue) (f g : ℤ → ℤ) (x : ℤ) (l : ℕ) → ((u : ℤ) → f u ≡ g u) → row_product c f x l ≡ row_product c g x l
 row_same c f g x l same =
     sums_same (λ k. f (x +ℤ pos (c.columns / 2) -ℤ pos k) *ℤ coefficient c l k) (λ k. g (x +ℤ pos (c.columns / 2) -ℤ pos k) *ℤ coefficient c l k) 0 c.columns
     (λ k a b. ap (λ z. z *ℤ coefficient c l k) (same (x +ℤ pos (c.columns / 2) -ℤ pos k)))

@@ -1,4 +1,3 @@
 pub mod Reach
 pub mod Rows
-pub mod Parts
 pub mod Examples

@@ -5,7 +5,6 @@ ghost use Rattle.vx_base.specs.declared.function.Function.TheVariants.{NotBits, 
 ghost use Rattle.vx_base.specs.declared.function.Function.TheVariants.{Integral, Accumulate};
 ghost use Rattle.vx_base.specs.Object.{ImageObject, ConvolutionObject};
 ghost use Rattle.node_rows.specs.Reach.{reach};
-ghost use Rattle.node_rows.specs.Parts.{part_of, first_right, end_right};
 ghost use Rattle.node_rows.specs.Examples.{column, upper_row, made_by};
 
 /// Not: where row 2 differs, row 2 of what comes of it does.
@@ -24,15 +23,6 @@ pub fn box_of_a_column()
         ≡ pos 13 ∷ pos 20 ∷ pos 30 ∷ pos 36 ∷ [] }
     ensures other { made_by Box U8 (column 10 20 90 40) None
         ≡ pos 13 ∷ pos 40 ∷ pos 50 ∷ pos 56 ∷ [] }
-{}
-
-/// The box filter of rows 1 to 3 alone, of the whole column 13, 20, 30 and 36: it is right from row
-/// 2 on, and up to row 3, since that has none below it.
-pub fn box_of_three_rows()
-    ensures part { (part_of 1 3 (column 10 20 30 40)).samples ≡ pos 20 ∷ pos 30 ∷ pos 40 ∷ [] }
-    ensures made { made_by Box U8 (part_of 1 3 (column 10 20 30 40)) None
-        ≡ pos 23 ∷ pos 30 ∷ pos 36 ∷ [] }
-    ensures right { (first_right 1 1 ≡ 2) × (end_right 1 4 4 ≡ 4) }
 {}
 
 /// A convolution by five rows: where row 2 differs, row 0 does, which is two rows above it.

@@ -2,12 +2,10 @@
 //!
 //! Where only some rows of an image are there, the same rows of what a node makes of it can be
 //! made, but for a few at either end: so many as `reach` says. For functions that look at all rows
-//! it gives none. Such rows are an image of their own, a part, of which nodes are run as of any
-//! image.
+//! it gives none.
 //!
 //! - `functions`: how many rows above and below a function looks at
-//! - `laws`: that a row of a node's output is decided by these rows of its inputs; what nodes
-//!   make of parts
+//! - `laws`: that a row of a node's output is decided by these rows of its inputs
 //! - `examples`: columns of four rows, worked out
 #![tactic(auto)]
 

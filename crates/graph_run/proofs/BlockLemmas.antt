@@ -1,0 +1,160 @@
+-- Blocks of a pool for slots, and the places of these.
+use Rattle.buffer_plan.specs.Lives.{is_live}
+use Rattle.std.proofs.Common.{Bool, ◌≡◌, ◌≢◌, ℕ, zero, suc, ◌+◌, ◌*◌, ◌≤◌, ◌<◌, ◌==◌, ◌⊎◌, List, [], ◌∷◌, ◌++◌, length, map, max, get_or, drop, take, refl, sym, ap, ◌∙◌, arith, if◌then◌else◌, sum_by, append_assoc, Option, Some, None, unwrap_or, length-append}
+use Rattle.graph_run.specs.Slots.{rooms_for}
+use Rattle.graph_run.proofs.Common.{length-map, length-map-range_with_len, range_with_len, map-append, VirtualOutput, Node, In, Format, S16, U32, U8, IsPlan, PlanValue, slot_place, place_of, planned_rooms, Samples, values, samples_format, same_format, blocks_of, lent_of}
+use Rattle.std.specs.List.{filter}
+use Rattle.std.proofs.lemmas.List.{append-nil, drop_all, drop_more, take_all}
+use Rattle.std.proofs.lemmas.List.FromFn.{map-range_with_len_more}
+use Rattle.std.proofs.lemmas.List.Sums.{sum_by_push, sum_by-append, sum_by-cons, length-filter, count_by-le-length}
+use Rattle.buffer_plan.specs.Slots.{IsPeak, of_format}
+use Rattle.pixel_pool.specs.declared.pool.Pool.{Pool}
+use Rattle.pixel_pool.specs.Pool.{one_of, KeepsOtherFree, Lends}
+use Rattle.graph_steps.specs.Program.{halo}
+use Rattle.graph_run.proofs.SlotLemmas.{HasSlot, has_slot, planned_slots}
+use Rattle.graph_run.specs.Blocks.{band_samples, block_count, block_size, samples_from}
+
+-- ---- places
+
+filter_le : {X : Type 0} (p : X → Bool) (xs : List X) → length (filter p xs) ≤ length xs
+filter_le p xs = omega (arith, length-filter p xs, count_by-le-length p xs)
+
+-- a format has at most as many slots as images
+slots_le : (steps : List Node) (outs : List VirtualOutput) (p : PlanValue) → IsPlan steps outs p → (f : Format) → p.slot_count f ≤ length (of_format f outs)
+slots_le steps outs p plan f = by_first (p.peak_step f) (plan.peak f)
+  where
+    by_first : (first : Option ℕ) → IsPeak steps outs f (p.slot_count f) first → p.slot_count f ≤ length (of_format f outs)
+    by_first None peak = omega (arith, peak.none refl)
+    by_first (Some step) peak = let has = peak.some step refl in omega (arith, has.there, filter_le (λ o. is_live steps o.cell step) (of_format f outs))
+
+formats_more : (o : VirtualOutput) (outs : List VirtualOutput) → length (of_format U8 outs) + length (of_format S16 outs) + length (of_format U32 outs) ≤ length outs
+    → length (of_format U8 (o ∷ outs)) + length (of_format S16 (o ∷ outs)) + length (of_format U32 (o ∷ outs)) ≤ suc (length outs)
+formats_more o outs rest = by_format o.desc.format refl
+  where
+    by_format : (f : Format) → o.desc.format ≡ f → length (of_format U8 (o ∷ outs)) + length (of_format S16 (o ∷ outs)) + length (of_format U32 (o ∷ outs)) ≤ suc (length outs)
+    by_format f e = grind arith
+
+formats_le : (outs : List VirtualOutput) → length (of_format U8 outs) + length (of_format S16 outs) + length (of_format U32 outs) ≤ length outs
+formats_le [] = omega arith
+formats_le (o ∷ outs) = formats_more o outs (formats_le outs)
+
+-- the place of an image's slot is below the number of images
+pub place_below : (steps : List Node) (outs : List VirtualOutput) (p : PlanValue) → IsPlan steps outs p → (o : VirtualOutput) → In o outs → place_of p o < length outs
+place_below steps outs p plan o i =
+    let h : HasSlot p o = has_slot steps outs p (planned_slots steps outs p plan) o i in
+    let at : place_of p o ≡ slot_place p o.desc.format h.slot = ap (λ s. slot_place p o.desc.format (unwrap_or s 0)) h.is in
+    let below : slot_place p o.desc.format h.slot < p.slot_count U8 + p.slot_count S16 + p.slot_count U32 = by_format o.desc.format h.slot h.below in
+    omega (arith, at, below, slots_le steps outs p plan U8, slots_le steps outs p plan S16, slots_le steps outs p plan U32, formats_le outs)
+  where
+    by_format : (f : Format) (k : ℕ) → k < p.slot_count f → slot_place p f k < p.slot_count U8 + p.slot_count S16 + p.slot_count U32
+    by_format f k below = grind arith
+
+-- the places of a format's slots follow each other
+pub place_more : (p : PlanValue) (f : Format) (k : ℕ) → slot_place p f k ≡ slot_place p f 0 + k
+place_more p f k = grind arith
+
+size_count : (blocks : List Samples) → length (map block_size blocks) ≡ length blocks
+size_count blocks = simp length-map
+
+-- as many blocks more as the format has slots
+pub blocks_counted : (p : PlanValue) (f : Format) (before after : List Samples) → map block_size after ≡ map block_size before ++ rooms_for p f → length after ≡ length before + p.slot_count f
+blocks_counted p f before after rooms =
+    let long : length (rooms_for p f) ≡ p.slot_count f = length-map-range_with_len (λ k. let room : Format × ℕ = (f, p.slot_samples f k) in room) 0 (p.slot_count f) in
+    omega (arith, size_count after, size_count before, ap length rooms, length-append (map block_size before) (rooms_for p f), long)
+
+-- ---- samples that a slot needs
+
+samples_step : (size : ℕ) (halos : List ℕ) (k : ℕ) (o : VirtualOutput) (outs : List VirtualOutput) (s : ℕ) (slots : List ℕ) (place most : ℕ)
+    → max (if s == place then max most (band_samples size (halo halos k) o.desc) else most) (samples_from size halos (k + 1) outs slots place)
+    ≡ max most (samples_from size halos k (o ∷ outs) (s ∷ slots) place)
+samples_step size halos k o outs s slots place most = grind arith
+
+front : {X : Type 0} (xs : List X) (k : ℕ) (x d : X) → k < length xs → x ≡ get_or xs k d → x ∷ drop (k + 1) xs ≡ drop k xs
+front {X = X} xs k x d below is = ap (λ y. let l : List X = y ∷ drop (k + 1) xs in l) is ∙ sym (drop_more xs k d below)
+
+pub samples_next : (size : ℕ) (halos : List ℕ) (outs : List VirtualOutput) (slots : List ℕ) (place most k : ℕ) (o : VirtualOutput) (s : ℕ) → k < length outs → k < length slots
+    → o ≡ get_or outs k o → s ≡ get_or slots k 0 → max (if s == place then max most (band_samples size (halo halos k) o.desc) else most) (samples_from size halos (k + 1) (drop (k + 1) outs) (drop (k + 1) slots) place)
+    ≡ max most (samples_from size halos k (drop k outs) (drop k slots) place)
+samples_next size halos outs slots place most k o s below here image slot =
+    samples_step size halos k o (drop (k + 1) outs) s (drop (k + 1) slots) place most
+    ∙ ap (λ l. max most (samples_from size halos k l (s ∷ drop (k + 1) slots) place)) (front outs k o o below image)
+    ∙ ap (λ l. max most (samples_from size halos k (drop k outs) l place)) (front slots k s 0 here slot)
+
+-- ---- one block more
+
+module _ (blocks : List Samples) (b : Samples) where
+  pub rooms_more : (format : Format) (room : ℕ → ℕ) (k : ℕ) (before : List (Format × ℕ)) → map block_size blocks ≡ before ++ map (λ j. (format, room j)) (range_with_len 0 k)
+      → samples_format b ≡ format → length (values b) ≡ room k → map block_size (blocks ++ b ∷ []) ≡ before ++ map (λ j. (format, room j)) (range_with_len 0 (k + 1))
+  rooms_more format room k before rooms format_is count =
+      let made : ℕ → Format × ℕ = λ j. (format, room j) in
+      let this : block_size b ≡ made k = ap (λ f. (f, length (values b))) format_is ∙ ap (λ n. (format, n)) count in
+      map-append block_size blocks (b ∷ []) ∙ ap (λ l. l ++ block_size b ∷ []) rooms
+      ∙ append_assoc before (map made (range_with_len 0 k)) (block_size b ∷ [])
+      ∙ ap (λ l. before ++ l) (ap (λ r. map made (range_with_len 0 k) ++ r ∷ []) this ∙ sym (map-range_with_len_more made 0 k k (omega arith)))
+
+  pub lends_more : (format : Format) → samples_format b ≡ format → (old now new : Pool) (f : Format) (count : ℕ) → Lends now new format → lent_of now f + count ≡ lent_of old f + block_count blocks f
+      → lent_of new f + count ≡ lent_of old f + block_count (blocks ++ b ∷ []) f
+  lends_more format format_is old now new f count lends before = grind (arith, sum_by_push)
+
+-- two formats are one or not
+formats : (f g : Format) → ((f ≡ g) × (one_of g f ≡ 1)) ⊎ ((f ≢ g) × (one_of g f ≡ 0))
+formats f g = grind arith
+
+-- a block that is taken adds at most one
+pub taken_adds : (old new : Pool) (format : Format) → Lends old new format → blocks_of new format ≤ blocks_of old format + 1 → KeepsOtherFree old new format
+    → (f : Format) → blocks_of new f ≤ blocks_of old f + one_of format f
+taken_adds old new format lends most others f = grind (arith, formats)
+
+-- so many of them add at most so many
+pub adds_more : (format f : Format) (k old now new : ℕ) → new ≤ now + one_of format f → now ≤ old + (if same_format format f then k else 0)
+    → new ≤ old + (if same_format format f then k + 1 else 0)
+adds_more format f k old now new more before = grind arith
+
+-- ---- blocks that come back
+
+-- blocks of the same formats are as many
+pub counts_stay : (old new : List Samples) → map samples_format new ≡ map samples_format old → (f : Format) → block_count new f ≡ block_count old f
+counts_stay old new same f = by_format new ∙ ap (sum_by (λ (g : Format). one_of g f)) same ∙ sym (by_format old)
+  where
+    by_format : (blocks : List Samples) → block_count blocks f ≡ sum_by (λ (g : Format). one_of g f) (map samples_format blocks)
+    by_format [] = refl
+    by_format (b ∷ blocks) =
+        sum_by-cons (λ (x : Samples). one_of (samples_format x) f) b blocks ∙ ap (λ n. one_of (samples_format b) f + n) (by_format blocks)
+        ∙ sym (sum_by-cons (λ (g : Format). one_of g f) (samples_format b) (map samples_format blocks))
+
+-- a vector that was lent as a slice holds the slice's items
+pub written_back : {X : Type 0} (old new : List X) (n : ℕ) → length new ≡ length old → n ≡ length old → take n (new ++ drop (length new) old) ≡ new
+written_back old new n long all =
+    ap (λ l. take n (new ++ l)) (drop_all (length new) old (omega (arith, long))) ∙ ap (take n) (append-nil new) ∙ take_all n new (omega (arith, long, all))
+
+-- ---- blocks by a plan
+
+rooms_count : (format f : Format) (room : ℕ → ℕ) (from count : ℕ) → sum_by (λ (r : Format × ℕ). one_of r.0 f) (map (λ k. (format, room k)) (range_with_len from count)) ≡ count * one_of format f
+rooms_count format f room from zero = omega arith
+rooms_count format f room from (suc count) =
+    sum_by-cons (λ (r : Format × ℕ). one_of r.0 f) (format, room from) (map (λ k. (format, room k)) (range_with_len (from + 1) count))
+    ∙ ap (λ n. one_of format f + n) (rooms_count format f room (from + 1) count) ∙ grind arith
+
+by_formats : (p : PlanValue) (f : Format) (u8s s16s u32s : ℕ) → u8s ≡ p.slot_count U8 * one_of U8 f → s16s ≡ p.slot_count S16 * one_of S16 f → u32s ≡ p.slot_count U32 * one_of U32 f
+    → u8s + s16s + u32s ≡ p.slot_count f
+by_formats p U8 u8s s16s u32s a b c = omega (arith, a, b, c)
+by_formats p S16 u8s s16s u32s a b c = omega (arith, a, b, c)
+by_formats p U32 u8s s16s u32s a b c = omega (arith, a, b, c)
+
+planned_sum : (p : PlanValue) (f : Format) → sum_by (λ (r : Format × ℕ). one_of r.0 f) (planned_rooms p) ≡ p.slot_count f
+planned_sum p f =
+    let each : Format → ℕ = λ g. sum_by (λ (r : Format × ℕ). one_of r.0 f) (rooms_for p g) in
+    sum_by-append (λ (r : Format × ℕ). one_of r.0 f) (rooms_for p U8 ++ rooms_for p S16) (rooms_for p U32)
+    ∙ ap (λ n. n + each U32) (sum_by-append (λ (r : Format × ℕ). one_of r.0 f) (rooms_for p U8) (rooms_for p S16))
+    ∙ by_formats p f (each U8) (each S16) (each U32) (rooms_count U8 f (p.slot_samples U8) 0 (p.slot_count U8))
+    (rooms_count S16 f (p.slot_samples S16) 0 (p.slot_count S16)) (rooms_count U32 f (p.slot_samples U32) 0 (p.slot_count U32))
+
+-- are as many of a format as it has slots
+pub planned_blocks : (blocks : List Samples) (p : PlanValue) → map block_size blocks ≡ planned_rooms p → (f : Format) → block_count blocks f ≡ p.slot_count f
+planned_blocks blocks p rooms f = by_room blocks ∙ ap (sum_by (λ (r : Format × ℕ). one_of r.0 f)) rooms ∙ planned_sum p f
+  where
+    by_room : (bs : List Samples) → block_count bs f ≡ sum_by (λ (r : Format × ℕ). one_of r.0 f) (map block_size bs)
+    by_room [] = refl
+    by_room (b ∷ bs) =
+        sum_by-cons (λ (x : Samples). one_of (samples_format x) f) b bs ∙ ap (λ n. one_of (samples_format b) f + n) (by_room bs)
+        ∙ sym (sum_by-cons (λ (r : Format × ℕ). one_of r.0 f) (block_size b) (map block_size bs))

@@ -1,0 +1,79 @@
+-- Blocks for the slots of a plan have room for the bands of the images in them.
+use Rattle.std.proofs.Common.{◌≡◌, ℕ, zero, suc, ◌+◌, ◌<◌, ◌≤◌, ◌==◌, List, [], ◌∷◌, length, map, get_or, max, None, Some, true, slice_get, refl, sym, ap, subst, ◌∙◌, arith, unwrap_or, eq-eqb, if◌then◌else◌}
+use Rattle.std.proofs.lemmas.List.{get_or-map, length-map}
+use Rattle.std.proofs.lemmas.Option.{get_or_from_slice_get, slice_get_within}
+use Rattle.graph_run.proofs.Common.{Format, U8, Node, VirtualOutput, IsPlan, PlanValue, place_of, slot_place, planned_rooms, In-at}
+use Rattle.graph_steps.specs.Planes.{no_plane}
+use Rattle.graph_steps.specs.Program.{HoldsRows, halo}
+use Rattle.graph_run.specs.Blocks.{band_plan, band_samples, samples_from}
+use Rattle.graph_run.specs.Program.{virtual_description}
+use Rattle.graph_run.specs.Tasks.{SlotsHold}
+use Rattle.graph_run.proofs.SlotLemmas.{HasSlot, has_slot, planned_at, planned_slots}
+
+own_most : (s place : ℕ) (own rest : ℕ) → s ≡ place → own ≤ max (if s == place then own else 0) rest
+own_most s place own rest same = let e : (s == place) ≡ true = eq-eqb s place same in grind (arith, e)
+
+rest_most : (s place : ℕ) (own rest n : ℕ) → n ≤ rest → n ≤ max (if s == place then own else 0) rest
+rest_most s place own rest n below = grind arith
+
+-- the samples of a slot are enough for each image in it; the first image is that at index j
+enough_samples : (size : ℕ) (halos : List ℕ) (j : ℕ) (outs : List VirtualOutput) (slots : List ℕ) (k : ℕ) (none : VirtualOutput) → length slots ≡ length outs → k < length outs
+    → band_samples size (halo halos (j + k)) (get_or outs k none).desc ≤ samples_from size halos j outs slots (get_or slots k 0)
+enough_samples size halos j [] slots k none count below = absurd (omega (arith, below))
+enough_samples size halos j (o ∷ outs) [] k none count below = absurd (omega (arith, count))
+enough_samples size halos j (o ∷ outs) (s ∷ slots) zero none count below =
+    subst (λ (i : ℕ). band_samples size (halo halos i) o.desc ≤ samples_from size halos j (o ∷ outs) (s ∷ slots) s) (omega arith)
+    (own_most s s (band_samples size (halo halos j) o.desc) (samples_from size halos (j + 1) outs slots s) refl)
+enough_samples size halos j (o ∷ outs) (s ∷ slots) (suc k) none count below =
+    let rest = enough_samples size halos (j + 1) outs slots k none (omega (arith, count)) (omega (arith, below)) in
+    let at : j + 1 + k ≡ j + suc k = omega arith in
+    rest_most s (get_or slots k 0) (band_samples size (halo halos j) o.desc) (samples_from size halos (j + 1) outs slots (get_or slots k 0)) (band_samples size (halo halos (j + suc k)) (get_or outs k none).desc)
+    (subst (λ (i : ℕ). band_samples size (halo halos i) (get_or outs k none).desc ≤ samples_from size halos (j + 1) outs slots (get_or slots k 0)) at rest)
+
+module _ (steps : List Node) (outs : List VirtualOutput) (p : PlanValue) (plan : IsPlan steps outs p) (size : ℕ) (halos : List ℕ) (rooms : List (Format × ℕ))
+    (planned : rooms ≡ planned_rooms (band_plan size halos outs (map (place_of p) outs) p)) where
+  abbrev slots : List ℕ
+  slots = map (place_of p) outs
+
+  abbrev bands : PlanValue
+  bands = band_plan size halos outs slots p
+
+  -- an image in its slot
+  module _ (k : ℕ) (below : k < length outs) where
+    abbrev none : VirtualOutput
+    none = record { cell = record { name = 0; slot = None }; desc = no_plane.desc }
+
+    abbrev o : VirtualOutput
+    o = get_or outs k none
+
+    home : HasSlot p o
+    home = has_slot steps outs p (planned_slots steps outs p plan) o (In-at outs k none below)
+
+    at : get_or slots k 0 ≡ slot_place p o.desc.format home.slot
+    at = get_or-map (place_of p) outs k none 0 below ∙ ap (λ s. slot_place p o.desc.format (unwrap_or s 0)) home.is
+
+    there : slice_get rooms (get_or slots k 0) ≡ Some (o.desc.format, samples_from size halos 0 outs slots (slot_place p o.desc.format home.slot))
+    there = ap (λ (l : List (Format × ℕ)). slice_get l (get_or slots k 0)) planned ∙ ap (slice_get (planned_rooms bands)) at ∙ planned_at bands o.desc.format home.slot home.below
+
+    pub within : get_or slots k 0 < length rooms
+    within = slice_get_within rooms (get_or slots k 0) (o.desc.format, samples_from size halos 0 outs slots (slot_place p o.desc.format home.slot)) there
+
+    enough : band_samples size (halo halos k) o.desc ≤ samples_from size halos 0 outs slots (slot_place p o.desc.format home.slot)
+    enough =
+        let first : 0 + k ≡ k = omega arith in
+        subst (λ (s : ℕ). band_samples size (halo halos k) o.desc ≤ samples_from size halos 0 outs slots s) at
+        (subst (λ (i : ℕ). band_samples size (halo halos i) o.desc ≤ samples_from size halos 0 outs slots (get_or slots k 0)) first
+        (enough_samples size halos 0 outs slots k none (length-map outs (place_of p)) below))
+
+    holds_rows : HoldsRows size (halo halos k) (virtual_description outs k) (get_or rooms (get_or slots k 0) (U8, 0))
+    holds_rows =
+        let desc : virtual_description outs k ≡ o.desc = get_or-map (λ (x : VirtualOutput). x.desc) outs k none no_plane.desc below in
+        let room = get_or_from_slice_get rooms (get_or slots k 0) (o.desc.format, samples_from size halos 0 outs slots (slot_place p o.desc.format home.slot)) (U8, 0) there in
+        subst (λ d. HoldsRows size (halo halos k) d (get_or rooms (get_or slots k 0) (U8, 0))) (sym desc)
+        (subst (λ (b : Format × ℕ). HoldsRows size (halo halos k) o.desc b) (sym room) (refl, enough))
+
+  pub slots_hold : SlotsHold size halos (virtual_description outs) slots (λ place. get_or rooms place (U8, 0))
+  slots_hold k below = holds_rows k (omega (arith, below, length-map outs (place_of p)))
+
+  pub slots_within : (k : ℕ) → k < length slots → get_or slots k 0 < length rooms
+  slots_within k below = within k (omega (arith, below, length-map outs (place_of p)))

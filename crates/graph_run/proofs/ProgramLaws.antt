@@ -1,0 +1,110 @@
+-- The tasks of a graph over its planes are a program.
+use Rattle.std.proofs.Common.{◌≡◌, ℕ, ◌≤◌, Bool, List, ◌++◌, length, map, get_or, Option, None, IfSome, sym, ap, subst, ◌∙◌, inl, inr, arith}
+use Rattle.std.proofs.lemmas.List.{get_or_past, length-append, length-map}
+use Rattle.graph_run.proofs.Common.{cases_lt, map-append, Format, Node, Cell, Description, IsImage, ObjectValue, IsObject, is_virtual, Named, held_is, image_held, HoldsImage, VirtualOutput, Verified, PlanValue, place_of, operand_held, In}
+use Rattle.image_core.specs.declared.second.Second.{Second}
+use Rattle.graph_steps.specs.declared.step.Step.{Step}
+use Rattle.graph_steps.specs.declared.step.Task.{Task}
+use Rattle.graph_steps.specs.Planes.{PlaneValue, no_plane, plane}
+use Rattle.graph_steps.specs.Program.{AreFilled, AreFree, AreInOrder, HaveRoom, HoldsRows, IsClient, IsLive, IsProgram, IsStepOf, IsUnwritten, KeepsBlock, NamesPlanes, blocks_after_tasks, halo}
+use Rattle.graph_steps.specs.Steps.{capacities}
+use Rattle.graph_run.specs.Bind.{image_plane, image_planes}
+use Rattle.graph_run.specs.Program.{IsBound, client_cells, planes_of}
+use Rattle.graph_run.specs.Tasks.{HaveTasks, SlotsHold, TakeTurns, blocks_at, graph_cells, graph_tasks}
+use Rattle.graph_run.proofs.CellLemmas.{held_image}
+use Rattle.graph_run.proofs.ProgramPlanes.{plane_count, steps_suit, virtual_count, virtual_desc}
+use Rattle.graph_run.proofs.ReadyLemmas.{clients_hold, have_tasks}
+use Rattle.graph_run.proofs.TaskLemmas.{kept_turns, turns_again, turns_room}
+use Rattle.graph_run.proofs.WithinLemmas.{begins, client_planes, filled, free, one_writer, ordered, steps_within, turns, written}
+
+module _ (objects : List Named) (nodes : List Node) (v : Verified) (p : PlanValue) (tables : List Second) (radius : Node → ℕ) (high size : ℕ) (halos : List ℕ) (virtuals : List PlaneValue) (rooms : ℕ → Format × ℕ)
+    (bound : IsBound objects nodes v p tables radius high size halos virtuals rooms) where
+  abbrev steps : List Node
+  steps = v.steps.items
+
+  abbrev outs : List VirtualOutput
+  outs = v.virtual_outputs.items
+
+  abbrev slots : List ℕ
+  slots = map (place_of p) outs
+
+  abbrev tasks : List Task
+  tasks = graph_tasks steps outs p radius
+
+  abbrev planes : List PlaneValue
+  planes = planes_of objects steps outs virtuals
+
+  abbrev clients : List (Format × ℕ)
+  clients = capacities (image_planes objects (client_cells steps outs))
+
+  abbrev found_virtual : Cell → Bool
+  found_virtual c = is_virtual (operand_held objects c)
+
+  have : HaveTasks steps outs p found_virtual
+  have = have_tasks objects nodes v bound.ready p bound.plan
+
+  same_count : length planes ≡ length (graph_cells steps outs)
+  same_count = plane_count objects bound.objects_are nodes v bound.ready p bound.plan virtuals bound.descs
+
+  in_turn : TakeTurns slots 0 tasks
+  in_turn = turns steps outs p found_virtual have radius
+
+  -- ---- planes
+
+  low : (c : ℕ) → (plane planes c).desc.height ≤ high
+  low c = elim (cases_lt c (length planes)) [
+    | inl below ↦ bound.tall c no_plane below
+    | inr past ↦ (let none : plane planes c ≡ no_plane = get_or_past planes c no_plane past in omega (arith, ap (λ (q : PlaneValue). q.desc.height) none))
+  ]
+
+  client_image : (c : Cell) → In c (client_cells steps outs) → IsImage (image_held objects c)
+  client_image c i =
+      let holds : HoldsImage objects c = clients_hold objects nodes v bound.ready p bound.plan c i in
+      subst (λ (o : Option ObjectValue). IfSome o IsObject) (held_image objects c holds) (held_is objects c bound.objects_are)
+
+  kept_client : (c : ℕ) → KeepsBlock (length planes) tasks c → IsClient (plane planes c)
+  kept_client c kept =
+      client_planes virtuals objects (client_cells steps outs) client_image c
+      (omega (arith, kept_turns slots tasks in_turn (length planes) c kept, length-map outs (place_of p), virtual_count objects bound.objects_are nodes v bound.ready p bound.plan virtuals bound.descs))
+      (omega (arith, kept.0, length-append virtuals (image_planes objects (client_cells steps outs)), length-map (client_cells steps outs) (λ (x : Cell). image_plane (image_held objects x))))
+
+  -- ---- blocks
+
+  blocks_are : capacities planes ≡ blocks_at slots rooms clients 0
+  blocks_are =
+      map-append (λ (q : PlaneValue). let b : Format × ℕ = (q.format, length q.samples) in b) virtuals (image_planes objects (client_cells steps outs))
+      ∙ ap (λ (b : List (Format × ℕ)). b ++ clients) bound.blocks
+
+  hold : SlotsHold size halos (λ c. (plane planes c).desc) slots rooms
+  hold k below =
+      subst (λ (d : Description). HoldsRows size (halo halos k) d (rooms (get_or slots k 0)))
+      (sym (virtual_desc objects bound.objects_are nodes v bound.ready p bound.plan virtuals bound.descs k (omega (arith, below, length-map outs (place_of p)))))
+      (bound.hold k below)
+
+  -- ---- all
+
+  pub graph_program : IsProgram tables high size halos tasks planes
+  graph_program =
+      record {
+        some = bound.some;
+        forward = bound.forward;
+        tall = low;
+        within = subst (λ (k : ℕ). (s : Step) → IsStepOf s tasks → NamesPlanes k s) (sym same_count) (steps_within steps outs p found_virtual have radius);
+        suits = steps_suit objects bound.objects_are nodes v bound.ready p bound.plan virtuals bound.descs tables bound.tables_are radius high bound.near;
+        halo_count = bound.halo_count;
+        enough = bound.enough;
+        one_writer = one_writer steps outs p found_virtual have radius;
+        begins = subst (λ (k : ℕ). (c : ℕ) → IsLive (KeepsBlock k tasks) tasks c → IsUnwritten tasks c × KeepsBlock k tasks c) (sym same_count) (begins steps outs p found_virtual have radius);
+        clients = kept_client;
+        written = subst (λ (k : ℕ). (s : Step) → IsStepOf s tasks → s.takes ≡ None → KeepsBlock k tasks s.output) (sym same_count) (written steps outs p found_virtual have radius);
+        once = bound.once;
+        free = subst (λ (k : ℕ). AreFree (KeepsBlock k tasks) tasks) (sym same_count) (free steps outs p found_virtual have radius);
+        room = subst (λ (b : List (Format × ℕ)). HaveRoom size halos (λ c. (plane planes c).desc) tasks b) (sym blocks_are) (turns_room size halos (λ c. (plane planes c).desc) slots rooms clients hold 0 tasks in_turn);
+        again = subst (λ (b : List (Format × ℕ)). blocks_after_tasks tasks b ≡ b) (sym blocks_are) (turns_again slots rooms clients tasks in_turn);
+      }
+
+  pub in_order : AreInOrder tasks
+  in_order = ordered steps outs p found_virtual have radius
+
+  pub all_filled : AreFilled (length planes) tasks
+  all_filled = subst (λ (k : ℕ). AreFilled k tasks) (sym same_count) (filled steps outs p found_virtual have radius)

@@ -1,0 +1,31 @@
+-- Heights and formats of the planes of a graph.
+use Rattle.std.proofs.Common.{◌≡◌, ℕ, ◌<◌, ◌≤◌, List, ◌++◌, length, map, get_or, All, sym, ap, subst, ◌∙◌, arith}
+use Rattle.std.proofs.lemmas.List.Elements.{All-append, All-map}
+use Rattle.std.proofs.lemmas.List.FromFn.{get_or-map-range_with_len}
+use Rattle.std.proofs.Math.ListN.{get_or-append, get_or-map as get_or-map_default}
+use Rattle.graph_run.proofs.Common.{All-from_map, Format, U8, Cell, Description, Named, image_held, VirtualOutput}
+use Rattle.graph_steps.specs.Planes.{PlaneValue, no_plane, plane}
+use Rattle.graph_steps.specs.Steps.{capacities}
+use Rattle.graph_run.specs.Bind.{image_plane, image_planes}
+use Rattle.graph_run.specs.Program.{first_blocks}
+use Rattle.graph_run.specs.Tasks.{block_at}
+
+-- the planes of images are no higher than these
+pub all_low : (objects : List Named) (high : ℕ) (cells : List Cell) (virtuals : List PlaneValue) (outs : List VirtualOutput) → map (λ (q : PlaneValue). q.desc) virtuals ≡ map (λ (o : VirtualOutput). o.desc) outs
+    → All (λ (o : VirtualOutput). o.desc.height ≤ high) outs → All (λ c. (image_held objects c).height ≤ high) cells → All (λ (q : PlaneValue). q.desc.height ≤ high) (virtuals ++ image_planes objects cells)
+all_low objects high cells virtuals outs descs low_outs low_cells =
+    let low_descs : All (λ (d : Description). d.height ≤ high) (map (λ (o : VirtualOutput). o.desc) outs) = All-map (λ (d : Description). d.height ≤ high) (λ (o : VirtualOutput). o.desc) outs low_outs in
+    let low_virtuals : All (λ (q : PlaneValue). q.desc.height ≤ high) virtuals =
+    All-from_map (λ (d : Description). d.height ≤ high) (λ (q : PlaneValue). q.desc) virtuals (subst (All (λ (d : Description). d.height ≤ high)) (sym descs) low_descs) in
+    All-append (λ (q : PlaneValue). q.desc.height ≤ high) virtuals (image_planes objects cells) low_virtuals
+    (All-map (λ (q : PlaneValue). q.desc.height ≤ high) (λ (c : Cell). image_plane (image_held objects c)) cells low_cells)
+
+-- the format of a virtual plane is that of its slot
+pub virtual_format : (virtuals rest : List PlaneValue) (slots : List ℕ) (rooms : ℕ → Format × ℕ) (k : ℕ) → capacities virtuals ≡ first_blocks slots rooms → length virtuals ≡ length slots → k < length slots
+    → (plane (virtuals ++ rest) k).format ≡ (rooms (get_or slots k 0)).0
+virtual_format virtuals rest slots rooms k blocks count below =
+    ap (λ (q : PlaneValue). q.format) (get_or-append virtuals rest no_plane k (omega (arith, count, below)))
+    ∙ ap (λ (b : Format × ℕ). b.0)
+    (sym (get_or-map_default (λ (q : PlaneValue). let b : Format × ℕ = (q.format, length q.samples) in b) virtuals k no_plane)
+    ∙ ap (λ (l : List (Format × ℕ)). get_or l k (U8, 0)) blocks
+    ∙ get_or-map-range_with_len (block_at slots rooms 0) 0 (length slots) k k (U8, 0) below (omega arith))

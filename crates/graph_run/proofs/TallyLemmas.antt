@@ -1,0 +1,76 @@
+-- Tallies that are written to the objects of a table.
+use Rattle.std.proofs.Common.{◌≡◌, ℕ, ◌+◌, ◌≤◌, Bool, true, false, List, [], ◌∷◌, length, drop, refl, sym, ap, subst, ◌∙◌, arith, Option, Some, None, option_map, option_and_then, unwrap_or, eqb, eqb-true, if◌then◌else◌}
+use Rattle.graph_run.proofs.Common.{U8, new_image, Cell, ObjectValue, ImageObject, object_kind, in_slot, with_slot, Named, object_held, with_object, with_written, distribution_value}
+use Rattle.vx_base.specs.declared.kind.Kind.TheVariants as kind
+use Rattle.graph_steps.specs.declared.tally.Tally.{Tally}
+use Rattle.graph_steps.specs.declared.tally.Tally.TheVariants as tally
+use Rattle.graph_run.specs.Bound.{AreTalliesFor, IsTallyFor}
+use Rattle.graph_run.specs.Results.{tally_object, tally_objects}
+use Rattle.graph_run.proofs.HeldLaws.{object_held-with_object}
+
+-- ---- one tally
+
+-- a tally for what stands in a slot of an object
+abbrev pub IsForSlot : Tally → Option ℕ → Option ObjectValue → Type 0
+IsForSlot (tally.Histogram d) slot x =
+    (option_map object_kind (option_and_then (in_slot slot) x) ≡ Some kind.Distribution)
+    × (d.bins ≡ (distribution_value (unwrap_or (option_and_then (in_slot slot) x) (ImageObject (new_image 0 0 U8)))).bins) × (length d.counts ≡ d.bins.bins)
+IsForSlot (tally.Extremes e) slot x = option_map object_kind (option_and_then (in_slot slot) x) ≡ Some kind.Extremes
+
+pub written_slot : (t u : Tally) (j k : Option ℕ) (x : Option ObjectValue) → IsForSlot t j x → IsForSlot u k x → IsForSlot u k (option_map (λ o. with_slot j (tally_object t) o) x)
+written_slot (tally.Histogram d) (tally.Histogram e) j k x a b = grind arith
+written_slot (tally.Histogram d) (tally.Extremes e) j k x a b = grind arith
+written_slot (tally.Extremes d) (tally.Histogram e) j k x a b = grind arith
+written_slot (tally.Extremes d) (tally.Extremes e) j k x a b = grind arith
+
+to_slot : (objects : List Named) (d : Cell) (u : Tally) → IsTallyFor objects d u → IsForSlot u d.slot (object_held objects d.name)
+to_slot objects d (tally.Histogram h) is = is
+to_slot objects d (tally.Extremes e) is = is
+
+from_slot : (objects : List Named) (d : Cell) (u : Tally) → IsForSlot u d.slot (object_held objects d.name) → IsTallyFor objects d u
+from_slot objects d (tally.Histogram h) is = is
+from_slot objects d (tally.Extremes e) is = is
+
+map_same : (x : Option ObjectValue) → option_map (λ o. o) x ≡ x
+map_same None = refl
+map_same (Some o) = refl
+
+module _ (objects : List Named) (c : Cell) (t : Tally) (first : IsTallyFor objects c t) where
+  -- an object in which a tally is written keeps what other tallies need
+  pub stays_for : (d : Cell) (u : Tally) → IsTallyFor objects d u → IsTallyFor (with_object objects c (tally_object t)) d u
+  stays_for d u is =
+      from_slot (with_object objects c (tally_object t)) d u
+      (subst (IsForSlot u d.slot) (sym (object_held-with_object objects c (tally_object t) d.name)) (by_name (eqb d.name c.name) refl))
+    where
+      by_name : (same : Bool) → eqb d.name c.name ≡ same → IsForSlot u d.slot (option_map (λ o. if same then with_slot c.slot (tally_object t) o else o) (object_held objects d.name))
+      by_name true e =
+          let here : IsForSlot t c.slot (object_held objects d.name) =
+          subst (λ (n : ℕ). IsForSlot t c.slot (object_held objects n)) (sym (eqb-true d.name c.name e)) (to_slot objects c t first) in
+          written_slot t u c.slot d.slot (object_held objects d.name) here (to_slot objects d u is)
+      by_name false e = subst (IsForSlot u d.slot) (sym (map_same (object_held objects d.name))) (to_slot objects d u is)
+
+  pub stay_for : (cells : List Cell) (tallies : List Tally) → AreTalliesFor objects cells tallies → AreTalliesFor (with_object objects c (tally_object t)) cells tallies
+  stay_for [] tallies are = tt
+  stay_for (d ∷ cells) [] are = are
+  stay_for (d ∷ cells) (u ∷ tallies) are = (stays_for d u are.0, stay_for cells tallies are.1)
+
+pub enough : (objects : List Named) (cells : List Cell) (tallies : List Tally) → AreTalliesFor objects cells tallies → length cells ≤ length tallies
+enough objects [] tallies are = omega arith
+enough objects (c ∷ cells) [] are = absurd are
+enough objects (c ∷ cells) (t ∷ tallies) are = omega (arith, enough objects cells tallies are.1)
+
+-- the first of the cells and tallies that are left
+module _ (objects : List Named) (cells : List Cell) (tallies : List Tally) (k : ℕ) (c : Cell) (t : Tally)
+    (cell_at : drop k cells ≡ c ∷ drop (k + 1) cells) (tally_at : drop k tallies ≡ t ∷ drop (k + 1) tallies)
+    (are : AreTalliesFor objects (drop k cells) (drop k tallies)) (after : List Named) (left : after ≡ with_object objects c (tally_object t)) where
+  firsts : AreTalliesFor objects (c ∷ drop (k + 1) cells) (t ∷ drop (k + 1) tallies)
+  firsts = rw (cell_at, tally_at) at are
+
+  pub next_for : AreTalliesFor after (drop (k + 1) cells) (drop (k + 1) tallies)
+  next_for = subst (λ (o : List Named). AreTalliesFor o (drop (k + 1) cells) (drop (k + 1) tallies)) (sym left) (stay_for objects c t firsts.0 _ _ firsts.1)
+
+  pub next_set : with_written after (tally_objects (drop (k + 1) cells) (drop (k + 1) tallies)) ≡ with_written objects (tally_objects (drop k cells) (drop k tallies))
+  next_set =
+      ap (λ (o : List Named). with_written o (tally_objects (drop (k + 1) cells) (drop (k + 1) tallies))) left
+      ∙ sym (ap (λ (l : List Cell). with_written objects (tally_objects l (drop k tallies))) cell_at
+      ∙ ap (λ (l : List Tally). with_written objects (tally_objects (c ∷ drop (k + 1) cells) l)) tally_at)

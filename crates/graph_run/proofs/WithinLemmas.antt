@@ -1,0 +1,147 @@
+-- The tasks of a graph: the fields of a program that its plan and its order give.
+use Rattle.std.proofs.Common.{◌≡◌, ◌≢◌, ℕ, ◌<◌, ◌≤◌, Bool, true, false, List, [], ◌∷◌, length, map, refl, sym, ap, subst, ◌∙◌, inl, inr, arith, Option, Some, None, ◌+◌, ◌-◌, ◌++◌, get_or}
+use Rattle.std.proofs.lemmas.List.{get_or-append_right, get_or-map, length-append, length-map}
+use Rattle.graph_run.proofs.Common.{cases_lt, flat_map, ImageValue, IsImage, Node, Cell, VirtualOutput, PlanValue, place_of, accumulates, outputs, In, In-from_filter}
+use Rattle.graph_steps.specs.declared.step.Step.{Step}
+use Rattle.graph_steps.specs.declared.step.Task.{Task}
+use Rattle.graph_steps.specs.declared.step.Task.TheVariants.{Write, Reduce}
+use Rattle.graph_steps.specs.Planes.{PlaneValue, no_plane, plane}
+use Rattle.graph_run.proofs.Common.{In-at, Named, image_held}
+use Rattle.graph_steps.specs.Program.{AreFilled, AreFree, AreInOrder, HaveOneWriter, IsClient, IsStepOf, KeepsBlock, IsLive, IsUnwritten, NamesPlanes}
+use Rattle.graph_steps.specs.Steps.{ReadsPlane}
+use Rattle.graph_run.specs.Bind.{image_plane, image_planes}
+use Rattle.graph_run.specs.Cells.{images_named, index_of}
+use Rattle.graph_run.specs.Tasks.{AreNamed, AreReadAfter, AreReadWithin, AreUntaken, HaveTasks, TakeTurns, graph_cells, graph_tasks, taken}
+use Rattle.graph_run.proofs.IndexLemmas.{added_behind, index_below, index_right}
+use Rattle.graph_run.proofs.SlotLemmas.{planned_slots}
+use Rattle.graph_run.proofs.TaskLemmas.{turns_kept, turns_take, turns_written}
+use Rattle.graph_run.proofs.ProgramLemmas.{all_named, image_named, one_writer_each, read_after, read_within, step_of, turns_begin}
+use Rattle.graph_run.proofs.FreeLemmas.{graph_free, graph_turns}
+
+-- ---- one of the tasks
+
+reads_in : (count : ℕ) (tasks : List Task) (s : Step) → AreReadWithin count tasks → IsStepOf s tasks → (c : ℕ) → ReadsPlane s c → c < count
+reads_in count [] s within i c read = elim i [ ]
+reads_in count (Reduce r ∷ later) s within i c read = reads_in count later s within.1 i c read
+reads_in count (Write w ∷ later) s within (inl e) c read = within.0 c (subst (λ (x : Step). ReadsPlane x c) e read)
+reads_in count (Write w ∷ later) s within (inr i) c read = reads_in count later s within.1 i c read
+
+reads_other : (tasks : List Task) (s : Step) → AreReadAfter tasks → IsStepOf s tasks → (c : ℕ) → ReadsPlane s c → c ≢ s.output
+reads_other [] s after i c read = elim i [ ]
+reads_other (Reduce r ∷ later) s after i c read = reads_other later s after.1 i c read
+reads_other (Write w ∷ later) s after (inl e) c read = λ same. after.0 c (subst (λ (x : Step). ReadsPlane x c) e read) s (inl e) (sym same)
+reads_other (Write w ∷ later) s after (inr i) c read = reads_other later s after.1 i c read
+
+reads_untaken : (tasks : List Task) (s : Step) → AreUntaken tasks → IsStepOf s tasks → (c : ℕ) → ReadsPlane s c → s.takes ≢ Some c
+reads_untaken [] s untaken i c read = elim i [ ]
+reads_untaken (Reduce r ∷ later) s untaken i c read = reads_untaken later s untaken i c read
+reads_untaken (Write w ∷ later) s untaken (inl e) c read = λ takes. untaken.0 c (subst (λ (x : Step). ReadsPlane x c) e read) (ap (λ (x : Step). x.takes) (sym e) ∙ takes)
+reads_untaken (Write w ∷ later) s untaken (inr i) c read = reads_untaken later s untaken.1 i c read
+
+-- ---- a graph
+
+module _ (steps : List Node) (outs : List VirtualOutput) (p : PlanValue) (is_virtual : Cell → Bool) (have : HaveTasks steps outs p is_virtual) (radius : Node → ℕ) where
+  abbrev virtual : List Cell
+  virtual = map (λ (o : VirtualOutput). o.cell) outs
+
+  abbrev tasks : List Task
+  tasks = graph_tasks steps outs p radius
+
+  abbrev count : ℕ
+  count = length (graph_cells steps outs)
+
+  named : AreNamed (graph_cells steps outs) steps
+  named = all_named virtual steps
+
+  pub turns : TakeTurns (map (place_of p) outs) 0 tasks
+  turns = graph_turns steps outs p (planned_slots steps outs p have.plan) is_virtual have.order have.plan.once radius have.images
+
+  after : AreReadAfter tasks
+  after = read_after (graph_cells steps outs) (map (place_of p) outs) radius steps 0 0 have.turn named
+
+  within : AreReadWithin count tasks
+  within = read_within (graph_cells steps outs) (map (place_of p) outs) radius steps 0 0 named
+
+  both_free : AreFree (KeepsBlock count tasks) tasks × AreUntaken tasks
+  both_free = graph_free steps outs p (planned_slots steps outs p have.plan) is_virtual have.order have.plan.once radius have.images have.turn count
+
+  pub free : AreFree (KeepsBlock count tasks) tasks
+  free = both_free.0
+
+  pub one_writer : HaveOneWriter tasks
+  one_writer = (one_writer_each (graph_cells steps outs) (map (place_of p) outs) radius steps 0 0 named have.writers).0
+
+  pub begins : (c : ℕ) → IsLive (KeepsBlock count tasks) tasks c → IsUnwritten tasks c × KeepsBlock count tasks c
+  begins = turns_begin (map (place_of p) outs) tasks count turns after within
+
+  -- there are no more virtual images than planes
+  virtual_count : length (map (place_of p) outs) ≤ count
+  virtual_count =
+      let behind = added_behind virtual (images_named steps) in
+      omega (arith, ap length behind.1, length-append virtual behind.0, length-map outs (place_of p), length-map outs (λ (o : VirtualOutput). o.cell))
+
+  -- what accumulates takes no block
+  adds_whole : (s : Step) → IsStepOf s tasks → accumulates s.node.function ≡ true → s.takes ≡ None
+  adds_whole s i adds =
+      let of = step_of (graph_cells steps outs) (map (place_of p) outs) radius steps 0 0 s i in
+      let behind = added_behind virtual (images_named steps) in
+      let adds_there : accumulates of.node.function ≡ true = ap (λ (x : Step). accumulates x.node.function) (sym of.is) ∙ adds in
+      let client : is_virtual of.cell ≡ false = have.adds of.node of.inside adds_there of.cell of.written in
+      let outside = λ (j : In of.cell virtual). (let k = In-from_filter is_virtual of.cell (flat_map outputs steps) (subst (In of.cell) have.order j) in let clash : true ≡ false = sym k.1 ∙ client in let no : ⊥ = cc in no) in
+      let above : length virtual ≤ index_of (graph_cells steps outs) of.cell =
+      subst (λ (l : List Cell). length virtual ≤ index_of l of.cell) (sym behind.1) (index_right virtual behind.0 of.cell outside) in
+      let high : length (map (place_of p) outs) ≤ index_of (graph_cells steps outs) of.cell = omega (arith, above, length-map outs (place_of p), length-map outs (λ (o : VirtualOutput). o.cell)) in
+      let none : taken (map (place_of p) outs) (index_of (graph_cells steps outs) of.cell) ≡ None = grind (arith, high) in
+      ap (λ (x : Step). x.takes) of.is ∙ none
+
+  pub steps_within : (s : Step) → IsStepOf s tasks → NamesPlanes count s
+  steps_within s i =
+      let of = step_of (graph_cells steps outs) (map (place_of p) outs) radius steps 0 0 s i in
+      record {
+        output = subst (λ (x : Step). x.output < count) (sym of.is) (index_below (graph_cells steps outs) of.cell (named of.node of.inside of.cell (image_named of.node of.cell of.image of.written)));
+        reads = λ c read. (reads_in count tasks s within i c read, reads_other tasks s after i c read, reads_untaken tasks s both_free.1 i c read);
+        taken = λ from e. (elim (turns_take (map (place_of p) outs) 0 tasks turns s i) [
+          | inl none ↦ (let clash : ◌≡◌ {A = Option ℕ} None (Some from) = sym none.1 ∙ e in absurd (cc clash))
+          | inr some ↦ (let same : ◌≡◌ {A = Option ℕ} (Some some.1.0) (Some from) = sym some.1.2 ∙ e in let one : some.1.0 ≡ from = cc in omega (arith, some.1.1, one, virtual_count))
+        ]);
+        own = adds_whole s i;
+      }
+
+  pub written : (s : Step) → IsStepOf s tasks → s.takes ≡ None → KeepsBlock count tasks s.output
+  written s i none = elim (turns_take (map (place_of p) outs) 0 tasks turns s i) [
+    | inl client ↦ turns_kept (map (place_of p) outs) tasks turns count s.output client.0 (steps_within s i).output
+    | inr some ↦ (let clash : ◌≡◌ {A = Option ℕ} None (Some some.1.0) = sym none ∙ some.1.2 in absurd (cc clash))
+  ]
+
+  in_order : (all : List Task) → AreReadAfter all → AreInOrder all
+  in_order [] turned = tt
+  in_order (Write s ∷ later) turned = (turned.0, in_order later turned.1)
+  in_order (Reduce r ∷ later) turned = in_order later turned.1
+
+  pub ordered : AreInOrder tasks
+  ordered = in_order tasks after
+
+  pub filled : AreFilled count tasks
+  filled c below = elim (cases_lt c (length (map (place_of p) outs))) [
+    | inl virtual_one ↦ inr (turns_written (map (place_of p) outs) 0 tasks turns c (omega arith) virtual_one)
+    | inr client ↦ inl (turns_kept (map (place_of p) outs) tasks turns count c client below)
+  ]
+
+-- ---- the planes of clients' images
+
+client_plane : (image : ImageValue) → IsImage image → IsClient (image_plane image)
+client_plane image is = record { whole = record { format = refl; top = refl; size = is.size; valid = is.room }; rows = refl; image = is }
+
+-- planes behind others, of the images that cells hold
+pub client_planes : (planes : List PlaneValue) (objects : List Named) (cells : List Cell) → ((c : Cell) → In c cells → IsImage (image_held objects c))
+    → (k : ℕ) → length planes ≤ k → k < length planes + length cells → IsClient (plane (planes ++ image_planes objects cells) k)
+client_planes planes objects cells are k above below =
+    let at : ℕ = k - length planes in
+    let small : at < length cells = omega (arith, above, below) in
+    let none : Cell = record { name = 0; slot = None } in
+    let c : Cell = get_or cells at none in
+    subst IsClient
+    (sym
+    (get_or-append_right planes (image_planes objects cells) (length planes) k no_plane refl above
+    ∙ get_or-map (λ (x : Cell). image_plane (image_held objects x)) cells at none no_plane small))
+    (client_plane (image_held objects c) (are c (In-at cells at none small)))

@@ -1,0 +1,42 @@
+use Rattle.std.proofs.Common.{◌≢◌, drop, length, get_or, ap, ◌∙◌, arith, map}
+use Rattle.std.proofs.Math.Seq.{map-set_same}
+use Rattle.std.proofs.lemmas.List.{drop-set-lt, length-set, get_or-set_other}
+use Rattle.graph_run.proofs.Common.{samples_format}
+use Rattle.graph_steps.specs.Planes.{no_plane, plane}
+use Rattle.graph_run.proofs.VirtualLemmas.{returned_format}
+use Rattle.graph_run.proofs.virtual_planes.return_blocks.Goals as goal
+use Rattle.graph_run.proofs.virtual_planes.return_blocks.Goals.{then-is_last, else-is_last}
+
+pub put-requires : goal.put-requires
+put-requires c =
+    let k = c.loop-k.k in
+    let inv = c.loop-k.invariant in
+    returned_format c.args.blocks.now c.loop-k.blocks c.args.planes.now c.loop-k.planes k (get_or c.args.slots.now k 0) c.give.result c.index-blocks-slots.result c.index-planes-k.result
+    c.give.ensures.format (omega (arith, inv.count, c.requires.count, c.loop-k-test.true)) (inv.planes k (omega arith)) (c.requires.formats k c.loop-k-test.true) inv.formats
+    (omega (arith, c.loop-k.auto.blocks, c.requires.within k c.loop-k-test.true))
+
+pub loop-k-preserved : goal.loop-k-preserved
+loop-k-preserved c =
+    let k = c.loop-k.k in
+    let inv = c.loop-k.invariant in
+    elim c.if-is_last.branch [
+      | then-is_last w ↦
+          let b = w.give.result in
+          let same = returned_format c.args.blocks.now c.loop-k.blocks c.args.planes.now c.loop-k.planes k (get_or c.args.slots.now k 0) b w.index-blocks-slots.result w.index-planes-k.result
+          w.give.ensures.format (omega (arith, inv.count, c.requires.count, c.loop-k-test.true)) (inv.planes k (omega arith)) (c.requires.formats k c.loop-k-test.true) inv.formats
+          (omega (arith, c.loop-k.auto.blocks, c.requires.within k c.loop-k-test.true)) in
+          record {
+            formats = ap (map samples_format) w.blocks-is ∙ map-set_same samples_format c.loop-k.blocks (get_or c.args.slots.now k 0) w.put.new.self w.index-blocks-slots.result (ap samples_format w.put.ensures ∙ same) ∙ inv.formats;
+            planes = λ j later.
+                let ne : j ≢ k = omega (arith, later) in
+                ap (λ l. plane l j) w.planes-is ∙ get_or-set_other c.loop-k.planes k j w.give.new.self no_plane ne ∙ inv.planes j (omega (arith, later));
+            others = ap (λ l. drop (length c.args.slots.now) l) w.planes-is ∙ drop-set-lt (length c.args.slots.now) c.loop-k.planes k w.give.new.self (omega arith) ∙ inv.others;
+            count = ap length w.planes-is ∙ length-set c.loop-k.planes k w.give.new.self ∙ inv.count;
+          }
+      | else-is_last w ↦ record {
+        formats = ap (map samples_format) w.blocks-is ∙ inv.formats;
+        planes = λ j later. ap (λ l. plane l j) w.planes-is ∙ inv.planes j (omega (arith, later));
+        others = ap (λ l. drop (length c.args.slots.now) l) w.planes-is ∙ inv.others;
+        count = ap length w.planes-is ∙ inv.count;
+      }
+    ]

@@ -1,0 +1,13 @@
+use Rattle.std.proofs.Common.{◌≡◌, ◌≤◌, ℕ, drop, length, map}
+use Rattle.graph_run.proofs.Common.{samples_format}
+use Rattle.graph_steps.specs.Planes.{plane}
+use Rattle.graph_run.proofs.virtual_planes.return_blocks.Given as goal
+
+abbrev pub invariant-loop-k : goal.invariant-loop-k
+invariant-loop-k l =
+    record {
+      formats : map samples_format l.blocks ≡ map samples_format l.fn.blocks;
+      planes : (k : ℕ) → l.k ≤ k → plane l.planes k ≡ plane l.fn.planes k;
+      others : drop (length l.slots) l.planes ≡ drop (length l.slots) l.fn.planes;
+      count : length l.planes ≡ length l.fn.planes;
+    }

@@ -1,0 +1,50 @@
+-- Images that leave a table for planes while a graph runs, and come back.
+use Rattle.std.specs.Prelude.{◌≡◌, ⊤, List, [], ◌∷◌, map}
+use Rattle.vx_base.specs.Cell.{Cell}
+use Rattle.vx_base.specs.Image.{ImageValue, image_over, description_of}
+use Rattle.vx_base.specs.Object.{ObjectValue, ImageObject}
+use Rattle.image_core.specs.Bands.{all_rows}
+use Rattle.object_table.specs.Named.{Named}
+use Rattle.object_table.specs.Table.{HoldsImage, image_held}
+use Rattle.graph_verify.specs.Members.{In}
+use Rattle.graph_steps.specs.Planes.{PlaneValue, block_image}
+use Rattle.graph_run.specs.Steps.{AreApart}
+
+-- each cell holds an image
+abbrev pub HoldImages : List Named → List Cell → Type 0
+HoldImages objects cells = (c : Cell) → In c cells → HoldsImage objects c
+
+-- each two of the cells can be written without each other
+abbrev pub AreAllApart : List Cell → Type 0
+AreAllApart [] = ⊤
+AreAllApart (c ∷ cells) = ((p : Cell) → In p cells → AreApart p c) × AreAllApart cells
+
+-- the image that stays in the table while its samples are in a plane
+abbrev pub without_samples : ImageValue → ImageValue
+without_samples image = image_over (description_of image) image.valid []
+
+-- the cells, each with its image without samples
+abbrev pub bare_images : List Named → List Cell → List (Cell × ObjectValue)
+bare_images objects [] = []
+bare_images objects (c ∷ cells) = (c, ImageObject (without_samples (image_held objects c))) ∷ bare_images objects cells
+
+-- the plane of a whole image
+abbrev pub image_plane : ImageValue → PlaneValue
+image_plane image =
+    record { desc = description_of image; valid = image.valid; top = 0; rows = all_rows image.height; format = image.format; samples = image.samples }
+
+abbrev pub image_planes : List Named → List Cell → List PlaneValue
+image_planes objects cells = map (λ c. image_plane (image_held objects c)) cells
+
+-- the cells, each with the image of its plane
+abbrev pub plane_objects : List Cell → List PlaneValue → List (Cell × ObjectValue)
+plane_objects [] planes = []
+plane_objects (c ∷ cells) [] = []
+plane_objects (c ∷ cells) (p ∷ planes) = (c, ImageObject (block_image p)) ∷ plane_objects cells planes
+
+-- planes of the images that these cells hold: for each cell one, of its size and format
+abbrev pub AreFor : List Named → List Cell → List PlaneValue → Type 0
+AreFor objects [] planes = ⊤
+AreFor objects (c ∷ cells) [] = ⊥
+AreFor objects (c ∷ cells) (p ∷ planes) =
+    (p.desc ≡ description_of (image_held objects c)) × (p.format ≡ p.desc.format) × AreFor objects cells planes

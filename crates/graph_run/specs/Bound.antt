@@ -1,0 +1,51 @@
+-- What a run lends from the table of objects, and what it writes back.
+use Rattle.std.specs.Prelude.{◌≡◌, ⊤, List, [], ◌∷◌, length, All, IfSome, unwrap_or}
+use Rattle.vx_base.specs.declared.kind.Kind.{Kind}
+use Rattle.vx_base.specs.declared.kind.Kind.TheVariants as kind
+use Rattle.vx_base.specs.declared.node.Node.{Node}
+use Rattle.vx_base.specs.Cell.{Cell}
+use Rattle.vx_base.specs.Function.{parameters}
+use Rattle.vx_base.specs.Object.{object_kind}
+use Rattle.object_table.specs.Named.{Named}
+use Rattle.object_table.specs.Object.{distribution_value}
+use Rattle.object_table.specs.Table.{cell_object}
+use Rattle.graph_steps.specs.declared.tally.Tally.{Tally}
+use Rattle.graph_steps.specs.declared.tally.Tally.TheVariants as tally
+use Rattle.graph_run.specs.Program.{node_table}
+use Rattle.graph_run.specs.Turns.{HoldsKind}
+
+-- ---- tables
+
+-- a kind of object that is lent to a step
+abbrev pub IsLent : Kind → Type 0
+IsLent kind.Lut = ⊤
+IsLent kind.Threshold = ⊤
+IsLent kind.Convolution = ⊤
+IsLent other = ⊥
+
+-- the tables that nodes read can be lent
+abbrev pub LendTables : List Named → List Node → Type 0
+LendTables objects nodes = All (λ n. IfSome (node_table objects n) (λ object. IsLent (object_kind object))) nodes
+
+-- ---- tallies
+
+-- the object in which a node's tally is kept, by the kind of its output
+abbrev pub KeepsTally : List Named → Kind → Cell → Type 0
+KeepsTally objects kind.Image cell = ⊤
+KeepsTally objects kind.Distribution cell = HoldsKind objects (cell, kind.Distribution)
+KeepsTally objects kind.Extremes cell = HoldsKind objects (cell, kind.Extremes)
+KeepsTally objects other cell = ⊥
+
+abbrev pub KeepTallies : List Named → List Node → Type 0
+KeepTallies objects nodes = All (λ n. KeepsTally objects (parameters n.function).output (unwrap_or n.out1 n.in1)) nodes
+
+-- a tally for the object that a cell holds
+abbrev pub IsTallyFor : List Named → Cell → Tally → Type 0
+IsTallyFor objects cell (tally.Histogram d) =
+    HoldsKind objects (cell, kind.Distribution) × (d.bins ≡ (distribution_value (cell_object objects cell)).bins) × (length d.counts ≡ d.bins.bins)
+IsTallyFor objects cell (tally.Extremes e) = HoldsKind objects (cell, kind.Extremes)
+
+abbrev pub AreTalliesFor : List Named → List Cell → List Tally → Type 0
+AreTalliesFor objects [] tallies = ⊤
+AreTalliesFor objects (c ∷ cells) [] = ⊥
+AreTalliesFor objects (c ∷ cells) (t ∷ tallies) = IsTallyFor objects c t × AreTalliesFor objects cells tallies

@@ -1,0 +1,44 @@
+-- The cells of the planes of a graph: those of the virtual images that its nodes write, and then those of the client images that they name.
+use Rattle.std.specs.Prelude.{ℕ, ◌+◌, List, [], ◌∷◌, ◌++◌, map, Option, if◌then◌else◌}
+use Rattle.std.specs.List.{list_any, flat_map}
+use Rattle.vx_base.specs.declared.kind.Kind.{Kind}
+use Rattle.vx_base.specs.declared.kind.Kind.TheVariants as kind
+use Rattle.vx_base.specs.declared.node.Node.{Node}
+use Rattle.vx_base.specs.Cell.{Cell, same_cell}
+use Rattle.vx_base.specs.Function.{parameters}
+use Rattle.vx_base.specs.Node.{given, second_kind}
+use Rattle.graph_verify.specs.declared.verified.Verified.{Verified}
+
+-- the cell of an operand, where that is an image
+abbrev pub image_given : Kind → Option Cell → List Cell
+image_given kind.Image cell = given cell
+image_given other cell = []
+
+-- the cells of the images that a node names, and that nodes name
+abbrev pub node_images : Node → List Cell
+node_images n =
+    n.in1 ∷ (image_given (second_kind n) n.in2
+    ++ (image_given (parameters n.function).output n.out1 ++ image_given (parameters n.function).output n.out2))
+
+abbrev pub images_named : List Node → List Cell
+images_named nodes = flat_map node_images nodes
+
+-- the cells with one more, or several more, unless they are there
+abbrev pub with_cell : List Cell → Cell → List Cell
+with_cell cells c = if list_any (λ d. same_cell d c) cells then cells else cells ++ c ∷ []
+
+abbrev pub with_cells : List Cell → List Cell → List Cell
+with_cells cells [] = cells
+with_cells cells (c ∷ more) = with_cells (with_cell cells c) more
+
+-- the cells of the virtual images, and of all images
+abbrev pub virtual_cells : Verified → List Cell
+virtual_cells v = map (λ o. o.cell) v.virtual_outputs.items
+
+abbrev pub cells_of : Verified → List Cell
+cells_of v = with_cells (virtual_cells v) (images_named v.steps.items)
+
+-- the index of a cell
+abbrev pub index_of : List Cell → Cell → ℕ
+index_of [] c = 0
+index_of (d ∷ cells) c = if same_cell d c then 0 else index_of cells c + 1

@@ -1,0 +1,120 @@
+-- The program of a graph: its tasks over the planes of its cells, with the tables that its nodes read, halos, blocks and tallies.
+use Rattle.std.specs.Prelude.{ℕ, ◌≡◌, ◌<◌, ◌≤◌, ◌⊎◌, true, List, [], ◌∷◌, ◌++◌, length, map, drop, slice_index_or, All, Option, None, unwrap_or}
+use Rattle.std.specs.List.{flat_map, range_with_len}
+use Rattle.std.specs.Option.{option_and_then}
+use Rattle.vx_base.specs.declared.format.Format.{Format}
+use Rattle.vx_base.specs.declared.kind.Kind.{Kind}
+use Rattle.vx_base.specs.declared.kind.Kind.TheVariants as kind
+use Rattle.vx_base.specs.declared.node.Node.{Node}
+use Rattle.vx_base.specs.Cell.{Cell}
+use Rattle.vx_base.specs.Description.{Description}
+use Rattle.vx_base.specs.Function.{accumulates, parameters}
+use Rattle.vx_base.specs.Node.{second_kind}
+use Rattle.vx_base.specs.Object.{ObjectValue, IsObject, new_distribution, no_extremes}
+use Rattle.image_core.specs.declared.second.Second.{Second}
+use Rattle.image_core.specs.Second.{second_object}
+use Rattle.node_rows.specs.Reach.{reach, matrix_in}
+use Rattle.object_table.specs.Named.{Named, held}
+use Rattle.object_table.specs.Object.{distribution_value}
+use Rattle.object_table.specs.Table.{cell_object}
+use Rattle.graph_verify.specs.declared.known.VirtualOutput.{VirtualOutput}
+use Rattle.graph_verify.specs.declared.verified.Verified.{Verified}
+use Rattle.graph_verify.specs.Members.{In}
+use Rattle.buffer_plan.specs.Plan.{IsPlan, PlanValue}
+use Rattle.graph_steps.specs.declared.step.Step.{Step}
+use Rattle.graph_steps.specs.declared.step.Task.{Task}
+use Rattle.graph_steps.specs.declared.tally.Tally.{Tally}
+use Rattle.graph_steps.specs.declared.tally.Tally.TheVariants as tally
+use Rattle.graph_steps.specs.Planes.{PlaneValue, no_plane}
+use Rattle.graph_steps.specs.Program.{IsStepOf, Suffice, halo}
+use Rattle.graph_steps.specs.Steps.{Covers, capacities}
+use Rattle.graph_run.specs.Bind.{image_planes}
+use Rattle.graph_run.specs.Operands.{IsReady}
+use Rattle.graph_run.specs.Slots.{place_of}
+use Rattle.graph_run.specs.Tasks.{SlotsHold, block_at, graph_cells, graph_tasks}
+
+-- ---- tables
+
+-- the object of a second input that is a table, a threshold or a matrix; images are planes
+abbrev pub table_by : Kind → Option ObjectValue → Option ObjectValue
+table_by kind.Image object = None
+table_by other object = object
+
+-- the table that a node reads, if it reads one
+abbrev pub node_table : List Named → Node → Option ObjectValue
+node_table objects n = table_by (second_kind n) (option_and_then (held objects) n.in2)
+
+-- for each node its table
+abbrev pub tables_of : List Named → List Node → List (Option ObjectValue)
+tables_of objects nodes = map (node_table objects) nodes
+
+-- ---- radii
+
+-- the rows above and below a row of its output that a node reads; None stands for all
+abbrev pub node_reach : List Named → Node → Option ℕ
+node_reach objects n = reach n.function (matrix_in (option_and_then (held objects) n.in2))
+
+-- the same in images of at most this height
+abbrev pub radius_of : List Named → ℕ → Node → ℕ
+radius_of objects high n = unwrap_or (node_reach objects n) high
+
+-- radii that cover the rows that the nodes read
+abbrev pub AreNear : List Named → ℕ → (Node → ℕ) → List Node → Type 0
+AreNear objects high radius nodes = (n : Node) → In n nodes → Covers (node_reach objects n) (radius n) high
+
+-- ---- planes
+
+-- the cells of the clients' images
+abbrev pub client_cells : List Node → List VirtualOutput → List Cell
+client_cells steps outs = drop (length outs) (graph_cells steps outs)
+
+-- the planes of a graph: those of its virtual images, and then those of the clients' images
+abbrev pub planes_of : List Named → List Node → List VirtualOutput → List PlaneValue → List PlaneValue
+planes_of objects steps outs virtuals = virtuals ++ image_planes objects (client_cells steps outs)
+
+-- the description of the virtual image at an index
+abbrev pub virtual_description : List VirtualOutput → ℕ → Description
+virtual_description outs k = slice_index_or (map (λ o. o.desc) outs) k no_plane.desc
+
+-- before a run each slot's block is that of the last image in it
+abbrev pub first_blocks : List ℕ → (ℕ → Format × ℕ) → List (Format × ℕ)
+first_blocks slots rooms = map (block_at slots rooms 0) (range_with_len 0 (length slots))
+
+-- ---- tallies
+
+-- the tally of a node that writes no image, but this object
+abbrev pub tally_by : Kind → ObjectValue → List Tally
+tally_by kind.Image object = []
+tally_by kind.Distribution object = tally.Histogram (new_distribution (distribution_value object).bins) ∷ []
+tally_by other object = tally.Extremes no_extremes ∷ []
+
+abbrev pub node_tallies : List Named → Node → List Tally
+node_tallies objects n = tally_by (parameters n.function).output (cell_object objects (unwrap_or n.out1 n.in1))
+
+-- the tallies of nodes, in their order, each without a sample
+abbrev pub tallies_of : List Named → List Node → List Tally
+tallies_of objects nodes = flat_map (node_tallies objects) nodes
+
+-- ---- programs
+
+-- a step that accumulates writes no row twice: its output has no halo, or there is one band
+abbrev pub AddOnce : ℕ → ℕ → List ℕ → List Task → Type 0
+AddOnce high size halos tasks = (s : Step) → IsStepOf s tasks → accumulates s.node.function ≡ true → (halo halos s.output ≡ 0) ⊎ (high ≤ size)
+
+-- a verified graph that is ready to run, and all that its program needs: tables and radii of its nodes, planes of virtual images whose
+-- blocks are those of slots, halos, and the rows of a band
+pub record IsBound (objects : List Named) (nodes : List Node) (v : Verified) (p : PlanValue) (tables : List Second) (radius : Node → ℕ) (high size : ℕ) (halos : List ℕ) (virtuals : List PlaneValue) (rooms : ℕ → Format × ℕ) : Type 0 where
+  pub objects_are : All (λ o. IsObject o.object) objects
+  pub ready : IsReady objects nodes v
+  pub plan : IsPlan v.steps.items v.virtual_outputs.items p
+  pub tables_are : map second_object tables ≡ tables_of objects v.steps.items
+  pub near : AreNear objects high radius v.steps.items
+  pub some : 0 < high
+  pub forward : 0 < size
+  pub tall : All (λ q. q.desc.height ≤ high) (planes_of objects v.steps.items v.virtual_outputs.items virtuals)
+  pub descs : map (λ q. q.desc) virtuals ≡ map (λ o. o.desc) v.virtual_outputs.items
+  pub blocks : capacities virtuals ≡ first_blocks (map (place_of p) v.virtual_outputs.items) rooms
+  pub hold : SlotsHold size halos (virtual_description v.virtual_outputs.items) (map (place_of p) v.virtual_outputs.items) rooms
+  pub halo_count : length halos ≡ length (planes_of objects v.steps.items v.virtual_outputs.items virtuals)
+  pub enough : Suffice high halos (graph_tasks v.steps.items v.virtual_outputs.items p radius)
+  pub once : AddOnce high size halos (graph_tasks v.steps.items v.virtual_outputs.items p radius)

@@ -1,0 +1,89 @@
+-- Results: what a run over planes leaves, and the objects of a table that this is.
+use Rattle.std.specs.Prelude.{ℕ, ◌≡◌, nat_lt, if◌then◌else◌, List, [], ◌∷◌, All, length, map, slice_index_or, unwrap_or}
+use Rattle.std.specs.List.{flat_map}
+use Rattle.std.specs.List.Sorted.{IsStrictlyIncreasing}
+use Rattle.vx_base.specs.declared.kind.Kind.{Kind}
+use Rattle.vx_base.specs.declared.kind.Kind.TheVariants as kind
+use Rattle.vx_base.specs.declared.node.Node.{Node}
+use Rattle.vx_base.specs.Cell.{Cell, cell_of}
+use Rattle.vx_base.specs.Description.{IsDescription}
+use Rattle.vx_base.specs.Function.{parameters}
+use Rattle.vx_base.specs.Image.{ImageValue}
+use Rattle.vx_base.specs.Object.{ObjectValue, IsObject, DistributionObject, ExtremesObject}
+use Rattle.image_core.specs.declared.second.Second.{Second}
+use Rattle.image_core.specs.Second.{second_object}
+use Rattle.object_table.specs.Named.{Named}
+use Rattle.object_table.specs.Table.{image_held}
+use Rattle.graph_verify.specs.declared.verified.Verified.{Verified}
+use Rattle.graph_verify.specs.Outlines.{resolved}
+use Rattle.buffer_plan.specs.Plan.{IsPlan, PlanValue}
+use Rattle.graph_steps.specs.declared.step.Reduction.{Reduction}
+use Rattle.graph_steps.specs.declared.step.Task.{Task}
+use Rattle.graph_steps.specs.declared.tally.Tally.{Tally}
+use Rattle.graph_steps.specs.declared.tally.Tally.TheVariants as tally
+use Rattle.graph_steps.specs.Planes.{PlaneValue, plane, block_image, block_images, IsWhole}
+use Rattle.graph_steps.specs.Program.{KeepsBlock, Reduces, SolvesSteps}
+use Rattle.graph_steps.specs.Tallies.{IsNew, tally_at, tally_of}
+use Rattle.graph_run.specs.Graph.{begun, rounds_of_nodes}
+use Rattle.graph_run.specs.Operands.{IsReady, operand_held}
+use Rattle.graph_run.specs.Program.{planes_of, tables_of, tallies_of}
+use Rattle.graph_run.specs.Tasks.{graph_tasks}
+
+-- ---- images
+
+-- the objects as a graph begins to run, and once it has, before virtual images are forgotten
+abbrev pub first_objects : List Named → List Node → List Named
+first_objects objects nodes = map (begun (resolved (operand_held objects) nodes) nodes) objects
+
+abbrev pub last_objects : List Named → List Node → List Named
+last_objects objects nodes = rounds_of_nodes nodes (length nodes) (first_objects objects nodes)
+
+-- the images that these cells hold; behind them others
+abbrev pub images_in : List Named → List Cell → (ℕ → ImageValue) → ℕ → ImageValue
+images_in objects cells others k = if nat_lt k (length cells) then image_held objects (slice_index_or cells k (cell_of 0)) else others k
+
+-- ---- tallies
+
+-- a tally as an object
+abbrev pub tally_object : Tally → ObjectValue
+tally_object (tally.Histogram d) = DistributionObject d
+tally_object (tally.Extremes e) = ExtremesObject e
+
+-- the cell of a node's tally, where it writes no image, and those of nodes, in their order
+abbrev pub tally_cell : Kind → Node → List Cell
+tally_cell kind.Image n = []
+tally_cell other n = unwrap_or n.out1 n.in1 ∷ []
+
+abbrev pub tally_cells : List Node → List Cell
+tally_cells nodes = flat_map (λ n. tally_cell (parameters n.function).output n) nodes
+
+-- cells, each with its tally
+abbrev pub tally_objects : List Cell → List Tally → List (Cell × ObjectValue)
+tally_objects [] tallies = []
+tally_objects (c ∷ cells) [] = []
+tally_objects (c ∷ cells) (t ∷ tallies) = (c, tally_object t) ∷ tally_objects cells tallies
+
+-- ---- runs
+
+-- planes and tallies that a run of tasks leaves: in each plane that keeps its block the image that each solution has there, and the tallies
+-- of such images
+pub record Leaves (tables : List Second) (tasks : List Task) (planes : List PlaneValue) (tallies : List Tally) (after : List PlaneValue) (counted : List Tally) : Type 0 where
+  pub images : (whole : ℕ → ImageValue) → SolvesSteps tables (length planes) tasks (block_images planes) whole
+      → (c : ℕ) → KeepsBlock (length planes) tasks c → block_image (plane after c) ≡ whole c
+  pub reductions : (whole : ℕ → ImageValue) → SolvesSteps tables (length planes) tasks (block_images planes) whole
+      → (r : Reduction) → Reduces r tasks → IsNew (tally_at tallies r.tally) → tally_at counted r.tally ≡ tally_of (whole r.input) (tally_at tallies r.tally)
+  pub whole : (c : ℕ) → KeepsBlock (length planes) tasks c → IsWhole (plane after c)
+  pub descs : (c : ℕ) → (plane after c).desc ≡ (plane planes c).desc
+  pub planes_count : length after ≡ length planes
+  pub tallies_count : length counted ≡ length tallies
+
+-- a graph that has run over planes: what its run took, and what it left
+pub record HasRun (objects : List Named) (nodes : List Node) (v : Verified) (p : PlanValue) (tables : List Second) (radius : Node → ℕ) (virtuals after : List PlaneValue) (counted : List Tally) : Type 0 where
+  pub ready : IsReady objects nodes v
+  pub names : IsStrictlyIncreasing (map (λ o. o.name) objects)
+  pub objects_are : All (λ o. IsObject o.object) objects
+  pub described : All (λ o. IsDescription o.desc) v.virtual_outputs.items
+  pub plan : IsPlan v.steps.items v.virtual_outputs.items p
+  pub tables_are : map second_object tables ≡ tables_of objects v.steps.items
+  pub descs : map (λ q. q.desc) virtuals ≡ map (λ o. o.desc) v.virtual_outputs.items
+  pub leaves : Leaves tables (graph_tasks v.steps.items v.virtual_outputs.items p radius) (planes_of objects v.steps.items v.virtual_outputs.items virtuals) (tallies_of objects v.steps.items) after counted

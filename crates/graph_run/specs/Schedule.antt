@@ -1,0 +1,37 @@
+-- Schedules: how a verified graph runs over planes.
+use Rattle.std.specs.Prelude.{◌≡◌, ◌≤◌, ◌<◌, List, drop, length, map, All}
+use Rattle.vx_base.specs.Cell.{Cell}
+use Rattle.vx_base.specs.Object.{ObjectValue}
+use Rattle.object_table.specs.Named.{Named}
+use Rattle.object_table.specs.Table.{image_held}
+use Rattle.graph_verify.specs.declared.verified.Verified.{Verified}
+use Rattle.buffer_plan.specs.Plan.{PlanValue}
+use Rattle.graph_steps.specs.Planes.{PlaneValue}
+use Rattle.graph_steps.specs.Program.{Suffice}
+use Rattle.graph_run.specs.declared.schedule.Schedule.{Schedule}
+use Rattle.graph_run.specs.Bind.{plane_objects}
+use Rattle.graph_run.specs.Program.{AddOnce, client_cells, radius_of}
+use Rattle.graph_run.specs.Results.{tally_cells}
+use Rattle.graph_run.specs.Slots.{place_of}
+use Rattle.graph_run.specs.Tasks.{graph_cells, graph_tasks}
+
+-- a schedule of a verified graph, by a plan of its slots
+pub record IsSchedule (objects : List Named) (v : Verified) (p : PlanValue) (s : Schedule) : Type 0 where
+  pub cells : s.cells.items ≡ graph_cells v.steps.items v.virtual_outputs.items
+  pub slots : s.slots.items ≡ map (place_of p) v.virtual_outputs.items
+  pub tasks : s.tasks.items ≡ graph_tasks v.steps.items v.virtual_outputs.items p (radius_of objects s.high)
+  pub halo_count : length s.halos.items ≡ length (graph_cells v.steps.items v.virtual_outputs.items)
+  pub enough : Suffice s.high s.halos.items s.tasks.items
+  pub some : 0 < s.high
+  pub forward : 0 < s.size
+  pub once : AddOnce s.high s.size s.halos.items s.tasks.items
+  pub virtuals : All (λ o. o.desc.height ≤ s.high) v.virtual_outputs.items
+  pub clients : All (λ c. (image_held objects c).height ≤ s.high) (client_cells v.steps.items v.virtual_outputs.items)
+  pub tally_cells : s.tally_cells.items ≡ tally_cells v.steps.items
+
+-- the cells of the clients' images, and each with the image of its plane
+abbrev pub schedule_clients : Verified → Schedule → List Cell
+schedule_clients v s = drop (length v.virtual_outputs.items) s.cells.items
+
+abbrev pub schedule_objects : Verified → Schedule → List PlaneValue → List (Cell × ObjectValue)
+schedule_objects v s planes = plane_objects (schedule_clients v s) (drop (length v.virtual_outputs.items) planes)

@@ -1,0 +1,165 @@
+-- Tasks of a graph over planes, whose indices are those of cells: the virtual images that nodes write come first, in the order of writing.
+use Rattle.std.specs.Prelude.{⊤, true, ◌≡◌, ◌≢◌, ◌⊎◌, ◌<◌, ◌≤◌, ℕ, Bool, false, ◌+◌, ◌==◌, nat_lt, if◌then◌else◌, List, [], ◌∷◌, ◌++◌, length, map, take, slice_index_or, suc, Option, Some, None}
+use Rattle.std.specs.List.{filter, flat_map, range_with_len}
+use Rattle.std.specs.Option.{option_map, option_or}
+use Rattle.vx_base.specs.declared.format.Format.{Format}
+use Rattle.vx_base.specs.declared.kind.Kind.{Kind}
+use Rattle.vx_base.specs.declared.kind.Kind.TheVariants as kind
+use Rattle.vx_base.specs.declared.node.Node.{Node}
+use Rattle.vx_base.specs.declared.output.Output.{Output}
+use Rattle.vx_base.specs.declared.output.Output.TheVariants.{First, Second}
+use Rattle.vx_base.specs.Cell.{Cell}
+use Rattle.vx_base.specs.Description.{Description}
+use Rattle.vx_base.specs.Function.{accumulates, parameters}
+use Rattle.vx_base.specs.Node.{outputs, second_kind}
+use Rattle.graph_steps.specs.declared.step.Source.{Source}
+use Rattle.graph_steps.specs.declared.step.Source.TheVariants.{Nothing, Plane, Table}
+use Rattle.graph_steps.specs.declared.step.Step.{Step}
+use Rattle.graph_steps.specs.declared.step.Task.{Task}
+use Rattle.graph_steps.specs.declared.step.Task.TheVariants.{Write, Reduce}
+use Rattle.graph_steps.specs.Program.{HoldsRows, IsUnwritten, halo}
+use Rattle.graph_steps.specs.Steps.{ReadsPlane}
+use Rattle.graph_verify.specs.declared.known.VirtualOutput.{VirtualOutput}
+use Rattle.graph_verify.specs.Links.{feeds}
+use Rattle.graph_verify.specs.Members.{In}
+use Rattle.graph_verify.specs.Order.{InTurn}
+use Rattle.graph_verify.specs.Verdict.{two_writers}
+use Rattle.buffer_plan.specs.Plan.{IsPlan, PlanValue}
+use Rattle.graph_run.specs.Cells.{images_named, index_of, node_images, with_cells}
+use Rattle.graph_run.specs.Slots.{place_of}
+
+-- ---- blocks of virtual images, by the slots of these in the order of writing
+
+-- the index of the last image in a slot
+abbrev pub last_in : ℕ → List ℕ → Option ℕ
+last_in slot [] = None
+last_in slot (s ∷ slots) = option_or (option_map suc (last_in slot slots)) (if s == slot then Some 0 else None)
+
+-- the image that has a slot's block once this many images are written: the last of them that is in the slot; before the first the last
+-- of all, which had it at the end of the band before
+abbrev pub holder : List ℕ → ℕ → ℕ → Option ℕ
+holder slots slot count = option_or (last_in slot (take count slots)) (last_in slot slots)
+
+-- the image whose block the image at an index takes; none where that is a client's
+abbrev pub taken : List ℕ → ℕ → Option ℕ
+taken slots at = if nat_lt at (length slots) then holder slots (slice_index_or slots at 0) at else None
+
+abbrev pub is_at : ℕ → Option ℕ → Bool
+is_at k None = false
+is_at k (Some j) = j == k
+
+-- the block of a virtual image, once this many are written: that of its slot, or an empty one
+abbrev pub block_at : List ℕ → (ℕ → Format × ℕ) → ℕ → ℕ → Format × ℕ
+block_at slots rooms count at =
+    let room = rooms (slice_index_or slots at 0) in
+    (room.0, (if is_at at (holder slots (slice_index_or slots at 0) count) then room.1 else 0))
+
+-- the blocks of all planes, of which the first are those of virtual images
+abbrev pub blocks_at : List ℕ → (ℕ → Format × ℕ) → List (Format × ℕ) → ℕ → List (Format × ℕ)
+blocks_at slots rooms clients count = map (block_at slots rooms count) (range_with_len 0 (length slots)) ++ clients
+
+-- ---- tasks
+
+-- where the second input of the node at an index of the graph's order is
+abbrev pub source : List Cell → ℕ → Kind → Option Cell → Source
+source cells at k None = Nothing
+source cells at kind.Image (Some c) = Plane (index_of cells c)
+source cells at other (Some c) = Table at
+
+-- the step that writes an output of a node
+abbrev pub step_for : List Cell → List ℕ → (Node → ℕ) → ℕ → Node → Output → Cell → Step
+step_for cells slots radius at n which output =
+    record {
+      node = n;
+      which = which;
+      first = index_of cells n.in1;
+      second = source cells at (second_kind n) n.in2;
+      output = index_of cells output;
+      takes = taken slots (index_of cells output);
+      radius = radius n;
+    }
+
+abbrev pub write_given : List Cell → List ℕ → (Node → ℕ) → ℕ → Node → Output → Option Cell → List Task
+write_given cells slots radius at n which None = []
+write_given cells slots radius at n which (Some output) = Write (step_for cells slots radius at n which output) ∷ []
+
+-- the tasks of a node, by the kind of its outputs; `tally` is the index of the next reduction's
+abbrev pub tasks_by : List Cell → List ℕ → (Node → ℕ) → ℕ → ℕ → Node → Kind → List Task
+tasks_by cells slots radius at tally n kind.Image =
+    write_given cells slots radius at n First n.out1 ++ write_given cells slots radius at n Second n.out2
+tasks_by cells slots radius at tally n other = Reduce (record { input = index_of cells n.in1; tally = tally }) ∷ []
+
+abbrev pub tally_after : ℕ → Kind → ℕ
+tally_after tally kind.Image = tally
+tally_after tally other = tally + 1
+
+-- the tasks of nodes, the first of which is at an index of the graph's order
+abbrev pub tasks_from : List Cell → List ℕ → (Node → ℕ) → ℕ → ℕ → List Node → List Task
+tasks_from cells slots radius at tally [] = []
+tasks_from cells slots radius at tally (n ∷ nodes) =
+    tasks_by cells slots radius at tally n (parameters n.function).output
+    ++ tasks_from cells slots radius (at + 1) (tally_after tally (parameters n.function).output) nodes
+
+abbrev pub tasks_of : List Cell → List ℕ → (Node → ℕ) → List Node → List Task
+tasks_of cells slots radius nodes = tasks_from cells slots radius 0 0 nodes
+
+-- ---- blocks that tasks take
+
+-- the tasks from that which writes image k on; each takes its block in its turn, and a client's image takes none
+abbrev pub TakeTurns : List ℕ → ℕ → List Task → Type 0
+TakeTurns slots k [] = k ≡ length slots
+TakeTurns slots k (Reduce r ∷ later) = TakeTurns slots k later
+TakeTurns slots k (Write s ∷ later) =
+    ((length slots ≤ s.output) × (s.takes ≡ None) × TakeTurns slots k later)
+    ⊎ ((k < length slots) × (s.output ≡ k) × (s.takes ≡ taken slots k) × TakeTurns slots (k + 1) later)
+
+-- each slot has room for the rows of the images that are in it
+abbrev pub SlotsHold : ℕ → List ℕ → (ℕ → Description) → List ℕ → (ℕ → Format × ℕ) → Type 0
+SlotsHold size halos descs slots rooms = (k : ℕ) → k < length slots → HoldsRows size (halo halos k) (descs k) (rooms (slice_index_or slots k 0))
+
+-- nodes write virtual images as images alone
+abbrev pub WriteImages : (Cell → Bool) → List Node → Type 0
+WriteImages is_virtual nodes =
+    (n : Node) → In n nodes → (parameters n.function).output ≢ kind.Image → filter is_virtual (outputs n) ≡ []
+
+-- ---- the order of tasks
+
+-- no step reads, and no reduction, a plane that a later step writes; nor does a step read its own output
+abbrev pub AreReadAfter : List Task → Type 0
+AreReadAfter [] = ⊤
+AreReadAfter (Write s ∷ later) = ((c : ℕ) → ReadsPlane s c → IsUnwritten (Write s ∷ later) c) × AreReadAfter later
+AreReadAfter (Reduce r ∷ later) = IsUnwritten later r.input × AreReadAfter later
+
+-- each plane that a step or a reduction reads is one of so many
+abbrev pub AreReadWithin : ℕ → List Task → Type 0
+AreReadWithin count [] = ⊤
+AreReadWithin count (Write s ∷ later) = ((c : ℕ) → ReadsPlane s c → c < count) × AreReadWithin count later
+AreReadWithin count (Reduce r ∷ later) = (r.input < count) × AreReadWithin count later
+
+-- the images that nodes name are among the cells
+abbrev pub AreNamed : List Cell → List Node → Type 0
+AreNamed cells nodes = (n : Node) → In n nodes → (c : Cell) → In c (node_images n) → In c cells
+
+-- no step reads the plane whose block its output takes
+abbrev pub AreUntaken : List Task → Type 0
+AreUntaken [] = ⊤
+AreUntaken (Write s ∷ later) = ((k : ℕ) → ReadsPlane s k → s.takes ≡ Some k → ⊥) × AreUntaken later
+AreUntaken (Reduce r ∷ later) = AreUntaken later
+
+-- ---- graphs that have tasks
+
+-- the steps of a verified graph, the virtual images that they write, in that order, and a plan of their slots
+pub record HaveTasks (steps : List Node) (outs : List VirtualOutput) (p : PlanValue) (is_virtual : Cell → Bool) : Type 0 where
+  pub plan : IsPlan steps outs p
+  pub order : map (λ o. o.cell) outs ≡ filter is_virtual (flat_map outputs steps)
+  pub images : WriteImages is_virtual steps
+  pub turn : InTurn feeds steps
+  pub writers : two_writers steps ≡ false
+  -- a node that accumulates writes a client's image
+  pub adds : (n : Node) → In n steps → accumulates n.function ≡ true → (c : Cell) → In c (outputs n) → is_virtual c ≡ false
+
+abbrev pub graph_cells : List Node → List VirtualOutput → List Cell
+graph_cells steps outs = with_cells (map (λ o. o.cell) outs) (images_named steps)
+
+abbrev pub graph_tasks : List Node → List VirtualOutput → PlanValue → (Node → ℕ) → List Task
+graph_tasks steps outs p radius = tasks_of (graph_cells steps outs) (map (place_of p) outs) radius steps

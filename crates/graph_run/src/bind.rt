@@ -1,0 +1,84 @@
+//! Images that leave a table for planes while a graph runs, and come back.
+ghost use Rattle.std.specs.Prelude.{◌≡◌, ◌<◌, ◌+◌, ◌≤◌, ◌++◌, List, length, vec_capacity};
+ghost use Rattle.std.specs.List.{AllPairs};
+ghost use Rattle.vx_base.specs.Cell.{Cell};
+ghost use Rattle.vx_base.specs.Image.{description_of};
+ghost use Rattle.vx_base.specs.Object.{ImageObject};
+ghost use Rattle.object_table.specs.Context.{with_objects};
+ghost use Rattle.object_table.specs.Named.{Named, with_object, with_written};
+ghost use Rattle.object_table.specs.Table.{HoldsImage, image_held};
+ghost use Rattle.graph_steps.specs.Planes.{PlaneValue, block_image};
+ghost use Rattle.graph_run.specs.Bind.{AreAllApart, HoldImages, bare_images, image_plane};
+ghost use Rattle.graph_run.specs.Bind.{AreFor, image_planes, plane_objects, without_samples};
+
+use graph_steps::Plane;
+use object_table::Table;
+use vx_base::ObjRef;
+
+/// Takes the samples of the images that these cells hold out of the table, into planes.
+pub fn take_out(table: &mut Table, cells: &[ObjRef], planes: &mut Vec<Plane>)
+    requires images { HoldImages table.old.objects cells.now }
+    requires apart { AreAllApart cells.now }
+    requires room { length planes.old.items + length cells.now ≤ vec_capacity planes.old }
+    ensures planes { planes.new.items
+        ≡ planes.old.items ++ image_planes table.old.objects cells.now }
+    ensures capacity { vec_capacity planes.new ≡ vec_capacity planes.old }
+    ensures left { table.new ≡ with_objects table.old
+        (with_written table.old.objects (bare_images table.old.objects cells.now)) }
+{
+    let mut rest = cells;
+    while let Some((cell, others)) = rest.split_first() {
+        let plane = take_image(table, *cell);
+        planes.push_reserved(plane);
+        rest = others;
+    }
+}
+
+/// Takes the samples of the image that a cell holds out of the table, into a plane.
+pub fn take_image(table: &mut Table, cell: ObjRef) -> Plane
+    requires { HoldsImage table.old.objects cell }
+    ensures plane { result ≡ image_plane (image_held table.old.objects cell) }
+    ensures left { table.new ≡ with_objects table.old (with_object table.old.objects cell
+        (ImageObject (without_samples (image_held table.old.objects cell)))) }
+{
+    let valid = table.image(cell).valid();
+    let (desc, samples) = table.take(cell);
+    Plane::of_image(desc, valid, samples)
+}
+
+/// Puts the images of the first planes, one for each cell, back into the table.
+pub fn put_back(table: &mut Table, cells: &[ObjRef], planes: &mut [Plane])
+    requires images { HoldImages table.old.objects cells.now }
+    requires apart { AreAllApart cells.now }
+    requires planes { AreFor table.old.objects cells.now planes.old }
+    ensures value { table.new ≡ with_objects table.old
+        (with_written table.old.objects (plane_objects cells.now planes.old)) }
+    ensures count { length planes.new ≡ length planes.old }
+{
+    for at in 0..cells.len() {
+        put_image(table, cells[at], &mut planes[at]);
+    }
+}
+
+/// Puts the image of a plane back into the cell that it was taken from.
+pub fn put_image(table: &mut Table, cell: ObjRef, plane: &mut Plane)
+    requires there { HoldsImage table.old.objects cell }
+    requires desc { plane.old.desc ≡ description_of (image_held table.old.objects cell) }
+    requires format { plane.old.format ≡ plane.old.desc.format }
+    ensures { table.new ≡ with_objects table.old
+        (with_object table.old.objects cell (ImageObject (block_image plane.old))) }
+{
+    let valid = plane.valid();
+    table.put(cell, plane.give(), valid);
+}
+
+/// Images whose samples were taken out, and that the images of planes replace, are as if their
+/// samples had stayed until then.
+pub fn out_and_back()
+    ensures { (objects : List Named) (cells : List Cell) (planes : List PlaneValue) →
+        AllPairs (λ a b. a.name < b.name) objects → HoldImages objects cells →
+        AreFor objects cells planes →
+        with_written (with_written objects (bare_images objects cells))
+        (plane_objects cells planes)
+        ≡ with_written objects (plane_objects cells planes) }
+{}

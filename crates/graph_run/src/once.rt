@@ -1,0 +1,128 @@
+//! A node by itself: it runs on what its cells hold in a table.
+ghost use Rattle.std.specs.Prelude.{◌≡◌, ◌≢◌, ◌∷◌, [], map, All, IfSome, Some};
+ghost use Rattle.std.specs.List.Sorted.{IsStrictlyIncreasing};
+ghost use Rattle.std.specs.Option.{option_map};
+ghost use Rattle.vx_base.specs.declared.kind.Kind.TheVariants as kind;
+ghost use Rattle.vx_base.specs.declared.output.Output.{Output as OutputValue};
+ghost use Rattle.vx_base.specs.Function.{parameters};
+ghost use Rattle.vx_base.specs.Object.{ImageObject, IsObject};
+ghost use Rattle.vx_base.specs.Outputs.{beside_first, node_image, written_by};
+ghost use Rattle.image_core.specs.Second.{second_object};
+ghost use Rattle.object_table.specs.Context.{with_objects};
+ghost use Rattle.object_table.specs.Named.{held, with_written};
+ghost use Rattle.object_table.specs.Table.{cell_object, image_held};
+ghost use Rattle.graph_steps.specs.Planes.{block_image, IsWhole};
+ghost use Rattle.graph_steps.specs.Steps.{CanMake, lent_step};
+ghost use Rattle.graph_run.specs.Bound.{KeepsTally};
+ghost use Rattle.graph_run.specs.Lasting.{Lasts};
+ghost use Rattle.graph_run.specs.Program.{tally_by};
+ghost use Rattle.graph_run.specs.Steps.{CanRead, RunsTo, with_output};
+ghost use Rattle.graph_run.specs.Turns.{CanRunNow};
+
+use crate::bind::{put_image, take_image};
+use crate::tables::table_of;
+use crate::tallies::{bins_of, no_extremes, set_tally};
+use graph_steps::{Histogram, Kernel, Plane, Step, Tally};
+use image_core::Second;
+use object_table::Table;
+use vx_base::{Kind, Node, ObjRef, Output};
+
+/// Runs a node that nothing refuses on what its cells hold in a table. It takes no memory.
+pub fn run_once(table: &mut Table, node: &Node)
+    requires objects { All (λ o. IsObject o.object) table.old.objects }
+    requires names { IsStrictlyIncreasing (map (λ o. o.name) table.old.objects) }
+    requires runs { CanRunNow table.old.objects node.now }
+    ensures value { table.new ≡ with_objects table.old (with_written table.old.objects
+        (written_by node.now (held table.old.objects))) }
+    ensures lasts { Lasts table.old.objects table.new.objects }
+{
+    run_to(table, node, Output::First, node.out1);
+    run_to(table, node, Output::Second, node.out2);
+}
+
+/// Runs a node to one of its outputs, if it has that.
+fn run_to(table: &mut Table, node: &Node, which: Output, output: Option<ObjRef>)
+    requires { IfSome output (RunsTo table.old.objects node.now) }
+    ensures { table.new ≡ with_objects table.old
+        (with_output table.old.objects node.now which output) }
+{
+    if let Some(output) = output {
+        match node.function.parameters().output {
+            Kind::Image => write_to(table, node, which, output),
+            wanted => reduce_to(table, node, wanted, output),
+        }
+    }
+}
+
+/// Runs a node to an output that is an image, of which the samples are in a plane meanwhile.
+fn write_to(table: &mut Table, node: &Node, which: Output, output: ObjRef)
+    requires runs { RunsTo table.old.objects node.now output }
+    requires kind { (parameters node.now.function).output ≡ kind.Image }
+    ensures { table.new ≡ with_objects table.old
+        (with_output table.old.objects node.now which (Some output)) }
+{
+    let mut plane = take_image(table, output);
+    write_plane(table, node, which, &mut plane);
+    put_image(table, output, &mut plane);
+}
+
+/// Writes a node's image to a plane. The inputs are read where they stand.
+fn write_plane(table: &Table, node: &Node, which: Output, output: &mut Plane)
+    requires reads { CanRead table.now.objects node.now }
+    requires whole { IsWhole output.old }
+    requires can { CanMake (lent_step node.now which) (image_held table.now.objects node.now.in1)
+        (option_map (cell_object table.now.objects) node.now.in2) output.old.desc }
+    ensures image { block_image output.new ≡ node_image node.now which output.old.desc.format
+        (image_held table.now.objects node.now.in1)
+        (beside_first node.now (option_map (cell_object table.now.objects) node.now.in2)
+        (ImageObject (block_image output.old))) }
+    ensures desc { output.new.desc ≡ output.old.desc }
+    ensures format { output.new.format ≡ output.old.format }
+{
+    let step = Step::of_lent(*node, which);
+    let first = table.image(node.in1).image();
+    let second = second_of(table, node);
+    let kernel = Kernel {
+        step: &step,
+        first: &first,
+        second: &second,
+    };
+    output.write_all(&kernel);
+}
+
+/// Lends a node's second input to its kernel.
+fn second_of<'a>(table: &'a Table, node: &Node) -> Second<'a>
+    requires { CanRead table.now.objects node.now }
+    ensures { second_object result ≡ option_map (cell_object table.now.objects) node.now.in2 }
+{
+    let kind = node.function.parameters().second_input;
+    match (node.in2, kind.unwrap_or(Kind::Image)) {
+        (Some(cell), Kind::Image) => Second::Image(table.image(cell).image()),
+        _ => table_of(table, node),
+    }
+}
+
+/// Runs a node to an output that is a distribution, or extremes: a tally of its input.
+fn reduce_to(table: &mut Table, node: &Node, wanted: Kind, output: ObjRef)
+    requires runs { RunsTo table.old.objects node.now output }
+    requires wanted { (parameters node.now.function).output ≡ wanted }
+    requires other { wanted ≢ kind.Image }
+    ensures { (which : OutputValue) → table.new ≡ with_objects table.old
+        (with_output table.old.objects node.now which (Some output)) }
+{
+    let mut tally = tally_for(table, wanted, output);
+    tally.add_all(&table.image(node.in1).image());
+    set_tally(table, output, &tally);
+}
+
+/// Returns the tally for an object of this kind, in which no sample is counted.
+fn tally_for(table: &Table, wanted: Kind, cell: ObjRef) -> Tally
+    requires keeps { KeepsTally table.now.objects wanted cell }
+    requires other { wanted ≢ kind.Image }
+    ensures { tally_by wanted (cell_object table.now.objects cell) ≡ result ∷ [] }
+{
+    match wanted {
+        Kind::Distribution => Tally::Histogram(Histogram::new(bins_of(table, cell))),
+        _ => Tally::Extremes(no_extremes()),
+    }
+}

@@ -1,0 +1,116 @@
+//! Schedules: how a verified graph runs over planes.
+ghost use Rattle.std.specs.Prelude.{◌≡◌, ◌≤◌, List, length, drop, IfOk};
+ghost use Rattle.vx_base.specs.declared.node.Node.{Node as NodeFields};
+ghost use Rattle.buffer_plan.specs.Places.{told};
+ghost use Rattle.buffer_plan.specs.Plan.{IsPlan};
+ghost use Rattle.graph_run.specs.Operands.{IsReady};
+ghost use Rattle.graph_run.specs.Program.{radius_of};
+ghost use Rattle.graph_run.specs.Schedule.{IsSchedule};
+ghost use Rattle.graph_run.specs.Tasks.{tasks_of};
+
+use crate::blocks::{Demand, slots_of};
+use crate::cells::cells_of;
+use crate::sizes::{band_size, halos_of, high_of};
+use crate::tallies::tally_cells;
+use crate::task_list::{Binding, tasks_of};
+use buffer_plan::Plan;
+use graph_steps::Task;
+use graph_verify::{Verified, VirtualOutput};
+use object_table::Table;
+use std::alloc::{AllocError, Global};
+use vx_base::ObjRef;
+
+/// How a verified graph runs over planes.
+#[derive(Drop)]
+pub struct Schedule {
+    /// The cells of the planes: of the virtual images, and then of the clients' images.
+    pub cells: Vec<ObjRef>,
+    /// The slots of the virtual images.
+    pub slots: Vec<usize>,
+    pub tasks: Vec<Task>,
+    /// The halo of each plane.
+    pub halos: Vec<u16>,
+    /// A height that no image exceeds.
+    pub high: u16,
+    /// The rows of a band.
+    pub size: u16,
+    /// The cells of the tallies.
+    pub tally_cells: Vec<ObjRef>,
+}
+
+/// Returns how a verified graph runs, with the slots of a plan.
+pub fn schedule_of(
+    alloc: Global,
+    table: &Table,
+    verified: &Verified,
+    plan: &Plan,
+) -> Result<Schedule, AllocError>
+    requires ready { (nodes : List NodeFields) × IsReady table.now.objects nodes verified.now }
+    requires plan { IsPlan verified.now.steps.items verified.now.virtual_outputs.items
+        (told plan.now) }
+    ensures { IfOk result (λ s. IsSchedule table.now.objects verified.now (told plan.now) s) }
+{
+    let images = verified.virtual_outputs.as_slice();
+    let cells = cells_of(alloc, verified)?;
+    let slots = slots_of(alloc, plan, verified)?;
+    let high = high_of(table, images, clients_of(&cells, images.len()));
+    let tasks = tasks_for(alloc, table, verified, high, &cells, &slots)?;
+    let halos = halos_of(alloc, high, &tasks, cells.len())?;
+    let size = band_size(high, table, verified, &tasks, &halos);
+    let tally_cells = tally_cells(alloc, &verified.steps)?;
+    Ok(Schedule {
+        cells,
+        slots,
+        tasks,
+        halos,
+        high,
+        size,
+        tally_cells,
+    })
+}
+
+impl Schedule {
+    /// Returns what the slots of these virtual images need room for.
+    pub fn demand<'a>(&'a self, images: &'a [VirtualOutput]) -> Demand<'a>
+        ensures size { result.size ≡ self.now.size }
+        ensures halos { result.halos.now ≡ self.now.halos.items }
+        ensures images { result.images.now ≡ images.now }
+        ensures slots { result.slots.now ≡ self.now.slots.items }
+    {
+        Demand {
+            size: self.size,
+            halos: &self.halos,
+            images,
+            slots: &self.slots,
+        }
+    }
+}
+
+/// Returns the cells behind those of the virtual images.
+pub fn clients_of(cells: &[ObjRef], virtuals: usize) -> &[ObjRef]
+    requires { virtuals ≤ length cells.now }
+    ensures { result.now ≡ drop virtuals cells.now }
+{
+    &cells[virtuals..]
+}
+
+/// Returns the tasks of a verified graph over planes of these cells.
+fn tasks_for(
+    alloc: Global,
+    table: &Table,
+    verified: &Verified,
+    high: u16,
+    cells: &[ObjRef],
+    slots: &[usize],
+) -> Result<Vec<Task>, AllocError>
+    ensures { IfOk result (λ tasks. tasks.items ≡ tasks_of cells.now slots.now
+        (radius_of table.now.objects high) verified.now.steps.items) }
+{
+    let binding = Binding {
+        table,
+        high,
+        cells,
+        slots,
+    };
+    tasks_of(alloc, &binding, &verified.steps)
+}

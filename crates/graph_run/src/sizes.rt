@@ -1,0 +1,196 @@
+//! Sizes: how high the images of a graph are, and in bands of how many rows it runs.
+ghost use Rattle.std.specs.Prelude.{◌≡◌, ◌≤◌, ◌<◌, ℕ, All, true, length, IfOk, IfSome};
+ghost use Rattle.vx_base.specs.Function.{accumulates};
+ghost use Rattle.object_table.specs.Table.{image_held};
+ghost use Rattle.graph_steps.specs.declared.step.Step.{Step as StepValue};
+ghost use Rattle.graph_steps.specs.declared.step.Task.TheVariants.{Write};
+ghost use Rattle.graph_steps.specs.Program.{AreInOrder, IsStepOf, Suffice, halo};
+ghost use Rattle.graph_steps.specs.Steps.{ReadsPlane};
+ghost use Rattle.graph_run.specs.Bind.{HoldImages};
+ghost use Rattle.graph_run.specs.Program.{AddOnce};
+
+use crate::verify::operand_held;
+use graph_steps::{Task, find_halos};
+use graph_verify::{Operand, Verified, VirtualOutput};
+use object_table::Table;
+use std::alloc::{AllocError, Global};
+use vx_base::{Desc, ObjRef};
+
+/// Images of fewer samples than this stay in the cache as a whole.
+const LEAST_SAMPLES: usize = 131_072;
+
+/// Computing the halos of a graph with halos counts for more than the cache: below so many samples
+/// they cost what bands gain.
+const LEAST_SAMPLES_WITH_HALO: usize = 500_000;
+
+/// About so many samples of an image make a band: those of a few images stay in the cache.
+const BAND_SAMPLES: u32 = 65_536;
+
+/// A band has no more samples than this, whatever its halo.
+const GREATEST_BAND_SAMPLES: u32 = 131_072;
+
+/// In a band of fewer rows than this the calls for each step would be too great a part.
+const LEAST_ROWS: u32 = 16;
+
+/// More rows than this in a band gain nothing.
+const GREATEST_ROWS: u32 = 64;
+
+/// In fewer bands than this a graph gains nothing.
+const LEAST_BANDS: u16 = 4;
+
+/// Wanted rows of a band for each row of halo above it; halo rows are computed twice.
+const ROWS_FOR_HALO_ROW: u32 = 16;
+
+/// With fewer rows than this for each row of halo a band costs more than it gains.
+const LEAST_FOR_HALO_ROW: u16 = 4;
+
+// ---- heights
+
+/// Returns a height that no image of a graph exceeds: of these virtual images, and of those that
+/// cells hold. It is at least 1.
+pub fn high_of(table: &Table, images: &[VirtualOutput], clients: &[ObjRef]) -> u16
+    requires { HoldImages table.now.objects clients.now }
+    ensures some { 0 < result }
+    ensures virtuals { All (λ o. o.desc.height ≤ result) images.now }
+    ensures clients { All (λ c. (image_held table.now.objects c).height ≤ result) clients.now }
+{
+    let mut high = highest_virtual(images);
+    for cell in clients {
+        high = high.max(table.image(*cell).desc().height());
+    }
+    high
+}
+
+/// Returns the height of the highest virtual image, at least 1.
+fn highest_virtual(images: &[VirtualOutput]) -> u16
+    ensures some { 0 < result }
+    ensures virtuals { All (λ o. o.desc.height ≤ result) images.now }
+{
+    let mut high = 1;
+    for image in images {
+        high = high.max(image.desc.height());
+    }
+    high
+}
+
+// ---- halos
+
+/// Returns the halo of each of these planes, in images of at most this height.
+pub fn halos_of(
+    alloc: Global,
+    high: u16,
+    tasks: &[Task],
+    count: usize,
+) -> Result<Vec<u16>, AllocError>
+    requires order { AreInOrder tasks.now }
+    requires reads { (s : StepValue) → IsStepOf s tasks.now → (c : ℕ) → ReadsPlane s c →
+        c < count }
+    requires output { (s : StepValue) → IsStepOf s tasks.now → s.output < count }
+    ensures enough { IfOk result (λ halos. Suffice high halos.items tasks.now) }
+    ensures count { IfOk result (λ halos. length halos.items ≡ count) }
+{
+    let mut halos = vec![in alloc; 0; count]?;
+    find_halos(high, tasks, halos.as_mut_slice());
+    Ok(halos)
+}
+
+// ---- bands
+
+/// Returns how many rows a band has, in which all tasks run before the next band: `high`, for one
+/// band of whole images, where bands gain nothing, or where a step would add to a row twice.
+pub fn band_size(
+    high: u16,
+    table: &Table,
+    verified: &Verified,
+    tasks: &[Task],
+    halos: &[u16],
+) -> u16
+    requires { 0 < high }
+    ensures forward { 0 < result }
+    ensures once { AddOnce high result halos.now tasks.now }
+{
+    let rows = match first_desc(table, verified) {
+        Some(desc) => rows_of(desc, greatest(halos)),
+        None => None,
+    };
+    match rows {
+        Some(rows) if add_once(tasks, halos) => rows,
+        _ => high,
+    }
+}
+
+/// Returns the description of the image that the first step reads.
+fn first_desc(table: &Table, verified: &Verified) -> Option<Desc> {
+    let node = verified.steps.first()?;
+    if let Some(desc) = verified.desc_of(node.in1) {
+        return Some(desc);
+    }
+    match operand_held(table, node.in1) {
+        Operand::Image(desc) => Some(desc),
+        _ => None,
+    }
+}
+
+/// Returns the greatest of these numbers of rows, 0 where there are none.
+fn greatest(halos: &[u16]) -> u16 {
+    let mut most = 0;
+    for halo in halos {
+        most = most.max(*halo);
+    }
+    most
+}
+
+/// Returns the rows of a band of images of this description, whose greatest halo is this. `None`:
+/// whole images are as fast.
+fn rows_of(desc: Desc, halo: u16) -> Option<u16>
+    ensures { IfSome result (λ rows. 0 < rows) }
+{
+    let samples = desc.sample_count();
+    if samples < LEAST_SAMPLES || halo > 0 && samples < LEAST_SAMPLES_WITH_HALO {
+        return None;
+    }
+    let rows = wanted_rows(desc, halo);
+    if desc.height() / LEAST_BANDS < rows || halo > rows / LEAST_FOR_HALO_ROW {
+        return None;
+    }
+    Some(rows)
+}
+
+/// Returns the wanted rows of a band.
+fn wanted_rows(desc: Desc, halo: u16) -> u16
+    ensures { 0 < result }
+{
+    let width = u32::from(desc.width());
+    let wanted = (BAND_SAMPLES / width).max(u32::from(halo) * ROWS_FOR_HALO_ROW);
+    let greatest = (GREATEST_BAND_SAMPLES / width).min(GREATEST_ROWS);
+    wanted.min(greatest).max(LEAST_ROWS) as u16
+}
+
+/// Whether each step that accumulates writes an output without a halo.
+fn add_once(tasks: &[Task], halos: &[u16]) -> bool
+    ensures { result ≡ true → (s : StepValue) → IsStepOf s tasks.now →
+        accumulates s.node.function ≡ true → halo halos.now s.output ≡ 0 }
+{
+    let mut rest = tasks;
+    while let Some((task, later)) = rest.split_first() {
+        if !adds_once(task, halos) {
+            return false;
+        }
+        rest = later;
+    }
+    true
+}
+
+/// Whether a task that accumulates writes an output without a halo.
+fn adds_once(task: &Task, halos: &[u16]) -> bool
+    ensures { result ≡ true → (s : StepValue) → task.now ≡ Write s →
+        accumulates s.node.function ≡ true → halo halos.now s.output ≡ 0 }
+{
+    match task {
+        Task::Write(step) if step.node.function.accumulates() => match halos.get(step.output) {
+            Some(halo) => *halo == 0,
+            None => true,
+        },
+        _ => true,
+    }
+}

@@ -1,0 +1,136 @@
+//! Tallies of the histograms and extremes of a graph: from a table of objects, and back into it.
+ghost use Rattle.std.specs.Prelude.{◌≡◌, ◌++◌, unwrap_or, IfOk, OnOk};
+ghost use Rattle.vx_base.specs.declared.kind.Kind.TheVariants as kind;
+ghost use Rattle.vx_base.specs.Function.{parameters};
+ghost use Rattle.vx_base.specs.Object.{no_extremes, object_kind};
+ghost use Rattle.object_table.specs.Context.{with_objects};
+ghost use Rattle.object_table.specs.Named.{with_object, with_written};
+ghost use Rattle.object_table.specs.Object.{distribution_value};
+ghost use Rattle.object_table.specs.Table.{cell_object};
+ghost use Rattle.graph_run.specs.Bound.{AreTalliesFor, IsTallyFor, KeepTallies, KeepsTally};
+ghost use Rattle.graph_run.specs.Program.{node_tallies, tallies_of};
+ghost use Rattle.graph_run.specs.Results.{tally_cell, tally_cells, tally_object, tally_objects};
+ghost use Rattle.graph_run.specs.Turns.{HoldsKind};
+
+use graph_steps::{Histogram, Tally};
+use object_table::{Content, Distribution, Object, Table};
+use std::alloc::{AllocError, Global};
+use vx_base::{Bins, Extremes, Kind, Node, ObjRef};
+
+/// Returns the cells of the objects in which nodes keep histograms and extremes, in their order.
+pub fn tally_cells(alloc: Global, steps: &[Node]) -> Result<Vec<ObjRef>, AllocError>
+    ensures { IfOk result (λ cells. cells.items ≡ tally_cells steps.now) }
+{
+    let mut cells = Vec::new(alloc);
+    for at in 0..steps.len() {
+        add_cell(&mut cells, &steps[at])?;
+    }
+    Ok(cells)
+}
+
+/// Adds the cell of a node's histogram or extremes, if it keeps one.
+fn add_cell(cells: &mut Vec<ObjRef>, node: &Node) -> Result<(), AllocError>
+    ensures { OnOk result (cells.new.items
+        ≡ cells.old.items ++ tally_cell (parameters node.now.function).output node.now) }
+{
+    match node.function.parameters().output {
+        Kind::Image => Ok(()),
+        _ => {
+            cells.push(node.out1.unwrap_or(node.in1))?;
+            Ok(())
+        }
+    }
+}
+
+/// Returns a tally for each node that keeps one, in which no sample is counted.
+pub fn tallies_of(alloc: Global, table: &Table, steps: &[Node]) -> Result<Vec<Tally>, AllocError>
+    requires { KeepTallies table.now.objects steps.now }
+    ensures { IfOk result (λ tallies.
+        tallies.items ≡ tallies_of table.now.objects steps.now) }
+{
+    let mut tallies = Vec::new(alloc);
+    for at in 0..steps.len() {
+        add_tally(&mut tallies, table, &steps[at])?;
+    }
+    Ok(tallies)
+}
+
+/// Adds the tally of a node, if it keeps one.
+fn add_tally(tallies: &mut Vec<Tally>, table: &Table, node: &Node) -> Result<(), AllocError>
+    requires { KeepsTally table.now.objects (parameters node.now.function).output
+        (unwrap_or node.now.out1 node.now.in1) }
+    ensures { OnOk result (tallies.new.items
+        ≡ tallies.old.items ++ node_tallies table.now.objects node.now) }
+{
+    match node.function.parameters().output {
+        Kind::Image => Ok(()),
+        Kind::Distribution => {
+            let bins = bins_of(table, node.out1.unwrap_or(node.in1));
+            tallies.push(Tally::Histogram(Histogram::new(bins)))?;
+            Ok(())
+        }
+        _ => {
+            tallies.push(Tally::Extremes(no_extremes()))?;
+            Ok(())
+        }
+    }
+}
+
+/// Returns the bins of the distribution that a cell holds.
+pub fn bins_of(table: &Table, cell: ObjRef) -> Bins
+    requires { HoldsKind table.now.objects (cell, kind.Distribution) }
+    ensures { result ≡ (distribution_value (cell_object table.now.objects cell)).bins }
+{
+    match table.get_held(cell.name()) {
+        Some(object) => distribution_of(object).bins(),
+        None => unreachable!(),
+    }
+}
+
+/// The distribution that an object is.
+fn distribution_of(object: &Object) -> &Distribution
+    requires { object_kind object.now ≡ kind.Distribution }
+    ensures { result.now ≡ distribution_value object.now }
+{
+    match object.content() {
+        Content::Distribution(distribution) => distribution,
+        _ => unreachable!(),
+    }
+}
+
+/// Returns the extremes of no samples.
+pub fn no_extremes() -> Extremes
+    ensures { result ≡ no_extremes }
+{
+    Extremes {
+        min: 0,
+        max: 0,
+        min_count: 0,
+        max_count: 0,
+        min_at: (0, 0),
+        max_at: (0, 0),
+    }
+}
+
+/// Writes tallies to the objects that these cells hold.
+pub fn set_tallies(table: &mut Table, cells: &[ObjRef], tallies: &[Tally])
+    requires { AreTalliesFor table.old.objects cells.now tallies.now }
+    ensures { table.new ≡ with_objects table.old
+        (with_written table.old.objects (tally_objects cells.now tallies.now)) }
+{
+    for at in 0..cells.len() {
+        set_tally(table, cells[at], &tallies[at]);
+    }
+}
+
+/// Writes a tally to the object that a cell holds.
+pub fn set_tally(table: &mut Table, cell: ObjRef, tally: &Tally)
+    requires { IsTallyFor table.old.objects cell tally.now }
+    ensures { table.new ≡ with_objects table.old
+        (with_object table.old.objects cell (tally_object tally.now)) }
+{
+    match tally {
+        Tally::Histogram(histogram) => table.set_counts(cell.name(), histogram.counts()),
+        Tally::Extremes(extremes) => table.set_extremes(cell.name(), *extremes),
+    }
+}

@@ -1,0 +1,98 @@
+//! Planes of virtual images, over the blocks of their slots.
+ghost use Rattle.std.specs.Prelude.{◌≡◌, ◌≤◌, ◌<◌, ℕ, [], Some, drop, length, map, vec_capacity};
+ghost use Rattle.vx_base.specs.Picture.{samples_format};
+ghost use Rattle.std.specs.Prelude.{slice_index_or};
+ghost use Rattle.graph_steps.specs.Planes.{plane};
+ghost use Rattle.graph_steps.specs.Steps.{capacities};
+ghost use Rattle.graph_run.specs.Blocks.{block_size, room_at};
+ghost use Rattle.graph_run.specs.Program.{first_blocks};
+ghost use Rattle.graph_run.specs.Tasks.{block_at, is_at, last_in};
+
+use crate::task_list::last_in;
+use graph_steps::Plane;
+use graph_verify::VirtualOutput;
+use pixel_pool::Block;
+use std::alloc::Global;
+use vx_base::{Format, Samples};
+
+/// Adds planes of the virtual images to none. The last image in each slot has its block.
+pub fn add_virtual(
+    alloc: Global,
+    images: &[VirtualOutput],
+    slots: &[usize],
+    blocks: &mut [Block],
+    planes: &mut Vec<Plane>,
+)
+    requires none { planes.old.items ≡ [] }
+    requires room { length images.now ≤ vec_capacity planes.old }
+    requires count { length slots.now ≡ length images.now }
+    requires within { (k : ℕ) → k < length slots.now →
+        slice_index_or slots.now k 0 < length blocks.old }
+    ensures descs { map (λ q. q.desc) planes.new.items ≡ map (λ o. o.desc) images.now }
+    ensures blocks { capacities planes.new.items
+        ≡ first_blocks slots.now (room_at blocks.old) }
+    ensures formats { map samples_format blocks.new ≡ map samples_format blocks.old }
+    ensures capacity { vec_capacity planes.new ≡ vec_capacity planes.old }
+{
+    for k in 0..images.len() {
+        let block = first_block(alloc, slots, k, blocks);
+        planes.push_reserved(Plane::of_block(images[k].desc, block));
+    }
+}
+
+/// Returns the block that the plane at an index has before a run: that of its slot, or an empty one.
+fn first_block(alloc: Global, slots: &[usize], k: usize, blocks: &mut [Block]) -> Samples
+    requires there { k < length slots.now }
+    requires within { slice_index_or slots.now k 0 < length blocks.old }
+    ensures size { block_size result ≡ block_at slots.now (room_at blocks.old) 0 k }
+    ensures formats { map samples_format blocks.new ≡ map samples_format blocks.old }
+    ensures others { (s j : ℕ) → last_in s slots.now ≡ Some j → k < j →
+        room_at blocks.new s ≡ room_at blocks.old s }
+{
+    let slot = slots[k];
+    if is_last(slots, k) {
+        blocks[slot].lift()
+    } else {
+        empty_block(alloc, blocks[slot].format())
+    }
+}
+
+/// Whether the image at an index is the last in its slot.
+fn is_last(slots: &[usize], k: usize) -> bool
+    requires { k < length slots.now }
+    ensures { result ≡ is_at k (last_in (slice_index_or slots.now k 0) slots.now) }
+{
+    match last_in(slots[k], slots) {
+        Some(last) => last == k,
+        None => false,
+    }
+}
+
+/// Returns no samples, of a format. It takes no memory.
+fn empty_block(alloc: Global, format: Format) -> Samples
+    ensures { block_size result ≡ (format, 0) }
+{
+    match format {
+        Format::U8 => Samples::U8(Vec::new(alloc)),
+        Format::S16 => Samples::S16(Vec::new(alloc)),
+        Format::U32 => Samples::U32(Vec::new(alloc)),
+    }
+}
+
+/// Gives the blocks of virtual planes back to the slots that they were taken from.
+pub fn return_blocks(slots: &[usize], blocks: &mut [Block], planes: &mut [Plane])
+    requires count { length slots.now ≤ length planes.old }
+    requires within { (k : ℕ) → k < length slots.now →
+        slice_index_or slots.now k 0 < length blocks.old }
+    requires formats { (k : ℕ) → k < length slots.now → (plane planes.old k).format
+        ≡ (room_at blocks.old (slice_index_or slots.now k 0)).0 }
+    ensures formats { map samples_format blocks.new ≡ map samples_format blocks.old }
+    ensures others { drop (length slots.now) planes.new ≡ drop (length slots.now) planes.old }
+    ensures count { length planes.new ≡ length planes.old }
+{
+    for k in 0..slots.len() {
+        if is_last(slots, k) {
+            blocks[slots[k]].put(planes[k].give());
+        }
+    }
+}

@@ -1,0 +1,135 @@
+-- What a kernel writes is the step's image.
+use Rattle.std.proofs.Common.{◌≡◌, ℕ, ℤ, ◌*◌, ◌+◌, ◌-◌, ◌<◌, zero, suc, true, false, List, length, Option, Some, None, IfSome, refl, ap, ◌∙◌, sym, arith, cond, ◌==◌, eqb-true, add-zero}
+use Rattle.std.proofs.lemmas.Bool.{and_parts}
+use Rattle.std.proofs.lemmas.Bool.Decides.{nat_tests}
+use Rattle.vx_base.specs.declared.format.Format.{Format}
+use Rattle.vx_base.specs.declared.format.Format.TheVariants.{S16}
+use Rattle.vx_base.specs.declared.function.Function.{Function}
+use Rattle.vx_base.specs.declared.function.Function.TheVariants.{Sobel}
+use Rattle.vx_base.specs.declared.node.Node.{Node}
+use Rattle.vx_base.specs.declared.output.Output.{Output}
+use Rattle.vx_base.specs.Description.{Description, same_size}
+use Rattle.vx_base.specs.Rectangle.{Rectangle}
+use Rattle.vx_base.specs.Formats.{takes_formats}
+use Rattle.vx_base.specs.Function.{parameters, accumulates}
+use Rattle.vx_base.specs.Image.{ImageValue, description_of, image_over, band, at}
+use Rattle.vx_base.specs.Object.{ObjectValue, ImageObject, object_kind}
+use Rattle.vx_base.specs.Outputs.{image_of_one, node_image}
+use Rattle.vx_base.specs.Pixelwise.{from_two, formula_of_two}
+use Rattle.vx_base.specs.Window.{from_nine, formula_of_nine}
+use Rattle.vx_base.proofs.TableLaws.{band-same, length-table}
+use Rattle.vx_base.proofs.ImageLaws.{samples_are_band}
+use Rattle.image_core.specs.declared.band.Band.{Band}
+use Rattle.image_core.specs.declared.image_mut.ImageMut.{ImageMut}
+use Rattle.image_core.specs.Bands.{IsInRows, has_row, image_over_rows, rows_in}
+use Rattle.image_core.specs.Rows.{sample_at}
+use Rattle.image_core.specs.Target.{written, IsTarget, Writes}
+use Rattle.image_core.proofs.BandLaws.{written_same}
+use Rattle.image_core.proofs.HeldRows.{at_held}
+use Rattle.node_rows.proofs.RowLaws.{node_description}
+use Rattle.graph_steps.specs.declared.step.Step.{Step}
+use Rattle.graph_steps.specs.declared.kernel.Kernel.{Kernel}
+use Rattle.graph_steps.specs.Steps.{CanMake, image_from_inputs, kernel_image, held_image}
+
+-- ---- by the function
+
+-- from two images
+pub two_written : (n : Node) (function : Function) (format : Format) (a b : ImageValue) (old new : ImageMut) → n.function ≡ function → old.desc.format ≡ format
+    → Writes (from_two format (formula_of_two function format n.policy n.amount) a b) old new → Writes (from_two old.desc.format (formula_of_two n.function old.desc.format n.policy n.amount) a b) old new
+two_written n function format a b old new is known =
+    written_same (from_two old.desc.format (formula_of_two n.function old.desc.format n.policy n.amount) a b) (from_two format (formula_of_two function format n.policy n.amount) a b) old new
+    (ap (λ (f : Function). from_two old.desc.format (formula_of_two f old.desc.format n.policy n.amount) a b) is ∙ ap (λ (f : Format). from_two f (formula_of_two function f n.policy n.amount) a b) known)
+
+-- a gradient
+pub gradient_written : (n : Node) (which output : Output) (a : ImageValue) (old new : ImageMut) → n.function ≡ Sobel → which ≡ output → old.desc.format ≡ S16
+    → Writes (from_nine S16 (formula_of_nine Sobel output) n.border a) old new → Writes (image_of_one n.function n which old.desc.format a) old new
+gradient_written n which output a old new is which_is known =
+    written_same (image_of_one n.function n which old.desc.format a) (from_nine S16 (formula_of_nine Sobel output) n.border a) old new
+    (ap (λ (f : Function). image_of_one f n which old.desc.format a) is
+    ∙ ap (λ (o : Output). from_nine old.desc.format (formula_of_nine Sobel o) n.border a) which_is
+    ∙ ap (λ (f : Format). from_nine f (formula_of_nine Sobel output) n.border a) known)
+
+-- ---- functions that accumulate
+
+pub accumulate_format : (function : Function) (a : Format) (second : Option Format) (out : Format) → accumulates function ≡ true → takes_formats function a second (Some out) ≡ true → out ≡ S16
+accumulate_format other a second out h t = grind arith
+
+no_second : (function : Function) → accumulates function ≡ true → (parameters function).second_input ≡ None
+no_second other h = grind arith
+
+pub accumulate_second : (function : Function) (second : Option ObjectValue) → accumulates function ≡ true → IfSome second (λ object. (parameters function).second_input ≡ Some (object_kind object)) → second ≡ None
+accumulate_second function None h kind = refl
+accumulate_second function (Some object) h kind = let k = no_second function h in absurd (cc)
+
+-- the step's image is what such a function adds to the output, or what any other gives
+pub sum_written : (s : Step) (first : ImageValue) (second : Option ObjectValue) (own : ImageValue) (old new : ImageMut) → accumulates s.node.function ≡ true
+    → Writes (node_image s.node s.which own.format first (Some (ImageObject own))) old new → Writes (image_from_inputs s first second own) old new
+sum_written s first second own old new sums is =
+    written_same (image_from_inputs s first second own) (node_image s.node s.which own.format first (Some (ImageObject own))) old new
+    (ap (λ b. node_image s.node s.which own.format first (cond b (Some (ImageObject own)) second)) sums) is
+
+pub plain_written : (s : Step) (first : ImageValue) (second : Option ObjectValue) (own : ImageValue) (old new : ImageMut) → accumulates s.node.function ≡ false
+    → Writes (node_image s.node s.which own.format first second) old new → Writes (image_from_inputs s first second own) old new
+plain_written s first second own old new plain is =
+    written_same (image_from_inputs s first second own) (node_image s.node s.which own.format first second) old new
+    (ap (λ b. node_image s.node s.which own.format first (cond b (Some (ImageObject own)) second)) plain) is
+
+-- ---- descriptions
+
+pub same_description : (a b : Description) → same_size a b ≡ true → a.format ≡ b.format → a ≡ b
+same_description a b size format = grind (arith, and_parts (a.width == b.width) (a.height == b.height) size)
+
+-- the step's image has the output's description
+pub made_description : (s : Step) (first : ImageValue) (second : Option ObjectValue) (out : Description) (own : ImageValue) → CanMake s first second out → own.format ≡ out.format
+    → description_of (image_from_inputs s first second own) ≡ out
+made_description s first second out own can same =
+    node_description s.node s.which own.format first (cond (accumulates s.node.function) (Some (ImageObject own)) second)
+    ∙ sym (same_description out (record { width = first.width; height = first.height; format = own.format }) can.size (sym same))
+
+-- ---- the rows that an output holds
+
+band_from : (width start first count : ℕ) (f : ℕ → ℕ → ℤ) → band width (start + first) count f ≡ band width first count (λ x y. f x (start + y))
+band_from width start first zero f = refl
+band_from width start first (suc count) f = let next : start + first + 1 ≡ start + (first + 1) = omega arith in rw (next, band_from width start (first + 1) count f) refl
+
+-- an image over some rows has these rows
+pub rows_held : (d : Description) (valid : Rectangle) (rows : Band) (samples : List ℤ) → IsInRows d.height rows → length samples ≡ rows.count * d.width
+    → rows_in rows (image_over_rows d valid rows samples) ≡ image_over d valid samples
+rows_held d valid rows samples room size =
+    ap (image_over d valid)
+    (ap (λ n. band d.width n rows.count f) (sym (add-zero rows.start))
+    ∙ band_from d.width rows.start 0 rows.count f
+    ∙ band-same d.width 0 rows.count (λ x y. f x (rows.start + y)) (λ x y. sample_at d.width samples x y) (λ x y across low high. one x y across (omega arith))
+    ∙ samples_are_band samples d.width rows.count size)
+  where
+    f : ℕ → ℕ → ℤ
+    f = at (image_over_rows d valid rows samples)
+
+    one : (x y : ℕ) → x < d.width → y < rows.count → f x (rows.start + y) ≡ sample_at d.width samples x y
+    one x y across high =
+        let back : rows.start + y - rows.start ≡ y = omega arith in
+        let there : has_row rows (rows.start + y) ≡ true = grind (arith, nat_tests) in
+        at_held d valid rows samples room size x (rows.start + y) across there
+        ∙ ap (sample_at d.width samples x) back
+
+pub held_rows : (out : ImageMut) → IsTarget out → rows_in out.rows (held_image out) ≡ written out
+held_rows out target = rows_held out.desc out.valid out.rows (written out).samples target.rows target.size
+
+-- what a kernel writes to these samples of an output
+pub rows_written : (k : Kernel) (d : Description) (valid : Rectangle) (rows : Band) (samples : List ℤ) (old new : ImageMut) → written old ≡ image_over d valid samples → old.rows ≡ rows
+    → Writes (kernel_image k (held_image old)) old new → written new ≡ rows_in rows (kernel_image k (image_over_rows d valid rows samples))
+rows_written k d valid rows samples old new before same is =
+    is.value
+    ∙ ap (λ (r : Band). rows_in r (kernel_image k (held_image old))) same
+    ∙ ap (λ (a : ImageValue). rows_in rows (kernel_image k (image_over_rows (description_of a) a.valid old.rows a.samples))) before
+    ∙ ap (λ (r : Band). rows_in rows (kernel_image k (image_over_rows d valid r samples))) same
+
+pub same_sides : (a b : Description) → same_size a b ≡ true → (a.width ≡ b.width) × (a.height ≡ b.height)
+same_sides a b h = let p = and_parts (a.width == b.width) (a.height == b.height) h in (eqb-true a.width b.width p.0, eqb-true a.height b.height p.1)
+
+-- the step's image has a sample for each place
+pub sized_image : (s : Step) (first : ImageValue) (second : Option ObjectValue) (own : ImageValue) → length (image_from_inputs s first second own).samples ≡ first.height * first.width
+sized_image s first second own = sized (cond (accumulates s.node.function) (Some (ImageObject own)) second)
+  where
+    sized : (beside : Option ObjectValue) → length (node_image s.node s.which own.format first beside).samples ≡ first.height * first.width
+    sized z = grind (arith, length-table)

@@ -1,0 +1,169 @@
+-- The reductions of a band, one after the other.
+use Rattle.std.proofs.Common.{◌≡◌, ◌≢◌, ℕ, ◌+◌, ◌-◌, ◌*◌, ◌<◌, ◌≤◌, List, [], ◌∷◌, length, refl, sym, ◌∙◌, ap, subst, inl, inr, arith}
+use Rattle.std.proofs.lemmas.List.{get_or-set_same, get_or-set_other, length-set}
+use Rattle.vx_base.specs.Description.{Description}
+use Rattle.vx_base.specs.Image.{ImageValue, IsImage}
+use Rattle.vx_base.specs.Object.{no_extremes}
+use Rattle.image_core.specs.declared.band.Band.{Band}
+use Rattle.image_core.specs.declared.second.Second.{Second}
+use Rattle.node_rows.specs.Rows.{AgreeInRows}
+use Rattle.graph_steps.specs.declared.step.Reduction.{Reduction}
+use Rattle.graph_steps.specs.declared.step.Task.{Task}
+use Rattle.graph_steps.specs.declared.step.Task.TheVariants.{Write, Reduce}
+use Rattle.graph_steps.specs.declared.tally.Tally.{Tally}
+use Rattle.graph_steps.specs.declared.tally.Tally.TheVariants as tally
+use Rattle.graph_steps.specs.Planes.{PlaneValue, plane, plane_image, with_halo}
+use Rattle.graph_steps.specs.Steps.{after_step}
+use Rattle.graph_steps.specs.Program.{Reduces, halo, band_rows, after_task}
+use Rattle.graph_steps.specs.Runs.{CanReduceBand, CanRunBand}
+use Rattle.graph_steps.specs.Tallies.{TakesFormat, IsBounded, with_rows_added, tally_at, after_reduction, tallies_after, all_tallies_after}
+use Rattle.graph_steps.proofs.StepLaws.{after_count, after_desc}
+use Rattle.graph_steps.proofs.BandLaws.{step_fits, task_next}
+use Rattle.graph_steps.proofs.AgreeLaws.{Known, Knows, known_next, known_skip}
+
+-- ---- one reduction
+
+module _ (rows : Band) (planes : List PlaneValue) (r : Reduction) (tallies : List Tally) (there : r.tally < length tallies) where
+  pub reduced_length : length (after_reduction rows planes r tallies) ≡ length tallies
+  reduced_length = length-set tallies r.tally _
+
+  pub reduced_there : tally_at (after_reduction rows planes r tallies) r.tally ≡ with_rows_added (with_halo 0 (plane planes r.input).desc.height rows) (plane_image (plane planes r.input)) (tally_at tallies r.tally)
+  reduced_there = get_or-set_same tallies r.tally _ (tally.Extremes no_extremes) there
+
+  pub reduced_beside : (k : ℕ) → k ≢ r.tally → tally_at (after_reduction rows planes r tallies) k ≡ tally_at tallies k
+  reduced_beside k other = get_or-set_other tallies r.tally k _ (tally.Extremes no_extremes) other
+
+module _ (tables : List Second) (high : ℕ) (halos : List ℕ) (band : Band) (kept : ℕ → Type 0) where
+  -- after a task, the other reductions can add the band
+  pub reduces_next : (t : Task) (later : List Task) (planes : List PlaneValue) (tallies : List Tally) → CanRunBand tables high halos band kept (t ∷ later) planes → CanReduceBand band.start (t ∷ later) planes tallies
+      → CanReduceBand band.start later (after_task tables halos band t planes) (tallies_after band t planes tallies)
+  reduces_next (Write s) later planes tallies can reduces =
+      let rows : Band = band_rows planes halos band s.output in
+      let fits = step_fits tables high halos band kept s later planes can in
+      record {
+        apart = reduces.apart;
+        reduces = λ q i.
+            let c = reduces.reduces q i in
+            record {
+              input = (let n = after_count tables high s rows planes fits in let k = c.input in omega arith);
+              tally = c.tally;
+              format = subst (λ (d : Description). TakesFormat d.format (tally_at tallies q.tally)) (sym (after_desc tables high s rows planes fits q.input)) c.format;
+              bounded = c.bounded;
+            };
+      }
+  reduces_next (Reduce r) later planes tallies can reduces =
+      let there = (reduces.reduces r (inl refl)).tally in
+      record {
+        apart = reduces.apart.1;
+        reduces = λ q i.
+            let c = reduces.reduces q (inr i) in
+            let same = reduced_beside band planes r tallies there q.tally (reduces.apart.0 q i) in
+            record {
+              input = c.input;
+              tally = (let n = reduced_length band planes r tallies there in let k = c.tally in omega arith);
+              format = subst (TakesFormat (plane planes q.input).desc.format) (sym same) c.format;
+              bounded = subst (IsBounded (band.start * 8192)) (sym same) c.bounded;
+            };
+      }
+
+  -- ---- all tasks of a band
+
+  pub tallies_length : (tasks : List Task) (planes : List PlaneValue) (tallies : List Tally) → length (all_tallies_after tables halos band tasks planes tallies) ≡ length tallies
+  tallies_length [] planes tallies = refl
+  tallies_length (Write s ∷ later) planes tallies = tallies_length later (after_task tables halos band (Write s) planes) tallies
+  tallies_length (Reduce r ∷ later) planes tallies = tallies_length later planes (after_reduction band planes r tallies) ∙ length-set tallies r.tally _
+
+  -- a tally of no reduction stays
+  untouched : (tasks : List Task) (planes : List PlaneValue) (tallies : List Tally) (k : ℕ) → ((q : Reduction) → Reduces q tasks → q.tally ≢ k) → tally_at (all_tallies_after tables halos band tasks planes tallies) k ≡ tally_at tallies k
+  untouched [] planes tallies k other = refl
+  untouched (Write s ∷ later) planes tallies k other = untouched later (after_task tables halos band (Write s) planes) tallies k other
+  untouched (Reduce r ∷ later) planes tallies k other =
+      untouched later planes (after_reduction band planes r tallies) k (λ q i. other q (inr i))
+      ∙ get_or-set_other tallies r.tally k _ (tally.Extremes no_extremes) (λ e. other r (inl refl) (sym e))
+
+  -- the band's rows of an image are added to each tally
+  pub record Adds (planes : List PlaneValue) (tallies after : List Tally) (r : Reduction) : Type 0 where
+    pub image : ImageValue
+    pub is_image : IsImage image
+    pub is : tally_at after r.tally ≡ with_rows_added (with_halo 0 (plane planes r.input).desc.height band) image (tally_at tallies r.tally)
+
+  pub band_adds : (tasks : List Task) (planes : List PlaneValue) (tallies : List Tally) → CanRunBand tables high halos band kept tasks planes → CanReduceBand band.start tasks planes tallies
+      → (r : Reduction) → Reduces r tasks → Adds planes tallies (all_tallies_after tables halos band tasks planes tallies) r
+  band_adds [] planes tallies can reduces r i = absurd i
+  band_adds (Write s ∷ later) planes tallies can reduces r i =
+      let rows : Band = band_rows planes halos band s.output in
+      let fits = step_fits tables high halos band kept s later planes can in
+      let after : List PlaneValue = after_step tables s rows planes in
+      let rest = band_adds later after tallies (task_next tables high halos band kept (Write s) later planes can) (reduces_next (Write s) later planes tallies can reduces) r i in
+      record {
+        image = rest.image;
+        is_image = rest.is_image;
+        is = rest.is ∙ ap (λ (d : Description). with_rows_added (with_halo 0 d.height band) rest.image (tally_at tallies r.tally)) (after_desc tables high s rows planes fits r.input);
+      }
+  band_adds (Reduce q ∷ later) planes tallies can reduces r i =
+      let there = (reduces.reduces q (inl refl)).tally in
+      let next = after_reduction band planes q tallies in
+      elim i [
+        | inl e ↦
+            let P : Reduction → Type 0 = λ x. Adds planes tallies (all_tallies_after tables halos band later planes next) x in
+            subst P (sym e) (record {
+              image = plane_image (plane planes q.input);
+              is_image = (can.reads q.input (inl refl)).image;
+              is = untouched later planes next q.tally reduces.apart.0 ∙ reduced_there band planes q tallies there;
+            })
+        | inr j ↦
+            let rest = band_adds later planes next (task_next tables high halos band kept (Reduce q) later planes can) (reduces_next (Reduce q) later planes tallies can reduces) r j in
+            record {
+              image = rest.image;
+              is_image = rest.is_image;
+              is = rest.is ∙ ap (with_rows_added (with_halo 0 (plane planes r.input).desc.height band) rest.image) (reduced_beside band planes q tallies there r.tally (reduces.apart.0 r j));
+            }
+      ]
+
+-- ---- a solution
+
+module _ (tables : List Second) (high : ℕ) (halos : List ℕ) (band : Band) (some : 1 ≤ band.count) (below : band.start < high) (kept : ℕ → Type 0) (origin whole : ℕ → ImageValue) (count : ℕ) (are : (c : ℕ) → c < count → IsImage (whole c)) where
+  -- the band's rows of the solution's image are added to a tally
+  pub record AddsWhole (planes : List PlaneValue) (tallies after : List Tally) (r : Reduction) : Type 0 where
+    pub image : ImageValue
+    pub agrees : AgreeInRows (band.start - halo halos r.input) (band.start + band.count - 1 + halo halos r.input) image (whole r.input)
+    pub height : (whole r.input).height ≡ (plane planes r.input).desc.height
+    pub is : tally_at after r.tally ≡ with_rows_added (with_halo 0 (plane planes r.input).desc.height band) image (tally_at tallies r.tally)
+
+  pub band_adds_whole : (tasks : List Task) (planes : List PlaneValue) (tallies : List Tally) → Known tables high halos band some below kept origin whole count are tasks planes → CanReduceBand band.start tasks planes tallies
+      → (r : Reduction) → Reduces r tasks → AddsWhole planes tallies (all_tallies_after tables halos band tasks planes tallies) r
+  band_adds_whole [] planes tallies k reduces r i = absurd i
+  band_adds_whole (Write s ∷ later) planes tallies k reduces r i =
+      let rows : Band = band_rows planes halos band s.output in
+      let fits = step_fits tables high halos band kept s later planes k.can in
+      let after : List PlaneValue = after_step tables s rows planes in
+      let desc = after_desc tables high s rows planes fits r.input in
+      let rest = band_adds_whole later after tallies (known_next tables high halos band some below kept origin whole count are s later planes k) (reduces_next tables high halos band kept (Write s) later planes tallies k.can reduces) r i in
+      record {
+        image = rest.image;
+        agrees = rest.agrees;
+        height = rest.height ∙ ap (λ (d : Description). d.height) desc;
+        is = rest.is ∙ ap (λ (d : Description). with_rows_added (with_halo 0 d.height band) rest.image (tally_at tallies r.tally)) desc;
+      }
+  band_adds_whole (Reduce q ∷ later) planes tallies k reduces r i =
+      let there = (reduces.reduces q (inl refl)).tally in
+      let next = after_reduction band planes q tallies in
+      elim i [
+        | inl e ↦
+            let P : Reduction → Type 0 = λ x. AddsWhole planes tallies (all_tallies_after tables halos band later planes next) x in
+            let known : Knows tables high halos band some below kept origin whole count are planes q.input = k.known q.input (inl refl) in
+            subst P (sym e) (record {
+              image = plane_image (plane planes q.input);
+              agrees = known.agrees;
+              height = sym (ap (λ (d : Description). d.height) known.agrees.alike.description);
+              is = untouched tables high halos band kept later planes next q.tally reduces.apart.0 ∙ reduced_there band planes q tallies there;
+            })
+        | inr j ↦
+            let rest = band_adds_whole later planes next (known_skip tables high halos band some below kept origin whole count are q later planes k) (reduces_next tables high halos band kept (Reduce q) later planes tallies k.can reduces) r j in
+            record {
+              image = rest.image;
+              agrees = rest.agrees;
+              height = rest.height;
+              is = rest.is ∙ ap (with_rows_added (with_halo 0 (plane planes r.input).desc.height band) rest.image) (reduced_beside band planes q tallies there r.tally (reduces.apart.0 r j));
+            }
+      ]

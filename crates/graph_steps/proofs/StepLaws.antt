@@ -1,0 +1,390 @@
+-- One step: the block that its output takes, and the rows that are written then.
+use Rattle.std.proofs.Common.{◌≡◌, ◌≢◌, ℕ, ◌+◌, ◌-◌, ◌*◌, ◌<◌, ◌≤◌, true, false, Bool, List, length, get_or, set, Option, Some, None, IfSome, IsTrue, refl, sym, ◌∙◌, ap, subst, inl, inr, arith, eqb, cond, min, max}
+use Rattle.std.specs.Prelude.{◌⊎◌}
+use Rattle.std.specs.Option.{option_and_then}
+use Rattle.std.proofs.lemmas.Bool.{cases_Bool, eqb-true, eqb-false}
+use Rattle.std.proofs.lemmas.List.{get_or-set_same, get_or-set_other, length-set, map-set, set-get_or, get_or_default}
+use Rattle.std.proofs.lemmas.Option.{slice_get_read}
+use Rattle.std.proofs.Math.ListN.{get_or-map}
+use Rattle.vx_base.specs.declared.format.Format.{Format}
+use Rattle.vx_base.specs.declared.node.Node.{Node}
+use Rattle.vx_base.specs.declared.output.Output.{Output}
+use Rattle.vx_base.specs.Description.{Description, same_size}
+use Rattle.vx_base.specs.Formats.{takes_formats}
+use Rattle.vx_base.specs.declared.format.Format.TheVariants.{U8}
+use Rattle.vx_base.specs.Function.{parameters, accumulates}
+use Rattle.vx_base.specs.Image.{ImageValue, IsImage, description_of, at}
+use Rattle.vx_base.specs.Object.{ObjectValue, ImageObject, IsObject, object_kind, object_format}
+use Rattle.vx_base.specs.Outputs.{node_image}
+use Rattle.vx_base.specs.Pixelwise.{formula_of_two}
+use Rattle.vx_base.specs.Rectangle.{meet_of, IsOrdered, IsWithin}
+use Rattle.vx_base.proofs.ImageLaws.{made_image}
+use Rattle.vx_base.proofs.NodeLaws.{node_image_is}
+use Rattle.vx_base.proofs.RectangleLaws.{bounded_ordered, bounded_within}
+use Rattle.vx_base.proofs.ResultLaws.{accumulated_is}
+use Rattle.image_core.specs.declared.band.Band.{Band}
+use Rattle.image_core.specs.declared.second.Second.{Second}
+use Rattle.image_core.specs.Bands.{IsInRows, has_row, held_in}
+use Rattle.image_core.specs.Fits.{SecondHasSize}
+use Rattle.image_core.specs.Second.{second_object}
+use Rattle.image_core.proofs.HeldRows.{held_in_is}
+use Rattle.node_rows.specs.Reach.{matrix_in}
+use Rattle.graph_steps.specs.declared.step.Step.{Step}
+use Rattle.graph_steps.specs.declared.step.Source.{Source}
+use Rattle.graph_steps.specs.declared.step.Source.TheVariants.{Nothing, Plane, Table}
+use Rattle.graph_steps.specs.Planes.{PlaneValue, plane, no_plane, read_images, plane_image, block_image, with_read_rows, with_rows, with_block, without_block, written_among, IsReadable, IsWhole}
+use Rattle.graph_steps.specs.Steps.{ReadsPlane, second_in, image_from_inputs, step_image, CanMake, Suits, CanStep, blank_image, second_plane, with_moved_block, with_output_block, after_step, capacities, capacity, blocks_with_move, blocks_after_step}
+use Rattle.graph_steps.proofs.KernelLaws.{made_description}
+use Rattle.graph_steps.proofs.PlaneLaws.{written_plane, written_size, written_beside}
+
+pub same_or_other : (a b : ℕ) → (a ≡ b) ⊎ (a ≢ b)
+same_or_other a b = elim (cases_Bool (eqb a b)) [ inl e ↦ inl (eqb-true a b e) | inr e ↦ inr (eqb-false a b e) ]
+
+pub none_or_some : (o : Option ℕ) → (o ≡ None) ⊎ ((t : ℕ) × (o ≡ Some t))
+none_or_some None = inl refl
+none_or_some (Some t) = inr (t, refl)
+
+pub none_not_some : (o : Option ℕ) (t : ℕ) → o ≡ None → o ≡ Some t → ⊥
+none_not_some o t a b = let k : None ≡ Some t = sym a ∙ b in cc
+
+-- ---- what a step may be given
+
+module _ (tables : List Second) (b : Description) (images : ℕ → ImageValue) where
+  abbrev told : Source → Option ObjectValue
+  told source = second_in tables (λ _. blank_image b) source
+
+  kind_told : (function : Node) (source : Source) → IfSome (told source) (λ o. (parameters function.function).second_input ≡ Some (object_kind o)) → IfSome (second_in tables images source) (λ o. (parameters function.function).second_input ≡ Some (object_kind o))
+  kind_told n Nothing h = h
+  kind_told n (Plane c) h = h
+  kind_told n (Table k) h = h
+
+  format_told : (source : Source) → description_of (images (second_plane source)) ≡ b → option_and_then object_format (told source) ≡ option_and_then object_format (second_in tables images source)
+  format_told Nothing is = refl
+  format_told (Plane c) is = ap (λ (d : Description). Some d.format) (sym is)
+  format_told (Table k) is = refl
+
+  size_of : (first : ImageValue) (a : Description) (second : Option ObjectValue) → description_of first ≡ a → SecondHasSize (blank_image a) second → SecondHasSize first second
+  size_of first a None is h = h
+  size_of first a (Some object) is h = grind arith
+
+  size_told : (first : ImageValue) (a : Description) (source : Source) → description_of first ≡ a → description_of (images (second_plane source)) ≡ b → SecondHasSize (blank_image a) (told source) → SecondHasSize first (second_in tables images source)
+  size_told first a Nothing is same h = h
+  size_told first a (Plane c) is same h = grind arith
+  size_told first a (Table k) is same h = size_of first a (second_in tables images (Table k)) is h
+
+  pub matrix_told : (source : Source) → matrix_in (told source) ≡ matrix_in (second_in tables images source)
+  matrix_told Nothing = refl
+  matrix_told (Plane c) = refl
+  matrix_told (Table k) = refl
+
+  pub object_told : (s : Step) (high : ℕ) (a out : Description) → Suits tables high s a b out → ((c : ℕ) → s.second ≡ Plane c → IsImage (images c)) → IfSome (second_in tables images s.second) IsObject
+  object_told s high a out suits are = by_source s.second (λ k e. (suits.table k e).1) are
+    where
+      by_source : (source : Source) → ((k : ℕ) → source ≡ Table k → IfSome (told source) IsObject) → ((c : ℕ) → source ≡ Plane c → IsImage (images c)) → IfSome (second_in tables images source) IsObject
+      by_source Nothing table image = tt
+      by_source (Plane c) table image = image c refl
+      by_source (Table k) table image = table k refl
+
+  pub can_make : (s : Step) (high : ℕ) (a out : Description) (first : ImageValue) → Suits tables high s a b out → description_of first ≡ a → description_of (images (second_plane s.second)) ≡ b
+      → CanMake s first (second_in tables images s.second) out
+  can_make s high a out first suits is same =
+      let m = suits.makes in
+      record {
+        node = m.node;
+        kind = kind_told s.node s.second m.kind;
+        formats = subst (λ f. takes f) (format_told s.second same) (subst (λ (d : Description). IsTrue (takes_formats s.node.function d.format (option_and_then object_format (told s.second)) (Some out.format))) (sym is) m.formats);
+        size = subst (λ d. IsTrue (same_size out d)) (sym is) m.size;
+        second_size = size_told first a s.second is same m.second_size;
+      }
+    where
+      takes : Option Format → Type 0
+      takes f = IsTrue (takes_formats s.node.function first.format f (Some out.format))
+
+-- ---- the image that a step makes
+
+-- a node that accumulates makes an image of any rows
+accumulated_any : (n : Node) (which : Output) (format : Format) (a own : ImageValue) → accumulates n.function ≡ true → IsImage a → IsImage (node_image n which format a (Some (ImageObject own)))
+accumulated_any n which format a own sums is =
+    made_image a.width a.height format (meet_of a.valid own.valid) (λ x y. formula_of_two n.function format n.policy n.amount (at a x y) (at own x y)) is.sides.0 is.sides.1 ordered room
+    (λ x y inside. accumulated_is n.function format n.policy n.amount (at a x y) (at own x y) sums)
+  where
+    ordered : IsOrdered (meet_of a.valid own.valid)
+    ordered = bounded_ordered (max a.valid.x0 own.valid.x0) (max a.valid.y0 own.valid.y0) (min a.valid.x1 own.valid.x1) (min a.valid.y1 own.valid.y1)
+
+    room : IsWithin (meet_of a.valid own.valid) a.width a.height
+    room =
+        let p : a.valid.x1 ≤ a.width = is.room.columns in
+        let q : a.valid.y1 ≤ a.height = is.room.rows in
+        bounded_within (max a.valid.x0 own.valid.x0) (max a.valid.y0 own.valid.y0) (min a.valid.x1 own.valid.x1) (min a.valid.y1 own.valid.y1) a.width a.height (omega (arith, p)) (omega (arith, q))
+
+pub made_is : (s : Step) (first : ImageValue) (second : Option ObjectValue) (out : Description) (own : ImageValue) → CanMake s first second out → own.format ≡ out.format → IsImage first → IfSome second IsObject
+    → IsImage (image_from_inputs s first second own)
+made_is s first second out own can same is object = elim (cases_Bool (accumulates s.node.function)) [
+  | inl sums ↦
+      let P : Bool → Type 0 = λ b. IsImage (node_image s.node s.which own.format first (cond b (Some (ImageObject own)) second)) in
+      subst P (sym sums) (accumulated_any s.node s.which own.format first own sums is)
+  | inr plain ↦
+      let P : Bool → Type 0 = λ b. IsImage (node_image s.node s.which own.format first (cond b (Some (ImageObject own)) second)) in
+      subst P (sym plain) (node_image_is s.node own.format first can.node is s.which second object can.kind (subst (λ f. IsTrue (takes_formats s.node.function first.format (option_and_then object_format second) (Some f))) (sym same) can.formats))
+]
+
+-- a step's image follows from the images that it reads
+pub second_same : (tables : List Second) (source : Source) (a b : ℕ → ImageValue) → ((c : ℕ) → source ≡ Plane c → a c ≡ b c) → second_in tables a source ≡ second_in tables b source
+second_same tables Nothing a b same = refl
+second_same tables (Plane c) a b same = ap (λ i. Some (ImageObject i)) (same c refl)
+second_same tables (Table k) a b same = refl
+
+pub step_image_same : (tables : List Second) (s : Step) (a b : ℕ → ImageValue) → ((c : ℕ) → ReadsPlane s c → a c ≡ b c) → (own : ImageValue) → step_image tables s a own ≡ step_image tables s b own
+step_image_same tables s a b same own =
+    ap (λ i. image_from_inputs s i (second_in tables a s.second) own) (same s.first (inl refl))
+    ∙ ap (λ o. image_from_inputs s (b s.first) o own) (second_same tables s.second a b (λ c e. same c (inr e)))
+
+-- an element that is read
+pub plane_read : (planes : List PlaneValue) (c : ℕ) (p : PlaneValue) → c < length planes → p ≡ get_or planes c p → p ≡ plane planes c
+plane_read planes c p below is = is ∙ get_or_default planes c p no_plane below
+
+pub image_read : (planes : List PlaneValue) (c : ℕ) (p : PlaneValue) (image : ImageValue) → c < length planes → p ≡ get_or planes c p → image ≡ plane_image p → image ≡ read_images planes c
+image_read planes c p image below is image_is = image_is ∙ ap plane_image (plane_read planes c p below is)
+
+-- a step's image and premise, by inputs that are read
+pub inputs_read : (s : Step) (a b : ImageValue) (o q : Option ObjectValue) (own : ImageValue) → a ≡ b → o ≡ q → image_from_inputs s a o own ≡ image_from_inputs s b q own
+inputs_read s a b o q own first second = ap (λ i. image_from_inputs s i o own) first ∙ ap (λ k. image_from_inputs s b k own) second
+
+pub can_read : (s : Step) (a b : ImageValue) (o q : Option ObjectValue) (out : Description) → a ≡ b → o ≡ q → CanMake s b q out → CanMake s a o out
+can_read s a b o q out first second can = subst (λ k. CanMake s a k out) (sym second) (subst (λ i. CanMake s i q out) (sym first) can)
+
+pub table_read : (tables : List Second) (images : ℕ → ImageValue) (k : ℕ) (t : Second) → k < length tables → t ≡ get_or tables k t → second_in tables images (Table k) ≡ second_object t
+table_read tables images k t below is = ap (option_and_then (λ u. second_object u)) (slice_get_read tables (length tables) k t refl below is)
+
+-- ---- blocks
+
+pub capacity_at : (planes : List PlaneValue) (c : ℕ) → capacity (capacities planes) c ≡ ((plane planes c).format, length (plane planes c).samples)
+capacity_at planes c = get_or-map (λ p. (p.format, length p.samples)) planes c no_plane
+
+module _ (t c top : ℕ) (planes : List PlaneValue) (from : t < length planes) (to : c < length planes) where
+  abbrev left : List PlaneValue
+  left = set planes t (without_block (plane planes t))
+
+  abbrev ready : List PlaneValue
+  ready = with_moved_block t c top planes
+
+  abbrev taken : PlaneValue
+  taken = with_block (plane planes t).format (plane planes t).samples top (plane left c)
+
+  long_left : length left ≡ length planes
+  long_left = length-set planes t (without_block (plane planes t))
+
+  pub claimed_long : length ready ≡ length planes
+  claimed_long = length-set left c taken ∙ long_left
+
+  pub claimed_at : plane ready c ≡ taken
+  claimed_at = get_or-set_same left c taken no_plane (omega (arith, long_left))
+
+  left_same : (k : ℕ) → k ≢ t → plane left k ≡ plane planes k
+  left_same k other = get_or-set_other planes t k (without_block (plane planes t)) no_plane other
+
+  left_taken : plane left t ≡ without_block (plane planes t)
+  left_taken = get_or-set_same planes t (without_block (plane planes t)) no_plane from
+
+  left_desc : (k : ℕ) → (plane left k).desc ≡ (plane planes k).desc
+  left_desc k = elim (same_or_other k t) [
+    | inl e ↦ (let P : ℕ → Type 0 = λ j. (plane left j).desc ≡ (plane planes j).desc in subst P (sym e) (ap (λ (p : PlaneValue). p.desc) left_taken))
+    | inr other ↦ ap (λ (p : PlaneValue). p.desc) (left_same k other)
+  ]
+
+  claimed_beside : (k : ℕ) → k ≢ c → plane ready k ≡ plane left k
+  claimed_beside k other = get_or-set_other left c k taken no_plane other
+
+  pub claimed_same : (k : ℕ) → k ≢ c → k ≢ t → plane ready k ≡ plane planes k
+  claimed_same k a b = claimed_beside k a ∙ left_same k b
+
+  pub claimed_desc : (k : ℕ) → (plane ready k).desc ≡ (plane planes k).desc
+  claimed_desc k = elim (same_or_other k c) [
+    | inl e ↦ (let P : ℕ → Type 0 = λ j. (plane ready j).desc ≡ (plane planes j).desc in subst P (sym e) (ap (λ (p : PlaneValue). p.desc) claimed_at ∙ left_desc c))
+    | inr other ↦ ap (λ (p : PlaneValue). p.desc) (claimed_beside k other) ∙ left_desc k
+  ]
+
+  pub claimed_capacities : capacities ready ≡ blocks_with_move (Some t) c (capacities planes)
+  claimed_capacities =
+      map-set (λ p. (p.format, length p.samples)) left c taken
+      ∙ ap (λ l. set l c ((plane planes t).format, length (plane planes t).samples)) (map-set (λ p. (p.format, length p.samples)) planes t (without_block (plane planes t)))
+      ∙ ap (λ (b : Format × ℕ). set (set (capacities planes) t (b.0, 0)) c b) (sym (capacity_at planes t))
+
+-- the planes once the output has its block: it can be written
+pub record IsReady (s : Step) (rows : Band) (planes ready : List PlaneValue) : Type 0 where
+  pub count : length ready ≡ length planes
+  pub desc : (k : ℕ) → (plane ready k).desc ≡ (plane planes k).desc
+  pub others : (k : ℕ) → k ≢ s.output → s.takes ≢ Some k → plane ready k ≡ plane planes k
+  pub own : s.takes ≡ None → plane ready s.output ≡ plane planes s.output
+  pub capacities : capacities ready ≡ blocks_after_step s (capacities planes)
+  pub format : (plane ready s.output).format ≡ (plane ready s.output).desc.format
+  pub within : IsWithin (plane ready s.output).valid (plane ready s.output).desc.width (plane ready s.output).desc.height
+  pub top : (plane ready s.output).top ≤ rows.start
+  pub room : (rows.start - (plane ready s.output).top + rows.count) * (plane ready s.output).desc.width ≤ length (plane ready s.output).samples
+
+pub not_more : (a b c : ℕ) → a ≤ b → a * c ≤ b * c
+not_more a b c h = grind arith
+
+module _ (tables : List Second) (high : ℕ) (s : Step) (rows : Band) (planes : List PlaneValue) (fits : CanStep tables high s rows planes) where
+  own_ready : s.takes ≡ None → IsReady s rows planes planes
+  own_ready none =
+      let w = fits.whole none in
+      record {
+        count = refl;
+        desc = λ k. refl;
+        others = λ k a b. refl;
+        own = λ e. refl;
+        capacities = ap (λ o. blocks_with_move o s.output (capacities planes)) (sym none);
+        format = w.format;
+        within = w.valid;
+        top = (let t = w.top in omega arith);
+        room = (let t = w.top in
+            let l = w.size in
+            let m = not_more (rows.start - (plane planes s.output).top + rows.count) (plane planes s.output).desc.height (plane planes s.output).desc.width (let r = fits.within in omega arith) in
+            omega arith);
+      }
+
+  taken_ready : (t : ℕ) → s.takes ≡ Some t → IsReady s rows planes (with_moved_block t s.output rows.start planes)
+  taken_ready t some =
+      let b = fits.block t some in
+      let to = fits.output in
+      let ready : List PlaneValue = with_moved_block t s.output rows.start planes in
+      let at_output : plane ready s.output ≡ with_block (plane planes t).format (plane planes t).samples rows.start (plane (set planes t (without_block (plane planes t))) s.output) = claimed_at t s.output rows.start planes b.0 to in
+      let desc = claimed_desc t s.output rows.start planes b.0 to s.output in
+      record {
+        count = claimed_long t s.output rows.start planes b.0 to;
+        desc = claimed_desc t s.output rows.start planes b.0 to;
+        others = λ k a untaken. claimed_same t s.output rows.start planes b.0 to k a (λ e. untaken (some ∙ ap Some (sym e)));
+        own = λ none. absurd (none_not_some s.takes t none some);
+        capacities = claimed_capacities t s.output rows.start planes b.0 to ∙ ap (λ o. blocks_with_move o s.output (capacities planes)) (sym some);
+        format = ap (λ (p : PlaneValue). p.format) at_output ∙ b.1 ∙ sym (ap (λ (d : Description). d.format) desc);
+        within = subst (λ (p : PlaneValue). IsWithin p.valid p.desc.width p.desc.height) (sym at_output) (record { columns = omega arith; rows = omega arith });
+        top = (let e : (plane ready s.output).top ≡ rows.start = ap (λ (p : PlaneValue). p.top) at_output in omega arith);
+        room =
+            (let e : (plane ready s.output).top ≡ rows.start = ap (λ (p : PlaneValue). p.top) at_output in
+            let l : length (plane ready s.output).samples ≡ length (plane planes t).samples = ap (λ (p : PlaneValue). length p.samples) at_output in
+            let w : (plane planes s.output).desc.width ≡ (plane ready s.output).desc.width = sym (ap (λ (d : Description). d.width) desc) in
+            let r : rows.count * (plane ready s.output).desc.width ≤ length (plane planes t).samples = subst (λ n. rows.count * n ≤ length (plane planes t).samples) w b.2 in
+            let n : rows.start - (plane ready s.output).top + rows.count ≡ rows.count = omega arith in
+            let m : (rows.start - (plane ready s.output).top + rows.count) * (plane ready s.output).desc.width ≡ rows.count * (plane ready s.output).desc.width = ap (λ k. k * (plane ready s.output).desc.width) n in
+            omega (arith, m, r, l));
+      }
+
+  pub ready_is : IsReady s rows planes (with_output_block s.takes s.output rows.start planes)
+  ready_is = elim (none_or_some s.takes) [
+    | inl none ↦ subst (λ o. IsReady s rows planes (with_output_block o s.output rows.start planes)) (sym none) (own_ready none)
+    | inr (t, some) ↦ subst (λ o. IsReady s rows planes (with_output_block o s.output rows.start planes)) (sym some) (taken_ready t some)
+  ]
+
+-- ---- after the step
+
+module _ (tables : List Second) (high : ℕ) (s : Step) (rows : Band) (planes : List PlaneValue) (fits : CanStep tables high s rows planes) where
+  abbrev before : List PlaneValue
+  before = with_output_block s.takes s.output rows.start planes
+
+  abbrev after : List PlaneValue
+  after = after_step tables s rows planes
+
+  abbrev out : PlaneValue
+  out = plane before s.output
+
+  abbrev own : ImageValue
+  own = plane_image (with_read_rows rows out)
+
+  is : IsReady s rows planes before
+  is = ready_is tables high s rows planes fits
+
+  -- inputs are read as they were
+  pub input_same : (c : ℕ) → ReadsPlane s c → plane before c ≡ plane planes c
+  input_same c reads = let r = fits.reads c reads in is.others c r.1 r.2
+
+  image_same : step_image tables s (read_images before) own ≡ step_image tables s (read_images planes) own
+  image_same = step_image_same tables s (read_images before) (read_images planes) (λ c reads. ap plane_image (input_same c reads)) own
+
+  -- before, the same can be made as of the planes
+  pub can_before : CanMake s (read_images before s.first) (second_in tables (read_images before) s.second) out.desc
+  can_before =
+      can_make tables (plane planes (second_plane s.second)).desc (read_images before) s high (plane planes s.first).desc out.desc (read_images before s.first)
+      (subst (Suits tables high s (plane planes s.first).desc (plane planes (second_plane s.second)).desc) (sym (is.desc s.output)) fits.suits) (is.desc s.first) (is.desc (second_plane s.second))
+
+  can_after : CanMake s (read_images planes s.first) (second_in tables (read_images planes) s.second) out.desc
+  can_after =
+      can_make tables (plane planes (second_plane s.second)).desc (read_images planes) s high (plane planes s.first).desc out.desc (read_images planes s.first)
+      (subst (Suits tables high s (plane planes s.first).desc (plane planes (second_plane s.second)).desc) (sym (is.desc s.output)) fits.suits) refl refl
+
+  pub image_desc : description_of (step_image tables s (read_images planes) own) ≡ out.desc
+  image_desc = made_description s (read_images planes s.first) (second_in tables (read_images planes) s.second) out.desc own can_after refl
+
+  pub image_is : IsImage (step_image tables s (read_images planes) own)
+  image_is = made_is s (read_images planes s.first) (second_in tables (read_images planes) s.second) out.desc own can_after refl
+      (fits.reads s.first (inl refl)).3.image
+      (object_told tables (plane planes (second_plane s.second)).desc (read_images planes) s high (plane planes s.first).desc (plane planes s.output).desc fits.suits (λ c e. (fits.reads c (inr e)).3.image))
+
+  here : s.output < length before
+  here = let l = is.count in let o = fits.output in omega arith
+
+  pub after_count : length after ≡ length planes
+  after_count = length-set before s.output _ ∙ is.count
+
+  pub after_output : plane after s.output ≡ with_rows rows (step_image tables s (read_images planes) own) out
+  after_output = get_or-set_same before s.output _ no_plane here ∙ ap (λ i. with_rows rows i out) image_same
+
+  pub after_others : (k : ℕ) → k ≢ s.output → s.takes ≢ Some k → plane after k ≡ plane planes k
+  after_others k other untaken = get_or-set_other before s.output k _ no_plane other ∙ is.others k other untaken
+
+  pub after_desc : (k : ℕ) → (plane after k).desc ≡ (plane planes k).desc
+  after_desc k = elim (same_or_other k s.output) [
+    | inl e ↦ (let P : ℕ → Type 0 = λ j. (plane after j).desc ≡ (plane planes j).desc in subst P (sym e) (ap (λ (p : PlaneValue). p.desc) after_output ∙ is.desc s.output))
+    | inr other ↦ ap (λ (p : PlaneValue). p.desc) (get_or-set_other before s.output k _ no_plane other) ∙ is.desc k
+  ]
+
+  size_same : length (written_among out.top rows (step_image tables s (read_images before) own) out.samples) ≡ length out.samples
+  size_same = written_size out rows (step_image tables s (read_images before) own) (sym (ap description_of image_same ∙ image_desc)) is.room
+
+  pub after_capacities : capacities after ≡ blocks_after_step s (capacities planes)
+  after_capacities =
+      map-set (λ p. (p.format, length p.samples)) before s.output _
+      ∙ ap (λ n. set (capacities before) s.output (out.format, n)) size_same
+      ∙ ap (set (capacities before) s.output) (sym (capacity_at before s.output))
+      ∙ set-get_or (capacities before) s.output (U8, 0)
+      ∙ is.capacities
+
+  -- the rows that are written can be read
+  pub after_image : read_images after s.output ≡ held_in rows (step_image tables s (read_images planes) own)
+  after_image = ap plane_image after_output ∙ written_plane out rows (step_image tables s (read_images planes) own) (sym image_desc) is.room
+
+  pub after_readable : IsReadable (plane after s.output)
+  after_readable = subst IsReadable (sym after_output) (record {
+    format = is.format;
+    rows = in_rows;
+    top = is.top;
+    room = (let l = written_size out rows (step_image tables s (read_images planes) own) (sym image_desc) is.room in let r = is.room in omega arith);
+    image = subst IsImage (sym (written_plane out rows (step_image tables s (read_images planes) own) (sym image_desc) is.room)) (held_in_is (step_image tables s (read_images planes) own) rows image_rows image_is);
+  })
+    where
+      in_rows : IsInRows out.desc.height rows
+      in_rows = subst (λ (d : Description). IsInRows d.height rows) (sym (is.desc s.output)) fits.within
+
+      image_rows : IsInRows (step_image tables s (read_images planes) own).height rows
+      image_rows = subst (λ (d : Description). IsInRows d.height rows) (sym image_desc) in_rows
+
+  -- an output that takes no block has all its rows still
+  pub after_whole : s.takes ≡ None → IsWhole (plane after s.output)
+  after_whole none =
+      let w : IsWhole out = subst IsWhole (sym (is.own none)) (fits.whole none) in
+      subst IsWhole (sym after_output) (record {
+        format = w.format;
+        top = w.top;
+        size = written_size out rows (step_image tables s (read_images planes) own) (sym image_desc) is.room ∙ w.size;
+        valid = subst (λ (d : Description). IsWithin (step_image tables s (read_images planes) own).valid d.width d.height) image_desc image_is.room;
+      })
+
+  -- and the rows that are not written stay
+  pub after_beside : s.takes ≡ None → (x y : ℕ) → x < (plane planes s.output).desc.width → y < (plane planes s.output).desc.height → has_row rows y ≡ false
+      → at (block_image (plane after s.output)) x y ≡ at (block_image (plane planes s.output)) x y
+  after_beside none x y across low beside =
+      let same = is.own none in
+      ap (λ p. at (block_image p) x y) after_output
+      ∙ written_beside out rows (step_image tables s (read_images planes) own) (sym image_desc) (subst IsWhole (sym same) (fits.whole none)) (subst (λ (d : Description). IsInRows d.height rows) (sym (is.desc s.output)) fits.within) x y
+      (subst (λ (p : PlaneValue). x < p.desc.width) (sym same) across) (subst (λ (p : PlaneValue). y < p.desc.height) (sym same) low) beside
+      ∙ ap (λ p. at (block_image p) x y) same

@@ -1,0 +1,234 @@
+-- Tallies that add rows of images band after band.
+use Rattle.std.proofs.Common.{◌≡◌, ℕ, ℤ, ◌+◌, ◌-◌, ◌*◌, ◌<◌, ◌≤◌, ◌^◌, zero, suc, Bool, List, [], ◌∷◌, ◌++◌, length, length-append, map, slice_index, cond, nat_le, nat_lt, ◌&&◌, ◌==◌, refl, sym, ◌∙◌, ap, subst, inl, inr, arith, replicate}
+use Rattle.std.specs.List.{range_with_len}
+use Rattle.std.specs.Ordering.{int_eq}
+use Rattle.std.specs.Prelude.{int_lt}
+use Rattle.std.proofs.lemmas.Bool.{cases_Bool, cases_lt}
+use Rattle.std.proofs.lemmas.Bool.Decides.{nat_tests}
+use Rattle.std.proofs.lemmas.List.{map-append, length-map, get_or_past, get_or-replicate, length-replicate}
+use Rattle.std.proofs.lemmas.List.FromFn.{get_or-map-range_with_len, length-map-range_with_len}
+use Rattle.vx_base.specs.declared.format.Format.{Format}
+use Rattle.vx_base.specs.Description.{Description}
+use Rattle.vx_base.specs.Image.{ImageValue, IsImage, at}
+use Rattle.vx_base.specs.Object.{no_extremes}
+use Rattle.vx_base.specs.Rectangle.{Rectangle, inside}
+use Rattle.vx_base.specs.Statistics.{extremes, histogram, places, row_places, samples_in, tallies, valid_samples}
+use Rattle.vx_base.proofs.TableLaws.{run-same}
+use Rattle.vx_base.specs.Image.{run}
+use Rattle.std.specs.List.{flat_map}
+use Rattle.image_core.specs.declared.band.Band.{Band}
+use Rattle.image_core.specs.Bands.{IsInRows, all_rows}
+use Rattle.node_rows.specs.Rows.{AgreeInRows}
+use Rattle.stat_kernels.specs.declared.located.Located.{Located}
+use Rattle.stat_kernels.specs.Counts.{added}
+use Rattle.stat_kernels.specs.Located.{joined, lowered, found_of}
+use Rattle.stat_kernels.specs.Part.{band_of, valid_in}
+use Rattle.stat_kernels.proofs.AlikeLaws.{parts_located}
+use Rattle.stat_kernels.proofs.BandLaws.{all_valid, bands_counted, extremes_few, few_samples, no_places, none_counted, none_located, one_row, row_of, rows_at, tally_few}
+use Rattle.graph_steps.specs.declared.tally.Tally.{Tally}
+use Rattle.graph_steps.specs.declared.tally.Tally.TheVariants as tally
+use Rattle.graph_steps.specs.Tallies.{with_rows_added, tally_of, IsNew, TakesFormat, CanAdd, IsBounded}
+
+-- ---- samples of images that agree
+
+row_samples : (f : ℕ → ℕ → ℤ) (x n y : ℕ) → map (λ p. f p.0 p.1) (row_places x n y) ≡ run x n (λ k. f k y)
+row_samples f x zero y = refl
+row_samples f x (suc n) y = ap (λ l. f x y ∷ l) (row_samples f (x + 1) n y)
+
+length-row : (x n y : ℕ) → length (row_places x n y) ≡ n
+length-row x zero y = refl
+length-row x (suc n) y = ap suc (length-row (x + 1) n y)
+
+length-rows : (x n y m : ℕ) → length (flat_map (row_places x n) (range_with_len y m)) ≡ m * n
+length-rows x n y zero = omega arith
+length-rows x n y (suc m) =
+    length-append (row_places x n y) (flat_map (row_places x n) (range_with_len (y + 1) m))
+    ∙ omega (arith, length-row x n y, length-rows x n (y + 1) m)
+
+length-samples : (r : Rectangle) (image : ImageValue) → length (samples_in r image) ≡ (r.y1 - r.y0) * (r.x1 - r.x0)
+length-samples r image = length-map (places r) (λ p. at image p.0 p.1) ∙ length-rows r.x0 (r.x1 - r.x0) r.y0 (r.y1 - r.y0)
+
+row_same : (f g : ℕ → ℕ → ℤ) (r : Rectangle) (y : ℕ) → ((x : ℕ) → r.x0 ≤ x → x < r.x1 → r.y0 ≤ y → y < r.y1 → f x y ≡ g x y) → map (λ p. f p.0 p.1) (row_of r y) ≡ map (λ p. g p.0 p.1) (row_of r y)
+row_same f g r y same = elim (cases_Bool (nat_le r.y0 y && nat_lt y r.y1)) [
+  | inl e ↦
+      let is : row_of r y ≡ row_places r.x0 (r.x1 - r.x0) y = ap (λ b. cond b (row_places r.x0 (r.x1 - r.x0) y) []) e in
+      let top : r.y0 ≤ y = grind (arith, nat_tests) in
+      let bottom : y < r.y1 = grind (arith, nat_tests) in
+      ap (map (λ p. f p.0 p.1)) is
+      ∙ row_samples f r.x0 (r.x1 - r.x0) y
+      ∙ run-same (λ k. f k y) (λ k. g k y) r.x0 (r.x1 - r.x0) (λ k a b. same k a (omega arith) top bottom)
+      ∙ sym (row_samples g r.x0 (r.x1 - r.x0) y)
+      ∙ ap (map (λ p. g p.0 p.1)) (sym is)
+  | inr e ↦
+      let is : row_of r y ≡ [] = ap (λ b. cond b (row_places r.x0 (r.x1 - r.x0) y) []) e in
+      ap (map (λ p. f p.0 p.1)) is ∙ ap (map (λ p. g p.0 p.1)) (sym is)
+]
+
+rows_same : (a b : ImageValue) (r : Rectangle) (start count : ℕ) → ((x y : ℕ) → r.x0 ≤ x → x < r.x1 → r.y0 ≤ y → y < r.y1 → start ≤ y → y < start + count → at a x y ≡ at b x y)
+    → samples_in (band_of (rows_at start count) r) a ≡ samples_in (band_of (rows_at start count) r) b
+rows_same a b r start zero same = ap (map (λ p. at a p.0 p.1)) (no_places r start) ∙ ap (map (λ p. at b p.0 p.1)) (sym (no_places r start))
+rows_same a b r start (suc count) same =
+    let next : suc count ≡ count + 1 = omega arith in
+    let before = places (band_of (rows_at start count) r) in
+    ap (λ n. samples_in (band_of (rows_at start n) r) a) next
+    ∙ ap (map (λ p. at a p.0 p.1)) (one_row r start count)
+    ∙ map-append (λ p. at a p.0 p.1) before (row_of r (start + count))
+    ∙ ap (λ l. l ++ map (λ p. at a p.0 p.1) (row_of r (start + count))) (rows_same a b r start count (λ x y i j k l m n. same x y i j k l m (omega arith)))
+    ∙ ap (λ l. map (λ p. at b p.0 p.1) before ++ l) (row_same (at a) (at b) r (start + count) (λ x i j k l. same x (start + count) i j k l (omega arith) (omega arith)))
+    ∙ sym (map-append (λ p. at b p.0 p.1) before (row_of r (start + count)))
+    ∙ ap (map (λ p. at b p.0 p.1)) (sym (one_row r start count))
+    ∙ ap (λ n. samples_in (band_of (rows_at start n) r) b) (sym next)
+
+-- ---- one tally
+
+-- the tally of the rows of an image above row y
+abbrev pub tally_above : ℕ → ImageValue → Tally → Tally
+tally_above y image (tally.Histogram d) = tally.Histogram (record { bins = d.bins; counts = histogram d.bins (valid_in (all_rows y) image) })
+tally_above y image (tally.Extremes e) = tally.Extremes (extremes (valid_in (all_rows y) image))
+
+-- a few samples for each row
+band_few : (image : ImageValue) → IsImage image → (rows : Band) → length (valid_samples (valid_in rows image)) ≤ rows.count * 8192
+band_few image is rows =
+    let r = band_of rows image.valid in
+    let high : r.y1 - r.y0 ≤ rows.count = grind (arith, nat_tests) in
+    omega (arith, length-samples r image, product (r.y1 - r.y0) (r.x1 - r.x0) rows.count high (omega (arith, is.sides.0, is.room.columns)))
+  where
+    product : (m k n : ℕ) → m ≤ n → k ≤ 8192 → m * k ≤ n * 8192
+    product m k n rows columns = grind arith
+
+-- rows can be added where the rows above them were
+pub can_add : (first : ℕ) (rows : Band) (image : ImageValue) (t : Tally) → first < 2 ^ 16 → IsImage image → TakesFormat image.format t → IsBounded (first * 8192) t → CanAdd rows image t
+can_add first rows image (tally.Histogram d) low is format bounded = record {
+  format = format;
+  room = (λ k. let b = bounded.1 k in let f = few_samples image is rows in omega arith);
+}
+can_add first rows image (tally.Extremes e) low is format bounded =
+    let few = extremes_few (valid_in rows image) in
+    let f = few_samples image is rows in
+    let a = few.0 in
+    let b = few.1 in
+    let c = bounded.0 in
+    let d = bounded.1 in
+    record { format = format; room = (omega arith, omega arith) }
+
+added_most : (counts more : List ℕ) (k : ℕ) → slice_index (added counts more) k ≤ slice_index counts k + slice_index more k
+added_most counts more k = elim (cases_Bool (nat_lt k (length counts))) [
+  | inl e ↦
+      let below : k < length counts = grind (arith, nat_tests) in
+      let is = get_or-map-range_with_len (λ i. slice_index counts i + slice_index more i) 0 (length counts) k k 0 below (omega arith) in
+      omega arith
+  | inr e ↦
+      let past : length counts ≤ k = grind (arith, nat_tests) in
+      let long = length-map-range_with_len (λ i. slice_index counts i + slice_index more i) 0 (length counts) in
+      let is = get_or_past (added counts more) k 0 (omega arith) in
+      omega arith
+]
+
+joined_most : (beyond : ℤ → ℤ → Bool) (a b : Located) → (joined beyond a b).count ≤ a.count + b.count
+joined_most beyond a b = elim (cases_Bool (b.count == 0)) [
+  | inl e ↦ rw e (omega arith)
+  | inr e ↦ elim (cases_Bool (a.count == 0)) [
+    | inl f ↦ rw (e, f) (omega arith)
+    | inr f ↦ elim (cases_Bool (beyond b.value a.value)) [
+      | inl g ↦ rw (e, f, g) (omega arith)
+      | inr g ↦ elim (cases_Bool (int_eq b.value a.value)) [
+        | inl h ↦ rw (e, f, g, h) (omega arith)
+        | inr h ↦ rw (e, f, g, h) (omega arith)
+      ]
+    ]
+  ]
+]
+
+-- rows that are added leave a bounded tally, of the same kind
+pub bounded_more : (most : ℕ) (rows : Band) (image : ImageValue) (t : Tally) → IsImage image → IsBounded most t → IsBounded (most + rows.count * 8192) (with_rows_added rows image t)
+bounded_more most rows image (tally.Histogram d) is bounded = (
+  length-map-range_with_len (λ i. slice_index d.counts i + slice_index (histogram d.bins (valid_in rows image)) i) 0 (length d.counts) ∙ bounded.0,
+  (λ k.
+      let a = added_most d.counts (histogram d.bins (valid_in rows image)) k in
+      let b = tally_few d.bins (valid_samples (valid_in rows image)) k in
+      let c = band_few image is rows in
+      let e = bounded.1 k in
+      omega arith),
+)
+bounded_more most rows image (tally.Extremes e) is bounded =
+    let few = extremes_few (valid_in rows image) in
+    let f = band_few image is rows in
+    let l = few.0 in
+    let g = few.1 in
+    let c = bounded.0 in
+    let d = bounded.1 in
+    let x = extremes (valid_in rows image) in
+    let m = joined_most (λ z v. int_lt z v) (found_of e).least (lowered 0 (found_of x).least) in
+    let n = joined_most (λ z v. int_lt v z) (found_of e).greatest (lowered 0 (found_of x).greatest) in
+    (omega arith, omega arith)
+
+pub bounded_less : (few most : ℕ) (t : Tally) → few ≤ most → IsBounded few t → IsBounded most t
+bounded_less few most (tally.Histogram d) less b = (b.0, (λ k. let c = b.1 k in omega arith))
+bounded_less few most (tally.Extremes e) less b = (let c = b.0 in let d = b.1 in (omega arith, omega arith))
+
+pub format_kept : (format : Format) (rows : Band) (image : ImageValue) (t : Tally) → TakesFormat format t → TakesFormat format (with_rows_added rows image t)
+format_kept format rows image (tally.Histogram d) h = h
+format_kept format rows image (tally.Extremes e) h = h
+
+-- the rows of a band are added to those above it
+pub added_above : (rows : Band) (first last : ℕ) (a image : ImageValue) (t : Tally) → IsImage image → AgreeInRows first last a image → ((y : ℕ) → rows.start ≤ y → y < rows.start + rows.count → (first ≤ y) × (y ≤ last)) → IsInRows image.height rows
+    → with_rows_added rows a (tally_above rows.start image t) ≡ tally_above (rows.start + rows.count) image t
+added_above rows first last a image (tally.Histogram d) is agree near room =
+    let b = d.bins in
+    let same : valid_samples (valid_in rows a) ≡ valid_samples (valid_in rows image) =
+    ap (λ r. samples_in (band_of rows r) a) agree.alike.valid ∙ rows_same a image image.valid rows.start rows.count
+    (λ x y left right top bottom low high.
+    let across = is.room.columns in
+    let down = is.room.rows in
+    let w : a.width ≡ image.width = ap (λ (e : Description). e.width) agree.alike.description in
+    let h : a.height ≡ image.height = ap (λ (e : Description). e.height) agree.alike.description in
+    let n = near y low high in
+    agree.samples x y (omega arith) (omega arith) n.0 n.1) in
+    let counts : added (histogram b (valid_in (all_rows rows.start) image)) (histogram b (valid_in rows a)) ≡ histogram b (valid_in (all_rows (rows.start + rows.count)) image) =
+    ap (λ l. added (histogram b (valid_in (all_rows rows.start) image)) (tallies b l)) same
+    ∙ ap (λ n. added (histogram b (valid_in (all_rows rows.start) image)) (histogram b (valid_in (rows_at n rows.count) image))) {x = rows.start} {y = 0 + rows.start} (omega arith)
+    ∙ sym (bands_counted b image 0 rows.start rows.count) in
+    ap (λ l. tally.Histogram (record { bins = b; counts = l })) counts
+added_above rows first last a image (tally.Extremes e) is agree near room =
+    ap (λ x. tally.Extremes x) (parts_located a image rows 0 rows.start 0 (omega arith) (record {
+      is = is;
+      each = λ k below. record {
+        width = ap (λ (e : Description). e.width) agree.alike.description;
+        valid = λ x. ap (λ r. inside r x (rows.start + k)) agree.alike.valid ∙ ap (inside image.valid x) (omega arith);
+        samples = λ x across.
+            let w : a.width ≡ image.width = ap (λ (e : Description). e.width) agree.alike.description in
+            let h : a.height ≡ image.height = ap (λ (e : Description). e.height) agree.alike.description in
+            let n = near (rows.start + k) (omega arith) (omega arith) in
+            agree.samples x (rows.start + k) (omega arith) (omega arith) n.0 n.1 ∙ ap (at image x) (omega arith);
+      };
+    }))
+
+-- before the first row nothing is added, and after the last one all is
+pub none_above : (image : ImageValue) (t : Tally) → IsNew t → t ≡ tally_above 0 image t
+none_above image (tally.Histogram d) new = ap (λ l. tally.Histogram (record { bins = d.bins; counts = l })) (new ∙ sym (none_counted d.bins image 0))
+none_above image (tally.Extremes e) new = ap (λ x. tally.Extremes x) (new ∙ sym (none_located image 0))
+
+pub all_above : (image : ImageValue) (t : Tally) → IsImage image → tally_above image.height image t ≡ tally_of image t
+all_above image (tally.Histogram d) is = ap (λ i. tally.Histogram (record { bins = d.bins; counts = histogram d.bins i })) (all_valid image is)
+all_above image (tally.Extremes e) is = ap (λ i. tally.Extremes (extremes i)) (all_valid image is)
+
+-- ---- all rows at once
+
+zero_at : (n k : ℕ) → slice_index (replicate n 0) k ≡ 0
+zero_at n k = elim (cases_lt k n) [
+  | inl below ↦ get_or-replicate n k 0 0 below
+  | inr past ↦ get_or_past (replicate n 0) k 0 (omega (arith, length-replicate {A = ℕ} n 0, past))
+]
+
+-- a new tally has no samples
+pub new_bounded : (t : Tally) → IsNew t → IsBounded (0 * 8192) t
+new_bounded (tally.Histogram d) new = (ap length new ∙ length-replicate d.bins.bins 0, λ k. omega (arith, ap (λ l. slice_index l k) new, zero_at d.bins.bins k))
+new_bounded (tally.Extremes e) new = let none : IsBounded (0 * 8192) (tally.Extremes no_extremes) = (omega arith, omega arith) in subst (λ x. IsBounded (0 * 8192) (tally.Extremes x)) (sym new) none
+
+pub whole_added : (image : ImageValue) (t : Tally) → IsImage image → IsNew t → with_rows_added (all_rows image.height) image t ≡ tally_of image t
+whole_added image t is new =
+    ap (with_rows_added (all_rows image.height) image) (none_above image t new)
+    ∙ added_above (all_rows image.height) 0 image.height image image t is (record { alike = record { description = refl; valid = refl }; samples = λ x y across low above below. refl })
+    (λ y low high. (omega arith, omega arith)) (omega arith)
+    ∙ ap (λ n. tally_above n image t) {x = 0 + image.height} {y = image.height} (omega arith)
+    ∙ all_above image t is

@@ -1,0 +1,16 @@
+use Rattle.std.proofs.Common.{◌≡◌, ℕ, length}
+use Rattle.graph_steps.specs.Program.{KeepsBlock, after_tasks}
+use Rattle.graph_steps.specs.Runs.{CanRunBand, CanReduceBand}
+use Rattle.graph_steps.specs.Tallies.{all_tallies_after}
+use Rattle.graph_steps.proofs.bands.run_band.Given as goal
+
+abbrev pub invariant-loop-task : goal.invariant-loop-task
+invariant-loop-task l = record {
+  can : (high : ℕ) × CanRunBand l.tables high l.halos l.band (KeepsBlock (length l.fn.planes) l.tasks) l.rest l.planes;
+  reduces : CanReduceBand l.band.start l.rest l.planes l.tallies;
+  same : after_tasks l.tables l.halos l.band l.rest l.planes ≡ after_tasks l.tables l.halos l.band l.tasks l.fn.planes;
+  tallied : all_tallies_after l.tables l.halos l.band l.rest l.planes l.tallies ≡ all_tallies_after l.tables l.halos l.band l.tasks l.fn.planes l.fn.tallies;
+}
+
+abbrev pub decreases-loop-task : goal.decreases-loop-task
+decreases-loop-task l = length l.rest

@@ -1,0 +1,22 @@
+use Rattle.std.proofs.Common.{◌∙◌, ap, set, ◌≡◌}
+use Rattle.std.proofs.lemmas.List.{set-set, get_or-set_other, get_or_default}
+use Rattle.graph_steps.specs.Planes.{plane, no_plane, read_images, plane_image, with_read_rows, with_rows}
+use Rattle.graph_steps.specs.Steps.{step_image}
+use Rattle.graph_steps.proofs.StepLaws.{step_image_same}
+use Rattle.graph_steps.proofs.one_step.write_output.Goals as goal
+
+pub returns : goal.returns
+returns c =
+    let planes = c.args.planes.now in
+    let tables = c.args.tables.now in
+    let s = c.args.step.now in
+    let rows = c.args.rows in
+    let left = set planes s.output c.take_out-output.new.self in
+    let took : c.take_out-output.result ≡ plane planes s.output = c.take_out-output.ensures ∙ get_or_default planes s.output c.index-planes-step.result no_plane c.requires.output in
+    set-set planes s.output c.take_out-output.new.self c.write_rows.new.output
+    ∙ ap (set planes s.output)
+    (c.write_rows.ensures
+    ∙ ap (λ q. with_rows rows (step_image tables s (read_images left) (plane_image (with_read_rows rows q))) q) took
+    ∙ ap (λ i. with_rows rows i (plane planes s.output))
+    (step_image_same tables s (read_images left) (read_images planes)
+    (λ k reads. ap plane_image (get_or-set_other planes s.output k c.take_out-output.new.self no_plane (c.requires.reads k reads).1)) (plane_image (with_read_rows rows (plane planes s.output)))))

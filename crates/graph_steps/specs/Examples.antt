@@ -1,0 +1,63 @@
+-- A program of three tasks.
+use Rattle.std.specs.Prelude.{ℕ, List, [], ◌∷◌, Some, None, Option}
+use Rattle.vx_base.specs.declared.border.Border.TheVariants.{Replicate}
+use Rattle.vx_base.specs.declared.format.Format.TheVariants.{U8}
+use Rattle.vx_base.specs.declared.function.Function.TheVariants.{Box}
+use Rattle.vx_base.specs.declared.node.Node.{Node}
+use Rattle.vx_base.specs.declared.output.Output.TheVariants.{First}
+use Rattle.vx_base.specs.declared.policy.Policy.TheVariants.{Wrap}
+use Rattle.vx_base.specs.Cell.{cell_of}
+use Rattle.vx_base.specs.Description.{Description}
+use Rattle.vx_base.specs.Image.{new_image}
+use Rattle.vx_base.specs.Object.{no_extremes}
+use Rattle.vx_base.specs.Rectangle.{empty, whole}
+use Rattle.image_core.specs.Bands.{all_rows}
+use Rattle.graph_steps.specs.declared.step.Source.TheVariants.{Nothing}
+use Rattle.graph_steps.specs.declared.step.Step.{Step}
+use Rattle.graph_steps.specs.declared.step.Task.{Task}
+use Rattle.graph_steps.specs.declared.step.Task.TheVariants.{Write, Reduce}
+use Rattle.graph_steps.specs.declared.tally.Tally.{Tally}
+use Rattle.graph_steps.specs.declared.tally.Tally.TheVariants.{Extremes}
+use Rattle.graph_steps.specs.Planes.{PlaneValue}
+
+abbrev pub small_image_desc : Description
+small_image_desc = record { width = 1; height = 4; format = U8 }
+
+abbrev pub client_plane : PlaneValue
+client_plane =
+    record { desc = small_image_desc; valid = whole 1 4; top = 0; rows = all_rows 4; format = U8; samples = (new_image 1 4 U8).samples }
+
+-- a virtual image, with a block for four rows
+abbrev pub block_plane : PlaneValue
+block_plane =
+    record { desc = small_image_desc; valid = empty; top = 0; rows = all_rows 0; format = U8; samples = (new_image 1 4 U8).samples }
+
+abbrev pub box_node : Node
+box_node =
+    record {
+      function = Box;
+      border = Replicate;
+      policy = Wrap;
+      amount = 0;
+      in1 = cell_of 1;
+      in2 = None;
+      out1 = Some (cell_of 2);
+      out2 = None;
+    }
+
+abbrev pub box_step : ℕ → ℕ → Option ℕ → Step
+box_step input output takes =
+    record { node = box_node; which = First; first = input; second = Nothing; output = output; takes = takes; radius = 1 }
+
+-- the box filter of a client's image to a virtual image, and of that to a client's image; and the extremes of the virtual image
+abbrev pub boxes : List Task
+boxes = Write (box_step 0 1 (Some 1)) ∷ Write (box_step 1 2 None) ∷ Reduce (record { input = 1; tally = 0 }) ∷ []
+
+abbrev pub box_planes : List PlaneValue
+box_planes = client_plane ∷ block_plane ∷ client_plane ∷ []
+
+abbrev pub box_halos : List ℕ
+box_halos = 2 ∷ 1 ∷ 0 ∷ []
+
+abbrev pub box_tallies : List Tally
+box_tallies = Extremes no_extremes ∷ []

@@ -1,0 +1,7 @@
+pub mod Planes
+pub mod Kernels
+pub mod Steps
+pub mod Program
+pub mod Runs
+pub mod Tallies
+pub mod Examples

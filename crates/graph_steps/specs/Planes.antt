@@ -1,0 +1,105 @@
+-- Planes: images while a graph runs, of which some rows are held in a block of samples.
+use Rattle.std.specs.Prelude.{ℕ, ℤ, ◌+◌, ◌-◌, ◌*◌, ◌≤◌, ◌≡◌, min, List, [], ◌++◌, take, drop, length, slice_index_or}
+use Rattle.vx_base.specs.declared.format.Format.{Format}
+use Rattle.vx_base.specs.declared.format.Format.TheVariants.{U8}
+use Rattle.vx_base.specs.declared.samples.Samples.{Samples}
+use Rattle.vx_base.specs.Picture.{values, samples_format}
+use Rattle.vx_base.specs.Description.{Description}
+use Rattle.vx_base.specs.Rectangle.{Rectangle, empty, IsWithin}
+use Rattle.vx_base.specs.Image.{ImageValue, IsImage, image_over, band, at}
+use Rattle.image_core.specs.declared.band.Band.{Band}
+use Rattle.image_core.specs.Bands.{IsInRows, all_rows, image_over_rows}
+
+-- the description and the valid rectangle of the whole image; the image row with which the block begins; the rows that a step may read;
+-- and the samples of the block, of one format
+pub record PlaneValue : Type 0 where
+  pub desc : Description
+  pub valid : Rectangle
+  pub top : ℕ
+  pub rows : Band
+  pub format : Format
+  pub samples : List ℤ
+
+-- of a block that begins with row `top`, the samples of these rows of this width
+abbrev pub rows_of_block : ℕ → ℕ → Band → List ℤ → List ℤ
+rows_of_block width top rows samples = take (rows.count * width) (drop ((rows.start - top) * width) samples)
+
+-- the image that a step reads: 0 outside the plane's rows
+abbrev pub plane_image : PlaneValue → ImageValue
+plane_image p = image_over_rows p.desc p.valid p.rows (rows_of_block p.desc.width p.top p.rows p.samples)
+
+-- the image of all samples of the block: of a client's image all its rows
+abbrev pub block_image : PlaneValue → ImageValue
+block_image p = image_over p.desc p.valid p.samples
+
+-- the plane, of which a step may read these rows
+abbrev pub with_read_rows : Band → PlaneValue → PlaneValue
+with_read_rows rows p = record p { rows = rows }
+
+-- a block that begins with row `top`, in which these rows are those of an image, and all other samples as before
+abbrev pub written_among : ℕ → Band → ImageValue → List ℤ → List ℤ
+written_among top rows image old =
+    take ((rows.start - top) * image.width) old
+    ++ (band image.width rows.start rows.count (at image) ++ drop ((rows.start - top + rows.count) * image.width) old)
+
+-- the plane to which these rows of an image are written, with the image's valid rectangle
+abbrev pub with_rows : Band → ImageValue → PlaneValue → PlaneValue
+with_rows rows image p =
+    record { desc = p.desc; valid = image.valid; top = p.top; rows = rows; format = p.format; samples = written_among p.top rows image p.samples }
+
+-- the plane of a client's image, which has all rows
+abbrev pub whole_plane : Description → Rectangle → Samples → PlaneValue
+whole_plane d valid block =
+    record { desc = d; valid = valid; top = 0; rows = all_rows d.height; format = samples_format block; samples = values block }
+
+-- the plane of a virtual image, whose rows are not written yet
+abbrev pub virtual_plane : Description → Samples → PlaneValue
+virtual_plane d block =
+    record { desc = d; valid = empty; top = 0; rows = all_rows 0; format = samples_format block; samples = values block }
+
+-- the plane with another block, which begins with row `top`; and without its own
+abbrev pub with_block : Format → List ℤ → ℕ → PlaneValue → PlaneValue
+with_block format samples top p =
+    record { desc = p.desc; valid = empty; top = top; rows = p.rows; format = format; samples = samples }
+
+abbrev pub without_block : PlaneValue → PlaneValue
+without_block p = record p { samples = [] }
+
+-- ---- many planes
+
+abbrev pub no_plane : PlaneValue
+no_plane =
+    record { desc = record { width = 0; height = 0; format = U8 }; valid = empty; top = 0; rows = all_rows 0; format = U8; samples = [] }
+
+-- the plane at an index, the image that a step reads there, and that of its block
+abbrev pub plane : List PlaneValue → ℕ → PlaneValue
+plane planes c = slice_index_or planes c no_plane
+
+abbrev pub read_images : List PlaneValue → ℕ → ImageValue
+read_images planes c = plane_image (plane planes c)
+
+abbrev pub block_images : List PlaneValue → ℕ → ImageValue
+block_images planes c = block_image (plane planes c)
+
+-- a plane that a step can read
+pub record IsReadable (p : PlaneValue) : Type 0 where
+  pub format : p.format ≡ p.desc.format
+  pub rows : IsInRows p.desc.height p.rows
+  pub top : p.top ≤ p.rows.start
+  pub room : (p.rows.start - p.top + p.rows.count) * p.desc.width ≤ length p.samples
+  pub image : IsImage (plane_image p)
+
+-- a plane whose block has all rows of an image
+pub record IsWhole (p : PlaneValue) : Type 0 where
+  pub format : p.format ≡ p.desc.format
+  pub top : p.top ≡ 0
+  pub size : length p.samples ≡ p.desc.height * p.desc.width
+  pub valid : IsWithin p.valid p.desc.width p.desc.height
+
+-- ---- bands
+
+-- a band with a halo above and below it, clipped to an image of this height
+abbrev pub with_halo : ℕ → ℕ → Band → Band
+with_halo halo height rows =
+    let start = min (rows.start - halo) height in
+    record { start = start; count = min (rows.start + rows.count + halo) height - start }

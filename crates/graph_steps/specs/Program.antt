@@ -1,0 +1,186 @@
+-- Programs: tasks that run band after band, and the images that they make.
+use Rattle.std.specs.Prelude.{ℕ, ◌+◌, ◌*◌, ◌<◌, ◌≤◌, ◌≡◌, ◌≢◌, ◌⊎◌, ◌==◌, if◌then◌else◌, min, true, List, [], ◌∷◌, length, slice_index_or, Some, None}
+use Rattle.vx_base.specs.declared.format.Format.{Format}
+use Rattle.vx_base.specs.Description.{Description}
+use Rattle.vx_base.specs.Function.{accumulates}
+use Rattle.vx_base.specs.Image.{ImageValue, IsImage}
+use Rattle.image_core.specs.declared.band.Band.{Band}
+use Rattle.image_core.specs.declared.second.Second.{Second}
+use Rattle.image_core.specs.Bands.{all_rows}
+use Rattle.graph_steps.specs.declared.step.Reduction.{Reduction}
+use Rattle.graph_steps.specs.declared.step.Step.{Step}
+use Rattle.graph_steps.specs.declared.step.Task.{Task}
+use Rattle.graph_steps.specs.declared.step.Task.TheVariants.{Write, Reduce}
+use Rattle.graph_steps.specs.Planes.{PlaneValue, plane, block_image, with_halo, IsWhole}
+use Rattle.graph_steps.specs.Steps.{ReadsPlane, step_image, SuitsPlanes, after_step, capacities, capacity, blocks_after_step}
+
+-- s is one of the steps
+abbrev pub IsStepOf : Step → List Task → Type 0
+IsStepOf s [] = ⊥
+IsStepOf s (Write t ∷ others) = (s ≡ t) ⊎ IsStepOf s others
+IsStepOf s (Reduce r ∷ others) = IsStepOf s others
+
+-- r is one of the reductions
+abbrev pub Reduces : Reduction → List Task → Type 0
+Reduces r [] = ⊥
+Reduces r (Write s ∷ others) = Reduces r others
+Reduces r (Reduce q ∷ others) = (r ≡ q) ⊎ Reduces r others
+
+-- no step writes the plane at this index
+abbrev pub IsUnwritten : List Task → ℕ → Type 0
+IsUnwritten tasks c = (s : Step) → IsStepOf s tasks → s.output ≢ c
+
+-- no plane is written by two of the steps
+abbrev pub HaveOneWriter : List Task → Type 0
+HaveOneWriter [] = Unit {0}
+HaveOneWriter (Write s ∷ later) = IsUnwritten later s.output × HaveOneWriter later
+HaveOneWriter (Reduce r ∷ later) = HaveOneWriter later
+
+-- no step reads a plane that it or a later step writes
+abbrev pub AreInOrder : List Task → Type 0
+AreInOrder [] = Unit {0}
+AreInOrder (Write s ∷ later) = ((c : ℕ) → ReadsPlane s c → IsUnwritten (Write s ∷ later) c) × AreInOrder later
+AreInOrder (Reduce r ∷ later) = AreInOrder later
+
+-- ---- halos
+
+-- the rows above and below a band that are needed of each plane
+abbrev pub halo : List ℕ → ℕ → ℕ
+halo halos c = slice_index_or halos c 0
+
+-- a step's inputs have its output's halo and its radius more, in images of at most this height
+abbrev pub Suffice : ℕ → List ℕ → List Task → Type 0
+Suffice high halos tasks =
+    (s : Step) → IsStepOf s tasks → (c : ℕ) → ReadsPlane s c → min high (halo halos s.output + s.radius) ≤ halo halos c
+
+-- no step reads the plane
+abbrev pub IsUnread : List Task → ℕ → Type 0
+IsUnread tasks c = (s : Step) → IsStepOf s tasks → ReadsPlane s c → ⊥
+
+-- ---- a band
+
+-- of the image at an index, the rows that a band needs
+abbrev pub band_rows : List PlaneValue → List ℕ → Band → ℕ → Band
+band_rows planes halos rows c = with_halo (halo halos c) (plane planes c).desc.height rows
+
+-- the planes once a task is done on a band, and once all are
+abbrev pub after_task : List Second → List ℕ → Band → Task → List PlaneValue → List PlaneValue
+after_task tables halos rows (Write s) planes = after_step tables s (band_rows planes halos rows s.output) planes
+after_task tables halos rows (Reduce r) planes = planes
+
+abbrev pub after_tasks : List Second → List ℕ → Band → List Task → List PlaneValue → List PlaneValue
+after_tasks tables halos rows [] planes = planes
+after_tasks tables halos rows (t ∷ later) planes = after_tasks tables halos rows later (after_task tables halos rows t planes)
+
+-- ---- blocks
+
+-- the plane at this index keeps its block: it is that of a client's image
+abbrev pub KeepsBlock : ℕ → List Task → ℕ → Type 0
+KeepsBlock count tasks c = (c < count) × ((s : Step) → IsStepOf s tasks → (t : ℕ) → s.takes ≡ Some t → (t ≢ c) × (s.output ≢ c))
+
+-- the rows that the plane has before these tasks are read by one of them, or kept
+abbrev pub IsLive : (ℕ → Type 0) → List Task → ℕ → Type 0
+IsLive kept [] c = kept c
+IsLive kept (Write s ∷ later) c = ReadsPlane s c ⊎ ((c ≢ s.output) × IsLive kept later c)
+IsLive kept (Reduce r ∷ later) c = (r.input ≡ c) ⊎ IsLive kept later c
+
+-- each block is taken from a plane whose rows are not read again
+abbrev pub AreFree : (ℕ → Type 0) → List Task → Type 0
+AreFree kept [] = Unit {0}
+AreFree kept (Reduce r ∷ later) = AreFree kept later
+AreFree kept (Write s ∷ later) = ((t : ℕ) → s.takes ≡ Some t → t ≢ s.output → IsLive kept later t → ⊥) × AreFree kept later
+
+-- a block for this many rows of an image and their halo
+abbrev pub HoldsRows : ℕ → ℕ → Description → Format × ℕ → Type 0
+HoldsRows size more d block = (block.0 ≡ d.format) × (min d.height (size + more + more) * d.width ≤ block.1)
+
+-- each block that is taken has room for a band of this many rows of the output, and its halo
+abbrev pub HaveRoom : ℕ → List ℕ → (ℕ → Description) → List Task → List (Format × ℕ) → Type 0
+HaveRoom size halos descs [] blocks = Unit {0}
+HaveRoom size halos descs (Reduce r ∷ later) blocks = HaveRoom size halos descs later blocks
+HaveRoom size halos descs (Write s ∷ later) blocks =
+    ((t : ℕ) → s.takes ≡ Some t → HoldsRows size (halo halos s.output) (descs s.output) (capacity blocks t))
+    × HaveRoom size halos descs later (blocks_after_step s blocks)
+
+-- where the blocks are after the tasks
+abbrev pub blocks_after_tasks : List Task → List (Format × ℕ) → List (Format × ℕ)
+blocks_after_tasks [] blocks = blocks
+blocks_after_tasks (Write s ∷ later) blocks = blocks_after_tasks later (blocks_after_step s blocks)
+blocks_after_tasks (Reduce r ∷ later) blocks = blocks_after_tasks later blocks
+
+-- ---- programs
+
+-- the indices that a step names are those of planes; its output and the plane whose block that takes are none of its inputs
+pub record NamesPlanes (count : ℕ) (s : Step) : Type 0 where
+  pub output : s.output < count
+  pub reads : (c : ℕ) → ReadsPlane s c → (c < count) × (c ≢ s.output) × (s.takes ≢ Some c)
+  pub taken : (t : ℕ) → s.takes ≡ Some t → t < count
+  pub own : accumulates s.node.function ≡ true → s.takes ≡ None
+
+-- the plane of a client's image before a run
+pub record IsClient (p : PlaneValue) : Type 0 where
+  pub whole : IsWhole p
+  pub rows : p.rows ≡ all_rows p.desc.height
+  pub image : IsImage (block_image p)
+
+-- tasks that can run in bands of `size` rows over planes of at most this height
+pub record IsProgram (tables : List Second) (high size : ℕ) (halos : List ℕ) (tasks : List Task) (planes : List PlaneValue) : Type 0 where
+  pub some : 0 < high
+  pub forward : 0 < size
+  pub tall : (c : ℕ) → (plane planes c).desc.height ≤ high
+  pub within : (s : Step) → IsStepOf s tasks → NamesPlanes (length planes) s
+  pub suits : (s : Step) → IsStepOf s tasks → SuitsPlanes tables high s planes
+  pub halo_count : length halos ≡ length planes
+  pub enough : Suffice high halos tasks
+  pub one_writer : HaveOneWriter tasks
+  -- rows that a step reads were written before it, or are those of a client's image that no step writes
+  pub begins : (c : ℕ) → IsLive (KeepsBlock (length planes) tasks) tasks c → IsUnwritten tasks c × KeepsBlock (length planes) tasks c
+  pub clients : (c : ℕ) → KeepsBlock (length planes) tasks c → IsClient (plane planes c)
+  pub written : (s : Step) → IsStepOf s tasks → s.takes ≡ None → KeepsBlock (length planes) tasks s.output
+  -- a step that accumulates writes each row once
+  pub once : (s : Step) → IsStepOf s tasks → accumulates s.node.function ≡ true → (halo halos s.output ≡ 0) ⊎ (high ≤ size)
+  -- blocks are free when they are taken, have room, and after a band are where they were before it
+  pub free : AreFree (KeepsBlock (length planes) tasks) tasks
+  pub room : HaveRoom size halos (λ c. (plane planes c).desc) tasks (capacities planes)
+  pub again : blocks_after_tasks tasks (capacities planes) ≡ capacities planes
+
+-- images that the steps make of each other: each output is, whole, the step's image of these, and where the step accumulates of the
+-- output before; every other image is as before
+pub record SolvesSteps (tables : List Second) (count : ℕ) (tasks : List Task) (before after : ℕ → ImageValue) : Type 0 where
+  pub images : (c : ℕ) → c < count → IsImage (after c)
+  pub written : (s : Step) → IsStepOf s tasks → after s.output ≡ step_image tables s after (before s.output)
+  pub others : (c : ℕ) → IsUnwritten tasks c → after c ≡ before c
+
+-- ---- a step by itself
+
+-- the images with another one at this index
+abbrev pub with_image : ℕ → ImageValue → (ℕ → ImageValue) → ℕ → ImageValue
+with_image c image images k = if k == c then image else images k
+
+-- a step over client images of at most this height
+pub record IsAlone (tables : List Second) (high : ℕ) (halos : List ℕ) (s : Step) (planes : List PlaneValue) : Type 0 where
+  pub some : 0 < high
+  pub tall : (c : ℕ) → (plane planes c).desc.height ≤ high
+  pub output : s.output < length planes
+  pub none : s.takes ≡ None
+  pub reads : (c : ℕ) → ReadsPlane s c → (c < length planes) × (c ≢ s.output)
+  pub suits : SuitsPlanes tables high s planes
+  pub halo_count : length halos ≡ length planes
+  pub enough : Suffice high halos (Write s ∷ [])
+  pub clients : (c : ℕ) → c < length planes → IsClient (plane planes c)
+
+-- ---- whole images
+
+-- the steps one after the other, each over whole images
+abbrev pub steps_in_turn : List Second → List Task → (ℕ → ImageValue) → ℕ → ImageValue
+steps_in_turn tables [] images = images
+steps_in_turn tables (Write s ∷ later) images = steps_in_turn tables later (with_image s.output (step_image tables s images (images s.output)) images)
+steps_in_turn tables (Reduce r ∷ later) images = steps_in_turn tables later images
+
+-- a step writes the plane at this index
+abbrev pub IsWritten : List Task → ℕ → Type 0
+IsWritten tasks c = (s : Step) × IsStepOf s tasks × (s.output ≡ c)
+
+-- each plane is that of a client's image, or is written
+abbrev pub AreFilled : ℕ → List Task → Type 0
+AreFilled count tasks = (c : ℕ) → c < count → KeepsBlock count tasks c ⊎ IsWritten tasks c

@@ -1,0 +1,141 @@
+-- Steps: nodes over planes, and the effect of one step.
+use Rattle.std.specs.Prelude.{ℕ, ◌*◌, ◌<◌, ◌≤◌, ◌≡◌, ◌≢◌, ◌⊎◌, IsTrue, List, [], length, map, slice_get, slice_index_or, slice_set, Option, Some, None, IfSome}
+use Rattle.std.specs.Option.{option_and_then}
+use Rattle.vx_base.specs.declared.format.Format.{Format}
+use Rattle.vx_base.specs.declared.format.Format.TheVariants.{U8}
+use Rattle.vx_base.specs.Description.{Description, same_size}
+use Rattle.vx_base.specs.Formats.{takes_formats}
+use Rattle.vx_base.specs.Function.{parameters}
+use Rattle.vx_base.specs.Image.{ImageValue, description_of, image_over}
+use Rattle.vx_base.specs.declared.node.Node.{Node}
+use Rattle.vx_base.specs.declared.output.Output.{Output}
+use Rattle.vx_base.specs.Node.{IsNode}
+use Rattle.vx_base.specs.Object.{ObjectValue, ImageObject, IsObject, object_kind, object_format}
+use Rattle.vx_base.specs.Outputs.{node_image, beside_first}
+use Rattle.vx_base.specs.Rectangle.{empty}
+use Rattle.image_core.specs.declared.band.Band.{Band}
+use Rattle.image_core.specs.declared.second.Second.{Second}
+use Rattle.image_core.specs.declared.image_mut.ImageMut.{ImageMut}
+use Rattle.image_core.specs.Bands.{IsInRows, image_over_rows}
+use Rattle.image_core.specs.Target.{written}
+use Rattle.image_core.specs.Fits.{SecondHasSize}
+use Rattle.image_core.specs.Second.{second_object}
+use Rattle.node_rows.specs.Reach.{reach, matrix_in}
+use Rattle.graph_steps.specs.declared.kernel.Kernel.{Kernel}
+use Rattle.graph_steps.specs.declared.step.Step.{Step}
+use Rattle.graph_steps.specs.declared.step.Source.{Source}
+use Rattle.graph_steps.specs.declared.step.Source.TheVariants.{Nothing, Plane, Table}
+use Rattle.graph_steps.specs.Planes.{PlaneValue, plane, read_images, plane_image, with_read_rows, with_rows, with_block, without_block, IsReadable, IsWhole}
+
+-- ---- images of steps
+
+-- the step reads the plane at this index
+abbrev pub ReadsPlane : Step → ℕ → Type 0
+ReadsPlane s c = (s.first ≡ c) ⊎ (s.second ≡ Plane c)
+
+-- a step's second input: an image, a lent table, or none
+abbrev pub second_in : List Second → (ℕ → ImageValue) → Source → Option ObjectValue
+second_in tables images Nothing = None
+second_in tables images (Plane c) = Some (ImageObject (images c))
+second_in tables images (Table k) = option_and_then (λ t. second_object t) (slice_get tables k)
+
+-- the image that a step makes of its inputs and, where it accumulates, of its output before
+abbrev pub image_from_inputs : Step → ImageValue → Option ObjectValue → ImageValue → ImageValue
+image_from_inputs s first second own = node_image s.node s.which own.format first (beside_first s.node second (ImageObject own))
+
+abbrev pub kernel_image : Kernel → ImageValue → ImageValue
+kernel_image k own = image_from_inputs k.step.now k.first.now (second_object k.second.now) own
+
+-- the image whose rows an output holds: 0 in every other row
+abbrev pub held_image : ImageMut → ImageValue
+held_image out = image_over_rows out.desc out.valid out.rows (written out).samples
+
+abbrev pub step_image : List Second → Step → (ℕ → ImageValue) → ImageValue → ImageValue
+step_image tables s images own = image_from_inputs s (images s.first) (second_in tables images s.second) own
+
+-- the step of a node whose inputs are lent to its kernel: it names no planes
+abbrev pub lent_step : Node → Output → Step
+lent_step n which = record { node = n; which = which; first = 0; second = Nothing; output = 0; takes = None; radius = 0 }
+
+-- ---- premises of a step
+
+-- a node's inputs, and an output of this description: kinds, formats and sizes that its function takes
+pub record CanMake (s : Step) (first : ImageValue) (second : Option ObjectValue) (out : Description) : Type 0 where
+  pub node : IsNode s.node
+  pub kind : IfSome second (λ object. (parameters s.node.function).second_input ≡ Some (object_kind object))
+  pub formats : IsTrue (takes_formats s.node.function first.format (option_and_then object_format second) (Some out.format))
+  pub size : IsTrue (same_size out (description_of first))
+  pub second_size : SecondHasSize first second
+
+-- a function reads no row outside the radius, in images of at most this height
+abbrev pub Covers : Option ℕ → ℕ → ℕ → Type 0
+Covers (Some rows) radius high = rows ≤ radius
+Covers None radius high = high ≤ radius
+
+-- an image of which nothing but its description matters
+abbrev pub blank_image : Description → ImageValue
+blank_image d = image_over d empty []
+
+-- the plane of the second input; index 0 where that is none
+abbrev pub second_plane : Source → ℕ
+second_plane (Plane c) = c
+second_plane other = 0
+
+-- a step over planes of these descriptions: of its inputs and of its output
+pub record Suits (tables : List Second) (high : ℕ) (s : Step) (first second out : Description) : Type 0 where
+  pub makes : CanMake s (blank_image first) (second_in tables (λ _. blank_image second) s.second) out
+  pub table : (k : ℕ) → s.second ≡ Table k → (k < length tables) × IfSome (second_in tables (λ _. blank_image second) s.second) IsObject
+  pub near : Covers (reach s.node.function (matrix_in (second_in tables (λ _. blank_image second) s.second))) s.radius high
+
+-- the same over planes
+abbrev pub SuitsPlanes : List Second → ℕ → Step → List PlaneValue → Type 0
+SuitsPlanes tables high s planes =
+    Suits tables high s (plane planes s.first).desc (plane planes (second_plane s.second)).desc (plane planes s.output).desc
+
+-- planes on which a step can write these rows of its output
+pub record CanStep (tables : List Second) (high : ℕ) (s : Step) (rows : Band) (planes : List PlaneValue) : Type 0 where
+  pub suits : SuitsPlanes tables high s planes
+  pub output : s.output < length planes
+  pub reads : (c : ℕ) → ReadsPlane s c → (c < length planes) × (c ≢ s.output) × (s.takes ≢ Some c) × IsReadable (plane planes c)
+  pub within : IsInRows (plane planes s.output).desc.height rows
+  -- the block that the output takes has its format, and room for the rows
+  pub block : (t : ℕ) → s.takes ≡ Some t →
+      (t < length planes) × ((plane planes t).format ≡ (plane planes s.output).desc.format) × (rows.count * (plane planes s.output).desc.width ≤ length (plane planes t).samples)
+  -- an output that takes none has all rows
+  pub whole : s.takes ≡ None → IsWhole (plane planes s.output)
+
+-- ---- effect on planes
+
+-- the plane at c takes the block of that at t, to hold rows from `top` on
+abbrev pub with_moved_block : ℕ → ℕ → ℕ → List PlaneValue → List PlaneValue
+with_moved_block t c top planes =
+    slice_set (slice_set planes t (without_block (plane planes t))) c
+    (with_block (plane planes t).format (plane planes t).samples top (plane (slice_set planes t (without_block (plane planes t))) c))
+
+abbrev pub with_output_block : Option ℕ → ℕ → ℕ → List PlaneValue → List PlaneValue
+with_output_block None c top planes = planes
+with_output_block (Some t) c top planes = with_moved_block t c top planes
+
+-- these rows of the output are written
+abbrev pub with_output : List Second → Step → Band → List PlaneValue → List PlaneValue
+with_output tables s rows planes =
+    let out = plane planes s.output in
+    slice_set planes s.output (with_rows rows (step_image tables s (read_images planes) (plane_image (with_read_rows rows out))) out)
+
+-- the planes once the step has run on these rows of its output
+abbrev pub after_step : List Second → Step → Band → List PlaneValue → List PlaneValue
+after_step tables s rows planes = with_output tables s rows (with_output_block s.takes s.output rows.start planes)
+
+-- the format of a block and its number of samples, and how blocks move as a step takes one
+abbrev pub capacities : List PlaneValue → List (Format × ℕ)
+capacities planes = map (λ p. (p.format, length p.samples)) planes
+
+abbrev pub capacity : List (Format × ℕ) → ℕ → Format × ℕ
+capacity blocks c = slice_index_or blocks c (U8, 0)
+
+abbrev pub blocks_with_move : Option ℕ → ℕ → List (Format × ℕ) → List (Format × ℕ)
+blocks_with_move None c blocks = blocks
+blocks_with_move (Some t) c blocks = slice_set (slice_set blocks t ((capacity blocks t).0, 0)) c (capacity blocks t)
+
+abbrev pub blocks_after_step : Step → List (Format × ℕ) → List (Format × ℕ)
+blocks_after_step s blocks = blocks_with_move s.takes s.output blocks

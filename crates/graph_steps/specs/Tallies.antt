@@ -1,0 +1,93 @@
+-- Tallies: histograms and extremes, as far as bands have run.
+use Rattle.std.specs.Prelude.{ℕ, ◌+◌, ◌*◌, ◌<◌, ◌≤◌, ◌^◌, ◌≡◌, ◌≢◌, List, [], ◌∷◌, length, replicate, slice_index, slice_index_or, slice_set}
+use Rattle.vx_base.specs.declared.format.Format.{Format}
+use Rattle.vx_base.specs.declared.format.Format.TheVariants.{U8, U32}
+use Rattle.vx_base.specs.Image.{ImageValue}
+use Rattle.vx_base.specs.Object.{DistributionValue, no_extremes}
+use Rattle.vx_base.specs.Statistics.{extremes, histogram, valid_samples}
+use Rattle.image_core.specs.declared.band.Band.{Band}
+use Rattle.image_core.specs.declared.second.Second.{Second}
+use Rattle.stat_kernels.specs.Counts.{added}
+use Rattle.stat_kernels.specs.Located.{added_extremes}
+use Rattle.stat_kernels.specs.Part.{valid_in}
+use Rattle.graph_steps.specs.declared.step.Reduction.{Reduction}
+use Rattle.graph_steps.specs.declared.step.Task.{Task}
+use Rattle.graph_steps.specs.declared.step.Task.TheVariants.{Write, Reduce}
+use Rattle.graph_steps.specs.declared.tally.Tally.{Tally}
+use Rattle.graph_steps.specs.declared.tally.Tally.TheVariants as tally
+use Rattle.graph_steps.specs.Planes.{PlaneValue, plane, plane_image, with_halo}
+use Rattle.graph_steps.specs.Program.{Reduces, after_task}
+
+-- ---- one tally
+
+-- the distribution once these rows of an image are counted too
+abbrev pub with_rows_counted : Band → ImageValue → DistributionValue → DistributionValue
+with_rows_counted rows image d = record { bins = d.bins; counts = added d.counts (histogram d.bins (valid_in rows image)) }
+
+abbrev pub with_rows_added : Band → ImageValue → Tally → Tally
+with_rows_added rows image (tally.Histogram d) = tally.Histogram (with_rows_counted rows image d)
+with_rows_added rows image (tally.Extremes e) = tally.Extremes (added_extremes 0 e (extremes (valid_in rows image)))
+
+-- the tally of a whole image
+abbrev pub tally_of : ImageValue → Tally → Tally
+tally_of image (tally.Histogram d) = tally.Histogram (record { bins = d.bins; counts = histogram d.bins image })
+tally_of image (tally.Extremes e) = tally.Extremes (extremes image)
+
+-- a tally to which nothing was added
+abbrev pub IsNew : Tally → Type 0
+IsNew (tally.Histogram d) = d.counts ≡ replicate d.bins.bins 0
+IsNew (tally.Extremes e) = e ≡ no_extremes
+
+-- an image of this format can be added
+abbrev pub TakesFormat : Format → Tally → Type 0
+TakesFormat format (tally.Histogram d) = format ≡ U8
+TakesFormat format (tally.Extremes e) = format ≢ U32
+
+-- no count passes 32 bits where these rows are added
+abbrev pub CountsFit : Band → ImageValue → Tally → Type 0
+CountsFit rows image (tally.Histogram d) = (k : ℕ) → slice_index d.counts k + length (valid_samples (valid_in rows image)) < 2 ^ 32
+CountsFit rows image (tally.Extremes e) =
+    (e.min_count + (extremes (valid_in rows image)).min_count < 2 ^ 32) × (e.max_count + (extremes (valid_in rows image)).max_count < 2 ^ 32)
+
+-- these rows of an image can be added
+pub record CanAdd (rows : Band) (image : ImageValue) (t : Tally) : Type 0 where
+  pub format : TakesFormat image.format t
+  pub room : CountsFit rows image t
+
+-- a tally of at most this many samples, with a count for each bin
+abbrev pub IsBounded : ℕ → Tally → Type 0
+IsBounded most (tally.Histogram d) = (length d.counts ≡ d.bins.bins) × ((k : ℕ) → slice_index d.counts k ≤ most)
+IsBounded most (tally.Extremes e) = (e.min_count ≤ most) × (e.max_count ≤ most)
+
+-- ---- all tallies
+
+abbrev pub tally_at : List Tally → ℕ → Tally
+tally_at tallies k = slice_index_or tallies k (tally.Extremes no_extremes)
+
+-- the tallies once a reduction has run on a band
+abbrev pub after_reduction : Band → List PlaneValue → Reduction → List Tally → List Tally
+after_reduction rows planes r tallies =
+    slice_set tallies r.tally (with_rows_added (with_halo 0 (plane planes r.input).desc.height rows) (plane_image (plane planes r.input)) (tally_at tallies r.tally))
+
+-- the tallies once a task is done on a band, and once all are
+abbrev pub tallies_after : Band → Task → List PlaneValue → List Tally → List Tally
+tallies_after rows (Write s) planes tallies = tallies
+tallies_after rows (Reduce r) planes tallies = after_reduction rows planes r tallies
+
+abbrev pub all_tallies_after : List Second → List ℕ → Band → List Task → List PlaneValue → List Tally → List Tally
+all_tallies_after tables halos rows [] planes tallies = tallies
+all_tallies_after tables halos rows (t ∷ later) planes tallies =
+    all_tallies_after tables halos rows later (after_task tables halos rows t planes) (tallies_after rows t planes tallies)
+
+-- no tally is that of two reductions
+abbrev pub HaveOneReduction : List Task → Type 0
+HaveOneReduction [] = Unit {0}
+HaveOneReduction (Write s ∷ later) = HaveOneReduction later
+HaveOneReduction (Reduce r ∷ later) = ((q : Reduction) → Reduces q later → q.tally ≢ r.tally) × HaveOneReduction later
+
+-- a reduction of a plane whose rows above `first` are added
+pub record CanReduce (first : ℕ) (planes : List PlaneValue) (tallies : List Tally) (r : Reduction) : Type 0 where
+  pub input : r.input < length planes
+  pub tally : r.tally < length tallies
+  pub format : TakesFormat (plane planes r.input).desc.format (tally_at tallies r.tally)
+  pub bounded : IsBounded (first * 8192) (tally_at tallies r.tally)

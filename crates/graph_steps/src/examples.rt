@@ -1,0 +1,12 @@
+//! Worked examples: a program in bands.
+ghost use Rattle.std.specs.Prelude.{[]};
+ghost use Rattle.graph_steps.specs.Examples.{boxes, box_halos, box_planes, box_tallies};
+ghost use Rattle.graph_steps.specs.Program.{IsProgram};
+ghost use Rattle.graph_steps.specs.Runs.{CanReduceBand};
+
+/// Two box filters in a row over images of four rows can run in bands of two rows. Between them is
+/// a virtual image, whose extremes are found too.
+pub fn two_boxes()
+    ensures program { IsProgram [] 4 2 box_halos boxes box_planes }
+    ensures reduces { CanReduceBand 0 boxes box_planes box_tallies }
+{}

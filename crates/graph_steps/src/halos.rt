@@ -1,0 +1,70 @@
+//! Halos: the rows above and below a band that are needed of each plane.
+ghost use Rattle.std.specs.Prelude.{◌≡◌, ◌<◌, ◌≤◌, ◌+◌, ℕ, min, max, length, slice_set};
+ghost use Rattle.graph_steps.specs.declared.step.Step.{Step as StepValue};
+ghost use Rattle.graph_steps.specs.declared.step.Task.TheVariants.{Write};
+ghost use Rattle.graph_steps.specs.Steps.{ReadsPlane};
+ghost use Rattle.graph_steps.specs.Program.{IsStepOf, AreInOrder, halo, Suffice, IsUnread};
+
+use crate::step::{Source, Step, Task};
+
+/// Gives the plane at an index at least this halo.
+fn raise(halos: &mut [u16], at: usize, rows: u16)
+    requires { at < length halos.old }
+    ensures { halos.new ≡ slice_set halos.old at (max (halo halos.old at) rows) }
+{
+    halos[at] = halos[at].max(rows);
+}
+
+/// Gives the inputs of a step the halo of its output and the step's radius more.
+fn raise_inputs(step: &Step, high: u16, halos: &mut [u16])
+    requires reads { (c : ℕ) → ReadsPlane step.now c → c < length halos.old }
+    requires output { step.now.output < length halos.old }
+    ensures grows { (c : ℕ) → halo halos.old c ≤ halo halos.new c }
+    ensures enough { (c : ℕ) → ReadsPlane step.now c →
+        min high (halo halos.old step.now.output + step.now.radius) ≤ halo halos.new c }
+    ensures others { (c : ℕ) → (ReadsPlane step.now c → ⊥) → halo halos.new c ≡ halo halos.old c }
+    ensures len { length halos.new ≡ length halos.old }
+{
+    let rows = halos[step.output].saturating_add(step.radius).min(high);
+    raise(halos, step.first, rows);
+    match step.second {
+        Source::Plane(second) => raise(halos, second, rows),
+        Source::Nothing => {}
+        Source::Table(_) => {}
+    }
+}
+
+/// Raises the halos of a task's inputs. A reduction reads the rows of the band alone.
+fn raise_for(task: &Task, high: u16, halos: &mut [u16])
+    requires reads { (s : StepValue) → task.now ≡ Write s → (c : ℕ) → ReadsPlane s c →
+        c < length halos.old }
+    requires output { (s : StepValue) → task.now ≡ Write s → s.output < length halos.old }
+    ensures grows { (c : ℕ) → halo halos.old c ≤ halo halos.new c }
+    ensures enough { (s : StepValue) → task.now ≡ Write s → (c : ℕ) → ReadsPlane s c →
+        min high (halo halos.old s.output + s.radius) ≤ halo halos.new c }
+    ensures others { (c : ℕ) → ((s : StepValue) → task.now ≡ Write s → ReadsPlane s c → ⊥) →
+        halo halos.new c ≡ halo halos.old c }
+    ensures len { length halos.new ≡ length halos.old }
+{
+    match task {
+        Task::Write(step) => raise_inputs(step, high, halos),
+        Task::Reduce(_) => {}
+    }
+}
+
+/// Finds the halo of each plane, from the last task back to the first. `high` is the height of the
+/// highest image.
+pub fn find_halos(high: u16, tasks: &[Task], halos: &mut [u16])
+    requires order { AreInOrder tasks.now }
+    requires reads { (s : StepValue) → IsStepOf s tasks.now → (c : ℕ) → ReadsPlane s c →
+        c < length halos.old }
+    requires output { (s : StepValue) → IsStepOf s tasks.now → s.output < length halos.old }
+    ensures enough { Suffice high halos.new tasks.now }
+    ensures unread { (c : ℕ) → IsUnread tasks.now c → halo halos.new c ≡ 0 }
+    ensures len { length halos.new ≡ length halos.old }
+{
+    halos.fill(0);
+    for k in 0..tasks.len() {
+        raise_for(&tasks[tasks.len() - 1 - k], high, halos);
+    }
+}

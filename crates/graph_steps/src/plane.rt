@@ -1,0 +1,202 @@
+//! Images while a graph runs.
+ghost use Rattle.std.specs.Prelude.{◌≡◌, ◌+◌, ◌-◌, ◌*◌, ◌≤◌, ◌<◌, ◌^◌, length};
+ghost use Rattle.vx_base.specs.Picture.{values, samples_format};
+ghost use Rattle.vx_base.specs.Rectangle.{IsWithin};
+ghost use Rattle.image_core.specs.Bands.{IsInRows};
+ghost use Rattle.image_core.specs.Second.{second_object};
+ghost use Rattle.graph_steps.specs.Planes.{plane_image, with_read_rows, with_rows, whole_plane};
+ghost use Rattle.graph_steps.specs.Planes.{virtual_plane, with_block, without_block, with_halo};
+ghost use Rattle.graph_steps.specs.Planes.{block_image, IsReadable, IsWhole};
+ghost use Rattle.graph_steps.specs.Steps.{CanMake, kernel_image};
+
+use crate::kernel::Kernel;
+use crate::rows::{write_bytes, write_shorts, write_words};
+use image_core::{Band, Image};
+use std::marker::Model;
+use vx_base::{Desc, Rect, Samples};
+
+/// An image while a graph runs: the description and the valid rectangle of the whole image, and a
+/// block that holds some or all of its rows.
+#[derive(Debug, Drop)]
+pub struct Plane {
+    desc: Desc,
+    valid: Rect,
+    /// The row with which the block begins.
+    top: u16,
+    /// The rows that a step may read.
+    rows: Band,
+    samples: Samples,
+}
+
+impl Model for Plane {
+    ghost use Rattle.vx_base.specs.Picture.{values, samples_format};
+    ghost use Rattle.graph_steps.specs.Planes.{PlaneValue};
+
+    ghost Value = { PlaneValue };
+
+    ghost view = { λ p. record {
+      desc = p.desc;
+      valid = p.valid;
+      top = p.top;
+      rows = p.rows;
+      format = samples_format p.samples;
+      samples = values p.samples;
+    } };
+}
+
+impl Plane {
+    /// Returns the plane of a client's image: all samples, row by row.
+    pub fn of_image(desc: Desc, valid: Rect, samples: Samples) -> Plane
+        ensures { result ≡ whole_plane desc valid samples }
+    {
+        Plane {
+            desc,
+            valid,
+            top: 0,
+            rows: Band::whole(desc),
+            samples,
+        }
+    }
+
+    /// Returns the plane of a virtual image whose rows are not written yet.
+    pub fn of_block(desc: Desc, samples: Samples) -> Plane
+        ensures { result ≡ virtual_plane desc samples }
+    {
+        Plane {
+            desc,
+            valid: Rect::empty(),
+            top: 0,
+            rows: Band { start: 0, count: 0 },
+            samples,
+        }
+    }
+
+    pub fn desc(&self) -> Desc
+        ensures { result ≡ self.now.desc }
+    {
+        self.desc
+    }
+
+    pub fn valid(&self) -> Rect
+        ensures { result ≡ self.now.valid }
+    {
+        self.valid
+    }
+
+    /// Takes the block out: for the table, for the pool, or for the plane that has it from then on.
+    pub fn give(&mut self) -> Samples
+        ensures format { samples_format result ≡ self.old.format }
+        ensures value { values result ≡ self.old.samples }
+        ensures left { self.new ≡ without_block self.old }
+    {
+        self.samples.take()
+    }
+
+    /// Takes over a block that is to hold rows from row `top` on.
+    pub fn take(&mut self, samples: Samples, top: u16)
+        ensures { self.new ≡ with_block (samples_format samples) (values samples) top self.old }
+    {
+        self.samples = samples;
+        self.top = top;
+        self.valid = Rect::empty();
+    }
+
+    /// Takes the plane out, while its inputs are lent; no samples are left.
+    pub fn take_out(&mut self) -> Plane
+        ensures { result ≡ self.old }
+    {
+        Plane {
+            desc: self.desc,
+            valid: self.valid,
+            top: self.top,
+            rows: self.rows,
+            samples: self.samples.take(),
+        }
+    }
+
+    /// Returns the band with its halo, as far as the image has these rows.
+    pub fn with_halo(&self, band: Band, halo: u16) -> Band
+        requires { band.start + band.count < 2 ^ 16 }
+        ensures { result ≡ with_halo halo self.now.desc.height band }
+    {
+        let height = self.desc.height();
+        let start = band.start.saturating_sub(halo).min(height);
+        let end = (band.start + band.count).saturating_add(halo).min(height);
+        Band {
+            start,
+            count: end - start,
+        }
+    }
+
+    /// Lends the rows for reading; each other row is read as 0.
+    pub fn image(&self) -> Image<'_>
+        requires { IsReadable self.now }
+        ensures { result ≡ plane_image self.now }
+    {
+        let width = usize::from(self.desc.width());
+        let start = usize::from(self.rows.start - self.top) * width;
+        let count = usize::from(self.rows.count) * width;
+        let (desc, valid, rows) = (self.desc, self.valid, self.rows);
+        match &self.samples {
+            Samples::U8(samples) => Image::of_rows(
+                desc,
+                valid,
+                rows,
+                &samples[start..start + count],
+            ),
+            Samples::S16(samples) => Image::of_rows(
+                desc,
+                valid,
+                rows,
+                &samples[start..start + count],
+            ),
+            Samples::U32(samples) => Image::of_rows(
+                desc,
+                valid,
+                rows,
+                &samples[start..start + count],
+            ),
+        }
+    }
+
+    /// Writes these rows of a kernel's image, and its valid rectangle. From then on a step may read
+    /// these rows.
+    pub fn write(&mut self, kernel: &Kernel<'_, '_, '_>, rows: Band)
+        requires format { self.old.format ≡ self.old.desc.format }
+        requires can { CanMake kernel.now.step.now kernel.now.first.now
+            (second_object kernel.now.second.now) self.old.desc }
+        requires rows { IsInRows self.old.desc.height rows }
+        requires within { IsWithin self.old.valid self.old.desc.width self.old.desc.height }
+        requires top { self.old.top ≤ rows.start }
+        requires room { (rows.start - self.old.top + rows.count) * self.old.desc.width
+            ≤ length self.old.samples }
+        ensures { self.new ≡ with_rows rows
+            (kernel_image kernel.now (plane_image (with_read_rows rows self.old))) self.old }
+    {
+        let (desc, top, valid) = (self.desc, self.top, self.valid);
+        self.rows = rows;
+        self.valid = match &mut self.samples {
+            Samples::U8(samples) => {
+                write_bytes(desc, top, rows, valid, samples.as_mut_slice(), kernel)
+            }
+            Samples::S16(samples) => {
+                write_shorts(desc, top, rows, valid, samples.as_mut_slice(), kernel)
+            }
+            Samples::U32(samples) => {
+                write_words(desc, top, rows, valid, samples.as_mut_slice(), kernel)
+            }
+        };
+    }
+
+    /// Writes all rows of a kernel's image to the plane of a client's image.
+    pub fn write_all(&mut self, kernel: &Kernel<'_, '_, '_>)
+        requires whole { IsWhole self.old }
+        requires can { CanMake kernel.now.step.now kernel.now.first.now
+            (second_object kernel.now.second.now) self.old.desc }
+        ensures image { block_image self.new ≡ kernel_image kernel.now (block_image self.old) }
+        ensures desc { self.new.desc ≡ self.old.desc }
+        ensures format { self.new.format ≡ self.old.format }
+    {
+        self.write(kernel, Band::whole(self.desc));
+    }
+}
