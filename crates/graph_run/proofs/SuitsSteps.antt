@@ -5,10 +5,10 @@ use Rattle.vx_base.specs.declared.kind.Kind.TheVariants as kind
 use Rattle.vx_base.specs.Convolution.{ConvolutionValue}
 use Rattle.std.proofs.lemmas.List.Folds.{list_all-append}
 use Rattle.image_core.specs.declared.second.Second.{Second}
-use Rattle.node_rows.specs.Reach.{matrix_in, reach}
+use Rattle.node_rows.specs.Reach.{matrix_in}
 use Rattle.graph_verify.proofs.SuitLemmas.{Suits as SuitsOutput, met, no_fault_suits, passed}
 use Rattle.graph_steps.specs.declared.step.Source.TheVariants.{Table}
-use Rattle.graph_steps.specs.Steps.{CanMake, Covers, Suits, blank_image, second_in}
+use Rattle.graph_steps.specs.Steps.{CanMake, Covers, Suits, blank_image, second_in, step_reach}
 use Rattle.graph_run.specs.Tasks.{source, step_for}
 use Rattle.graph_run.proofs.RunLemmas.{has_of_node, same_formats}
 
@@ -83,11 +83,11 @@ module _ (known : Cell → Operand) (n : Node) (node : IsNode n) (none : node_fa
     -- the step suits planes of these descriptions
     pub step_suits : (tables : List Second) (high : ℕ) (beside : Description) → second ≡ second_in tables (λ _. blank_image beside) (source cells at (second_kind n) n.in2)
         → ((k : ℕ) → source cells at (second_kind n) n.in2 ≡ Table k → (k < length tables) × IfSome second IsObject)
-        → Covers (reach n.function matrix) (radius n) high → Suits tables high (step_for cells slots radius at n which o) first beside out
+        → Covers (step_reach n.function matrix) (radius n) high → Suits tables high (step_for cells slots radius at n which o) first beside out
     step_suits tables high beside is table near =
         let s = step_for cells slots radius at n which o in
         record {
           makes = subst (λ (x : Option ObjectValue). CanMake s (blank_image first) x out) is can_make;
           table = λ k e. (let t = table k e in (t.0, subst (λ (x : Option ObjectValue). IfSome x IsObject) is t.1));
-          near = subst (λ (m : Option ConvolutionValue). Covers (reach n.function m) (radius n) high) (sym stands.matrix ∙ ap matrix_in is) near;
+          near = subst (λ (m : Option ConvolutionValue). Covers (step_reach n.function m) (radius n) high) (sym stands.matrix ∙ ap matrix_in is) near;
         }

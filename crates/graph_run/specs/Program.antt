@@ -8,12 +8,12 @@ use Rattle.vx_base.specs.declared.kind.Kind.TheVariants as kind
 use Rattle.vx_base.specs.declared.node.Node.{Node}
 use Rattle.vx_base.specs.Cell.{Cell}
 use Rattle.vx_base.specs.Description.{Description}
-use Rattle.vx_base.specs.Function.{accumulates, parameters}
+use Rattle.vx_base.specs.Function.{parameters}
 use Rattle.vx_base.specs.Node.{second_kind}
 use Rattle.vx_base.specs.Object.{ObjectValue, IsObject, new_distribution, no_extremes}
 use Rattle.image_core.specs.declared.second.Second.{Second}
 use Rattle.image_core.specs.Second.{second_object}
-use Rattle.node_rows.specs.Reach.{reach, matrix_in}
+use Rattle.node_rows.specs.Reach.{matrix_in}
 use Rattle.object_table.specs.Named.{Named, held}
 use Rattle.object_table.specs.Object.{distribution_value}
 use Rattle.object_table.specs.Table.{cell_object}
@@ -27,7 +27,7 @@ use Rattle.graph_steps.specs.declared.tally.Tally.{Tally}
 use Rattle.graph_steps.specs.declared.tally.Tally.TheVariants as tally
 use Rattle.graph_steps.specs.Planes.{PlaneValue, no_plane}
 use Rattle.graph_steps.specs.Program.{IsStepOf, Suffice, halo}
-use Rattle.graph_steps.specs.Steps.{Covers, capacities}
+use Rattle.graph_steps.specs.Steps.{Covers, capacities, reads_output, step_reach}
 use Rattle.graph_run.specs.Bind.{image_planes}
 use Rattle.graph_run.specs.Operands.{IsReady}
 use Rattle.graph_run.specs.Slots.{place_of}
@@ -52,7 +52,7 @@ tables_of objects nodes = map (node_table objects) nodes
 
 -- the rows above and below a row of its output that a node reads; None stands for all
 abbrev pub node_reach : List Named → Node → Option ℕ
-node_reach objects n = reach n.function (matrix_in (option_and_then (held objects) n.in2))
+node_reach objects n = step_reach n.function (matrix_in (option_and_then (held objects) n.in2))
 
 -- the same in images of at most this height
 abbrev pub radius_of : List Named → ℕ → Node → ℕ
@@ -97,9 +97,11 @@ tallies_of objects nodes = flat_map (node_tallies objects) nodes
 
 -- ---- programs
 
--- a step that accumulates writes no row twice: its output has no halo, or there is one band
+-- a step that reads its output writes no row twice, and to a block of all rows: its output has no halo and takes no block, or there is one
+-- band
 abbrev pub AddOnce : ℕ → ℕ → List ℕ → List Task → Type 0
-AddOnce high size halos tasks = (s : Step) → IsStepOf s tasks → accumulates s.node.function ≡ true → (halo halos s.output ≡ 0) ⊎ (high ≤ size)
+AddOnce high size halos tasks =
+    (s : Step) → IsStepOf s tasks → reads_output s.node.function ≡ true → ((halo halos s.output ≡ 0) × (s.takes ≡ None)) ⊎ (high ≤ size)
 
 -- a verified graph that is ready to run, and all that its program needs: tables and radii of its nodes, planes of virtual images whose
 -- blocks are those of slots, halos, and the rows of a band

@@ -1,11 +1,10 @@
 //! Sizes: how high the images of a graph are, and in bands of how many rows it runs.
-ghost use Rattle.std.specs.Prelude.{◌≡◌, ◌≤◌, ◌<◌, ℕ, All, true, length, IfOk, IfSome};
-ghost use Rattle.vx_base.specs.Function.{accumulates};
+ghost use Rattle.std.specs.Prelude.{◌≡◌, ◌≤◌, ◌<◌, ℕ, All, true, length, None, IfOk, IfSome};
 ghost use Rattle.object_table.specs.Table.{image_held};
 ghost use Rattle.graph_steps.specs.declared.step.Step.{Step as StepValue};
 ghost use Rattle.graph_steps.specs.declared.step.Task.TheVariants.{Write};
 ghost use Rattle.graph_steps.specs.Program.{AreInOrder, IsStepOf, Suffice, halo};
-ghost use Rattle.graph_steps.specs.Steps.{ReadsPlane};
+ghost use Rattle.graph_steps.specs.Steps.{ReadsPlane, reads_output};
 ghost use Rattle.graph_run.specs.Bind.{HoldImages};
 ghost use Rattle.graph_run.specs.Program.{AddOnce};
 
@@ -166,10 +165,11 @@ fn wanted_rows(desc: Desc, halo: u16) -> u16
     wanted.min(greatest).max(LEAST_ROWS) as u16
 }
 
-/// Whether each step that accumulates writes an output without a halo.
+/// Whether each step that reads its output writes one without a halo, and to a block of all rows.
 fn add_once(tasks: &[Task], halos: &[u16]) -> bool
     ensures { result ≡ true → (s : StepValue) → IsStepOf s tasks.now →
-        accumulates s.node.function ≡ true → halo halos.now s.output ≡ 0 }
+        reads_output s.node.function ≡ true →
+        (halo halos.now s.output ≡ 0) × (s.takes ≡ None) }
 {
     let mut rest = tasks;
     while let Some((task, later)) = rest.split_first() {
@@ -181,16 +181,26 @@ fn add_once(tasks: &[Task], halos: &[u16]) -> bool
     true
 }
 
-/// Whether a task that accumulates writes an output without a halo.
+/// Whether a task that reads its output writes one without a halo, and to a block of all rows.
 fn adds_once(task: &Task, halos: &[u16]) -> bool
     ensures { result ≡ true → (s : StepValue) → task.now ≡ Write s →
-        accumulates s.node.function ≡ true → halo halos.now s.output ≡ 0 }
+        reads_output s.node.function ≡ true →
+        (halo halos.now s.output ≡ 0) × (s.takes ≡ None) }
 {
     match task {
-        Task::Write(step) if step.node.function.accumulates() => match halos.get(step.output) {
-            Some(halo) => *halo == 0,
-            None => true,
-        },
+        Task::Write(step) if step.reads_output() => {
+            step.takes.is_none() && is_without_halo(step.output, halos)
+        }
         _ => true,
+    }
+}
+
+/// Whether a plane has no halo.
+fn is_without_halo(plane: usize, halos: &[u16]) -> bool
+    ensures { result ≡ true → halo halos.now plane ≡ 0 }
+{
+    match halos.get(plane) {
+        Some(halo) => *halo == 0,
+        None => true,
     }
 }

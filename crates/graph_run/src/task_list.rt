@@ -12,8 +12,7 @@ ghost use Rattle.graph_run.specs.Tasks.{holder, last_in, source, step_for, taken
 ghost use Rattle.graph_run.specs.Tasks.{tasks_by, tasks_of, write_given};
 
 use crate::cells::index_of;
-use graph_steps::{Reduction, Source, Step, Task};
-use node_rows::reach;
+use graph_steps::{Reduction, Source, Step, Task, step_reach};
 use object_table::{Content, Table};
 use std::alloc::{AllocError, Global};
 use vx_base::{Convolution, Kind, Node, ObjRef, Output};
@@ -153,7 +152,7 @@ fn source(cells: &[ObjRef], at: usize, node: &Node) -> Source
 pub fn radius_of(table: &Table, high: u16, node: &Node) -> u16
     ensures { result ≡ radius_of table.now.objects high node.now }
 {
-    reach(node.function, matrix_of(table, node)).unwrap_or(high)
+    step_reach(node.function, matrix_of(table, node)).unwrap_or(high)
 }
 
 /// The matrix that is the second input of a node.

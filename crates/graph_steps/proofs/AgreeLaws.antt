@@ -1,20 +1,26 @@
 -- The rows that a band makes agree with whole images that solve the steps' equations.
-use Rattle.std.proofs.Common.{◌≡◌, ◌≢◌, ℕ, ℤ, ◌+◌, ◌-◌, ◌<◌, ◌≤◌, min, max, true, List, [], ◌∷◌, length, Option, Some, None, IfSome, refl, sym, ◌∙◌, ap, subst, inl, inr, arith, cond, nat_lt, ◌&&◌}
+use Rattle.std.proofs.Common.{◌≡◌, ◌≢◌, ℕ, ℤ, ◌+◌, ◌-◌, ◌<◌, ◌≤◌, min, max, true, List, [], ◌∷◌, length, Option, Some, None, IfSome, refl, sym, ◌∙◌, pos, ◌*◌, ◌==◌, false, get_or, unsigned_abs, ap, subst, inl, inr, arith, cond, nat_lt, ◌&&◌}
 use Rattle.std.specs.Prelude.{◌⊎◌}
 use Rattle.std.proofs.lemmas.Bool.{cases_Bool}
 use Rattle.std.proofs.lemmas.Bool.Decides.{nat_tests}
 use Rattle.vx_base.specs.declared.format.Format.{Format}
+use Rattle.vx_base.specs.declared.function.Function.{Function}
+use Rattle.vx_base.specs.declared.node.Node.{Node}
+use Rattle.vx_base.specs.declared.output.Output.{Output}
 use Rattle.vx_base.specs.Description.{Description}
 use Rattle.vx_base.specs.Function.{accumulates}
-use Rattle.vx_base.specs.Image.{ImageValue, IsImage, at, made, description_of}
+use Rattle.vx_base.specs.Image.{ImageValue, IsImage, at, made, within, description_of}
 use Rattle.vx_base.specs.Object.{ObjectValue, ImageObject, IsObject}
-use Rattle.vx_base.specs.Outputs.{node_image}
+use Rattle.vx_base.specs.Outputs.{image_of_one, node_image}
 use Rattle.vx_base.specs.Pixelwise.{from_two, formula_of_two}
+use Rattle.vx_base.specs.Statistics.{sum_to, sums_in}
 use Rattle.vx_base.specs.Rectangle.{Rectangle, inside, bounded, empty, meet_of}
 use Rattle.vx_base.proofs.ImageLaws.{at-made, at-made_outside}
 use Rattle.image_core.specs.declared.band.Band.{Band}
 use Rattle.image_core.specs.declared.second.Second.{Second}
 use Rattle.image_core.specs.Bands.{IsInRows, has_row}
+use Rattle.stat_kernels.specs.Sums.{sum_on}
+use Rattle.stat_kernels.proofs.ScanLaws.{scan_agrees}
 use Rattle.node_rows.specs.Reach.{reach, matrix_in}
 use Rattle.node_rows.specs.Rows.{AgreeInRows, AgreeBeside}
 use Rattle.node_rows.proofs.RowLaws.{agree_fewer, agree_in_all, node_rows}
@@ -25,12 +31,12 @@ use Rattle.graph_steps.specs.declared.step.Task.TheVariants.{Write, Reduce}
 use Rattle.graph_steps.specs.declared.step.Source.{Source}
 use Rattle.graph_steps.specs.declared.step.Source.TheVariants.{Nothing, Plane, Table}
 use Rattle.graph_steps.specs.Planes.{PlaneValue, plane, plane_image, block_image, block_images, read_images, with_read_rows, with_halo}
-use Rattle.graph_steps.specs.Steps.{ReadsPlane, second_in, step_image, Covers, CanStep, second_plane, with_output_block, after_step}
+use Rattle.graph_steps.specs.Steps.{ReadsPlane, blank_image, second_in, is_integral, rows_image, scan_image, step_image, sums_above, Covers, CanStep, second_plane, with_output_block, after_step}
 use Rattle.graph_steps.specs.Program.{IsStepOf, HaveOneWriter, halo, Suffice, band_rows, after_tasks, IsLive}
 use Rattle.graph_steps.specs.Runs.{CanRunBand}
-use Rattle.graph_steps.proofs.KernelLaws.{same_sides}
+use Rattle.graph_steps.proofs.KernelLaws.{integral_is, integral_second, same_sides}
 use Rattle.graph_steps.proofs.PlaneLaws.{held_agrees, read_at}
-use Rattle.graph_steps.proofs.StepLaws.{same_or_other, IsReady, ready_is, object_told, matrix_told, second_same, image_desc, after_desc, after_output, after_others, after_image, after_count}
+use Rattle.graph_steps.proofs.StepLaws.{same_or_other, IsReady, ready_is, object_told, kind_told, matrix_told, second_same, image_desc, after_desc, after_output, after_others, after_image, after_count}
 use Rattle.graph_steps.proofs.BandLaws.{skip_next, step_fits, step_next}
 
 -- ---- images that agree
@@ -111,6 +117,48 @@ sums_agree format f a b own other first last agree meets same =
           ∙ ap (λ r. at (made b.width b.height format r (λ u v. f (at b u v) (at other u v))) x y) meets;
     }
 
+-- ---- integral images
+
+-- a sample of the integral image
+pub sum_in : (format : Format) (image : ImageValue) (x y : ℕ) → x < image.width → y < image.height → at (sums_in format image) x y ≡ within image.valid (sum_to image) x y
+sum_in format image x y i j = elim (cases_Bool (inside image.valid x y)) [
+  | inl e ↦ at-made image.width image.height format image.valid (sum_to image) x y i j e ∙ sym (ap (λ t. cond t (sum_to image x y) (pos 0)) e)
+  | inr e ↦ at-made_outside image.width image.height format image.valid (sum_to image) x y i j e ∙ sym (ap (λ t. cond t (sum_to image x y) (pos 0)) e)
+]
+
+-- rows that follow from the row above them agree with the integral image where that row does
+scans_agree : (format : Format) (a b : ImageValue) (start : ℕ) (above : ℕ → ℕ) (first last : ℕ) → AgreeInRows first last a b → ((y : ℕ) → first ≤ y → y < a.height → start ≡ first)
+    → ((x : ℕ) → x < a.width → start ≡ 0 → above x ≡ 0) → ((x : ℕ) → x < a.width → 1 ≤ start → above x ≡ unsigned_abs (within b.valid (sum_to b) x (start - 1)))
+    → AgreeInRows first last (made a.width a.height format a.valid (sum_on a start above)) (sums_in format b)
+scans_agree format a b start above first last agree starts none some =
+    let wide : a.width ≡ b.width = ap (λ (d : Description). d.width) agree.alike.description in
+    let tall : a.height ≡ b.height = ap (λ (d : Description). d.height) agree.alike.description in
+    record {
+      alike = record {
+        description = ap (λ (d : Description). let e : Description = record { width = d.width; height = d.height; format = format } in e) agree.alike.description;
+        valid = agree.alike.valid;
+      };
+      samples = λ x y i j k l. elim (cases_Bool (inside b.valid x y)) [
+        | inl e ↦
+            let s = starts y k j in
+            at-made a.width a.height format a.valid (sum_on a start above) x y i j (ap (λ r. inside r x y) agree.alike.valid ∙ e)
+            ∙ scan_agrees a b start x y above agree.alike.valid (omega arith) e
+            (λ m n left low high. agree.samples m n (omega arith) (omega arith) (omega arith) (omega arith)) (none x i) (some x i)
+            ∙ sym (at-made b.width b.height format b.valid (sum_to b) x y (omega arith) (omega arith) e)
+        | inr e ↦
+            at-made_outside a.width a.height format a.valid (sum_on a start above) x y i j (ap (λ r. inside r x y) agree.alike.valid ∙ e)
+            ∙ sym (at-made_outside b.width b.height format b.valid (sum_to b) x y (omega arith) (omega arith) e)
+      ];
+    }
+
+-- the definition's image of an integral image's step
+integral_image : (n : Node) (which : Output) (format : Format) (a : ImageValue) (second own : Option ObjectValue) → is_integral n.function ≡ true → second ≡ None
+    → node_image n which format a (cond (accumulates n.function) own second) ≡ sums_in format a
+integral_image n which format a second own scans none =
+    ap (λ (f : Function). node_image n which format a (cond (accumulates f) own second)) (integral_is n.function scans)
+    ∙ ap (node_image n which format a) none
+    ∙ ap (λ (f : Function). image_of_one f n which format a) (integral_is n.function scans)
+
 -- ---- rows of a band and its halo
 
 in_halo : (more height : ℕ) (band : Band) (y : ℕ) → 1 ≤ band.count → band.start - more ≤ y → y ≤ band.start + band.count - 1 + more → y < height → has_row (with_halo more height band) y ≡ true
@@ -144,6 +192,13 @@ module _ (tables : List Second) (high : ℕ) (halos : List ℕ) (band : Band) (s
     pub row : (x y : ℕ) → x < (plane planes s.output).desc.width → has_row (band_rows planes halos band s.output) y ≡ true → at (block_images planes s.output) x y ≡ at (origin s.output) x y
     pub valid : ((plane planes s.output).valid ≡ (origin s.output).valid) ⊎ ((plane planes s.output).valid ≡ (whole s.output).valid)
 
+  -- of an output that follows from the row above, that row is the solution's, if there is one
+  abbrev pub HasRowAbove : List PlaneValue → Step → Type 0
+  HasRowAbove planes s =
+      (first_row s.output ≡ 0)
+      ⊎ ((s.takes ≡ None)
+      × ((x y : ℕ) → x < (plane planes s.output).desc.width → y < first_row s.output → y < (plane planes s.output).desc.height → at (block_images planes s.output) x y ≡ at (whole s.output) x y))
+
   -- planes as a band comes to a step
   pub record Meets (planes : List PlaneValue) : Type 0 where
     pub length_is : length planes ≡ count
@@ -152,7 +207,8 @@ module _ (tables : List Second) (high : ℕ) (halos : List ℕ) (band : Band) (s
 
   module _ (s : Step) (later : List Task) (planes : List PlaneValue) (can : CanRunBand tables high halos band kept (Write s ∷ later) planes) (meets : Meets planes)
       (enough : (c : ℕ) → ReadsPlane s c → min high (halo halos s.output + s.radius) ≤ halo halos c) (known : (c : ℕ) → ReadsPlane s c → Knows planes c)
-      (solves : whole s.output ≡ step_image tables s whole (origin s.output)) (own_is : accumulates s.node.function ≡ true → IsOwn planes s) where
+      (solves : whole s.output ≡ step_image tables s whole (origin s.output)) (own_is : accumulates s.node.function ≡ true → IsOwn planes s)
+      (above_is : is_integral s.node.function ≡ true → HasRowAbove planes s) where
     abbrev rows : Band
     rows = band_rows planes halos band s.output
 
@@ -219,10 +275,11 @@ module _ (tables : List Second) (high : ℕ) (halos : List ℕ) (band : Band) (s
     same_format = ap (λ (d : Description). d.format) (is.desc s.output ∙ sym (meets.desc s.output))
 
     -- a node that doesn't accumulate
-    plain_agrees : AgreeInRows first last (node_image s.node s.which own.format (read_images planes s.first) (second_in tables (read_images planes) s.second))
+    plain_agrees : is_integral s.node.function ≡ false → AgreeInRows first last (node_image s.node s.which own.format (read_images planes s.first) (second_in tables (read_images planes) s.second))
         (node_image s.node s.which own.format (whole s.first) (second_in tables whole s.second))
-    plain_agrees = by_reach (reach s.node.function (matrix_in (second_in tables (read_images planes) s.second))) refl
-        (subst (λ m. Covers (reach s.node.function m) s.radius high) (matrix_told tables (plane planes (second_plane s.second)).desc (read_images planes) s.second) fits.suits.near)
+    plain_agrees other = by_reach (reach s.node.function (matrix_in (second_in tables (read_images planes) s.second))) refl
+        (subst (λ m. Covers (reach s.node.function m) s.radius high) (matrix_told tables (plane planes (second_plane s.second)).desc (read_images planes) s.second)
+        (subst (λ b. Covers (cond b (Some 0) (reach s.node.function (matrix_in (second_in tables (λ _. blank_image (plane planes (second_plane s.second)).desc) s.second)))) s.radius high) other fits.suits.near))
       where
         by_reach : (o : Option ℕ) → reach s.node.function (matrix_in (second_in tables (read_images planes) s.second)) ≡ o → Covers o s.radius high
             → AgreeInRows first last (node_image s.node s.which own.format (read_images planes s.first) (second_in tables (read_images planes) s.second))
@@ -265,8 +322,8 @@ module _ (tables : List Second) (high : ℕ) (halos : List ℕ) (band : Band) (s
             ap (λ (i : ImageValue). i.valid) (solves ∙ ap (λ b. node_image s.node s.which (origin s.output).format (whole s.first) (cond b (Some (ImageObject (origin s.output))) (second_in tables whole s.second))) sums) in
             ap (meet_of (whole s.first).valid) (e ∙ f) ∙ meet_again (whole s.first).valid (origin s.output).valid
 
-    made_agrees : AgreeInRows first last (step_image tables s (read_images planes) own) (step_image tables s whole (origin s.output))
-    made_agrees = elim (cases_Bool (accumulates s.node.function)) [
+    made_agrees : is_integral s.node.function ≡ false → AgreeInRows first last (step_image tables s (read_images planes) own) (step_image tables s whole (origin s.output))
+    made_agrees other = elim (cases_Bool (accumulates s.node.function)) [
       | inl sums ↦
           let P : Format → Type 0 = λ f. AgreeInRows first last (from_two own.format (formula_of_two s.node.function own.format s.node.policy s.node.amount) (read_images planes s.first) own)
           (from_two f (formula_of_two s.node.function f s.node.policy s.node.amount) (whole s.first) (origin s.output)) in
@@ -279,19 +336,91 @@ module _ (tables : List Second) (high : ℕ) (halos : List ℕ) (band : Band) (s
           (node_image s.node s.which f (whole s.first) (second_in tables whole s.second)) in
           agree_trans first last _ _ _
           (agree_same first last _ _ (ap (λ b. node_image s.node s.which own.format (read_images planes s.first) (cond b (Some (ImageObject own)) (second_in tables (read_images planes) s.second))) plain))
-          (agree_trans first last _ _ _ (subst P same_format plain_agrees)
+          (agree_trans first last _ _ _ (subst P same_format (plain_agrees other))
           (agree_same first last _ _ (sym (ap (λ b. node_image s.node s.which (origin s.output).format (whole s.first) (cond b (Some (ImageObject (origin s.output))) (second_in tables whole s.second))) plain))))
+    ]
+
+    -- an integral image
+    abbrev wide : ℕ
+    wide = (plane planes s.output).desc.width
+
+    -- no second input
+    alone : is_integral s.node.function ≡ true → second_in tables whole s.second ≡ None
+    alone scans =
+        integral_second s.node.function (second_in tables whole s.second) scans
+        (kind_told tables (plane planes (second_plane s.second)).desc whole s.node s.second fits.suits.makes.kind)
+
+    is_sums : (scans : is_integral s.node.function ≡ true) → step_image tables s whole (origin s.output) ≡ sums_in (origin s.output).format (whole s.first)
+    is_sums scans = integral_image s.node s.which (origin s.output).format (whole s.first) (second_in tables whole s.second) (Some (ImageObject (origin s.output))) scans (alone scans)
+
+    scan_is_near : (scans : is_integral s.node.function ≡ true) → AgreeInRows first last (scan_image rows.start (read_images planes s.first) out) (sums_in out.desc.format (whole s.first))
+    scan_is_near scans =
+        scans_agree out.desc.format (read_images planes s.first) (whole s.first) rows.start (sums_above out.desc.width out.top rows.start out.samples) first last
+        (agree_fewer (first - s.radius) first last (last + s.radius) (read_images planes s.first) (whole s.first) (omega arith) (omega arith) (near s.first (inl refl)))
+        (λ y from low. starts (plane planes s.output).desc.height y from (omega (arith, sides.1)))
+        (λ x across zero_start. at_top x (omega (arith, is.top)))
+        (λ x across some. elim (above_is scans) [
+          | inl none ↦ absurd (let z = no_more (plane planes s.output).desc.height none in omega arith)
+          | inr (none, above) ↦ row_above x (omega (arith, sides.0)) some none above
+        ])
+      where
+        sides : ((plane planes s.output).desc.width ≡ (plane planes s.first).desc.width) × ((plane planes s.output).desc.height ≡ (plane planes s.first).desc.height)
+        sides = same_sides (plane planes s.output).desc (plane planes s.first).desc fits.suits.makes.size
+
+        starts : (height y : ℕ) → first ≤ y → y < height → (with_halo (halo halos s.output) height band).start ≡ first
+        starts height y from low = omega arith
+
+        no_more : (height : ℕ) → first ≡ 0 → (with_halo (halo halos s.output) height band).start ≡ 0
+        no_more height none = omega arith
+
+        at_top : (x : ℕ) → rows.start ≡ out.top → sums_above out.desc.width out.top rows.start out.samples x ≡ 0
+        at_top x same = let e : (rows.start == out.top) ≡ true = grind (arith, nat_tests) in
+            ap (λ b. cond b 0 (unsigned_abs (get_or out.samples ((rows.start - out.top - 1) * out.desc.width + x) (pos 0)))) e
+
+        row_above : (x : ℕ) → x < wide → 1 ≤ rows.start → s.takes ≡ None
+            → ((x y : ℕ) → x < wide → y < first → y < (plane planes s.output).desc.height → at (block_images planes s.output) x y ≡ at (whole s.output) x y)
+            → sums_above out.desc.width out.top rows.start out.samples x ≡ unsigned_abs (within (whole s.first).valid (sum_to (whole s.first)) x (rows.start - 1))
+        row_above x across some none above =
+            let same : out ≡ plane planes s.output = is.own none in
+            let top = (fits.whole none).top in
+            let e : (rows.start == (plane planes s.output).top) ≡ false = grind (arith, nat_tests) in
+            let in_rows = fits.within in
+            let a = near s.first (inl refl) in
+            let w : (plane planes s.first).desc.width ≡ (whole s.first).width = ap (λ (d : Description). d.width) a.alike.description in
+            let h : (plane planes s.first).desc.height ≡ (whole s.first).height = ap (λ (d : Description). d.height) a.alike.description in
+            ap (λ (p : PlaneValue). sums_above p.desc.width p.top rows.start p.samples x) same
+            ∙ ap (λ b. cond b 0 (unsigned_abs (get_or (plane planes s.output).samples ((rows.start - (plane planes s.output).top - 1) * wide + x) (pos 0)))) e
+            ∙ ap (λ n. unsigned_abs (get_or (plane planes s.output).samples (n * wide + x) (pos 0))) (let up : rows.start - (plane planes s.output).top - 1 ≡ rows.start - 1 = omega arith in up)
+            ∙ ap unsigned_abs
+            (above x (rows.start - 1) across (below_first (plane planes s.output).desc.height some) (omega arith)
+            ∙ ap (λ i. at i x (rows.start - 1)) (solves ∙ is_sums scans)
+            ∙ sum_in (origin s.output).format (whole s.first) x (rows.start - 1) (omega (arith, sides.0)) (omega (arith, sides.1)))
+          where
+            below_first : (height : ℕ) → 1 ≤ (with_halo (halo halos s.output) height band).start → (with_halo (halo halos s.output) height band).start - 1 < first
+            below_first height some = omega arith
+
+    rows_agree : AgreeInRows first last (rows_image tables s rows (read_images planes) out) (step_image tables s whole (origin s.output))
+    rows_agree = elim (cases_Bool (is_integral s.node.function)) [
+      | inl scans ↦
+          let P : Format → Type 0 = λ f. AgreeInRows first last (scan_image rows.start (read_images planes s.first) out) (sums_in f (whole s.first)) in
+          agree_trans first last _ _ _
+          (agree_same first last _ _ (ap (λ b. cond b (scan_image rows.start (read_images planes s.first) out) (step_image tables s (read_images planes) own)) scans))
+          (agree_trans first last _ _ _ (subst P same_format (scan_is_near scans)) (agree_same first last _ _ (sym (is_sums scans))))
+      | inr other ↦
+          agree_trans first last _ _ _
+          (agree_same first last _ _ (ap (λ b. cond b (scan_image rows.start (read_images planes s.first) out) (step_image tables s (read_images planes) own)) other))
+          (made_agrees other)
     ]
 
     pub step_agrees : AgreeInRows first last (read_images (after_step tables s rows planes) s.output) (whole s.output)
     step_agrees =
-        let image : ImageValue = step_image tables s (read_images planes) own in
+        let image : ImageValue = rows_image tables s rows (read_images planes) out in
         let d : description_of image ≡ (plane planes s.output).desc = image_desc tables high s rows planes fits ∙ is.desc s.output in
         let h : image.height ≡ (plane planes s.output).desc.height = ap (λ (e : Description). e.height) d in
         agree_trans first last _ _ _
         (subst (λ i. AgreeInRows first last i image) (sym (after_image tables high s rows planes fits))
         (held_agrees image rows first last (subst (λ n. IsInRows n rows) (sym h) fits.within) (starts (halo halos s.output) (plane planes s.output).desc.height) (subst (λ n. min (last + 1) n ≤ rows.start + rows.count) (sym h) (ends (halo halos s.output) (plane planes s.output).desc.height))))
-        (subst (AgreeInRows first last image) (sym solves) made_agrees)
+        (subst (AgreeInRows first last image) (sym solves) rows_agree)
       where
         starts : (more height : ℕ) → (with_halo more height band).start ≤ band.start - more
         starts more height = omega arith
@@ -329,6 +458,7 @@ module _ (tables : List Second) (high : ℕ) (halos : List ℕ) (band : Band) (s
     pub one : HaveOneWriter tasks
     pub solves : (s : Step) → IsStepOf s tasks → whole s.output ≡ step_image tables s whole (origin s.output)
     pub was : (s : Step) → IsStepOf s tasks → accumulates s.node.function ≡ true → IsOwn planes s
+    pub above : (s : Step) → IsStepOf s tasks → is_integral s.node.function ≡ true → HasRowAbove planes s
     pub known : (c : ℕ) → IsLive kept tasks c → Knows planes c
 
   pub known_next : (s : Step) (later : List Task) (planes : List PlaneValue) → Known (Write s ∷ later) planes → Known later (after_step tables s (band_rows planes halos band s.output) planes)
@@ -356,7 +486,15 @@ module _ (tables : List Second) (high : ℕ) (halos : List ℕ) (band : Band) (s
             let P : PlaneValue → Type 0 = λ p. (x y : ℕ) → x < p.desc.width → has_row (with_halo (halo halos t.output) p.desc.height band) y ≡ true → at (block_image p) x y ≡ at (origin t.output) x y in
             let Q : PlaneValue → Type 0 = λ p. (p.valid ≡ (origin t.output).valid) ⊎ (p.valid ≡ (whole t.output).valid) in
             record { row = subst P (sym same) o.row; valid = subst Q (sym same) o.valid };
-        known = λ d live. step_knows s later planes can k.meets (k.enough s (inl refl)) (λ e r. k.known e (inl r)) (k.solves s (inl refl)) (k.was s (inl refl)) d (λ other e. can.free.0 d e other live) (λ other. k.known d (inr (other, live)));
+        above = λ t i scans. elim (k.above t (inr i) scans) [
+          | inl none ↦ inl none
+          | inr (none, row) ↦
+              let j = can.written t (inr i) none in
+              let same : plane after t.output ≡ plane planes t.output = after_others tables high s rows planes fits t.output (λ e. k.one.0 t i e) (λ e. (can.keeps t.output j s (inl refl) t.output e).0 refl) in
+              let P : PlaneValue → Type 0 = λ p. (x y : ℕ) → x < p.desc.width → y < first_row t.output → y < p.desc.height → at (block_image p) x y ≡ at (whole t.output) x y in
+              inr (none, subst P (sym same) row)
+        ];
+        known = λ d live. step_knows s later planes can k.meets (k.enough s (inl refl)) (λ e r. k.known e (inl r)) (k.solves s (inl refl)) (k.was s (inl refl)) (k.above s (inl refl)) d (λ other e. can.free.0 d e other live) (λ other. k.known d (inr (other, live)));
       }
 
   pub known_skip : (r : Reduction) (later : List Task) (planes : List PlaneValue) → Known (Reduce r ∷ later) planes → Known later planes
@@ -367,6 +505,7 @@ module _ (tables : List Second) (high : ℕ) (halos : List ℕ) (band : Band) (s
     one = k.one;
     solves = k.solves;
     was = k.was;
+    above = k.above;
     known = λ c live. k.known c (inr live);
   }
 

@@ -1,18 +1,17 @@
--- Two box filters in bands of two rows.
-use Rattle.std.proofs.Common.{◌≡◌, ◌≢◌, ℕ, zero, suc, ◌+◌, ◌≤◌, min, [], Option, Some, None, true, refl, sym, subst, inl, inr, arith}
+-- Two box filters, and an integral image, in bands of two rows.
+use Rattle.std.proofs.Common.{◌≡◌, ◌≢◌, ℕ, zero, suc, ◌+◌, ◌<◌, ◌≤◌, min, [], Option, Some, None, true, refl, sym, subst, inl, inr, arith}
 use Rattle.std.specs.Prelude.{◌⊎◌, slice_index_or}
-use Rattle.vx_base.specs.Function.{accumulates}
 use Rattle.vx_base.specs.declared.format.Format.TheVariants.{U8, U32}
 use Rattle.vx_base.specs.Node.{IsNode}
 use Rattle.vx_base.proofs.ImageLaws.{new_image_is}
 use Rattle.graph_steps.specs.declared.step.Source.TheVariants.{Nothing, Plane, Table}
 use Rattle.graph_steps.specs.declared.step.Step.{Step}
 use Rattle.graph_steps.specs.Planes.{plane}
-use Rattle.graph_steps.specs.Steps.{ReadsPlane, Suits, SuitsPlanes, capacities, capacity}
+use Rattle.graph_steps.specs.Steps.{ReadsPlane, Suits, SuitsPlanes, capacities, capacity, reads_output}
 use Rattle.graph_steps.specs.Program.{IsStepOf, IsUnwritten, KeepsBlock, IsLive, NamesPlanes, IsClient, IsProgram, HoldsRows}
 use Rattle.graph_steps.specs.Runs.{CanReduceBand}
 use Rattle.graph_steps.specs.Tallies.{CanReduce}
-use Rattle.graph_steps.specs.Examples.{small_image_desc, client_plane, box_node, box_step, boxes, box_planes, box_halos, box_tallies}
+use Rattle.graph_steps.specs.Examples.{small_image_desc, client_plane, box_node, box_step, boxes, box_planes, box_halos, box_tallies, integral_step, sums, sums_halos, sums_planes}
 
 one_of : (P : Step → Type 0) → P (box_step 0 1 (Some 1)) → P (box_step 1 2 None) → (s : Step) → IsStepOf s boxes → P s
 one_of P p q s i = elim i [
@@ -134,7 +133,7 @@ is_program = record {
   begins = λ c live. let e = live_zero c live in subst (λ k. IsUnwritten boxes k × KeepsBlock 3 boxes k) (sym e) (zero_unwritten, zero_kept);
   clients = client_at;
   written = one_of (λ s. s.takes ≡ None → KeepsBlock 3 boxes s.output) (λ e. absurd (not_some 1 (sym e))) (λ e. two_kept);
-  once = one_of (λ s. accumulates s.node.function ≡ true → (slice_index_or box_halos s.output 0 ≡ 0) ⊎ (4 ≤ 2)) (λ e. absurd (cc)) (λ e. absurd (cc));
+  once = one_of (λ s. reads_output s.node.function ≡ true → ((slice_index_or box_halos s.output 0 ≡ 0) × (s.takes ≡ None)) ⊎ (4 ≤ 2)) (λ e. absurd (cc)) (λ e. absurd (cc));
   free = ((λ t e other live. other (sym (same_some 1 t e))), ((λ t e. absurd (not_some t e)), tt));
   room = ((λ t e. let k = same_some 1 t e in subst (λ n. HoldsRows 2 1 small_image_desc (capacity (capacities box_planes) n)) k (refl, omega arith)), ((λ t e. absurd (not_some t e)), tt));
   again = refl;
@@ -156,3 +155,66 @@ can_reduce = record {
   where
     not_words : U8 ≢ U32
     not_words e = cc
+
+-- ---- an integral image
+
+only : (P : Step → Type 0) → P integral_step → (s : Step) → IsStepOf s sums → P s
+only P p s i = elim i [ inl e ↦ subst P (sym e) p | inr k ↦ absurd k ]
+
+sum_input : (c : ℕ) → ReadsPlane integral_step c → c ≡ 0
+sum_input c r = elim r [ inl e ↦ sym e | inr e ↦ absurd (not_plane c e) ]
+
+sums_kept : (c : ℕ) → c < 2 → KeepsBlock 2 sums c
+sums_kept c below = (below, only (λ s. (t : ℕ) → s.takes ≡ Some t → (t ≢ c) × (s.output ≢ c)) (λ t e. absurd (not_some t e)))
+
+input_unwritten : IsUnwritten sums 0
+input_unwritten = only (λ s. s.output ≢ 0) (λ e. omega arith)
+
+sums_client : (c : ℕ) → KeepsBlock 2 sums c → IsClient (plane sums_planes c)
+sums_client zero k = is_client
+sums_client (suc zero) k = record {
+  whole = record { format = refl; top = refl; size = refl; valid = record { columns = omega arith; rows = omega arith } };
+  rows = refl;
+  image = new_image_is 1 4 U32 (omega arith) (omega arith);
+}
+sums_client (suc (suc c)) k = absurd (let b = k.0 in omega arith)
+
+sums_tall : (c : ℕ) → (plane sums_planes c).desc.height ≤ 4
+sums_tall zero = omega arith
+sums_tall (suc zero) = omega arith
+sums_tall (suc (suc c)) = omega arith
+
+-- what is live at the start is the input
+input_live : (c : ℕ) → IsLive (KeepsBlock 2 sums) sums c → c ≡ 0
+input_live c live = elim live [
+  | inl r ↦ sum_input c r
+  | inr a ↦ (let below = a.1.0 in let other = a.0 in omega arith)
+]
+
+pub sums_program : IsProgram [] 4 2 sums_halos sums sums_planes
+sums_program = record {
+  some = omega arith;
+  forward = omega arith;
+  tall = sums_tall;
+  within = only (NamesPlanes 2) (record {
+    output = omega arith;
+    reads = (λ c r. let e = sum_input c r in (omega arith, (λ z. omega arith), (λ z. not_some c z)));
+    taken = (λ t e. absurd (not_some t e));
+    own = (λ adds. refl);
+  });
+  suits = only (λ s. SuitsPlanes [] 4 s sums_planes) (record {
+    makes = record { node = record { shape = refl; border = tt; amount = omega arith; in1 = is_node.in1; in2 = tt; out1 = is_node.out1; out2 = tt }; kind = tt; formats = refl; size = refl; second_size = tt };
+    table = (λ k e. absurd (not_table k e));
+    near = omega arith;
+  });
+  halo_count = refl;
+  enough = only (λ s. (c : ℕ) → ReadsPlane s c → min 4 (slice_index_or sums_halos s.output 0 + s.radius) ≤ slice_index_or sums_halos c 0) (λ c r. omega arith);
+  one_writer = ((λ s i. absurd i), tt);
+  begins = λ c live. let e = input_live c live in subst (λ k. IsUnwritten sums k × KeepsBlock 2 sums k) (sym e) (input_unwritten, sums_kept 0 (omega arith));
+  clients = sums_client;
+  written = only (λ s. s.takes ≡ None → KeepsBlock 2 sums s.output) (λ e. sums_kept 1 (omega arith));
+  once = only (λ s. reads_output s.node.function ≡ true → ((slice_index_or sums_halos s.output 0 ≡ 0) × (s.takes ≡ None)) ⊎ (4 ≤ 2)) (λ e. inl (refl, refl));
+  free = ((λ t e other live. absurd (not_some t e)), tt);
+  room = ((λ t e. absurd (not_some t e)), tt);
+  again = refl;
+}

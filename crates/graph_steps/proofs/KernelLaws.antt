@@ -3,9 +3,9 @@ use Rattle.std.proofs.Common.{◌≡◌, ℕ, ℤ, ◌*◌, ◌+◌, ◌-◌, �
 use Rattle.std.proofs.lemmas.Bool.{and_parts}
 use Rattle.std.proofs.lemmas.Bool.Decides.{nat_tests}
 use Rattle.vx_base.specs.declared.format.Format.{Format}
-use Rattle.vx_base.specs.declared.format.Format.TheVariants.{S16}
+use Rattle.vx_base.specs.declared.format.Format.TheVariants.{U8, S16, U32}
 use Rattle.vx_base.specs.declared.function.Function.{Function}
-use Rattle.vx_base.specs.declared.function.Function.TheVariants.{Sobel}
+use Rattle.vx_base.specs.declared.function.Function.TheVariants.{Integral, Sobel}
 use Rattle.vx_base.specs.declared.node.Node.{Node}
 use Rattle.vx_base.specs.declared.output.Output.{Output}
 use Rattle.vx_base.specs.Description.{Description, same_size}
@@ -29,7 +29,8 @@ use Rattle.image_core.proofs.HeldRows.{at_held}
 use Rattle.node_rows.proofs.RowLaws.{node_description}
 use Rattle.graph_steps.specs.declared.step.Step.{Step}
 use Rattle.graph_steps.specs.declared.kernel.Kernel.{Kernel}
-use Rattle.graph_steps.specs.Steps.{CanMake, image_from_inputs, kernel_image, held_image}
+use Rattle.graph_steps.specs.Planes.{PlaneValue}
+use Rattle.graph_steps.specs.Steps.{CanMake, image_from_inputs, is_integral, kernel_image, held_image, scan_image}
 
 -- ---- by the function
 
@@ -74,6 +75,23 @@ plain_written s first second own old new plain is =
     written_same (image_from_inputs s first second own) (node_image s.node s.which own.format first second) old new
     (ap (λ b. node_image s.node s.which own.format first (cond b (Some (ImageObject own)) second)) plain) is
 
+-- ---- integral images
+
+pub integral_is : (function : Function) → is_integral function ≡ true → function ≡ Integral
+integral_is Integral h = refl
+integral_is other h = cc
+
+formats_of_integral : (a : Format) (second : Option Format) (out : Format) → takes_formats Integral a second (Some out) ≡ true → (a ≡ U8) × (out ≡ U32)
+formats_of_integral U8 None U32 t = (refl, refl)
+formats_of_integral a second out t = cc
+
+pub integral_formats : (function : Function) (a : Format) (second : Option Format) (out : Format) → is_integral function ≡ true → takes_formats function a second (Some out) ≡ true → (a ≡ U8) × (out ≡ U32)
+integral_formats function a second out h t = formats_of_integral a second out (sym (ap (λ (f : Function). takes_formats f a second (Some out)) (integral_is function h)) ∙ t)
+
+pub integral_second : (function : Function) (second : Option ObjectValue) → is_integral function ≡ true → IfSome second (λ object. (parameters function).second_input ≡ Some (object_kind object)) → second ≡ None
+integral_second function None h kind = refl
+integral_second function (Some object) h kind = let none : (parameters function).second_input ≡ None = ap (λ (f : Function). (parameters f).second_input) (integral_is function h) in absurd (cc)
+
 -- ---- descriptions
 
 pub same_description : (a b : Description) → same_size a b ≡ true → a.format ≡ b.format → a ≡ b
@@ -85,6 +103,10 @@ pub made_description : (s : Step) (first : ImageValue) (second : Option ObjectVa
 made_description s first second out own can same =
     node_description s.node s.which own.format first (cond (accumulates s.node.function) (Some (ImageObject own)) second)
     ∙ sym (same_description out (record { width = first.width; height = first.height; format = own.format }) can.size (sym same))
+
+-- and so has an integral image
+pub scan_description : (start : ℕ) (s : Step) (first : ImageValue) (second : Option ObjectValue) (out : PlaneValue) → CanMake s first second out.desc → description_of (scan_image start first out) ≡ out.desc
+scan_description start s first second out can = sym (same_description out.desc (record { width = first.width; height = first.height; format = out.desc.format }) can.size refl)
 
 -- ---- the rows that an output holds
 

@@ -10,3 +10,4 @@ pub mod HaloLaws
 pub mod OrderLaws
 pub mod AloneLaws
 pub mod ExampleLaws
+pub mod SumLaws

@@ -1,9 +1,10 @@
 -- Band after band.
-use Rattle.std.proofs.Common.{◌≡◌, ℕ, ◌+◌, ◌-◌, ◌*◌, ◌<◌, ◌≤◌, ◌^◌, min, true, false, List, [], ◌∷◌, length, nat_lt, refl, sym, ◌∙◌, ap, subst, inl, inr, arith}
+use Rattle.std.proofs.Common.{◌≡◌, ℕ, ◌+◌, ◌-◌, ◌*◌, ◌<◌, ◌≤◌, ◌^◌, min, true, false, List, [], ◌∷◌, length, nat_lt, ◌||◌, refl, sym, ◌∙◌, ap, subst, inl, inr, arith}
 use Rattle.std.specs.Prelude.{◌⊎◌}
 use Rattle.std.proofs.lemmas.Bool.{cases_Bool}
 use Rattle.std.proofs.lemmas.Bool.Decides.{nat_tests}
 use Rattle.vx_base.specs.declared.format.Format.{Format}
+use Rattle.vx_base.specs.declared.function.Function.{Function}
 use Rattle.vx_base.specs.Description.{Description}
 use Rattle.vx_base.specs.Function.{accumulates}
 use Rattle.vx_base.specs.Image.{ImageValue, IsImage, at, band as samples_in_band}
@@ -18,7 +19,7 @@ use Rattle.graph_steps.specs.declared.step.Step.{Step}
 use Rattle.graph_steps.specs.declared.step.Task.{Task}
 use Rattle.graph_steps.specs.declared.step.Task.TheVariants.{Write, Reduce}
 use Rattle.graph_steps.specs.Planes.{PlaneValue, plane, plane_image, block_image, block_images, read_images, with_halo, IsReadable, IsWhole}
-use Rattle.graph_steps.specs.Steps.{Suits, second_plane, capacities, blocks_after_step}
+use Rattle.graph_steps.specs.Steps.{Suits, is_integral, reads_output, second_plane, capacities, blocks_after_step}
 use Rattle.graph_steps.specs.Program.{IsStepOf, Reduces, IsUnwritten, halo, band_rows, after_tasks, KeepsBlock, IsLive, HaveRoom, blocks_after_tasks, NamesPlanes, IsClient, IsProgram, SolvesSteps}
 use Rattle.graph_steps.specs.declared.tally.Tally.{Tally}
 use Rattle.graph_steps.specs.Tallies.{IsNew, TakesFormat, IsBounded, with_rows_added, tally_of, tally_at, all_tallies_after}
@@ -27,7 +28,7 @@ use Rattle.graph_steps.proofs.TallyLaws.{tally_above, added_above, none_above, a
 use Rattle.graph_steps.proofs.ReduceLaws.{band_adds, tallies_length, AddsWhole, band_adds_whole}
 use Rattle.graph_steps.proofs.PlaneLaws.{read_at, all_read}
 use Rattle.graph_steps.proofs.BandLaws.{room_same, halo_within, band_next, band_count, band_desc, band_capacities, band_leaves, band_keeps}
-use Rattle.graph_steps.proofs.AgreeLaws.{agree_same, halo_below, Known, Knows, IsOwn, band_knows}
+use Rattle.graph_steps.proofs.AgreeLaws.{agree_same, halo_below, HasRowAbove, Known, Knows, IsOwn, band_knows}
 
 -- a client's image can be read
 pub client_readable : (p : PlaneValue) → IsClient p → IsReadable p
@@ -199,14 +200,20 @@ module _ (tables : List Second) (high size : ℕ) (halos : List ℕ) (steps : Li
       abbrev next : List PlaneValue
       next = after_tasks tables halos band steps planes
 
+      reads_own : (function : Function) → accumulates function ≡ true → reads_output function ≡ true
+      reads_own function sums = ap (λ b. b || is_integral function) sums
+
+      reads_above : (function : Function) → is_integral function ≡ true → reads_output function ≡ true
+      reads_above function scans = grind (arith, cases_Bool (accumulates function))
+
       -- in a run of one band that is the first
       alone : high ≤ size → band.start ≡ 0
       alone one = elim begun [ inl z ↦ z | inr k ↦ absurd (omega arith) ]
 
       -- a step that accumulates writes no row above the band, and none below it
       once_from : (s : Step) → IsStepOf s steps → accumulates s.node.function ≡ true → (height y : ℕ) → has_row (with_halo (halo halos s.output) height band) y ≡ true → band.start ≤ y
-      once_from s i e height y near = elim (program.once s i e) [
-        | inl none ↦ from_first (halo halos s.output) none near
+      once_from s i e height y near = elim (program.once s i (reads_own s.node.function e)) [
+        | inl (none, own) ↦ from_first (halo halos s.output) none near
         | inr one ↦ (let z = alone one in omega arith)
       ]
         where
@@ -217,8 +224,8 @@ module _ (tables : List Second) (high size : ℕ) (halos : List ℕ) (steps : Li
               omega arith
 
       once_below : (s : Step) → IsStepOf s steps → accumulates s.node.function ≡ true → (height y : ℕ) → height ≤ high → y < height → band.start + band.count ≤ y → has_row (with_halo (halo halos s.output) height band) y ≡ false
-      once_below s i e height y tall low from = elim (program.once s i e) [
-        | inl none ↦ past_last (halo halos s.output) none
+      once_below s i e height y tall low from = elim (program.once s i (reads_own s.node.function e)) [
+        | inl (none, own) ↦ past_last (halo halos s.output) none
         | inr one ↦ absurd (let z = alone one in omega arith)
       ]
         where
@@ -239,6 +246,17 @@ module _ (tables : List Second) (high size : ℕ) (halos : List ℕ) (steps : Li
                 stands.own s i e x y (omega arith) from (omega arith);
             valid = stands.own_valid s i e;
           }
+
+      above_is : (s : Step) → IsStepOf s steps → is_integral s.node.function ≡ true → HasRowAbove tables high halos band some below kept (block_images origin) whole (length origin) solves.images planes s
+      above_is s i e = elim (program.once s i (reads_above s.node.function e)) [
+        | inr one ↦ inl (let z = alone one in omega arith)
+        | inl (none, own) ↦
+            inr (own, (λ x y across before low.
+            let d = r.desc s.output in
+            let w : (plane planes s.output).desc.width ≡ (plane origin s.output).desc.width = ap (λ (d : Description). d.width) d in
+            let h : (plane planes s.output).desc.height ≡ (plane origin s.output).desc.height = ap (λ (d : Description). d.height) d in
+            stands.above s.output (program.written s i own) x y (omega arith) (omega arith) (omega arith)))
+      ]
 
       knows : (c : ℕ) → IsLive kept steps c → Knows tables high halos band some below kept (block_images origin) whole (length origin) solves.images planes c
       knows c live =
@@ -270,6 +288,7 @@ module _ (tables : List Second) (high size : ℕ) (halos : List ℕ) (steps : Li
         one = program.one_writer;
         solves = solves.written;
         was = own_is;
+        above = above_is;
         known = knows;
       }
 

@@ -17,6 +17,7 @@ use Rattle.vx_base.specs.Image.{ImageValue, IsImage, description_of, at}
 use Rattle.vx_base.specs.Object.{ObjectValue, ImageObject, IsObject, object_kind, object_format}
 use Rattle.vx_base.specs.Outputs.{node_image}
 use Rattle.vx_base.specs.Pixelwise.{formula_of_two}
+use Rattle.vx_base.specs.Sample.{IsSample}
 use Rattle.vx_base.specs.Rectangle.{meet_of, IsOrdered, IsWithin}
 use Rattle.vx_base.proofs.ImageLaws.{made_image}
 use Rattle.vx_base.proofs.NodeLaws.{node_image_is}
@@ -28,13 +29,15 @@ use Rattle.image_core.specs.Bands.{IsInRows, has_row, held_in}
 use Rattle.image_core.specs.Fits.{SecondHasSize}
 use Rattle.image_core.specs.Second.{second_object}
 use Rattle.image_core.proofs.HeldRows.{held_in_is}
+use Rattle.stat_kernels.specs.Sums.{sum_on}
+use Rattle.stat_kernels.proofs.ScanLaws.{scan_sample}
 use Rattle.node_rows.specs.Reach.{matrix_in}
 use Rattle.graph_steps.specs.declared.step.Step.{Step}
 use Rattle.graph_steps.specs.declared.step.Source.{Source}
 use Rattle.graph_steps.specs.declared.step.Source.TheVariants.{Nothing, Plane, Table}
 use Rattle.graph_steps.specs.Planes.{PlaneValue, plane, no_plane, read_images, plane_image, block_image, with_read_rows, with_rows, with_block, without_block, written_among, IsReadable, IsWhole}
-use Rattle.graph_steps.specs.Steps.{ReadsPlane, second_in, image_from_inputs, step_image, CanMake, Suits, CanStep, blank_image, second_plane, with_moved_block, with_output_block, after_step, capacities, capacity, blocks_with_move, blocks_after_step}
-use Rattle.graph_steps.proofs.KernelLaws.{made_description}
+use Rattle.graph_steps.specs.Steps.{ReadsPlane, second_in, image_from_inputs, is_integral, rows_image, scan_image, step_image, sums_above, CanMake, Suits, CanStep, blank_image, second_plane, with_moved_block, with_output_block, after_step, capacities, capacity, blocks_with_move, blocks_after_step}
+use Rattle.graph_steps.proofs.KernelLaws.{integral_formats, made_description, scan_description}
 use Rattle.graph_steps.proofs.PlaneLaws.{written_plane, written_size, written_beside}
 
 pub same_or_other : (a b : ℕ) → (a ≡ b) ⊎ (a ≢ b)
@@ -53,7 +56,7 @@ module _ (tables : List Second) (b : Description) (images : ℕ → ImageValue) 
   abbrev told : Source → Option ObjectValue
   told source = second_in tables (λ _. blank_image b) source
 
-  kind_told : (function : Node) (source : Source) → IfSome (told source) (λ o. (parameters function.function).second_input ≡ Some (object_kind o)) → IfSome (second_in tables images source) (λ o. (parameters function.function).second_input ≡ Some (object_kind o))
+  pub kind_told : (function : Node) (source : Source) → IfSome (told source) (λ o. (parameters function.function).second_input ≡ Some (object_kind o)) → IfSome (second_in tables images source) (λ o. (parameters function.function).second_input ≡ Some (object_kind o))
   kind_told n Nothing h = h
   kind_told n (Plane c) h = h
   kind_told n (Table k) h = h
@@ -138,6 +141,41 @@ pub step_image_same : (tables : List Second) (s : Step) (a b : ℕ → ImageValu
 step_image_same tables s a b same own =
     ap (λ i. image_from_inputs s i (second_in tables a s.second) own) (same s.first (inl refl))
     ∙ ap (λ o. image_from_inputs s (b s.first) o own) (second_same tables s.second a b (λ c e. same c (inr e)))
+
+-- ---- the image of which it writes rows
+
+-- an integral image of any rows is an image
+pub scan_is : (start : ℕ) (s : Step) (first : ImageValue) (second : Option ObjectValue) (out : PlaneValue) → CanMake s first second out.desc → is_integral s.node.function ≡ true → IsImage first → IsImage (scan_image start first out)
+scan_is start s first second out can scans is =
+    let above : ℕ → ℕ = sums_above out.desc.width out.top start out.samples in
+    let known = (integral_formats s.node.function first.format (option_and_then object_format second) out.desc.format scans can.formats).1 in
+    made_image first.width first.height out.desc.format first.valid (sum_on first start above) is.sides.0 is.sides.1 is.ordered is.room
+    (λ x y inside. subst (λ f. IsSample f (sum_on first start above x y)) (sym known) (scan_sample first start above x y))
+
+module _ (tables : List Second) (s : Step) (rows : Band) (out : PlaneValue) where
+  abbrev own_rows : ImageValue
+  own_rows = plane_image (with_read_rows rows out)
+
+  pub rows_image_same : (a b : ℕ → ImageValue) → ((c : ℕ) → ReadsPlane s c → a c ≡ b c) → rows_image tables s rows a out ≡ rows_image tables s rows b out
+  rows_image_same a b same =
+      ap (λ i. cond (is_integral s.node.function) (scan_image rows.start i out) (step_image tables s a own_rows)) (same s.first (inl refl))
+      ∙ ap (cond (is_integral s.node.function) (scan_image rows.start (b s.first) out)) (step_image_same tables s a b same own_rows)
+
+  pub rows_description : (images : ℕ → ImageValue) → CanMake s (images s.first) (second_in tables images s.second) out.desc → description_of (rows_image tables s rows images out) ≡ out.desc
+  rows_description images can =
+      let of : Bool → Description = λ b. description_of (cond b (scan_image rows.start (images s.first) out) (step_image tables s images own_rows)) in
+      elim (cases_Bool (is_integral s.node.function)) [
+        | inl scans ↦ ap of scans ∙ scan_description rows.start s (images s.first) (second_in tables images s.second) out can
+        | inr other ↦ ap of other ∙ made_description s (images s.first) (second_in tables images s.second) out.desc own_rows can refl
+      ]
+
+  pub rows_image_is : (images : ℕ → ImageValue) → CanMake s (images s.first) (second_in tables images s.second) out.desc → IsImage (images s.first) → IfSome (second_in tables images s.second) IsObject → IsImage (rows_image tables s rows images out)
+  rows_image_is images can is object =
+      let P : Bool → Type 0 = λ b. IsImage (cond b (scan_image rows.start (images s.first) out) (step_image tables s images own_rows)) in
+      elim (cases_Bool (is_integral s.node.function)) [
+        | inl scans ↦ subst P (sym scans) (scan_is rows.start s (images s.first) (second_in tables images s.second) out can scans is)
+        | inr other ↦ subst P (sym other) (made_is s (images s.first) (second_in tables images s.second) out.desc own_rows can refl is object)
+      ]
 
 -- an element that is read
 pub plane_read : (planes : List PlaneValue) (c : ℕ) (p : PlaneValue) → c < length planes → p ≡ get_or planes c p → p ≡ plane planes c
@@ -288,9 +326,6 @@ module _ (tables : List Second) (high : ℕ) (s : Step) (rows : Band) (planes : 
   abbrev out : PlaneValue
   out = plane before s.output
 
-  abbrev own : ImageValue
-  own = plane_image (with_read_rows rows out)
-
   is : IsReady s rows planes before
   is = ready_is tables high s rows planes fits
 
@@ -298,8 +333,8 @@ module _ (tables : List Second) (high : ℕ) (s : Step) (rows : Band) (planes : 
   pub input_same : (c : ℕ) → ReadsPlane s c → plane before c ≡ plane planes c
   input_same c reads = let r = fits.reads c reads in is.others c r.1 r.2
 
-  image_same : step_image tables s (read_images before) own ≡ step_image tables s (read_images planes) own
-  image_same = step_image_same tables s (read_images before) (read_images planes) (λ c reads. ap plane_image (input_same c reads)) own
+  image_same : rows_image tables s rows (read_images before) out ≡ rows_image tables s rows (read_images planes) out
+  image_same = rows_image_same tables s rows out (read_images before) (read_images planes) (λ c reads. ap plane_image (input_same c reads))
 
   -- before, the same can be made as of the planes
   pub can_before : CanMake s (read_images before s.first) (second_in tables (read_images before) s.second) out.desc
@@ -312,11 +347,11 @@ module _ (tables : List Second) (high : ℕ) (s : Step) (rows : Band) (planes : 
       can_make tables (plane planes (second_plane s.second)).desc (read_images planes) s high (plane planes s.first).desc out.desc (read_images planes s.first)
       (subst (Suits tables high s (plane planes s.first).desc (plane planes (second_plane s.second)).desc) (sym (is.desc s.output)) fits.suits) refl refl
 
-  pub image_desc : description_of (step_image tables s (read_images planes) own) ≡ out.desc
-  image_desc = made_description s (read_images planes s.first) (second_in tables (read_images planes) s.second) out.desc own can_after refl
+  pub image_desc : description_of (rows_image tables s rows (read_images planes) out) ≡ out.desc
+  image_desc = rows_description tables s rows out (read_images planes) can_after
 
-  pub image_is : IsImage (step_image tables s (read_images planes) own)
-  image_is = made_is s (read_images planes s.first) (second_in tables (read_images planes) s.second) out.desc own can_after refl
+  pub image_is : IsImage (rows_image tables s rows (read_images planes) out)
+  image_is = rows_image_is tables s rows out (read_images planes) can_after
       (fits.reads s.first (inl refl)).3.image
       (object_told tables (plane planes (second_plane s.second)).desc (read_images planes) s high (plane planes s.first).desc (plane planes s.output).desc fits.suits (λ c e. (fits.reads c (inr e)).3.image))
 
@@ -326,7 +361,7 @@ module _ (tables : List Second) (high : ℕ) (s : Step) (rows : Band) (planes : 
   pub after_count : length after ≡ length planes
   after_count = length-set before s.output _ ∙ is.count
 
-  pub after_output : plane after s.output ≡ with_rows rows (step_image tables s (read_images planes) own) out
+  pub after_output : plane after s.output ≡ with_rows rows (rows_image tables s rows (read_images planes) out) out
   after_output = get_or-set_same before s.output _ no_plane here ∙ ap (λ i. with_rows rows i out) image_same
 
   pub after_others : (k : ℕ) → k ≢ s.output → s.takes ≢ Some k → plane after k ≡ plane planes k
@@ -338,8 +373,8 @@ module _ (tables : List Second) (high : ℕ) (s : Step) (rows : Band) (planes : 
     | inr other ↦ ap (λ (p : PlaneValue). p.desc) (get_or-set_other before s.output k _ no_plane other) ∙ is.desc k
   ]
 
-  size_same : length (written_among out.top rows (step_image tables s (read_images before) own) out.samples) ≡ length out.samples
-  size_same = written_size out rows (step_image tables s (read_images before) own) (sym (ap description_of image_same ∙ image_desc)) is.room
+  size_same : length (written_among out.top rows (rows_image tables s rows (read_images before) out) out.samples) ≡ length out.samples
+  size_same = written_size out rows (rows_image tables s rows (read_images before) out) (sym (ap description_of image_same ∙ image_desc)) is.room
 
   pub after_capacities : capacities after ≡ blocks_after_step s (capacities planes)
   after_capacities =
@@ -350,22 +385,22 @@ module _ (tables : List Second) (high : ℕ) (s : Step) (rows : Band) (planes : 
       ∙ is.capacities
 
   -- the rows that are written can be read
-  pub after_image : read_images after s.output ≡ held_in rows (step_image tables s (read_images planes) own)
-  after_image = ap plane_image after_output ∙ written_plane out rows (step_image tables s (read_images planes) own) (sym image_desc) is.room
+  pub after_image : read_images after s.output ≡ held_in rows (rows_image tables s rows (read_images planes) out)
+  after_image = ap plane_image after_output ∙ written_plane out rows (rows_image tables s rows (read_images planes) out) (sym image_desc) is.room
 
   pub after_readable : IsReadable (plane after s.output)
   after_readable = subst IsReadable (sym after_output) (record {
     format = is.format;
     rows = in_rows;
     top = is.top;
-    room = (let l = written_size out rows (step_image tables s (read_images planes) own) (sym image_desc) is.room in let r = is.room in omega arith);
-    image = subst IsImage (sym (written_plane out rows (step_image tables s (read_images planes) own) (sym image_desc) is.room)) (held_in_is (step_image tables s (read_images planes) own) rows image_rows image_is);
+    room = (let l = written_size out rows (rows_image tables s rows (read_images planes) out) (sym image_desc) is.room in let r = is.room in omega arith);
+    image = subst IsImage (sym (written_plane out rows (rows_image tables s rows (read_images planes) out) (sym image_desc) is.room)) (held_in_is (rows_image tables s rows (read_images planes) out) rows image_rows image_is);
   })
     where
       in_rows : IsInRows out.desc.height rows
       in_rows = subst (λ (d : Description). IsInRows d.height rows) (sym (is.desc s.output)) fits.within
 
-      image_rows : IsInRows (step_image tables s (read_images planes) own).height rows
+      image_rows : IsInRows (rows_image tables s rows (read_images planes) out).height rows
       image_rows = subst (λ (d : Description). IsInRows d.height rows) (sym image_desc) in_rows
 
   -- an output that takes no block has all its rows still
@@ -375,8 +410,8 @@ module _ (tables : List Second) (high : ℕ) (s : Step) (rows : Band) (planes : 
       subst IsWhole (sym after_output) (record {
         format = w.format;
         top = w.top;
-        size = written_size out rows (step_image tables s (read_images planes) own) (sym image_desc) is.room ∙ w.size;
-        valid = subst (λ (d : Description). IsWithin (step_image tables s (read_images planes) own).valid d.width d.height) image_desc image_is.room;
+        size = written_size out rows (rows_image tables s rows (read_images planes) out) (sym image_desc) is.room ∙ w.size;
+        valid = subst (λ (d : Description). IsWithin (rows_image tables s rows (read_images planes) out).valid d.width d.height) image_desc image_is.room;
       })
 
   -- and the rows that are not written stay
@@ -385,6 +420,6 @@ module _ (tables : List Second) (high : ℕ) (s : Step) (rows : Band) (planes : 
   after_beside none x y across low beside =
       let same = is.own none in
       ap (λ p. at (block_image p) x y) after_output
-      ∙ written_beside out rows (step_image tables s (read_images planes) own) (sym image_desc) (subst IsWhole (sym same) (fits.whole none)) (subst (λ (d : Description). IsInRows d.height rows) (sym (is.desc s.output)) fits.within) x y
+      ∙ written_beside out rows (rows_image tables s rows (read_images planes) out) (sym image_desc) (subst IsWhole (sym same) (fits.whole none)) (subst (λ (d : Description). IsInRows d.height rows) (sym (is.desc s.output)) fits.within) x y
       (subst (λ (p : PlaneValue). x < p.desc.width) (sym same) across) (subst (λ (p : PlaneValue). y < p.desc.height) (sym same) low) beside
       ∙ ap (λ p. at (block_image p) x y) same

@@ -1,8 +1,8 @@
--- A program of three tasks.
+-- A program of three tasks, and one of an integral image.
 use Rattle.std.specs.Prelude.{ℕ, List, [], ◌∷◌, Some, None, Option}
 use Rattle.vx_base.specs.declared.border.Border.TheVariants.{Replicate}
-use Rattle.vx_base.specs.declared.format.Format.TheVariants.{U8}
-use Rattle.vx_base.specs.declared.function.Function.TheVariants.{Box}
+use Rattle.vx_base.specs.declared.format.Format.TheVariants.{U8, U32}
+use Rattle.vx_base.specs.declared.function.Function.TheVariants.{Box, Integral}
 use Rattle.vx_base.specs.declared.node.Node.{Node}
 use Rattle.vx_base.specs.declared.output.Output.TheVariants.{First}
 use Rattle.vx_base.specs.declared.policy.Policy.TheVariants.{Wrap}
@@ -61,3 +61,23 @@ box_halos = 2 ∷ 1 ∷ 0 ∷ []
 
 abbrev pub box_tallies : List Tally
 box_tallies = Extremes no_extremes ∷ []
+
+-- ---- an integral image
+
+abbrev pub sums_plane : PlaneValue
+sums_plane =
+    record { desc = record { width = 1; height = 4; format = U32 }; valid = whole 1 4; top = 0; rows = all_rows 4; format = U32; samples = (new_image 1 4 U32).samples }
+
+-- the integral image of a client's image in another
+abbrev pub integral_step : Step
+integral_step =
+    record { node = record box_node { function = Integral }; which = First; first = 0; second = Nothing; output = 1; takes = None; radius = 0 }
+
+abbrev pub sums : List Task
+sums = Write integral_step ∷ []
+
+abbrev pub sums_planes : List PlaneValue
+sums_planes = client_plane ∷ sums_plane ∷ []
+
+abbrev pub sums_halos : List ℕ
+sums_halos = 0 ∷ 0 ∷ []

@@ -12,7 +12,7 @@ use Rattle.graph_steps.specs.declared.step.Step.{Step}
 use Rattle.graph_steps.specs.declared.step.Task.{Task}
 use Rattle.graph_steps.specs.declared.step.Task.TheVariants.{Write, Reduce}
 use Rattle.graph_steps.specs.Planes.{PlaneValue, plane, block_image, with_halo, IsWhole}
-use Rattle.graph_steps.specs.Steps.{ReadsPlane, step_image, SuitsPlanes, after_step, capacities, capacity, blocks_after_step}
+use Rattle.graph_steps.specs.Steps.{ReadsPlane, reads_output, step_image, SuitsPlanes, after_step, capacities, capacity, blocks_after_step}
 
 -- s is one of the steps
 abbrev pub IsStepOf : Step → List Task → Type 0
@@ -137,8 +137,8 @@ pub record IsProgram (tables : List Second) (high size : ℕ) (halos : List ℕ)
   pub begins : (c : ℕ) → IsLive (KeepsBlock (length planes) tasks) tasks c → IsUnwritten tasks c × KeepsBlock (length planes) tasks c
   pub clients : (c : ℕ) → KeepsBlock (length planes) tasks c → IsClient (plane planes c)
   pub written : (s : Step) → IsStepOf s tasks → s.takes ≡ None → KeepsBlock (length planes) tasks s.output
-  -- a step that accumulates writes each row once
-  pub once : (s : Step) → IsStepOf s tasks → accumulates s.node.function ≡ true → (halo halos s.output ≡ 0) ⊎ (high ≤ size)
+  -- a step that reads its output writes each row once, to a block of all rows
+  pub once : (s : Step) → IsStepOf s tasks → reads_output s.node.function ≡ true → ((halo halos s.output ≡ 0) × (s.takes ≡ None)) ⊎ (high ≤ size)
   -- blocks are free when they are taken, have room, and after a band are where they were before it
   pub free : AreFree (KeepsBlock (length planes) tasks) tasks
   pub room : HaveRoom size halos (λ c. (plane planes c).desc) tasks (capacities planes)

@@ -1,12 +1,15 @@
 -- Steps: nodes over planes, and the effect of one step.
-use Rattle.std.specs.Prelude.{ℕ, ◌*◌, ◌<◌, ◌≤◌, ◌≡◌, ◌≢◌, ◌⊎◌, IsTrue, List, [], length, map, slice_get, slice_index_or, slice_set, Option, Some, None, IfSome}
+use Rattle.std.specs.Prelude.{ℕ, ℤ, pos, ◌+◌, ◌-◌, ◌*◌, ◌<◌, ◌≤◌, ◌≡◌, ◌≢◌, ◌⊎◌, ◌==◌, ◌||◌, Bool, true, false, if◌then◌else◌, unsigned_abs, IsTrue, List, [], length, map, slice_get, slice_index_or, slice_set, Option, Some, None, IfSome}
 use Rattle.std.specs.Option.{option_and_then}
 use Rattle.vx_base.specs.declared.format.Format.{Format}
 use Rattle.vx_base.specs.declared.format.Format.TheVariants.{U8}
 use Rattle.vx_base.specs.Description.{Description, same_size}
 use Rattle.vx_base.specs.Formats.{takes_formats}
-use Rattle.vx_base.specs.Function.{parameters}
-use Rattle.vx_base.specs.Image.{ImageValue, description_of, image_over}
+use Rattle.vx_base.specs.declared.function.Function.{Function}
+use Rattle.vx_base.specs.declared.function.Function.TheVariants.{Integral}
+use Rattle.vx_base.specs.Convolution.{ConvolutionValue}
+use Rattle.vx_base.specs.Function.{parameters, accumulates}
+use Rattle.vx_base.specs.Image.{ImageValue, description_of, image_over, made}
 use Rattle.vx_base.specs.declared.node.Node.{Node}
 use Rattle.vx_base.specs.declared.output.Output.{Output}
 use Rattle.vx_base.specs.Node.{IsNode}
@@ -20,6 +23,7 @@ use Rattle.image_core.specs.Bands.{IsInRows, image_over_rows}
 use Rattle.image_core.specs.Target.{written}
 use Rattle.image_core.specs.Fits.{SecondHasSize}
 use Rattle.image_core.specs.Second.{second_object}
+use Rattle.stat_kernels.specs.Sums.{sum_on}
 use Rattle.node_rows.specs.Reach.{reach, matrix_in}
 use Rattle.graph_steps.specs.declared.kernel.Kernel.{Kernel}
 use Rattle.graph_steps.specs.declared.step.Step.{Step}
@@ -57,6 +61,33 @@ step_image tables s images own = image_from_inputs s (images s.first) (second_in
 abbrev pub lent_step : Node → Output → Step
 lent_step n which = record { node = n; which = which; first = 0; second = Nothing; output = 0; takes = None; radius = 0 }
 
+-- ---- integral images
+
+abbrev pub is_integral : Function → Bool
+is_integral Integral = true
+is_integral other = false
+
+-- a step of this function reads its output: it accumulates there, or a row follows from the row above it
+abbrev pub reads_output : Function → Bool
+reads_output function = accumulates function || is_integral function
+
+-- the sums in the row above `start`, in a block of rows from `top` on; 0 where the block begins with row `start`
+abbrev pub sums_above : ℕ → ℕ → ℕ → List ℤ → ℕ → ℕ
+sums_above width top start samples x = if start == top then 0 else unsigned_abs (slice_index_or samples ((start - top - 1) * width + x) (pos 0))
+
+-- the integral image in rows from `start` on, which follow from the row above them in the output's block
+abbrev pub scan_image : ℕ → ImageValue → PlaneValue → ImageValue
+scan_image start first out = made first.width first.height out.desc.format first.valid (sum_on first start (sums_above out.desc.width out.top start out.samples))
+
+-- the image of which a step writes these rows
+abbrev pub rows_image : List Second → Step → Band → (ℕ → ImageValue) → PlaneValue → ImageValue
+rows_image tables s rows images out =
+    if is_integral s.node.function then scan_image rows.start (images s.first) out else step_image tables s images (plane_image (with_read_rows rows out))
+
+-- the rows of its inputs above and below a row of its output that a step reads
+abbrev pub step_reach : Function → Option ConvolutionValue → Option ℕ
+step_reach function matrix = if is_integral function then Some 0 else reach function matrix
+
 -- ---- premises of a step
 
 -- a node's inputs, and an output of this description: kinds, formats and sizes that its function takes
@@ -85,7 +116,7 @@ second_plane other = 0
 pub record Suits (tables : List Second) (high : ℕ) (s : Step) (first second out : Description) : Type 0 where
   pub makes : CanMake s (blank_image first) (second_in tables (λ _. blank_image second) s.second) out
   pub table : (k : ℕ) → s.second ≡ Table k → (k < length tables) × IfSome (second_in tables (λ _. blank_image second) s.second) IsObject
-  pub near : Covers (reach s.node.function (matrix_in (second_in tables (λ _. blank_image second) s.second))) s.radius high
+  pub near : Covers (step_reach s.node.function (matrix_in (second_in tables (λ _. blank_image second) s.second))) s.radius high
 
 -- the same over planes
 abbrev pub SuitsPlanes : List Second → ℕ → Step → List PlaneValue → Type 0
@@ -120,7 +151,7 @@ with_output_block (Some t) c top planes = with_moved_block t c top planes
 abbrev pub with_output : List Second → Step → Band → List PlaneValue → List PlaneValue
 with_output tables s rows planes =
     let out = plane planes s.output in
-    slice_set planes s.output (with_rows rows (step_image tables s (read_images planes) (plane_image (with_read_rows rows out))) out)
+    slice_set planes s.output (with_rows rows (rows_image tables s rows (read_images planes) out) out)
 
 -- the planes once the step has run on these rows of its output
 abbrev pub after_step : List Second → Step → Band → List PlaneValue → List PlaneValue

@@ -1,6 +1,7 @@
-//! Worked examples: a program in bands.
+//! Worked examples: programs in bands.
 ghost use Rattle.std.specs.Prelude.{[]};
 ghost use Rattle.graph_steps.specs.Examples.{boxes, box_halos, box_planes, box_tallies};
+ghost use Rattle.graph_steps.specs.Examples.{sums, sums_halos, sums_planes};
 ghost use Rattle.graph_steps.specs.Program.{IsProgram};
 ghost use Rattle.graph_steps.specs.Runs.{CanReduceBand};
 
@@ -9,4 +10,10 @@ ghost use Rattle.graph_steps.specs.Runs.{CanReduceBand};
 pub fn two_boxes()
     ensures program { IsProgram [] 4 2 box_halos boxes box_planes }
     ensures reduces { CanReduceBand 0 boxes box_planes box_tallies }
+{}
+
+/// An integral image of four rows can run in bands of two rows, the second of which follows from
+/// the last row of the first.
+pub fn integral_image()
+    ensures { IsProgram [] 4 2 sums_halos sums sums_planes }
 {}

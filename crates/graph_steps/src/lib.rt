@@ -11,6 +11,9 @@
 //! rows that are written of an inner plane are the band with a *halo*. `find_halos` finds the halo
 //! of each plane, from the last task back to the first.
 //!
+//! A row of an integral image follows from the row above it, which is in the output's block. So its
+//! radius is 0, and its output is whole and has no halo, unless the program runs in one band.
+//!
 //! - `step`: a node over planes, and the other tasks
 //! - `plane`: an image while a graph runs
 //! - `kernel`: the kernel of each function
@@ -39,5 +42,5 @@ pub use halos::find_halos;
 pub use kernel::{Kernel, run_node};
 pub use one_step::run_step;
 pub use plane::Plane;
-pub use step::{Reduction, Source, Step, Task};
+pub use step::{Reduction, Source, Step, Task, step_reach};
 pub use tally::{Histogram, Tally};

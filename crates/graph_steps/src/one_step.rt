@@ -1,5 +1,7 @@
 //! One step over some rows.
-ghost use Rattle.std.specs.Prelude.{◌≡◌, ◌≢◌, ◌<◌, ◌≤◌, ◌+◌, ◌-◌, ◌*◌, ℕ, length, Some, IsTrue};
+ghost use Rattle.std.specs.Prelude.{◌≡◌, ◌≢◌, ◌<◌, ◌≤◌, ◌+◌, ◌-◌, ◌*◌, ℕ, length};
+ghost use Rattle.std.specs.Prelude.{Option, Some, IsTrue, true};
+ghost use Rattle.vx_base.specs.Object.{ObjectValue};
 ghost use Rattle.vx_base.specs.Rectangle.{IsWithin};
 ghost use Rattle.image_core.specs.Bands.{IsInRows};
 ghost use Rattle.graph_steps.specs.declared.step.Source.TheVariants.{Plane as AtPlane, Table};
@@ -7,7 +9,8 @@ ghost use Rattle.graph_steps.specs.Planes.{plane, plane_image, read_images, with
 ghost use Rattle.graph_steps.specs.Planes.{with_rows, IsReadable};
 ghost use Rattle.graph_steps.specs.Steps.{ReadsPlane, CanMake, CanStep, with_moved_block};
 ghost use Rattle.graph_steps.specs.Steps.{with_output_block, second_in};
-ghost use Rattle.graph_steps.specs.Steps.{step_image, with_output, after_step};
+ghost use Rattle.graph_steps.specs.Steps.{step_image, rows_image, scan_image, is_integral};
+ghost use Rattle.graph_steps.specs.Steps.{with_output, after_step};
 
 use crate::kernel::Kernel;
 use crate::plane::Plane;
@@ -36,8 +39,8 @@ fn make_ready(step: &Step, top: u16, planes: &mut [Plane])
     }
 }
 
-/// Writes these rows of the step's output, whose plane is out of the others.
-fn write_rows(tables: &[Second<'_>], step: &Step, rows: Band, planes: &[Plane], output: &mut Plane)
+/// Writes these rows of what a step makes that writes no integral image.
+fn write_made(tables: &[Second<'_>], step: &Step, rows: Band, planes: &[Plane], output: &mut Plane)
     requires reads { (c : ℕ) → ReadsPlane step.now c →
         (c < length planes.now) × IsReadable (plane planes.now c) }
     requires table { (k : ℕ) → step.now.second ≡ Table k → k < length tables.now }
@@ -80,6 +83,47 @@ fn write_rows(tables: &[Second<'_>], step: &Step, rows: Band, planes: &[Plane], 
             };
             output.write(&kernel, rows);
         }
+    }
+}
+
+/// Writes these rows of the integral image of the step's input.
+fn write_integral(step: &Step, rows: Band, planes: &[Plane], output: &mut Plane)
+    requires function { is_integral step.now.node.function ≡ true }
+    requires input { (step.now.first < length planes.now)
+        × IsReadable (plane planes.now step.now.first) }
+    requires can { (second : Option ObjectValue) ×
+        CanMake step.now (read_images planes.now step.now.first) second output.old.desc }
+    requires format { output.old.format ≡ output.old.desc.format }
+    requires rows { IsInRows output.old.desc.height rows }
+    requires top { output.old.top ≤ rows.start }
+    requires room { (rows.start - output.old.top + rows.count) * output.old.desc.width
+        ≤ length output.old.samples }
+    ensures { output.new ≡ with_rows rows (scan_image rows.start
+        (read_images planes.now step.now.first) output.old) output.old }
+{
+    output.write_sums(&planes[step.first].image(), rows);
+}
+
+/// Writes these rows of the step's output, whose plane is out of the others.
+fn write_rows(tables: &[Second<'_>], step: &Step, rows: Band, planes: &[Plane], output: &mut Plane)
+    requires reads { (c : ℕ) → ReadsPlane step.now c →
+        (c < length planes.now) × IsReadable (plane planes.now c) }
+    requires table { (k : ℕ) → step.now.second ≡ Table k → k < length tables.now }
+    requires can { CanMake step.now (read_images planes.now step.now.first)
+        (second_in tables.now (read_images planes.now) step.now.second) output.old.desc }
+    requires format { output.old.format ≡ output.old.desc.format }
+    requires rows { IsInRows output.old.desc.height rows }
+    requires within { IsWithin output.old.valid output.old.desc.width output.old.desc.height }
+    requires top { output.old.top ≤ rows.start }
+    requires room { (rows.start - output.old.top + rows.count) * output.old.desc.width
+        ≤ length output.old.samples }
+    ensures { output.new ≡ with_rows rows (rows_image tables.now step.now rows
+        (read_images planes.now) output.old) output.old }
+{
+    if step.is_integral() {
+        write_integral(step, rows, planes, output);
+    } else {
+        write_made(tables, step, rows, planes, output);
     }
 }
 

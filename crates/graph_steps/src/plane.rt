@@ -1,5 +1,6 @@
 //! Images while a graph runs.
 ghost use Rattle.std.specs.Prelude.{◌≡◌, ◌+◌, ◌-◌, ◌*◌, ◌≤◌, ◌<◌, ◌^◌, length};
+ghost use Rattle.vx_base.specs.declared.format.Format.TheVariants.{U8, U32};
 ghost use Rattle.vx_base.specs.Picture.{values, samples_format};
 ghost use Rattle.vx_base.specs.Rectangle.{IsWithin};
 ghost use Rattle.image_core.specs.Bands.{IsInRows};
@@ -7,10 +8,10 @@ ghost use Rattle.image_core.specs.Second.{second_object};
 ghost use Rattle.graph_steps.specs.Planes.{plane_image, with_read_rows, with_rows, whole_plane};
 ghost use Rattle.graph_steps.specs.Planes.{virtual_plane, with_block, without_block, with_halo};
 ghost use Rattle.graph_steps.specs.Planes.{block_image, IsReadable, IsWhole};
-ghost use Rattle.graph_steps.specs.Steps.{CanMake, kernel_image};
+ghost use Rattle.graph_steps.specs.Steps.{CanMake, kernel_image, scan_image};
 
 use crate::kernel::Kernel;
-use crate::rows::{write_bytes, write_shorts, write_words};
+use crate::rows::{write_bytes, write_shorts, write_sums, write_words};
 use image_core::{Band, Image};
 use std::marker::Model;
 use vx_base::{Desc, Rect, Samples};
@@ -198,5 +199,26 @@ impl Plane {
         ensures format { self.new.format ≡ self.old.format }
     {
         self.write(kernel, Band::whole(self.desc));
+    }
+
+    /// Writes these rows of the integral image of an image, and its valid rectangle. The first row
+    /// follows from the row above it.
+    pub fn write_sums(&mut self, image: &Image<'_>, band: Band)
+        requires input { image.now.format ≡ U8 }
+        requires format { self.old.format ≡ U32 }
+        requires width { image.now.width ≡ self.old.desc.width }
+        requires rows { IsInRows image.now.height band }
+        requires top { self.old.top ≤ band.start }
+        requires room { (band.start - self.old.top + band.count) * self.old.desc.width
+            ≤ length self.old.samples }
+        ensures { self.new ≡ with_rows band (scan_image band.start image.now self.old) self.old }
+    {
+        let (width, top) = (self.desc.width(), self.top);
+        self.rows = band;
+        self.valid = image.valid();
+        match &mut self.samples {
+            Samples::U32(samples) => write_sums(width, top, band, image, samples.as_mut_slice()),
+            _ => unreachable!(),
+        }
     }
 }

@@ -1,14 +1,17 @@
 //! Rows that are written in a block of samples.
 ghost use Rattle.std.specs.Prelude.{◌≡◌, ◌+◌, ◌-◌, ◌*◌, ◌≤◌, length, map, pos};
 ghost use Rattle.vx_base.specs.declared.format.Format.TheVariants.{U8, S16, U32};
+ghost use Rattle.vx_base.specs.Image.{made};
 ghost use Rattle.vx_base.specs.Rectangle.{IsWithin};
 ghost use Rattle.image_core.specs.Bands.{IsInRows, image_over_rows, rows_in};
 ghost use Rattle.image_core.specs.Second.{second_object};
+ghost use Rattle.stat_kernels.specs.Sums.{sum_on};
 ghost use Rattle.graph_steps.specs.Planes.{written_among, rows_of_block};
-ghost use Rattle.graph_steps.specs.Steps.{CanMake, kernel_image};
+ghost use Rattle.graph_steps.specs.Steps.{CanMake, kernel_image, sums_above};
 
 use crate::kernel::Kernel;
-use image_core::{Band, ImageMut};
+use image_core::{Band, Image, ImageMut};
+use stat_kernels::{integral_on, row_above};
 use vx_base::{Desc, Rect};
 
 /// Writes a kernel's rows to exactly their samples, and returns the valid rectangle.
@@ -194,4 +197,24 @@ pub fn write_words(
         part_of!(desc, top, rows, samples),
         kernel,
     )
+}
+
+/// Writes these rows of the integral image of an image to a block that begins with row `top`. The
+/// first of them follows from the row above it, which is there unless the block begins with it.
+pub fn write_sums(width: u16, top: u16, rows: Band, image: &Image<'_>, samples: &mut [u32])
+    requires input { image.now.format ≡ U8 }
+    requires width { image.now.width ≡ width }
+    requires rows { IsInRows image.now.height rows }
+    requires top { top ≤ rows.start }
+    requires room { (rows.start - top + rows.count) * width ≤ length samples.old }
+    ensures { map pos samples.new ≡ written_among top rows
+        (made image.now.width image.now.height U32 image.now.valid
+        (sum_on image.now rows.start (sums_above width top rows.start (map pos samples.old))))
+        (map pos samples.old) }
+{
+    let width = usize::from(width);
+    let start = usize::from(rows.start - top) * width;
+    let count = usize::from(rows.count) * width;
+    let (above, others) = samples.split_at_mut(start);
+    integral_on(image, rows, row_above(above, width), &mut others[..count]);
 }

@@ -1,8 +1,10 @@
 //! Tasks: steps over planes, and reductions.
 ghost use Rattle.std.specs.Prelude.{◌≡◌};
-ghost use Rattle.graph_steps.specs.Steps.{lent_step};
+ghost use Rattle.std.specs.Option.{option_copied};
+ghost use Rattle.graph_steps.specs.Steps.{is_integral, lent_step, reads_output, step_reach};
 
-use vx_base::{Node, Output};
+use node_rows::reach;
+use vx_base::{Convolution, Function, Node, Output};
 
 /// Where a step's second input is.
 #[derive(Clone, Copy, Debug)]
@@ -33,6 +35,24 @@ pub struct Step {
     pub radius: u16,
 }
 
+/// Returns the rows above and below a row of its output that a step reads of its inputs. A row of
+/// an integral image follows from the row above it. `None`: all rows.
+pub fn step_reach(function: Function, matrix: Option<&Convolution>) -> Option<u16>
+    ensures { result ≡ step_reach function (option_copied matrix.entry) }
+{
+    if is_integral(function) {
+        Some(0)
+    } else {
+        reach(function, matrix)
+    }
+}
+
+fn is_integral(function: Function) -> bool
+    ensures { result ≡ is_integral function }
+{
+    matches!(function, Function::Integral)
+}
+
 impl Step {
     /// Returns the step of a node whose inputs are lent to its kernel: it names no planes.
     pub fn of_lent(node: Node, which: Output) -> Step
@@ -47,6 +67,21 @@ impl Step {
             takes: None,
             radius: 0,
         }
+    }
+
+    /// Whether the step writes an integral image.
+    pub fn is_integral(&self) -> bool
+        ensures { result ≡ is_integral self.now.node.function }
+    {
+        is_integral(self.node.function)
+    }
+
+    /// Whether the step reads its output: it accumulates there, or a row follows from the row above
+    /// it. Such a step writes each row once.
+    pub fn reads_output(&self) -> bool
+        ensures { result ≡ reads_output self.now.node.function }
+    {
+        self.node.function.accumulates() || self.is_integral()
     }
 }
 

@@ -8,3 +8,4 @@ mod SumLaws
 pub mod NextRowLaws
 pub mod AlikeLaws
 mod ExtremeLaws
+pub mod ScanLaws

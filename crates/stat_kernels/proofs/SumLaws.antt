@@ -12,7 +12,7 @@ sum_of_run [] = refl
 sum_of_run (a ∷ row) = sum_by-cons (λ x. x) a row ∙ ap (λ n. a + n) (sum_of_run row) ∙ sym (sum_by-cons unsigned_abs (pos a) (map pos row))
 
 -- the sum of a row's samples up to column x + k
-row_sum : (row : List ℕ) (x n k : ℕ) (g : ℕ → ℤ) → map pos row ≡ run x n g → k ≤ n → sum (take k row) ≡ sum_by unsigned_abs (run x k g)
+pub row_sum : (row : List ℕ) (x n k : ℕ) (g : ℕ → ℤ) → map pos row ≡ run x n g → k ≤ n → sum (take k row) ≡ sum_by unsigned_abs (run x k g)
 row_sum row x n k g is within =
     sum_of_run (take k row) ∙ ap (sum_by unsigned_abs) (sym (take-map pos k row) ∙ ap (take k) is ∙ take-map-range_with_len g x n k within)
 
@@ -31,10 +31,10 @@ sum_at image x y a b d e = ap (λ r. pos (sum_by unsigned_abs (samples_in r imag
 
 -- ---- a row of the integral image
 
-map-zeros : (n : ℕ) → map pos (replicate n 0) ≡ replicate n (pos 0)
+pub map-zeros : (n : ℕ) → map pos (replicate n 0) ≡ replicate n (pos 0)
 map-zeros n = map-replicate pos n 0
 
-run_of_sums : (sums : List ℕ) (x n : ℕ) (f : ℕ → ℤ) → length sums ≡ n → ((k : ℕ) → k < n → pos (get_or sums k 0) ≡ f (x + k)) → map pos sums ≡ run x n f
+pub run_of_sums : (sums : List ℕ) (x n : ℕ) (f : ℕ → ℤ) → length sums ≡ n → ((k : ℕ) → k < n → pos (get_or sums k 0) ≡ f (x + k)) → map pos sums ≡ run x n f
 run_of_sums sums x n f long same =
     ext_get_or (pos 0) (map pos sums) (run x n f) (length-map sums pos ∙ long ∙ sym (length-run f x n))
     (λ k h. let below : k < n = omega (arith, length-map sums pos) in

@@ -1,5 +1,5 @@
 -- Sums of samples to the left and above.
-use Rattle.std.specs.Prelude.{ℕ, ℤ, pos, ◌≡◌, ◌+◌, ◌-◌, ◌%◌, ◌^◌, ◌<◌, ◌≤◌, ◌==◌, if◌then◌else◌, unsigned_abs, Option, Some, None, List, length, map, slice_index, drop}
+use Rattle.std.specs.Prelude.{ℕ, ℤ, pos, ◌≡◌, ◌+◌, ◌-◌, ◌%◌, ◌^◌, ◌<◌, ◌≤◌, ◌==◌, if◌then◌else◌, max, nat_le, unsigned_abs, Option, Some, None, List, length, map, slice_index, drop}
 use Rattle.std.specs.List.{sum_by}
 use Rattle.vx_base.specs.Rectangle.{Rectangle, inside}
 use Rattle.vx_base.specs.Image.{ImageValue, IsImage, at, run, within}
@@ -43,3 +43,19 @@ pub record IsRowOf (part : ImageValue) (y : ℕ) (whole : ImageValue) (line : �
 pub record AreRowsOf (part : ImageValue) (rows : Band) (whole : ImageValue) (line : ℕ) : Type 0 where
   pub is : IsImage whole
   pub each : (k : ℕ) → k < rows.count → IsRowOf part (rows.start + k) whole (line + k)
+
+-- ---- rows that follow from the row above them
+
+-- the sum of the valid samples left of column x, in the rows from `start` on and above row y
+abbrev pub sum_between : ImageValue → ℕ → ℕ → ℕ → ℕ
+sum_between image start x y = sum_by unsigned_abs (samples_in (record { x0 = image.valid.x0; y0 = max image.valid.y0 start; x1 = x; y1 = y }) image)
+
+-- a sample of an integral image in a row from `start` on, by the sums in the row above `start`; where that row is above the valid rectangle
+-- they don't count
+abbrev pub sum_on : ImageValue → ℕ → (ℕ → ℕ) → ℕ → ℕ → ℤ
+sum_on image start above x y = pos (((if nat_le image.valid.y0 start then above x else 0) + sum_between image start (x + 1) (y + 1)) % 2 ^ 32)
+
+-- the sums in a row; 0 where there is none
+abbrev pub row_sums : Option (List ℕ) → ℕ → ℕ
+row_sums None x = 0
+row_sums (Some row) x = slice_index row x

@@ -4,7 +4,7 @@ ghost use Rattle.std.specs.Prelude.{length, replicate, unwrap_or, IfSome};
 ghost use Rattle.std.specs.Option.{option_copied, option_map};
 ghost use Rattle.vx_base.specs.declared.desc.TheConstants.{GREATEST_SIDE};
 ghost use Rattle.vx_base.specs.declared.format.Format.TheVariants.{U8, U32};
-ghost use Rattle.vx_base.specs.Image.{ImageValue, IsImage, band, within};
+ghost use Rattle.vx_base.specs.Image.{ImageValue, IsImage, band, run, within};
 ghost use Rattle.vx_base.specs.Statistics.{sum_to, integral};
 ghost use Rattle.image_core.specs.Bands.{IsInRows};
 ghost use Rattle.image_core.specs.Fits.{HaveSameSize};
@@ -12,7 +12,7 @@ ghost use Rattle.image_core.specs.Target.{written, IsTarget, Writes};
 ghost use Rattle.lane_rows.specs.Running.{sums_below};
 ghost use Rattle.stat_kernels.specs.Part.{IsValidPart};
 ghost use Rattle.stat_kernels.specs.Sums.{AreRowsOf, AreSums, IsRowAbove, IsRowOf};
-ghost use Rattle.stat_kernels.specs.Sums.{last_row, sums_row};
+ghost use Rattle.stat_kernels.specs.Sums.{last_row, row_sums, sum_on, sums_row};
 
 use crate::part::Part;
 use image_core::{Band, Image, ImageMut, Whole};
@@ -83,8 +83,11 @@ fn write_across(image: &Image<'_>, part: Part, y: u16, above: Option<&[u32]>, ou
     requires rows { (part.top ≤ y) × (y < part.bottom) }
     requires above_len { IfSome above (λ row. length row.now ≡ image.now.width) }
     requires out_len { length out.old ≡ image.now.width }
-    ensures { (whole : ImageValue) (line : ℕ) → IsImage whole → IsRowOf image.now y whole line →
-        IsRowAbove whole line (option_copied above.entry) → map pos out.new ≡ sums_row whole line }
+    ensures sums { map pos out.new ≡ run 0 image.now.width
+        (λ x. within image.now.valid (sum_on image.now y (row_sums (option_copied above.entry))) x y) }
+    ensures whole { (whole : ImageValue) (line : ℕ) → IsImage whole →
+        IsRowOf image.now y whole line → IsRowAbove whole line (option_copied above.entry) →
+        map pos out.new ≡ sums_row whole line }
 {
     let _limits = image.desc().width();
     let x = usize::from(part.x);
@@ -103,8 +106,11 @@ fn write_row(image: &Image<'_>, part: Part, y: u16, above: Option<&[u32]>, out: 
     requires part { IsValidPart image.now part }
     requires above_len { IfSome above (λ row. length row.now ≡ image.now.width) }
     requires out_len { length out.old ≡ image.now.width }
-    ensures { (whole : ImageValue) (line : ℕ) → IsImage whole → IsRowOf image.now y whole line →
-        IsRowAbove whole line (option_copied above.entry) → map pos out.new ≡ sums_row whole line }
+    ensures sums { map pos out.new ≡ run 0 image.now.width
+        (λ x. within image.now.valid (sum_on image.now y (row_sums (option_copied above.entry))) x y) }
+    ensures whole { (whole : ImageValue) (line : ℕ) → IsImage whole →
+        IsRowOf image.now y whole line → IsRowAbove whole line (option_copied above.entry) →
+        map pos out.new ≡ sums_row whole line }
 {
     if part.has_row(y) {
         write_across(image, part, y, above, out);
@@ -132,7 +138,10 @@ pub fn integral_on(image: &Image<'_>, rows: Band, above: Option<&[u32]>, samples
     requires rows { IsInRows image.now.height rows }
     requires above_len { IfSome above (λ row. length row.now ≡ image.now.width) }
     requires size { length samples.old ≡ rows.count * image.now.width }
-    ensures { (whole : ImageValue) (line : ℕ) → AreRowsOf image.now rows whole line →
+    ensures sums { map pos samples.new ≡ band image.now.width rows.start rows.count
+        (within image.now.valid
+        (sum_on image.now rows.start (row_sums (option_copied above.entry)))) }
+    ensures whole { (whole : ImageValue) (line : ℕ) → AreRowsOf image.now rows whole line →
         IsRowAbove whole line (option_copied above.entry) → map pos samples.new
         ≡ band image.now.width line rows.count (within whole.valid (sum_to whole)) }
 {

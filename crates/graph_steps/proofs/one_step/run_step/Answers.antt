@@ -1,9 +1,9 @@
-use Rattle.std.proofs.Common.{List, sym, subst, ◌≡◌, ◌≢◌, ◌-◌, ◌+◌, ◌*◌, ◌<◌, ◌≤◌, length, arith}
+use Rattle.std.proofs.Common.{List, sym, subst, ap, ◌∙◌, ◌≡◌, ◌≢◌, ◌-◌, ◌+◌, ◌*◌, ◌<◌, ◌≤◌, length, arith}
 use Rattle.vx_base.specs.Description.{Description}
 use Rattle.vx_base.specs.Rectangle.{IsWithin}
 use Rattle.image_core.specs.Bands.{IsInRows}
 use Rattle.graph_steps.specs.Planes.{PlaneValue, plane, read_images, IsReadable}
-use Rattle.graph_steps.specs.Steps.{second_in, CanMake}
+use Rattle.graph_steps.specs.Steps.{second_in, with_output, CanMake}
 use Rattle.graph_steps.proofs.StepLaws.{ready_is, input_same, can_before}
 use Rattle.graph_steps.proofs.one_step.run_step.Goals as goal
 
@@ -63,3 +63,6 @@ pub write_output-requires-clause-room : goal.write_output-requires-clause-room
 write_output-requires-clause-room c =
     subst (λ (l : List PlaneValue). (c.args.rows.start - (plane l c.args.step.now.output).top + c.args.rows.count) * (plane l c.args.step.now.output).desc.width ≤ length (plane l c.args.step.now.output).samples) (sym c.make_ready.ensures)
     (ready_is c.args.tables.now c.requires.0 c.args.step.now c.args.rows c.args.planes.now c.requires.1).room
+
+pub returns : goal.returns
+returns c = c.write_output.ensures ∙ ap (with_output c.args.tables.now c.args.step.now c.args.rows) c.make_ready.ensures

@@ -1,8 +1,8 @@
 use Rattle.std.proofs.Common.{◌∙◌, ap, set, ◌≡◌}
 use Rattle.std.proofs.lemmas.List.{set-set, get_or-set_other, get_or_default}
-use Rattle.graph_steps.specs.Planes.{plane, no_plane, read_images, plane_image, with_read_rows, with_rows}
-use Rattle.graph_steps.specs.Steps.{step_image}
-use Rattle.graph_steps.proofs.StepLaws.{step_image_same}
+use Rattle.graph_steps.specs.Planes.{plane, no_plane, read_images, plane_image, with_rows}
+use Rattle.graph_steps.specs.Steps.{rows_image}
+use Rattle.graph_steps.proofs.StepLaws.{rows_image_same}
 use Rattle.graph_steps.proofs.one_step.write_output.Goals as goal
 
 pub returns : goal.returns
@@ -16,7 +16,7 @@ returns c =
     set-set planes s.output c.take_out-output.new.self c.write_rows.new.output
     ∙ ap (set planes s.output)
     (c.write_rows.ensures
-    ∙ ap (λ q. with_rows rows (step_image tables s (read_images left) (plane_image (with_read_rows rows q))) q) took
+    ∙ ap (λ q. with_rows rows (rows_image tables s rows (read_images left) q) q) took
     ∙ ap (λ i. with_rows rows i (plane planes s.output))
-    (step_image_same tables s (read_images left) (read_images planes)
-    (λ k reads. ap plane_image (get_or-set_other planes s.output k c.take_out-output.new.self no_plane (c.requires.reads k reads).1)) (plane_image (with_read_rows rows (plane planes s.output)))))
+    (rows_image_same tables s rows (plane planes s.output) (read_images left) (read_images planes)
+    (λ k reads. ap plane_image (get_or-set_other planes s.output k c.take_out-output.new.self no_plane (c.requires.reads k reads).1))))

@@ -4,7 +4,7 @@ use Rattle.image_core.specs.Second.{second_object}
 use Rattle.graph_steps.specs.Planes.{read_images, plane_image, with_read_rows, with_rows}
 use Rattle.graph_steps.specs.Steps.{second_in}
 use Rattle.graph_steps.proofs.StepLaws.{can_read, image_read, inputs_read, table_read}
-use Rattle.graph_steps.proofs.one_step.write_rows.Goals as goal
+use Rattle.graph_steps.proofs.one_step.write_made.Goals as goal
 
 pub write-requires-in-Plane-clause-can : goal.write-requires-in-Plane-clause-can
 write-requires-in-Plane-clause-can c =

@@ -1,0 +1,19 @@
+use Rattle.std.proofs.Common.{◌≡◌, ◌∙◌, ◌*◌, ap, sym, arith, map, pos}
+use Rattle.vx_base.specs.declared.format.Format.TheVariants.{U32}
+use Rattle.vx_base.specs.Image.{band, made, within}
+use Rattle.stat_kernels.specs.Sums.{row_sums, sum_on}
+use Rattle.graph_steps.specs.Planes.{written_among}
+use Rattle.graph_steps.specs.Steps.{sums_above}
+use Rattle.graph_steps.proofs.SumLaws.{sums_written}
+use Rattle.graph_steps.proofs.rows.write_sums.Goals as goal
+
+pub returns : goal.returns
+returns c =
+    let image = c.args.image.now in
+    let rows = c.args.rows in
+    let items = c.args.samples.now in
+    let wide : c.from-width.result ≡ image.width = c.from-width.ensures ∙ sym c.requires.width in
+    sums_written image c.args.top rows c.from.result c.from-2.result c.from-width.result c.split_at_mut-above.result.0.now c.split_at_mut-above.result.1.now items c.integral_on.new.samples
+    (c.from-2.result * c.from-width.result) c.requires.rows c.requires.top c.from.ensures c.from-2.ensures wide c.split_at_mut-above.ensures.front c.split_at_mut-above.ensures.back c.split_at_mut-above.ensures.front_len (omega arith)
+    (c.integral_on.ensures.sums ∙ ap (λ o. band image.width rows.start rows.count (within image.valid (sum_on image rows.start (row_sums o)))) c.row_above.ensures)
+    ∙ ap (λ w. written_among c.args.top rows (made image.width image.height U32 image.valid (sum_on image rows.start (sums_above w c.args.top rows.start (map pos items)))) (map pos items)) c.requires.width
