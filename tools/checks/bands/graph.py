@@ -41,10 +41,6 @@ class Node(NamedTuple):
     constant: int
     out2: Optional[bytes]
 
-    def banded(self) -> List[bytes]:
-        """The images of which each band has some rows: what is counted, or what is written."""
-        return [self.in1] if self.function in COUNTED else self.outputs()
-
     def inputs(self) -> List[bytes]:
         return [cell for cell in (self.in1, self.in2) if cell is not None]
 
@@ -92,17 +88,12 @@ class Graph(NamedTuple):
         return max(made.width * made.height for made in self.objects)
 
     def may_run_in_bands(self) -> bool:
-        """Whether nothing in it keeps it from that, whatever its sizes are."""
+        """Whether nothing in it keeps it from that, whatever its sizes are: each image to which a
+        node adds, and each integral image, is the client's, and no node reads it."""
         read = self.read()
-        for cell in self.written():
-            made = self.made(cell)
-            if made.slots or (made.virtual is None and cell in read):
-                return False
-        heights = {self.made(cell).height for node in self.nodes for cell in node.banded()}
-        return len(heights) == 1 and not any(map(self.is_virtual_sum, self.nodes))
-
-    def is_virtual_sum(self, node: Node) -> bool:
-        return node.function == wire.INTEGRAL and self.made(node.outputs()[0]).virtual is not None
+        return not any(cell in read or self.made(cell).virtual is not None
+                       for node in self.nodes if node.function in (*ADDING, wire.INTEGRAL)
+                       for cell in node.outputs())
 
     def without(self, number: int) -> "Graph":
         """The same without a node. An image that was virtual, and isn't written any more, is an
