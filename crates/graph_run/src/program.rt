@@ -68,10 +68,6 @@ pub fn radii_near()
         AreNear objects high (radius_of objects high) nodes }
 {}
 
-/// While the samples of the clients' images are in planes, their cells still hold images, and the
-/// Planes of which a run has kept the descriptions and the blocks' sizes can come back to the
-/// What the functions that bind a graph ask of a table: nodes read objects that can be lent while
-/// The tallies that a run leaves are for the objects that the nodes keep them in, once the images
 /// Planes are no higher than the images that they are of, and those of virtual images have the
 /// formats of their slots.
 pub fn graph_sizes()

@@ -55,25 +55,12 @@ gradient_written n which output a old new is which_is known =
 pub accumulate_format : (function : Function) (a : Format) (second : Option Format) (out : Format) → accumulates function ≡ true → takes_formats function a second (Some out) ≡ true → out ≡ S16
 accumulate_format other a second out h t = grind arith
 
-no_second : (function : Function) → accumulates function ≡ true → (parameters function).second_input ≡ None
-no_second other h = grind arith
-
-pub accumulate_second : (function : Function) (second : Option ObjectValue) → accumulates function ≡ true → IfSome second (λ object. (parameters function).second_input ≡ Some (object_kind object)) → second ≡ None
-accumulate_second function None h kind = refl
-accumulate_second function (Some object) h kind = let k = no_second function h in absurd (cc)
-
--- the step's image is what such a function adds to the output, or what any other gives
+-- the step's image is what such a function adds to the output
 pub sum_written : (s : Step) (first : ImageValue) (second : Option ObjectValue) (own : ImageValue) (old new : ImageMut) → accumulates s.node.function ≡ true
     → Writes (node_image s.node s.which own.format first (Some (ImageObject own))) old new → Writes (image_from_inputs s first second own) old new
 sum_written s first second own old new sums is =
     written_same (image_from_inputs s first second own) (node_image s.node s.which own.format first (Some (ImageObject own))) old new
     (ap (λ b. node_image s.node s.which own.format first (cond b (Some (ImageObject own)) second)) sums) is
-
-pub plain_written : (s : Step) (first : ImageValue) (second : Option ObjectValue) (own : ImageValue) (old new : ImageMut) → accumulates s.node.function ≡ false
-    → Writes (node_image s.node s.which own.format first second) old new → Writes (image_from_inputs s first second own) old new
-plain_written s first second own old new plain is =
-    written_same (image_from_inputs s first second own) (node_image s.node s.which own.format first second) old new
-    (ap (λ b. node_image s.node s.which own.format first (cond b (Some (ImageObject own)) second)) plain) is
 
 -- ---- integral images
 

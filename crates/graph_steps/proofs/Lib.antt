@@ -8,6 +8,5 @@ pub mod ReduceLaws
 pub mod RunLaws
 pub mod HaloLaws
 pub mod OrderLaws
-pub mod AloneLaws
 pub mod ExampleLaws
 pub mod SumLaws

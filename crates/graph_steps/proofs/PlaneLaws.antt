@@ -10,7 +10,6 @@ use Rattle.vx_base.proofs.ImageLaws.{samples_are_band}
 use Rattle.vx_base.proofs.TableLaws.{length-band}
 use Rattle.image_core.specs.declared.band.Band.{Band}
 use Rattle.image_core.specs.Bands.{has_row, all_rows, IsInRows, image_over_rows, held_in}
-use Rattle.image_core.proofs.BandLaws.{place_of_band}
 use Rattle.image_core.proofs.HeldRows.{at_held, at_held_in, all_held}
 use Rattle.node_rows.specs.Rows.{AgreeInRows}
 use Rattle.graph_steps.specs.Planes.{PlaneValue, plane_image, block_image, rows_of_block, with_read_rows, written_among, with_rows, IsWhole}
@@ -190,27 +189,7 @@ module _ (image : ImageValue) (top : ℕ) (rows : Band) (old : List ℤ) (room :
       let same = from_top in
       length-take-le ((rows.start - top) * columns) old (omega (arith, size, same)) ∙ same
 
-  -- the sample at a place of a row that was written
-  pub among_inside : (x y : ℕ) → x < columns → has_row rows y ≡ true → get_or (written_among top rows image old) (y * columns + x) (pos 0) ≡ at image x y
-  among_inside x y across there =
-      let from : rows.start ≤ y = grind (arith, nat_tests) in
-      let to : y < rows.start + rows.count = grind (arith, nat_tests) in
-      let high : y - rows.start < rows.count = omega arith in
-      let low : rows.start * columns ≤ y * columns = not_more rows.start y from in
-      let short : (y - rows.start) * columns + x < rows.count * columns = places_fit x (y - rows.start) rows.count high across in
-      let place : y * columns + x - rows.start * columns ≡ (y - rows.start) * columns + x = less y rows.start from in
-      get_or-append_right (take ((rows.start - top) * columns) old) (between ++ rest) (rows.start * columns) (y * columns + x) (pos 0) long_before (omega arith)
-      ∙ ap (λ n. get_or (between ++ rest) n (pos 0)) place
-      ∙ get_or_append_left between rest (pos 0) ((y - rows.start) * columns + x) (omega (arith, long_between))
-      ∙ place_of_band columns rows.start rows.count x y (at image) across from to
-    where
-      less : (y s : ℕ) → s ≤ y → y * columns + x - s * columns ≡ (y - s) * columns + x
-      less y s h = from_sum (y - s) (omega arith)
-        where
-          from_sum : (k : ℕ) → y ≡ s + k → y * columns + x - s * columns ≡ k * columns + x
-          from_sum k e = let sum : y * columns ≡ s * columns + k * columns = ap (λ n. n * columns) e ∙ times_sum s k in omega arith
-
-  -- at a place of any other row it stays
+  -- the sample at a place of a row that wasn't written stays
   pub among_beside : (x y : ℕ) → x < columns → y < image.height → has_row rows y ≡ false → get_or (written_among top rows image old) (y * columns + x) (pos 0) ≡ get_or old (y * columns + x) (pos 0)
   among_beside x y across low absent = elim (cases_Bool (ltb y rows.start)) [
     | inl e ↦

@@ -151,25 +151,11 @@ pub record SolvesSteps (tables : List Second) (count : ℕ) (tasks : List Task) 
   pub written : (s : Step) → IsStepOf s tasks → after s.output ≡ step_image tables s after (before s.output)
   pub others : (c : ℕ) → IsUnwritten tasks c → after c ≡ before c
 
--- ---- a step by itself
+-- ---- whole images
 
 -- the images with another one at this index
 abbrev pub with_image : ℕ → ImageValue → (ℕ → ImageValue) → ℕ → ImageValue
 with_image c image images k = if k == c then image else images k
-
--- a step over client images of at most this height
-pub record IsAlone (tables : List Second) (high : ℕ) (halos : List ℕ) (s : Step) (planes : List PlaneValue) : Type 0 where
-  pub some : 0 < high
-  pub tall : (c : ℕ) → (plane planes c).desc.height ≤ high
-  pub output : s.output < length planes
-  pub none : s.takes ≡ None
-  pub reads : (c : ℕ) → ReadsPlane s c → (c < length planes) × (c ≢ s.output)
-  pub suits : SuitsPlanes tables high s planes
-  pub halo_count : length halos ≡ length planes
-  pub enough : Suffice high halos (Write s ∷ [])
-  pub clients : (c : ℕ) → c < length planes → IsClient (plane planes c)
-
--- ---- whole images
 
 -- the steps one after the other, each over whole images
 abbrev pub steps_in_turn : List Second → List Task → (ℕ → ImageValue) → ℕ → ImageValue

@@ -1,11 +1,9 @@
 //! Laws of programs: functions that do nothing, whose contracts are facts.
-ghost use Rattle.std.specs.Prelude.{◌∷◌, [], List, ℕ, length};
+ghost use Rattle.std.specs.Prelude.{List, ℕ, length};
 ghost use Rattle.image_core.specs.declared.second.Second.{Second as SecondValue};
-ghost use Rattle.graph_steps.specs.declared.step.Step.{Step as StepValue};
 ghost use Rattle.graph_steps.specs.declared.step.Task.{Task as TaskValue};
-ghost use Rattle.graph_steps.specs.declared.step.Task.TheVariants.{Write};
 ghost use Rattle.graph_steps.specs.Planes.{PlaneValue, block_images};
-ghost use Rattle.graph_steps.specs.Program.{AreFilled, AreInOrder, IsAlone, IsProgram, SolvesSteps};
+ghost use Rattle.graph_steps.specs.Program.{AreFilled, AreInOrder, IsProgram, SolvesSteps};
 ghost use Rattle.graph_steps.specs.Program.{steps_in_turn};
 
 /// The steps of a program have a solution: what they make one after the other over whole images.
@@ -15,15 +13,4 @@ pub fn solution()
         AreInOrder tasks → AreFilled (length planes) tasks →
         SolvesSteps tables (length planes) tasks (block_images planes)
         (steps_in_turn tables tasks (block_images planes)) }
-{}
-
-/// A step over client images is a program of one band, and has a solution.
-pub fn one_step()
-    ensures program { (tables : List SecondValue) (high : ℕ) (halos : List ℕ) (s : StepValue)
-        (planes : List PlaneValue) → IsAlone tables high halos s planes →
-        IsProgram tables high high halos (Write s ∷ []) planes }
-    ensures solution { (tables : List SecondValue) (high : ℕ) (halos : List ℕ) (s : StepValue)
-        (planes : List PlaneValue) → IsAlone tables high halos s planes →
-        SolvesSteps tables (length planes) (Write s ∷ []) (block_images planes)
-        (steps_in_turn tables (Write s ∷ []) (block_images planes)) }
 {}

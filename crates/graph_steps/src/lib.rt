@@ -22,7 +22,7 @@
 //! - `tally`: histograms and extremes, band by band
 //! - `halos`: the rows above and below a band that are needed
 //! - `bands`: for each band all tasks
-//! - `laws`: programs have solutions, and a step by itself is a program
+//! - `laws`: programs have solutions
 //! - `examples`: a program in bands
 #![tactic(auto)]
 
