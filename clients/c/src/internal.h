@@ -261,6 +261,9 @@ struct _vx_image {
 vx_size sample_size(vx_df_image format);
 uint8_t format_number(vx_df_image format);
 uint8_t *put_image(uint8_t *at, const struct _vx_image *image);
+/* Makes an image on the server; with a scope, a virtual one of that graph. */
+vx_status create_samples(vx_context context, vx_uint32 scope, const struct described *as,
+                         vx_uint32 *name);
 /* An image as described, or an error. */
 vx_reference create_image(vx_context context, struct _vx_image made);
 vx_status query_valid(vx_image image, vx_rectangle_t *rect);
@@ -300,6 +303,9 @@ void free_views(struct views *views);
 bool is_map(vx_enum usage, vx_enum memory);
 
 /* ---- The other objects ---- */
+
+/* Registers the delays that age with a graph with a part of it, by the part's name. */
+vx_status register_delays(vx_graph graph, vx_uint32 part);
 
 struct _vx_delay {
     struct _vx_reference base;
@@ -452,6 +458,12 @@ vx_uint32 count_functions(void);
 
 /* ---- graph.c ---- */
 
+/* What a graph on the server has of a node: its number there, 0 for none, and its bytes. */
+struct sent {
+    vx_uint32 number;
+    uint8_t bytes[NODE_BYTES];
+};
+
 struct _vx_node {
     struct _vx_reference base;
     /* NULL when it was removed, or its graph is gone. */
@@ -460,9 +472,26 @@ struct _vx_node {
     struct call call;
     /* Of the last verification or run. */
     vx_status status;
-    /* What the server has of it: its number in the graph, 0 for none, and its bytes. */
-    vx_uint32 number;
-    uint8_t sent[NODE_BYTES];
+    struct sent sent;
+    /* In a graph that runs in parts: the number of its part, from 0, and what that has of it. */
+    vx_uint32 part;
+    struct sent sent_to_part;
+};
+
+/* The server's image that backs a virtual image in the parts of its graph. */
+struct backing {
+    vx_image image;
+    vx_uint32 name;
+};
+
+/* The parts in which a graph runs, see parts.c. */
+struct parts {
+    /* The number of parts, 0 for a graph that runs as a whole, and the names of their graphs on the
+       server, in the order of the run. */
+    vx_uint32 count;
+    vx_uint32 *names;
+    vx_size backing_count;
+    struct backing *backings;
 };
 
 struct _vx_graph {
@@ -476,6 +505,12 @@ struct _vx_graph {
     struct call missed;
     bool is_verified, is_scheduled;
     struct request run;
+    struct parts parts;
+    /* Whether the current run has run a part. */
+    bool has_begun;
+    /* The names of the delays that age with it. The server may have dropped some of them. */
+    vx_uint32 *delays;
+    vx_size delay_count;
     /* How long runs took, and when the last one began, in nanoseconds. */
     vx_perf_t performance;
     /* Those that the graph has itself, each of one of its nodes, and how many. */
@@ -489,17 +524,53 @@ vx_node add_missing_node(vx_graph graph, const char *why);
 /* Has the graph be verified anew. */
 void change(vx_graph graph);
 vx_status detach(vx_node node);
+
+/* ---- run.c ---- */
+
+/* Sends a call as a node to a graph on the server, unless that has it already. */
+vx_status send_call(vx_node node, struct call *call, vx_uint32 graph, struct sent *sent);
+/* Removes a node from a graph on the server, if that has it. */
+vx_status withdraw(vx_context context, vx_uint32 graph, struct sent *sent);
+/* Verifies or runs a graph on the server by its name, which is the graph's own or a part's. Adds a
+   log entry where the server refuses it. */
+vx_status ask_verdict(vx_graph graph, vx_uint32 name, enum op op);
+/* Waits for a run that was scheduled, if there is one. */
 void settle(vx_graph graph);
+
+/* ---- parts.c ---- */
+
+/* Whether a node of the graph reads a scalar that another one writes. */
+bool runs_in_parts(const struct _vx_graph *graph);
+/* Makes the parts of a verified graph, unless they are there. */
+vx_status make_parts(vx_graph graph);
+/* Drops the parts of a graph that changes, here and on the server. */
+void drop_parts(vx_graph graph);
+/* Frees what the library has of the parts. */
+void free_parts(vx_graph graph);
+/* Runs all parts but the last one, and sends the nodes of that. */
+vx_status run_first_parts(vx_graph graph);
+/* The name of the last part's graph on the server. */
+vx_uint32 last_name(const struct _vx_graph *graph);
+/* Whether a node runs last; in a graph without parts all nodes do. */
+bool is_in_last_part(const struct _vx_node *node);
 
 /* ---- verdict.c ---- */
 
 /* A node's number in its graph in order of addition, from 0, its function and its name. */
 void describe_node(vx_node node, char *words, size_t room);
-/* Checks what the server doesn't: no two nodes write one scalar or array, and none reads a scalar
-   that one writes. */
+/* Checks what the server doesn't: no two nodes write one scalar or array. */
 vx_status check_writers(vx_graph graph);
+/* Whether a node reads an image that another node writes. */
+bool reads_image_of(const struct _vx_node *reader, const struct _vx_node *writer);
+/* Whether a node's scale or shift is a scalar that another node writes, or that any node does. */
+bool reads_scalar_of(const struct _vx_node *reader, const struct _vx_node *writer);
+bool reads_written_scalar(const struct _vx_node *node);
+/* The image in a place of a node, or NULL. */
+vx_image image_at(const struct _vx_node *node, unsigned place);
 /* Adds the log entry of a graph's verdict, with the node that it is about. */
 void explain_verdict(vx_graph graph, vx_status status);
+/* Adds the log entry of a cycle through images and scalars. Returns false where there is none. */
+bool explain_cycle(vx_graph graph);
 /* The same of a call at once. */
 void explain_call(vx_context context, const struct call *call, vx_status status);
 /* After a verification: gives virtual images the sizes and formats that were found out. */

@@ -179,8 +179,11 @@ void free_memory(vx_reference reference) {
     }
     if (reference->type == VX_TYPE_DISTRIBUTION)
         free_views(&((vx_distribution)reference)->views);
-    if (reference->type == VX_TYPE_GRAPH)
+    if (reference->type == VX_TYPE_GRAPH) {
         free(((vx_graph)reference)->parameters);
+        free(((vx_graph)reference)->delays);
+        free_parts((vx_graph)reference);
+    }
     free(reference);
 }
 

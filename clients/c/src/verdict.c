@@ -32,7 +32,7 @@ static const char *format_name(vx_df_image format) {
 
 /* ---- Sizes and formats ---- */
 
-static vx_image image_at(const struct _vx_node *node, unsigned place) {
+vx_image image_at(const struct _vx_node *node, unsigned place) {
     vx_reference operand = node->call.operands[place];
     return operand != NULL && operand->type == VX_TYPE_IMAGE ? (vx_image)operand : NULL;
 }
@@ -142,7 +142,7 @@ static const char *writes(const struct _vx_node *node, vx_reference object,
     return NULL;
 }
 
-static bool is_written(vx_graph graph, vx_reference object) {
+static bool is_written(const struct _vx_graph *graph, vx_reference object) {
     for (vx_node node = graph->first; node != NULL; node = node->next_node)
         if (writes(node, object, NULL) != NULL)
             return true;
@@ -177,46 +177,40 @@ static void tell_writers(vx_node node, const struct formal *formal, vx_node othe
          formal->name, second);
 }
 
-/* A node's scale or shift is told to the server before the graph runs, and all of the graph runs in
-   one request: so it can't be what that run finds out. */
-static vx_status check_reader(vx_node node) {
-    char first[VX_MAX_LOG_MESSAGE_LEN / 4], second[VX_MAX_LOG_MESSAGE_LEN / 4];
-    vx_reference amount = node->call.operands[AMOUNT];
-    for (vx_node other = node->graph->first; amount != NULL && other != NULL;
-         other = other->next_node) {
-        const char *name = writes(other, amount, NULL);
-        if (name == NULL)
-            continue;
-        describe_node(node, first, sizeof first);
-        describe_node(other, second, sizeof second);
-        tell(&node->base, VX_ERROR_NOT_SUPPORTED,
-             "%s reads a scalar that %s writes by %s: give it to a graph that runs after this one",
-             first, second, name);
-        return node->status = VX_ERROR_NOT_SUPPORTED;
-    }
-    return VX_SUCCESS;
-}
-
 vx_status check_writers(vx_graph graph) {
     const struct formal *formal;
     vx_node other, node = find_second_writer(graph, true, &formal, &other);
-    if (node != NULL) {
-        tell_writers(node, formal, other);
-        return VX_ERROR_MULTIPLE_WRITERS;
-    }
-    vx_status status = VX_SUCCESS;
-    for (node = graph->first; node != NULL && status == VX_SUCCESS; node = node->next_node)
-        status = check_reader(node);
-    return status;
+    if (node == NULL)
+        return VX_SUCCESS;
+    tell_writers(node, formal, other);
+    return VX_ERROR_MULTIPLE_WRITERS;
 }
 
-/* Whether a node reads an image that a node writes that isn't marked as done. */
+bool reads_image_of(const struct _vx_node *reader, const struct _vx_node *writer) {
+    for (unsigned place = IN1; place <= IN2; place++) {
+        vx_image image = image_at(reader, place);
+        if (image != NULL && writes(writer, &image->base, NULL) != NULL)
+            return true;
+    }
+    return false;
+}
+
+bool reads_scalar_of(const struct _vx_node *reader, const struct _vx_node *writer) {
+    vx_reference amount = reader->call.operands[AMOUNT];
+    return amount != NULL && writes(writer, amount, NULL) != NULL;
+}
+
+bool reads_written_scalar(const struct _vx_node *node) {
+    vx_reference amount = node->call.operands[AMOUNT];
+    return amount != NULL && is_written(node->graph, amount);
+}
+
+/* Whether a node reads an image or a scalar that is written by a node that isn't done. */
 static bool waits(const struct _vx_node *node) {
     for (vx_node other = node->graph->first; other != NULL; other = other->next_node)
-        for (unsigned place = IN1; other->status != VX_SUCCESS && place <= IN2; place++)
-            if (image_at(node, place) != NULL &&
-                writes(other, node->call.operands[place], NULL) != NULL)
-                return true;
+        if (other->status != VX_SUCCESS &&
+            (reads_image_of(node, other) || reads_scalar_of(node, other)))
+            return true;
     return false;
 }
 
@@ -311,7 +305,7 @@ static bool explain_writers(vx_graph graph) {
     return node != NULL;
 }
 
-static bool explain_cycle(vx_graph graph) {
+bool explain_cycle(vx_graph graph) {
     vx_node node = find_cycle(graph);
     if (node != NULL)
         tell_node(node, VX_ERROR_INVALID_GRAPH, "it reads, also by other nodes, what it writes");

@@ -183,42 +183,6 @@ static void refuse_two_writers(void) {
     EXPECT(VX_SUCCESS, vxReleaseGraph(&graph));
 }
 
-/* What the server couldn't have in time is refused, and not taken from the run before. */
-static void refuse_late_scalars(void) {
-    vx_scalar least = vxCreateScalar(context, VX_TYPE_UINT8, NULL);
-    vx_scalar greatest = vxCreateScalar(context, VX_TYPE_UINT8, NULL);
-    vx_scalar count = vxCreateScalar(context, VX_TYPE_UINT32, NULL);
-    vx_graph graph = vxCreateGraph(context);
-    vx_node node = vxAccumulateSquareImageNode(graph, u8, count, s16);
-    EXPECT(VX_SUCCESS, vxVerifyGraph(graph));
-    EXPECT(VX_SUCCESS,
-           STATUS(vxMinMaxLocNode(graph, v8, least, greatest, NULL, NULL, count, NULL)));
-    SAYS(VX_ERROR_NOT_SUPPORTED, vxProcessGraph(graph),
-         "node 0 (vxAccumulateSquareImageNode) reads a scalar that node 1 (vxMinMaxLocNode) writes "
-         "by minCount: give it to a graph that runs after this one");
-    EXPECT(VX_SUCCESS, vxRemoveNode(&node));
-    /* As the entry says: the one graph finds the shift, the other one uses it. */
-    vx_graph after = vxCreateGraph(context);
-    vx_image picture = vxCreateImage(context, WIDTH, HEIGHT, VX_DF_IMAGE_U8);
-    vx_image sums = vxCreateImage(context, WIDTH, HEIGHT, VX_DF_IMAGE_S16);
-    const vx_pixel_value_t white = {.U8 = 255}, black = {.U8 = 1};
-    const vx_rectangle_t corner = {0, 0, 1, 1};
-    const vx_imagepatch_addressing_t addr = by_rows(1, 1, 1);
-    vx_uint8 least_pixel = black.U8;
-    vx_int16 sum[WIDTH * HEIGHT];
-    EXPECT(VX_SUCCESS, STATUS(vxAccumulateSquareImageNode(after, picture, count, sums)));
-    EXPECT(VX_SUCCESS, vxSetImagePixelValues(picture, &white));
-    EXPECT(VX_SUCCESS, vxSetImagePixelValues(v8, &white));
-    EXPECT(VX_SUCCESS, vxCopyImagePatch(v8, &corner, 0, &addr, &least_pixel, VX_WRITE_ONLY,
-                                        VX_MEMORY_TYPE_HOST));
-    EXPECT(VX_SUCCESS, vxProcessGraph(graph));
-    EXPECT(VX_SUCCESS, vxProcessGraph(after));
-    EXPECT(VX_SUCCESS, copy_whole(sums, WIDTH, HEIGHT, 2, sum, VX_READ_ONLY));
-    CHECK(sum[0] == (255 * 255) >> 1);
-    EXPECT(VX_SUCCESS, vxReleaseGraph(&graph));
-    EXPECT(VX_SUCCESS, vxReleaseGraph(&after));
-}
-
 /* How many parameters of a node of a kernel take a scalar of a type, and have the direction. */
 static int count_takers(vx_kernel kernel, vx_enum type, vx_enum direction) {
     vx_graph graph = vxCreateGraph(context);
@@ -241,8 +205,8 @@ static int count_takers(vx_kernel kernel, vx_enum type, vx_enum direction) {
     return count;
 }
 
-/* The refusal above is all that there is to refuse: of all types of scalars, one is both written by
-   a node and read by one, MinMaxLoc's counts and the shift of AccumulateSquareImage. */
+/* links.c has the one kind of link that there is: of all types of scalars, one is both written by a
+   node and read by one, by MinMaxLoc's counts and as the shift of AccumulateSquareImage. */
 static void find_links_by_scalars(void) {
     static const vx_enum types[] = {VX_TYPE_CHAR,    VX_TYPE_INT8,    VX_TYPE_UINT8,
                                     VX_TYPE_INT16,   VX_TYPE_UINT16,  VX_TYPE_INT32,
@@ -342,7 +306,6 @@ int main(void) {
     tell_nodes();
     tell_links();
     refuse_two_writers();
-    refuse_late_scalars();
     find_links_by_scalars();
     ask_virtual_images();
     make_of_kernels();
