@@ -29,6 +29,38 @@ static vx_status refuse(vx_reference about, const struct call *call, vx_status s
     return status;
 }
 
+/* The standard's name of a type that scalars or the items of arrays may have. */
+static const char *name_of_type(vx_enum type) {
+#define NAME_OF(type)                                                                              \
+    case type:                                                                                     \
+        return #type;
+    switch (type) {
+        NAME_OF(VX_TYPE_CHAR)
+        NAME_OF(VX_TYPE_INT8)
+        NAME_OF(VX_TYPE_UINT8)
+        NAME_OF(VX_TYPE_INT16)
+        NAME_OF(VX_TYPE_UINT16)
+        NAME_OF(VX_TYPE_INT32)
+        NAME_OF(VX_TYPE_UINT32)
+        NAME_OF(VX_TYPE_INT64)
+        NAME_OF(VX_TYPE_UINT64)
+        NAME_OF(VX_TYPE_FLOAT32)
+        NAME_OF(VX_TYPE_FLOAT64)
+        NAME_OF(VX_TYPE_ENUM)
+        NAME_OF(VX_TYPE_SIZE)
+        NAME_OF(VX_TYPE_BOOL)
+        NAME_OF(VX_TYPE_DF_IMAGE)
+        NAME_OF(VX_TYPE_RECTANGLE)
+        NAME_OF(VX_TYPE_KEYPOINT)
+        NAME_OF(VX_TYPE_COORDINATES2D)
+        NAME_OF(VX_TYPE_COORDINATES2DF)
+        NAME_OF(VX_TYPE_COORDINATES3D)
+    default:
+        return "another type";
+    }
+#undef NAME_OF
+}
+
 static const char *noun_of(vx_enum type) {
     switch (type) {
     case VX_TYPE_IMAGE:
@@ -59,7 +91,8 @@ vx_status check_value(vx_reference about, const struct call *call, const struct 
         return refuse(about, call, status, "%s is NULL, and has to be %s", formal->name,
                       noun_of(formal->type));
     if (status == VX_ERROR_INVALID_SCOPE)
-        return refuse(about, call, status, "%s is of another context", formal->name);
+        return refuse(about, call, status, "%s is of another context: make it in this one",
+                      formal->name);
     if (check(context, value, VX_TYPE_ERROR) == VX_SUCCESS)
         return refuse(about, call, status, "%s is an object that couldn't be made: status %d",
                       formal->name, value->status);
@@ -96,14 +129,16 @@ static vx_status check_scope(vx_reference about, const struct call *call,
     if (formal->type != VX_TYPE_IMAGE || image == NULL)
         return VX_SUCCESS;
     if (image->is_uniform && formal->direction != VX_INPUT)
-        return refuse(about, call, VX_ERROR_INVALID_PARAMETERS, "%s is a uniform image",
-                      formal->name);
+        return refuse(about, call, VX_ERROR_INVALID_PARAMETERS,
+                      "%s is a uniform image, which no node can write", formal->name);
     if (image->scope == 0 || image->scope == scope_of(about))
         return VX_SUCCESS;
     if (about->type == VX_TYPE_CONTEXT)
-        return refuse(about, call, VX_ERROR_OPTIMIZED_AWAY, "%s is a virtual image", formal->name);
-    return refuse(about, call, VX_ERROR_INVALID_SCOPE, "%s is a virtual image of another graph",
-                  formal->name);
+        return refuse(about, call, VX_ERROR_OPTIMIZED_AWAY,
+                      "%s is a virtual image, which only the nodes of its graph can use",
+                      formal->name);
+    return refuse(about, call, VX_ERROR_INVALID_SCOPE,
+                  "%s is a virtual image of another graph: make it for this one", formal->name);
 }
 
 /* A scalar that is there is of one of two types. */
@@ -113,8 +148,9 @@ static vx_status check_item(vx_reference about, const struct call *call,
     if (scalar == NULL || scalar->item == first || scalar->item == second)
         return VX_SUCCESS;
     return refuse(about, call, VX_ERROR_INVALID_TYPE,
-                  "%s is a scalar of type 0x%03x and not 0x%03x", formal->name,
-                  (unsigned)scalar->item, (unsigned)first);
+                  "%s is a scalar of %s, and has to be of %s%s%s", formal->name,
+                  name_of_type(scalar->item), name_of_type(first),
+                  first == second ? "" : " or ", first == second ? "" : name_of_type(second));
 }
 
 /* The types of scalars that a place has: one, or the second of two. */
@@ -144,8 +180,10 @@ static vx_status check_policy(vx_reference about, const struct call *call,
     if (is_rounding ? value == VX_ROUND_POLICY_TO_ZERO
                     : value == VX_CONVERT_POLICY_WRAP || value == VX_CONVERT_POLICY_SATURATE)
         return VX_SUCCESS;
-    return refuse(about, call, VX_ERROR_INVALID_VALUE, "%s is 0x%x, which is no policy",
-                  formal->name, (unsigned)value);
+    return refuse(about, call, VX_ERROR_INVALID_VALUE, "%s is 0x%x, and has to be %s", formal->name,
+                  (unsigned)value,
+                  is_rounding ? "VX_ROUND_POLICY_TO_ZERO"
+                              : "VX_CONVERT_POLICY_WRAP or VX_CONVERT_POLICY_SATURATE");
 }
 
 static vx_status check_formal(vx_reference about, const struct call *call,
@@ -156,8 +194,8 @@ static vx_status check_formal(vx_reference about, const struct call *call,
     vx_array array = (vx_array)call->operands[formal->place];
     if (formal->type == VX_TYPE_ARRAY && array != NULL && array->item != VX_TYPE_COORDINATES2D)
         return refuse(about, call, VX_ERROR_INVALID_TYPE,
-                      "%s is an array of type 0x%03x and not of VX_TYPE_COORDINATES2D",
-                      formal->name, (unsigned)array->item);
+                      "%s is an array of %s, and has to be of VX_TYPE_COORDINATES2D",
+                      formal->name, name_of_type(array->item));
     if (formal->type != VX_TYPE_SCALAR)
         return check_scope(about, call, formal);
     items_of(call, formal->place, &first, &second);
@@ -171,7 +209,8 @@ vx_status check_values(vx_reference about, const struct call *call) {
         status = check_formal(about, call, &definition->formals[i]);
     if (status == VX_SUCCESS && call->function == SOBEL && !call->is_generic &&
         call->operands[OUT1] == NULL && call->operands[OUT2] == NULL)
-        status = refuse(about, call, VX_ERROR_INVALID_PARAMETERS, "both outputs are NULL");
+        status = refuse(about, call, VX_ERROR_INVALID_PARAMETERS,
+                        "both outputs are NULL: give one or both");
     return status;
 }
 
@@ -179,7 +218,8 @@ vx_status check_outputs(vx_reference about, const struct call *call) {
     for (unsigned place = MIN_VALUE; place < OPERANDS; place++)
         for (unsigned other = MIN_VALUE; other < place; other++)
             if (call->operands[place] != NULL && call->operands[place] == call->operands[other])
-                return refuse(about, call, VX_ERROR_MULTIPLE_WRITERS, "two outputs are one object");
+                return refuse(about, call, VX_ERROR_MULTIPLE_WRITERS,
+                              "two outputs are one object: give each its own");
     return VX_SUCCESS;
 }
 
@@ -190,10 +230,11 @@ vx_status check_complete(vx_reference about, const struct call *call) {
         bool is_there = formal->place < OPERANDS ? call->operands[formal->place] != NULL
                                                  : call->policies[formal->place - OPERANDS] != 0;
         if (!is_there && formal->state == VX_PARAMETER_STATE_REQUIRED)
-            return refuse(about, call, VX_ERROR_NOT_SUFFICIENT, "%s wasn't set", formal->name);
+            return refuse(about, call, VX_ERROR_NOT_SUFFICIENT, "%s wasn't set: set parameter %u",
+                          formal->name, (unsigned)i);
     }
     if (call->function == SOBEL && call->operands[OUT1] == NULL && call->operands[OUT2] == NULL)
-        return refuse(about, call, VX_ERROR_NOT_SUFFICIENT, "no output was set");
+        return refuse(about, call, VX_ERROR_NOT_SUFFICIENT, "no output was set: set one or both");
     return VX_SUCCESS;
 }
 

@@ -249,11 +249,12 @@ bool connection_wait(struct connection *connection, struct request *request) {
 void connection_epitaph(struct connection *connection, char *words, size_t room) {
     char said[256];
     if (connection->is_inherited) {
-        snprintf(words, room, "the server is the parent process's: a context isn't for a child");
+        snprintf(words, room, "the server is the parent process's: make a context in the child");
         return;
     }
     if (connection->is_late) {
-        snprintf(words, room, "the server didn't answer within %g s, which FEQYLDAN_TIMEOUT says",
+        snprintf(words, room,
+                 "the server didn't answer within the %g s that FEQYLDAN_TIMEOUT allows",
                  connection->patience / 1000.0);
         return;
     }

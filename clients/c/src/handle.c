@@ -65,7 +65,8 @@ static vx_status move_images(vx_reference about, const struct call *call, vx_enu
             continue;
         status = image->memory.first == NULL ? VX_ERROR_NOT_ALLOCATED : move(image);
         if (image->memory.first == NULL)
-            tell(about, status, "%s is an image from a handle that was taken away",
+            tell(about, status,
+                 "%s is an image from a handle without memory: give it some by vxSwapImageHandle",
                  definition->formals[i].name);
     }
     return status;

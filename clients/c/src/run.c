@@ -48,10 +48,13 @@ static vx_status send_node(vx_node node) {
     return status;
 }
 
-/* Has the server have all nodes of a graph that may be one. */
+/* Sends all nodes of a graph, unless one of them couldn't be made. */
 static vx_status send_nodes(vx_graph graph) {
     if (graph->lacks_node || graph->misses_node) {
-        tell(&graph->base, VX_ERROR_INVALID_NODE, "a node of the graph couldn't be made");
+        tell(&graph->base, VX_ERROR_INVALID_NODE,
+             graph->lacks_node ? "a node of the graph couldn't be made: make the graph anew"
+                               : "a node of the graph couldn't be made for want of memory: make "
+                                 "the node anew");
         return VX_ERROR_INVALID_NODE;
     }
     vx_status status = check_writers(graph);

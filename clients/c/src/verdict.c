@@ -308,7 +308,8 @@ static bool explain_writers(vx_graph graph) {
 bool explain_cycle(vx_graph graph) {
     vx_node node = find_cycle(graph);
     if (node != NULL)
-        tell_node(node, VX_ERROR_INVALID_GRAPH, "it reads, also by other nodes, what it writes");
+        tell_node(node, VX_ERROR_INVALID_GRAPH,
+                  "it reads, directly or through other nodes, what it writes");
     return node != NULL;
 }
 

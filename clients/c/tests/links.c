@@ -270,7 +270,8 @@ static void refuse_faults(void) {
     vx_node reader = add_squares(graph, input, count, sums);
     vx_node cycle = vxMinMaxLocNode(graph, sums, low, high, NULL, NULL, count, NULL);
     SAYS(VX_ERROR_INVALID_GRAPH, vxVerifyGraph(graph),
-         "node 0 (vxAccumulateSquareImageNode): it reads, also by other nodes, what it writes");
+         "node 0 (vxAccumulateSquareImageNode): it reads, directly or through other nodes, what "
+         "it writes");
     CHECK(!vxIsGraphVerified(graph) && state_of(graph) == VX_GRAPH_STATE_UNVERIFIED);
     SAYS(VX_ERROR_INVALID_GRAPH, vxProcessGraph(graph), "node 0 (vxAccumulateSquareImageNode): ");
     SAYS(VX_ERROR_INVALID_GRAPH, vxScheduleGraph(graph), "node 0 (vxAccumulateSquareImageNode): ");
