@@ -1,4 +1,4 @@
-/* Uses of functions: what each takes, and the bytes that a frame has of it. */
+/* Calls of functions: checks of their parameters, and their bytes in a frame. */
 #include "internal.h"
 
 #include <stdarg.h>
@@ -10,7 +10,7 @@ vx_uint32 scope_of(vx_reference about) {
     return about->type == VX_TYPE_GRAPH ? about->name : 0;
 }
 
-/* Adds the log entry of a call that is refused, which begins with what the call is. */
+/* Adds a log entry about a refused call, by its node or function. Returns the status. */
 static vx_status refuse(vx_reference about, const struct call *call, vx_status status,
                         const char *words, ...) {
     char said[VX_MAX_LOG_MESSAGE_LEN / 2], what[VX_MAX_LOG_MESSAGE_LEN / 4];
@@ -80,7 +80,6 @@ static const char *noun_of(vx_enum type) {
     }
 }
 
-/* Checks a value that is given for a parameter: a reference of the right type and context. */
 vx_status check_value(vx_reference about, const struct call *call, const struct formal *formal,
                       vx_reference value) {
     vx_context context = about->context;
@@ -99,15 +98,14 @@ vx_status check_value(vx_reference about, const struct call *call, const struct 
     return refuse(about, call, status, "%s isn't %s", formal->name, noun_of(formal->type));
 }
 
-/* At once no scalar has the amount, but that of AccumulateSquare. */
+/* In immediate mode a scale or shift is a number, except that of AccumulateSquareImage. */
 static bool may_lack(vx_reference about, const struct call *call, const struct formal *formal) {
     bool is_number = formal->place == AMOUNT && about->type == VX_TYPE_CONTEXT &&
                      call->function != ACCUMULATE_SQUARE;
     return is_number || formal->state == VX_PARAMETER_STATE_OPTIONAL;
 }
 
-/* Each operand that has to be there or is there is a reference of the type that the function
-   takes. */
+/* Checks that each operand that is there or has to be is a reference of the right type. */
 static vx_status check_references(vx_reference about, const struct call *call) {
     const struct definition *definition = definition_of(call->function);
     vx_status status = VX_SUCCESS;
@@ -122,7 +120,7 @@ static vx_status check_references(vx_reference about, const struct call *call) {
     return status;
 }
 
-/* A virtual image is an operand in its graph alone, and a uniform one is read alone. */
+/* Checks that a virtual image is one of this graph, and that a uniform one is only read. */
 static vx_status check_scope(vx_reference about, const struct call *call,
                              const struct formal *formal) {
     vx_image image = (vx_image)call->operands[formal->place];
@@ -141,7 +139,7 @@ static vx_status check_scope(vx_reference about, const struct call *call,
                   "%s is a virtual image of another graph: make it for this one", formal->name);
 }
 
-/* A scalar that is there is of one of two types. */
+/* Checks that a scalar, if it is there, is of one of two types. */
 static vx_status check_item(vx_reference about, const struct call *call,
                             const struct formal *formal, vx_enum first, vx_enum second) {
     vx_scalar scalar = (vx_scalar)call->operands[formal->place];
@@ -153,7 +151,7 @@ static vx_status check_item(vx_reference about, const struct call *call,
                   first == second ? "" : " or ", first == second ? "" : name_of_type(second));
 }
 
-/* The types of scalars that a place has: one, or the second of two. */
+/* The one or two types that a scalar in a place may have. */
 static void items_of(const struct call *call, unsigned place, vx_enum *first, vx_enum *second) {
     vx_image input = (vx_image)call->operands[IN1];
     vx_df_image format = input == NULL ? VX_DF_IMAGE_VIRT : input->format;
@@ -243,7 +241,7 @@ vx_status check_call(vx_reference about, const struct call *call) {
     return status == VX_SUCCESS ? check_values(about, call) : status;
 }
 
-/* The exponent of a scale that is 1 / 2^n with n from 0 to 15; 16 for another one. */
+/* The n of a scale of 1 / 2^n from 0 to 15; 16 for any other scale. */
 static uint8_t exponent_of(double scale) {
     uint8_t exponent = 0;
     for (double power = 1; exponent <= 15 && scale * power != 1; power *= 2)
@@ -251,7 +249,7 @@ static uint8_t exponent_of(double scale) {
     return exponent;
 }
 
-/* The byte for a scale or a shift. */
+/* Gives the byte of a scale or shift in a frame. */
 static vx_status amount_of(vx_reference about, const struct call *call, uint8_t *amount) {
     vx_scalar scalar = (vx_scalar)call->operands[AMOUNT];
     *amount = 0;
@@ -288,7 +286,7 @@ static vx_status send_limits(vx_reference about, const struct call *call) {
     return send_threshold(threshold);
 }
 
-/* Has what the call uses made on the server. */
+/* Makes the objects that a call uses on the server, where they aren't there. */
 static vx_status send_used(vx_reference about, struct call *call) {
     vx_context context = about->context;
     switch (call->function) {
@@ -356,7 +354,7 @@ static void set_number(vx_reference operand, vx_int64 number) {
     }
 }
 
-/* The first place of an extreme, or none. */
+/* Sets an array to the first place of an extreme, or to nothing where the count is 0. */
 static void set_place(vx_reference operand, vx_uint32 count, const uint8_t *at) {
     vx_array array = (vx_array)operand;
     if (array == NULL)

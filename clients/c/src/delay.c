@@ -1,5 +1,5 @@
-/* Delays. A slot is an object of the library that stands for the image which is in it when it is
-   used. */
+/* Delays of images. A reference to a slot is an image of the library alone. It is sent as the
+   slot's number, so it always means the image that is there when it is used. */
 #include "internal.h"
 
 #include <stdlib.h>
@@ -45,7 +45,8 @@ PUBLIC vx_status VX_API_CALL vxReleaseDelay(vx_delay *delay) {
     return release(delay, VX_TYPE_DELAY);
 }
 
-/* The image of a slot, which nobody holds but the delay; NULL where there is no memory. */
+/* The image of a slot, made for the first reference to it; NULL where there is no memory. Only its
+   delay holds it. */
 static vx_image slot_of(vx_delay delay, vx_size number) {
     vx_image image = delay->images[number];
     if (image != NULL)

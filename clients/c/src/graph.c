@@ -1,5 +1,5 @@
-/* Graphs and their nodes. These are kept here, and the server is told of them when the graph is
-   verified or run, in run.c: so a border, a scale or a threshold may change until then. */
+/* Graphs and their nodes. A node is sent to the server when its graph is verified or run, see
+   run.c. Until then its border, its scalars and its other parameters may change. */
 #include "internal.h"
 
 #include <string.h>
@@ -29,7 +29,8 @@ void change(vx_graph graph) {
     graph->state = VX_GRAPH_STATE_UNVERIFIED;
 }
 
-/* A graph whose node couldn't be made isn't what the program meant: it is never verified. */
+/* Notes that a node couldn't be made. The graph isn't what the program meant, so it can't be
+   verified any more. */
 static vx_node fail_node(vx_graph graph, vx_status status) {
     graph->lacks_node = true;
     change(graph);
@@ -43,7 +44,8 @@ static bool is_missed(const struct _vx_graph *graph, const struct call *call) {
            memcmp(missed->policies, call->policies, sizeof call->policies) == 0;
 }
 
-/* The same for want of memory, until the program makes the node anew. */
+/* Notes that a node found no memory. The graph can't be verified until the program makes the node
+   anew. */
 static vx_node miss_node(vx_graph graph, const struct call *call) {
     if (graph->misses_node && !is_missed(graph, call))
         return fail_node(graph, VX_ERROR_NO_MEMORY);
@@ -101,7 +103,6 @@ vx_node add_node(vx_graph graph, struct call call) {
     return node;
 }
 
-/* Takes a node out of its graph, here and there. */
 vx_status detach(vx_node node) {
     vx_graph graph = node->graph;
     vx_status status = withdraw(node->base.context, graph->base.name, &node->sent);

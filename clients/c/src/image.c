@@ -1,4 +1,4 @@
-/* Images: what they are, and their valid rectangles. */
+/* Images: their attributes and valid rectangles. */
 #include "internal.h"
 
 vx_size sample_size(vx_df_image format) {
@@ -170,7 +170,7 @@ vx_status set_valid(vx_image image, const vx_rectangle_t *rect) {
     return ask(image->base.context, SET_VALID, body, sizeof body, NULL, 0);
 }
 
-/* Whether it is the empty rectangle, or one of an image's pixels. */
+/* Whether a rectangle is the empty one, or one within an image. */
 static bool is_rectangle(const vx_rectangle_t *rect, const struct _vx_image *image) {
     if (rect->start_x == 0 && rect->start_y == 0 && rect->end_x == 0 && rect->end_y == 0)
         return true;

@@ -52,9 +52,9 @@ static vx_status send_node(vx_node node) {
 static vx_status send_nodes(vx_graph graph) {
     if (graph->lacks_node || graph->misses_node) {
         tell(&graph->base, VX_ERROR_INVALID_NODE,
-             graph->lacks_node ? "a node of the graph couldn't be made: make the graph anew"
-                               : "a node of the graph couldn't be made for want of memory: make "
-                                 "the node anew");
+             graph->lacks_node
+                 ? "a node of the graph couldn't be made: make the graph anew"
+                 : "a node of the graph couldn't be made, out of memory: make the node anew");
         return VX_ERROR_INVALID_NODE;
     }
     vx_status status = check_writers(graph);
@@ -67,7 +67,7 @@ static vx_status send_nodes(vx_graph graph) {
     return status;
 }
 
-/* Sends the server what nodes read in the program's memory, or takes from it what they wrote. */
+/* Moves the images from handles of all nodes, by send_images or take_images. */
 static vx_status move_handles(vx_graph graph,
                               vx_status (*move)(vx_reference about, const struct call *call)) {
     vx_status status = VX_SUCCESS;
@@ -104,7 +104,7 @@ static vx_uint64 now(void) {
     return (vx_uint64)time.tv_sec * 1000000000u + (vx_uint64)time.tv_nsec;
 }
 
-/* Counts a run that began when the graph says so. */
+/* Adds a run that has just ended to the performance. */
 static void count_time(vx_perf_t *times) {
     times->end = now();
     times->tmp = times->end - times->beg;
@@ -115,7 +115,7 @@ static void count_time(vx_perf_t *times) {
     times->max = times->tmp > times->max ? times->tmp : times->max;
 }
 
-/* After a run that ended with a status: what it means for the graph, and MinMaxLoc's outputs. */
+/* After a run: reads the outputs that the library keeps, and sets the state of the graph. */
 static vx_status end_run(vx_graph graph, vx_status status) {
     for (vx_node node = graph->first; node != NULL && status == VX_SUCCESS; node = node->next_node)
         if (node->sent.number != 0 && is_in_last_part(node))
@@ -133,7 +133,7 @@ static vx_status end_run(vx_graph graph, vx_status status) {
     return status;
 }
 
-/* Waits for a scheduled run. */
+/* Waits for a scheduled run. Adds a log entry where the server refused it. */
 static vx_status await_run(vx_graph graph) {
     vx_context context = graph->base.context;
     graph->is_scheduled = false;
