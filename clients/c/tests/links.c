@@ -251,8 +251,11 @@ static void change_links(void) {
     reader = add_squares(graph, other, count, sums);
     EXPECT(VX_SUCCESS, vxProcessGraph(graph));
     CHECK(last_of(sums) == (expected += square(6)));
-    /* Now the shift is what the last run left. */
+    EXPECT(VX_SUCCESS, vxScheduleGraph(graph));
     EXPECT(VX_SUCCESS, vxRemoveNode(&writer));
+    EXPECT(VX_SUCCESS, vxWaitGraph(graph));
+    CHECK(last_of(sums) == (expected += square(6)));
+    /* Now the shift is what the last run left. */
     whiten(other, 2);
     EXPECT(VX_SUCCESS, vxProcessGraph(graph));
     CHECK(last_of(sums) == expected + square(6));

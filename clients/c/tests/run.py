@@ -209,6 +209,9 @@ class Library(unittest.TestCase):
     def test_a_node_reads_the_scalar_that_another_one_wrote_in_the_same_run(self):
         run("links")
 
+    def test_random_graphs_in_parts_give_what_their_nodes_give_one_after_another(self):
+        run("parts")
+
     def test_programs_in_the_style_of_published_ones(self):
         run("published")
 
