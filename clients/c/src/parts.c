@@ -61,6 +61,7 @@ static const struct backing *backing_of(const struct parts *parts, const struct 
     return i < parts->backing_count ? &parts->backings[i] : NULL;
 }
 
+/* Whether a node outside a part uses an image. */
 static bool is_used_outside(const struct _vx_image *image, const struct _vx_graph *graph,
                             vx_uint32 part) {
     for (vx_node node = graph->first; node != NULL; node = node->next_node)
@@ -83,7 +84,7 @@ static vx_status back_image(vx_graph graph, vx_uint32 part, vx_image image) {
 
 static vx_status back_images(vx_graph graph) {
     vx_status status = VX_SUCCESS;
-    for (vx_node node = graph->first; node != NULL; node = node->next_node)
+    for (vx_node node = graph->first; node != NULL && status == VX_SUCCESS; node = node->next_node)
         for (unsigned place = IN1; status == VX_SUCCESS && place <= OUT2; place++) {
             vx_image image = virtual_at(node, place);
             if (image != NULL && backing_of(&graph->parts, image) == NULL)
@@ -177,6 +178,7 @@ static vx_status send_part(vx_graph graph, vx_uint32 part) {
     return status;
 }
 
+/* Runs a part, and reads the scalars and arrays that its nodes wrote. */
 static vx_status run_part(vx_graph graph, vx_uint32 part) {
     vx_status status = ask_verdict(graph, graph->parts.names[part], PROCESS_GRAPH);
     graph->has_begun = graph->has_begun || status == VX_SUCCESS;

@@ -157,7 +157,7 @@ PUBLIC vx_status VX_API_CALL vxVerifyGraph(vx_graph graph) {
     return leave(context, verify(graph));
 }
 
-/* Runs all parts of a graph but the last one. */
+/* Runs all parts of a graph but the last one, after the verification that it may need. */
 static vx_status begin_parts(vx_graph graph) {
     vx_status status = graph->parts.count == 0 ? verify(graph) : VX_SUCCESS;
     if (status == VX_SUCCESS)
@@ -206,8 +206,8 @@ static vx_status start(vx_graph graph, vx_uint32 name) {
     return VX_SUCCESS;
 }
 
-/* Only the last part runs while the program goes on: what is asked for after this call is asked for
-   after the others. */
+/* Runs all parts but the last before it returns. The server answers in order, so whatever the
+   program asks for next comes after the whole run. */
 static vx_status schedule_parts(vx_graph graph) {
     graph->performance.beg = now();
     vx_status status = begin_parts(graph);
