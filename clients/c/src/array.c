@@ -1,4 +1,4 @@
-/* Arrays, which the library has alone: MinMaxLoc's places are read from the server. */
+/* Arrays. They are objects of the library alone: MinMaxLoc's places are read into them. */
 #include "internal.h"
 
 #include <stdlib.h>
@@ -55,7 +55,7 @@ PUBLIC vx_status VX_API_CALL vxReleaseArray(vx_array *array) {
     return release(array, VX_TYPE_ARRAY);
 }
 
-/* Whether a range of an array's items is one. */
+/* Whether a range isn't empty and has only items that are there. */
 static bool is_range(const struct _vx_array *array, vx_size start, vx_size end) {
     return start < end && end <= array->count;
 }

@@ -1,4 +1,4 @@
-/* Uses of functions: what each takes, and the bytes that a frame has of it. */
+/* Calls of functions: checks of their parameters, and their bytes in a frame. */
 #include "internal.h"
 
 #include <stdarg.h>
@@ -10,7 +10,7 @@ vx_uint32 scope_of(vx_reference about) {
     return about->type == VX_TYPE_GRAPH ? about->name : 0;
 }
 
-/* Adds the log entry of a call that is refused, which begins with what the call is. */
+/* Adds a log entry about a refused call, by its node or function. Returns the status. */
 static vx_status refuse(vx_reference about, const struct call *call, vx_status status,
                         const char *words, ...) {
     char said[VX_MAX_LOG_MESSAGE_LEN / 2], what[VX_MAX_LOG_MESSAGE_LEN / 4];
@@ -27,6 +27,38 @@ static vx_status refuse(vx_reference about, const struct call *call, vx_status s
                                               : definition->immediate_name);
     tell(about, status, "%s: %s", what, said);
     return status;
+}
+
+/* The standard's name of a type that scalars or the items of arrays may have. */
+static const char *name_of_type(vx_enum type) {
+#define NAME_OF(type)                                                                              \
+    case type:                                                                                     \
+        return #type;
+    switch (type) {
+        NAME_OF(VX_TYPE_CHAR)
+        NAME_OF(VX_TYPE_INT8)
+        NAME_OF(VX_TYPE_UINT8)
+        NAME_OF(VX_TYPE_INT16)
+        NAME_OF(VX_TYPE_UINT16)
+        NAME_OF(VX_TYPE_INT32)
+        NAME_OF(VX_TYPE_UINT32)
+        NAME_OF(VX_TYPE_INT64)
+        NAME_OF(VX_TYPE_UINT64)
+        NAME_OF(VX_TYPE_FLOAT32)
+        NAME_OF(VX_TYPE_FLOAT64)
+        NAME_OF(VX_TYPE_ENUM)
+        NAME_OF(VX_TYPE_SIZE)
+        NAME_OF(VX_TYPE_BOOL)
+        NAME_OF(VX_TYPE_DF_IMAGE)
+        NAME_OF(VX_TYPE_RECTANGLE)
+        NAME_OF(VX_TYPE_KEYPOINT)
+        NAME_OF(VX_TYPE_COORDINATES2D)
+        NAME_OF(VX_TYPE_COORDINATES2DF)
+        NAME_OF(VX_TYPE_COORDINATES3D)
+    default:
+        return "another type";
+    }
+#undef NAME_OF
 }
 
 static const char *noun_of(vx_enum type) {
@@ -48,7 +80,6 @@ static const char *noun_of(vx_enum type) {
     }
 }
 
-/* Checks a value that is given for a parameter: a reference of the right type and context. */
 vx_status check_value(vx_reference about, const struct call *call, const struct formal *formal,
                       vx_reference value) {
     vx_context context = about->context;
@@ -59,22 +90,22 @@ vx_status check_value(vx_reference about, const struct call *call, const struct 
         return refuse(about, call, status, "%s is NULL, and has to be %s", formal->name,
                       noun_of(formal->type));
     if (status == VX_ERROR_INVALID_SCOPE)
-        return refuse(about, call, status, "%s is of another context", formal->name);
+        return refuse(about, call, status, "%s is of another context: make it in this one",
+                      formal->name);
     if (check(context, value, VX_TYPE_ERROR) == VX_SUCCESS)
         return refuse(about, call, status, "%s is an object that couldn't be made: status %d",
                       formal->name, value->status);
     return refuse(about, call, status, "%s isn't %s", formal->name, noun_of(formal->type));
 }
 
-/* At once no scalar has the amount, but that of AccumulateSquare. */
+/* In immediate mode a scale or shift is a number, except that of AccumulateSquareImage. */
 static bool may_lack(vx_reference about, const struct call *call, const struct formal *formal) {
     bool is_number = formal->place == AMOUNT && about->type == VX_TYPE_CONTEXT &&
                      call->function != ACCUMULATE_SQUARE;
     return is_number || formal->state == VX_PARAMETER_STATE_OPTIONAL;
 }
 
-/* Each operand that has to be there or is there is a reference of the type that the function
-   takes. */
+/* Checks that each operand that is there or has to be is a reference of the right type. */
 static vx_status check_references(vx_reference about, const struct call *call) {
     const struct definition *definition = definition_of(call->function);
     vx_status status = VX_SUCCESS;
@@ -89,35 +120,38 @@ static vx_status check_references(vx_reference about, const struct call *call) {
     return status;
 }
 
-/* A virtual image is an operand in its graph alone, and a uniform one is read alone. */
+/* Checks that a virtual image is one of this graph, and that a uniform one is only read. */
 static vx_status check_scope(vx_reference about, const struct call *call,
                              const struct formal *formal) {
     vx_image image = (vx_image)call->operands[formal->place];
     if (formal->type != VX_TYPE_IMAGE || image == NULL)
         return VX_SUCCESS;
     if (image->is_uniform && formal->direction != VX_INPUT)
-        return refuse(about, call, VX_ERROR_INVALID_PARAMETERS, "%s is a uniform image",
-                      formal->name);
+        return refuse(about, call, VX_ERROR_INVALID_PARAMETERS,
+                      "%s is a uniform image, which no node can write", formal->name);
     if (image->scope == 0 || image->scope == scope_of(about))
         return VX_SUCCESS;
     if (about->type == VX_TYPE_CONTEXT)
-        return refuse(about, call, VX_ERROR_OPTIMIZED_AWAY, "%s is a virtual image", formal->name);
-    return refuse(about, call, VX_ERROR_INVALID_SCOPE, "%s is a virtual image of another graph",
-                  formal->name);
+        return refuse(about, call, VX_ERROR_OPTIMIZED_AWAY,
+                      "%s is a virtual image, which only the nodes of its graph can use",
+                      formal->name);
+    return refuse(about, call, VX_ERROR_INVALID_SCOPE,
+                  "%s is a virtual image of another graph: make it for this one", formal->name);
 }
 
-/* A scalar that is there is of one of two types. */
+/* Checks that a scalar, if it is there, is of one of two types. */
 static vx_status check_item(vx_reference about, const struct call *call,
                             const struct formal *formal, vx_enum first, vx_enum second) {
     vx_scalar scalar = (vx_scalar)call->operands[formal->place];
     if (scalar == NULL || scalar->item == first || scalar->item == second)
         return VX_SUCCESS;
     return refuse(about, call, VX_ERROR_INVALID_TYPE,
-                  "%s is a scalar of type 0x%03x and not 0x%03x", formal->name,
-                  (unsigned)scalar->item, (unsigned)first);
+                  "%s is a scalar of %s, and has to be of %s%s%s", formal->name,
+                  name_of_type(scalar->item), name_of_type(first),
+                  first == second ? "" : " or ", first == second ? "" : name_of_type(second));
 }
 
-/* The types of scalars that a place has: one, or the second of two. */
+/* The one or two types that a scalar in a place may have. */
 static void items_of(const struct call *call, unsigned place, vx_enum *first, vx_enum *second) {
     vx_image input = (vx_image)call->operands[IN1];
     vx_df_image format = input == NULL ? VX_DF_IMAGE_VIRT : input->format;
@@ -144,8 +178,10 @@ static vx_status check_policy(vx_reference about, const struct call *call,
     if (is_rounding ? value == VX_ROUND_POLICY_TO_ZERO
                     : value == VX_CONVERT_POLICY_WRAP || value == VX_CONVERT_POLICY_SATURATE)
         return VX_SUCCESS;
-    return refuse(about, call, VX_ERROR_INVALID_VALUE, "%s is 0x%x, which is no policy",
-                  formal->name, (unsigned)value);
+    return refuse(about, call, VX_ERROR_INVALID_VALUE, "%s is 0x%x, and has to be %s", formal->name,
+                  (unsigned)value,
+                  is_rounding ? "VX_ROUND_POLICY_TO_ZERO"
+                              : "VX_CONVERT_POLICY_WRAP or VX_CONVERT_POLICY_SATURATE");
 }
 
 static vx_status check_formal(vx_reference about, const struct call *call,
@@ -156,8 +192,8 @@ static vx_status check_formal(vx_reference about, const struct call *call,
     vx_array array = (vx_array)call->operands[formal->place];
     if (formal->type == VX_TYPE_ARRAY && array != NULL && array->item != VX_TYPE_COORDINATES2D)
         return refuse(about, call, VX_ERROR_INVALID_TYPE,
-                      "%s is an array of type 0x%03x and not of VX_TYPE_COORDINATES2D",
-                      formal->name, (unsigned)array->item);
+                      "%s is an array of %s, and has to be of VX_TYPE_COORDINATES2D",
+                      formal->name, name_of_type(array->item));
     if (formal->type != VX_TYPE_SCALAR)
         return check_scope(about, call, formal);
     items_of(call, formal->place, &first, &second);
@@ -171,7 +207,8 @@ vx_status check_values(vx_reference about, const struct call *call) {
         status = check_formal(about, call, &definition->formals[i]);
     if (status == VX_SUCCESS && call->function == SOBEL && !call->is_generic &&
         call->operands[OUT1] == NULL && call->operands[OUT2] == NULL)
-        status = refuse(about, call, VX_ERROR_INVALID_PARAMETERS, "both outputs are NULL");
+        status = refuse(about, call, VX_ERROR_INVALID_PARAMETERS,
+                        "both outputs are NULL: give one or both");
     return status;
 }
 
@@ -179,7 +216,8 @@ vx_status check_outputs(vx_reference about, const struct call *call) {
     for (unsigned place = MIN_VALUE; place < OPERANDS; place++)
         for (unsigned other = MIN_VALUE; other < place; other++)
             if (call->operands[place] != NULL && call->operands[place] == call->operands[other])
-                return refuse(about, call, VX_ERROR_MULTIPLE_WRITERS, "two outputs are one object");
+                return refuse(about, call, VX_ERROR_MULTIPLE_WRITERS,
+                              "two outputs are one object: give each its own");
     return VX_SUCCESS;
 }
 
@@ -190,10 +228,11 @@ vx_status check_complete(vx_reference about, const struct call *call) {
         bool is_there = formal->place < OPERANDS ? call->operands[formal->place] != NULL
                                                  : call->policies[formal->place - OPERANDS] != 0;
         if (!is_there && formal->state == VX_PARAMETER_STATE_REQUIRED)
-            return refuse(about, call, VX_ERROR_NOT_SUFFICIENT, "%s wasn't set", formal->name);
+            return refuse(about, call, VX_ERROR_NOT_SUFFICIENT, "%s wasn't set: set parameter %u",
+                          formal->name, (unsigned)i);
     }
     if (call->function == SOBEL && call->operands[OUT1] == NULL && call->operands[OUT2] == NULL)
-        return refuse(about, call, VX_ERROR_NOT_SUFFICIENT, "no output was set");
+        return refuse(about, call, VX_ERROR_NOT_SUFFICIENT, "no output was set: set one or both");
     return VX_SUCCESS;
 }
 
@@ -202,7 +241,7 @@ vx_status check_call(vx_reference about, const struct call *call) {
     return status == VX_SUCCESS ? check_values(about, call) : status;
 }
 
-/* The exponent of a scale that is 1 / 2^n with n from 0 to 15; 16 for another one. */
+/* The n of a scale of 1 / 2^n from 0 to 15; 16 for any other scale. */
 static uint8_t exponent_of(double scale) {
     uint8_t exponent = 0;
     for (double power = 1; exponent <= 15 && scale * power != 1; power *= 2)
@@ -210,7 +249,7 @@ static uint8_t exponent_of(double scale) {
     return exponent;
 }
 
-/* The byte for a scale or a shift. */
+/* Gives the byte of a scale or shift in a frame. */
 static vx_status amount_of(vx_reference about, const struct call *call, uint8_t *amount) {
     vx_scalar scalar = (vx_scalar)call->operands[AMOUNT];
     *amount = 0;
@@ -247,7 +286,7 @@ static vx_status send_limits(vx_reference about, const struct call *call) {
     return send_threshold(threshold);
 }
 
-/* Has what the call uses made on the server. */
+/* Makes the objects that a call uses on the server, where they aren't there. */
 static vx_status send_used(vx_reference about, struct call *call) {
     vx_context context = about->context;
     switch (call->function) {
@@ -315,7 +354,7 @@ static void set_number(vx_reference operand, vx_int64 number) {
     }
 }
 
-/* The first place of an extreme, or none. */
+/* Sets an array to the first place of an extreme, or to nothing where the count is 0. */
 static void set_place(vx_reference operand, vx_uint32 count, const uint8_t *at) {
     vx_array array = (vx_array)operand;
     if (array == NULL)

@@ -1,6 +1,6 @@
-/* Requests go out and replies come in, neither of which waits for the other: so that two full
-   buffers never stop both sides. A program's input is a pipe, which can have the pages of a picture
-   without a copy; what comes back is a socket, whose buffers stay in the processor's cache. */
+/* The connection to a server. A write never blocks while a reply can be read: else two full buffers
+   could stop both sides for ever. The input of a program that was started is a pipe, which takes
+   the pages of a picture without a copy. Its output is a socket: the buffers stay in the cache. */
 #define _GNU_SOURCE
 #include "internal.h"
 
@@ -12,11 +12,11 @@
 #include <sys/uio.h>
 #include <unistd.h>
 
-/* Pages are lent from so many bytes on; less is copied. */
-enum { HEAD = 7, REPLY_HEAD = 8, CODES = 14, LENT = 1 << 16 };
+/* Of LEAST_LENT bytes or more the pages are lent to the pipe; fewer are copied. */
+enum { HEAD = 7, REPLY_HEAD = 8, CODES = 14, LEAST_LENT = 1 << 16 };
 
 bool connection_open(struct connection *connection, char *why, size_t room) {
-    connection->stream = connection->out = connection->held = connection->said = -1;
+    connection->in = connection->out = connection->pipe_reader = connection->errors = -1;
     connection->last = &connection->first;
     return reach_server(connection, why, room);
 }
@@ -26,166 +26,170 @@ void connection_close(struct connection *connection) {
     end_server(connection);
 }
 
-/* Nothing more is sent or read. */
-static bool end(struct connection *connection) {
+/* Stops sending and reading. Returns false, as what fails does. */
+static bool end_connection(struct connection *connection) {
     connection->has_ended = true;
-    shutdown(connection->stream, SHUT_RDWR);
+    shutdown(connection->in, SHUT_RDWR);
     return false;
 }
 
-static bool end_by_time(struct connection *connection) {
-    connection->is_late = true;
-    return end(connection);
+static bool time_out(struct connection *connection) {
+    connection->has_timed_out = true;
+    return end_connection(connection);
 }
 
 /* ---- Replies ---- */
 
-/* Takes in the head of the next reply; false where it answers none of our requests. */
-static bool take_head(struct connection *connection) {
-    while (connection->headed < REPLY_HEAD && connection->at < connection->end)
-        connection->head[connection->headed++] = connection->chunk[connection->at++];
-    if (connection->headed < REPLY_HEAD)
+/* Parses the head of the next reply. Returns false where it doesn't answer the oldest request. */
+static bool parse_head(struct connection *connection) {
+    while (connection->head_count < REPLY_HEAD && connection->chunk_at < connection->chunk_end)
+        connection->head[connection->head_count++] = connection->chunk[connection->chunk_at++];
+    if (connection->head_count < REPLY_HEAD)
         return true;
     struct request *request = connection->first;
     const uint8_t *head = connection->head;
     if (request == NULL || head[6] != request->op || head[7] >= CODES)
         return false;
-    size_t body = head[7] == 0 ? request->room + request->more : 0;
+    size_t body = head[7] == 0 ? request->body_length + request->samples_length : 0;
     return get32(head) == 4 + body && get16(head + 4) == 0;
 }
 
-static size_t missing(const struct connection *connection) {
-    return get32(connection->head) - 4 - connection->taken;
+static size_t missing_bytes(const struct connection *connection) {
+    return get32(connection->head) - 4 - connection->body_count;
 }
 
-/* After bytes of a body came into their place: turns whole samples, and takes the oldest request
-   from those that wait once its reply is whole. */
+/* Counts bytes of a body that are in their place. Converts the samples that are complete, and ends
+   the request when its reply is. */
 static void advance(struct connection *connection, size_t count) {
     struct request *request = connection->first;
-    connection->taken += count;
-    if (request->unit > 1 && connection->taken > request->room) {
-        size_t whole = (connection->taken - request->room) / request->unit * request->unit;
+    connection->body_count += count;
+    if (request->unit > 1 && connection->body_count > request->body_length) {
+        size_t samples = connection->body_count - request->body_length;
+        size_t whole = samples / request->unit * request->unit;
         turn_samples(request->samples + request->turned, request->samples + request->turned,
                      whole - request->turned, request->unit);
         request->turned = whole;
     }
-    if (missing(connection) > 0)
+    if (missing_bytes(connection) > 0)
         return;
     connection->first = request->next;
     if (connection->first == NULL)
         connection->last = &connection->first;
     request->code = connection->head[7];
     request->is_done = true;
-    connection->headed = connection->taken = 0;
+    connection->head_count = connection->body_count = 0;
 }
 
-/* Where the next bytes of the body go, and how many do. */
+/* The place for the next bytes of the body, and how many fit there. */
 static uint8_t *place_of(struct connection *connection, size_t *count) {
     struct request *request = connection->first;
-    size_t taken = connection->taken;
-    *count = missing(connection);
+    size_t taken = connection->body_count;
+    *count = missing_bytes(connection);
     if (*count == 0)
         return NULL;
-    if (taken >= request->room)
-        return request->samples + (taken - request->room);
-    if (*count > request->room - taken)
-        *count = request->room - taken;
+    if (taken >= request->body_length)
+        return request->samples + (taken - request->body_length);
+    if (*count > request->body_length - taken)
+        *count = request->body_length - taken;
     return request->body + taken;
 }
 
-/* Takes in what the chunk has; false where that is no reply of ours. */
-static bool take(struct connection *connection) {
-    while (connection->at < connection->end) {
-        if (connection->headed < REPLY_HEAD && !take_head(connection))
+/* Parses the bytes of the chunk. Returns false where they aren't replies to the requests. */
+static bool parse_chunk(struct connection *connection) {
+    while (connection->chunk_at < connection->chunk_end) {
+        if (connection->head_count < REPLY_HEAD && !parse_head(connection))
             return false;
-        if (connection->headed < REPLY_HEAD)
+        if (connection->head_count < REPLY_HEAD)
             continue;
-        size_t there = connection->end - connection->at, count;
+        size_t there = connection->chunk_end - connection->chunk_at, count;
         uint8_t *place = place_of(connection, &count);
         count = count < there ? count : there;
         if (count > 0)
-            memcpy(place, connection->chunk + connection->at, count);
-        connection->at += count;
+            memcpy(place, connection->chunk + connection->chunk_at, count);
+        connection->chunk_at += count;
         advance(connection, count);
     }
     return true;
 }
 
-/* Where the next bytes are read to: the rest of a long body into its place; a reply with samples
-   that is to come next, into the chunk up to them and on into their place; else the chunk. */
-static void aim(struct connection *connection, struct iovec parts[2], size_t *chunked) {
+/* Chooses where the next bytes are read to, so that samples needn't be copied. The rest of a long
+   body goes to its place. If a reply with samples comes next, what is before them goes to the chunk
+   and they go to their place. Anything else goes to the chunk. */
+static void plan_read(struct connection *connection, struct iovec parts[2], size_t *chunked) {
     const struct request *request = connection->first;
     size_t left = 0;
-    uint8_t *place = connection->headed == REPLY_HEAD ? place_of(connection, &left) : NULL;
+    uint8_t *place = connection->head_count == REPLY_HEAD ? place_of(connection, &left) : NULL;
     *chunked = sizeof connection->chunk;
     parts[0] = (struct iovec){connection->chunk, sizeof connection->chunk};
     parts[1] = (struct iovec){NULL, 0};
     if (left >= sizeof connection->chunk) {
         *chunked = 0;
         parts[0] = (struct iovec){place, left};
-    } else if (connection->headed == 0 && request != NULL && request->more > 0) {
-        *chunked = REPLY_HEAD + request->room;
+    } else if (connection->head_count == 0 && request != NULL && request->samples_length > 0) {
+        *chunked = REPLY_HEAD + request->body_length;
         parts[0].iov_len = *chunked;
-        parts[1] = (struct iovec){request->samples, request->more};
+        parts[1] = (struct iovec){request->samples, request->samples_length};
     }
 }
 
-/* Reads what is there, and waits for that where it may. */
+/* Reads what is there. Waits for it unless the flags have MSG_DONTWAIT. */
 static bool read_some(struct connection *connection, int flags) {
     struct iovec parts[2];
     size_t chunked;
-    aim(connection, parts, &chunked);
+    plan_read(connection, parts, &chunked);
     struct msghdr message = {.msg_iov = parts, .msg_iovlen = parts[1].iov_len > 0 ? 2 : 1};
-    ssize_t got = recvmsg(connection->stream, &message, flags);
+    ssize_t got = recvmsg(connection->in, &message, flags);
     if (got < 0 && errno == EINTR)
         return true;
     if (got < 0 && (errno == EAGAIN || errno == EWOULDBLOCK))
-        return (flags & MSG_DONTWAIT) || end_by_time(connection);
+        return (flags & MSG_DONTWAIT) || time_out(connection);
     if (got <= 0)
-        return end(connection);
+        return end_connection(connection);
     size_t count = (size_t)got, straight = count > chunked ? count - chunked : 0;
-    connection->at = 0;
-    connection->end = count - straight;
-    if (!take(connection))
-        return end(connection);
-    /* Samples without their head: it was no reply to what is asked. */
-    if (straight > 0 && (connection->headed < REPLY_HEAD || missing(connection) < straight))
-        return end(connection);
-    if (straight > 0)
-        advance(connection, straight);
+    connection->chunk_at = 0;
+    connection->chunk_end = count - straight;
+    if (!parse_chunk(connection))
+        return end_connection(connection);
+    if (straight == 0)
+        return true;
+    /* The bytes were no reply with samples after all. */
+    if (connection->head_count < REPLY_HEAD || missing_bytes(connection) < straight)
+        return end_connection(connection);
+    advance(connection, straight);
     return true;
 }
 
 /* ---- Requests ---- */
 
-/* Waits until something can be written, and reads meanwhile. */
+/* Waits until something can be written or was read. */
 static bool await_room(struct connection *connection) {
-    struct pollfd wanted[2] = {{.fd = connection->stream, .events = POLLIN},
+    struct pollfd wanted[2] = {{.fd = connection->in, .events = POLLIN},
                                {.fd = connection->out, .events = POLLOUT}};
-    int ready = poll(wanted, 2, connection->patience);
+    int ready = poll(wanted, 2, connection->timeout);
     if (ready < 0)
-        return errno == EINTR || end(connection);
+        return errno == EINTR || end_connection(connection);
     if (ready == 0)
-        return end_by_time(connection);
+        return time_out(connection);
     if (wanted[0].revents & (POLLIN | POLLHUP | POLLERR))
         return read_some(connection, MSG_DONTWAIT);
     return true;
 }
 
-/* Nobody reads what is sent: what was answered before is read to its end. */
-static bool hear_out(struct connection *connection) {
+/* The server has closed its input, so it has ended or soon will. Reads the replies that it still
+   sent. */
+static bool read_to_end(struct connection *connection) {
     while (!connection->has_ended)
         read_some(connection, 0);
     return false;
 }
 
-/* Writes some of the parts. The pages of a long last part are lent to the pipe: the program's
-   memory doesn't change before the reply has come, and then the server has read them. */
-static ssize_t push(struct connection *connection, struct iovec *parts, int count) {
+/* Writes some bytes of the parts. The pages of a long last part are lent to the pipe. That is safe:
+   the call waits for the reply, and by then the server has read them. */
+static ssize_t write_parts(struct connection *connection, struct iovec *parts, int count) {
     struct msghdr message = {.msg_iov = parts, .msg_iovlen = (size_t)count};
-    if (connection->held < 0)
+    if (connection->pipe_reader < 0)
         return sendmsg(connection->out, &message, MSG_NOSIGNAL | MSG_DONTWAIT);
-    if (parts[count - 1].iov_len < LENT)
+    if (parts[count - 1].iov_len < LEAST_LENT)
         return writev(connection->out, parts, count);
     if (count > 1)
         return writev(connection->out, parts, count - 1);
@@ -197,15 +201,15 @@ static ssize_t push(struct connection *connection, struct iovec *parts, int coun
 
 static bool send_parts(struct connection *connection, struct iovec *parts, int count) {
     while (count > 0) {
-        ssize_t pushed = push(connection, parts, count);
+        ssize_t pushed = write_parts(connection, parts, count);
         if (pushed < 0 && (errno == EAGAIN || errno == EWOULDBLOCK)) {
             if (!await_room(connection))
                 return false;
         } else if (pushed < 0 && errno == EFAULT) {
             /* What the program gives isn't memory: the rest of the frame never comes. */
-            return end(connection);
+            return end_connection(connection);
         } else if (pushed < 0 && errno != EINTR) {
-            return hear_out(connection);
+            return read_to_end(connection);
         }
         size_t done = pushed > 0 ? (size_t)pushed : 0;
         for (; count > 0 && done >= parts->iov_len; count--)
@@ -249,15 +253,18 @@ bool connection_wait(struct connection *connection, struct request *request) {
 void connection_epitaph(struct connection *connection, char *words, size_t room) {
     char said[256];
     if (connection->is_inherited) {
-        snprintf(words, room, "the server is the parent process's: a context isn't for a child");
+        snprintf(words, room, "the server is the parent process's: make a context in the child");
         return;
     }
-    if (connection->is_late) {
-        snprintf(words, room, "the server didn't answer within %g s, which FEQYLDAN_TIMEOUT says",
-                 connection->patience / 1000.0);
+    if (connection->has_timed_out) {
+        snprintf(words, room,
+                 "the server didn't answer within the %g s that FEQYLDAN_TIMEOUT allows",
+                 connection->timeout / 1000.0);
         return;
     }
-    ssize_t count = connection->said < 0 ? 0 : pread(connection->said, said, sizeof said - 1, 0);
+    ssize_t count = 0;
+    if (connection->errors >= 0)
+        count = pread(connection->errors, said, sizeof said - 1, 0);
     while (count > 0 && said[count - 1] == '\n')
         count--;
     said[count < 0 ? 0 : count] = '\0';

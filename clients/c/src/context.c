@@ -1,4 +1,4 @@
-/* Contexts: one connection and one client number each. */
+/* Contexts, each of which has a connection of its own. */
 #include "internal.h"
 
 #include <stdlib.h>
@@ -88,7 +88,7 @@ static vx_status exchange(vx_context context, struct request *request, const uin
 
 vx_status ask(vx_context context, enum op op, const uint8_t *body, size_t length, uint8_t *reply,
               size_t room) {
-    struct request request = {.op = (uint8_t)op, .body = reply, .room = room};
+    struct request request = {.op = (uint8_t)op, .body = reply, .body_length = room};
     return exchange(context, &request, body, length);
 }
 
@@ -140,7 +140,7 @@ static void make_base(vx_reference reference, vx_context context, vx_enum type, 
     register_reference(reference);
 }
 
-/* Reaches a server that opens a context; false with the reason where there is none. */
+/* Connects to a server, which opens a context. Where that fails, writes why. */
 static bool open_server(vx_context context, char *why, size_t room) {
     if (!connection_open(&context->connection, why, room))
         return false;
@@ -193,7 +193,7 @@ void free_context(vx_context context) {
     free(context);
 }
 
-/* Nobody can name any of its objects any more. */
+/* Makes all references to a context and its objects stale, and frees the objects. */
 static void close_context(vx_context context) {
     unregister_reference(&context->base);
     for (vx_status status = -1; status > VX_STATUS_MIN; status--)
@@ -224,7 +224,7 @@ static vx_uint32 count_objects(vx_context context) {
     return count;
 }
 
-/* A row for each kernel of the server. */
+/* Copies the table of kernels, with a row for each function. */
 static vx_status give_kernels(void *ptr, vx_size size) {
     vx_kernel_info_t *rows = ptr;
     if (ptr == NULL || size != count_functions() * sizeof *rows)

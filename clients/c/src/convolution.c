@@ -1,4 +1,4 @@
-/* Convolutions, which the program may change: the server has one as it is when it is used. */
+/* Convolutions. The program may change them, so one is sent to the server when it is used. */
 #include "internal.h"
 
 #include <string.h>

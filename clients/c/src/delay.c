@@ -1,6 +1,8 @@
-/* Delays. A slot is an object of the library that stands for the image which is in it when it is
-   used. */
+/* Delays of images. A reference to a slot is an image of the library alone. It is sent as the
+   slot's number, so it always means the image that is there when it is used. */
 #include "internal.h"
+
+#include <stdlib.h>
 
 enum { GREATEST_SLOTS = 16 };
 
@@ -43,7 +45,8 @@ PUBLIC vx_status VX_API_CALL vxReleaseDelay(vx_delay *delay) {
     return release(delay, VX_TYPE_DELAY);
 }
 
-/* The image of a slot, which nobody holds but the delay; NULL where there is no memory. */
+/* The image of a slot, made for the first reference to it; NULL where there is no memory. Only its
+   delay holds it. */
 static vx_image slot_of(vx_delay delay, vx_size number) {
     vx_image image = delay->images[number];
     if (image != NULL)
@@ -82,16 +85,64 @@ PUBLIC vx_status VX_API_CALL vxAgeDelay(vx_delay delay) {
     return leave(context, ask_named(context, AGE_DELAY, delay->base.name));
 }
 
-PUBLIC vx_status VX_API_CALL vxRegisterAutoAging(vx_graph graph, vx_delay delay) {
+static vx_status register_delay(vx_context context, vx_uint32 graph, vx_uint32 delay) {
     uint8_t body[8];
+    put32(put32(body, graph), delay);
+    return ask(context, REGISTER_AUTO_AGING, body, sizeof body, NULL, 0);
+}
+
+/* Whether the server still has a delay: a node may use one that the program released. */
+static bool has_delay(vx_context context, vx_uint32 name) {
+    vx_reference object = context->first;
+    while (object != NULL && (object->type != VX_TYPE_DELAY || object->name != name))
+        object = object->next;
+    return object != NULL;
+}
+
+vx_status register_delays(vx_graph graph, vx_uint32 part) {
+    vx_context context = graph->base.context;
+    vx_status status = VX_SUCCESS;
+    for (vx_size i = 0; status == VX_SUCCESS && i < graph->delay_count; i++)
+        if (has_delay(context, graph->delays[i]))
+            status = register_delay(context, part, graph->delays[i]);
+    return status;
+}
+
+/* The index of a delay's name in a graph's list: its own, that of a dropped delay, or a new one. */
+static vx_size place_of(const struct _vx_graph *graph, vx_uint32 delay) {
+    vx_size i = 0;
+    while (i < graph->delay_count && graph->delays[i] != delay &&
+           has_delay(graph->base.context, graph->delays[i]))
+        i++;
+    return i;
+}
+
+/* Registers a delay with a graph, and if that has parts with the last one, which ages it. */
+static vx_status register_with(vx_graph graph, vx_uint32 delay) {
+    vx_size place = place_of(graph, delay);
+    if (place == graph->delay_count) {
+        vx_uint32 *grown = realloc(graph->delays, (place + 1) * sizeof *grown);
+        if (grown == NULL)
+            return VX_ERROR_NO_MEMORY;
+        graph->delays = grown;
+    }
+    vx_status status = register_delay(graph->base.context, graph->base.name, delay);
+    if (status == VX_SUCCESS && graph->parts.count > 0)
+        status = register_delay(graph->base.context, last_name(graph), delay);
+    if (status != VX_SUCCESS)
+        return status;
+    graph->delays[place] = delay;
+    graph->delay_count += place == graph->delay_count ? 1 : 0;
+    return VX_SUCCESS;
+}
+
+PUBLIC vx_status VX_API_CALL vxRegisterAutoAging(vx_graph graph, vx_delay delay) {
     vx_context context = enter(graph, VX_TYPE_GRAPH);
     if (context == NULL)
         return VX_ERROR_INVALID_REFERENCE;
     vx_status status = check(context, delay, VX_TYPE_DELAY);
-    if (status == VX_SUCCESS) {
-        put32(put32(body, graph->base.name), delay->base.name);
-        status = ask(context, REGISTER_AUTO_AGING, body, sizeof body, NULL, 0);
-    }
+    if (status == VX_SUCCESS)
+        status = register_with(graph, delay->base.name);
     return leave(context, status);
 }
 

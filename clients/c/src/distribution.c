@@ -1,4 +1,4 @@
-/* Distributions, whose counts the server has. */
+/* Distributions. Their counts are on the server. */
 #include "internal.h"
 
 #include <stdlib.h>
@@ -60,7 +60,7 @@ PUBLIC vx_status VX_API_CALL vxCopyDistribution(vx_distribution distribution, vo
     return leave(context, read_counts(distribution, user_ptr));
 }
 
-/* A map of a copy of the counts. */
+/* Maps a copy of the counts. */
 static vx_status map_counts(vx_distribution distribution, vx_map_id *map_id, void **ptr) {
     vx_uint32 *counts = calloc(distribution->bins, sizeof *counts);
     vx_status status = counts == NULL ? VX_ERROR_NO_MEMORY : read_counts(distribution, counts);
@@ -103,7 +103,7 @@ PUBLIC vx_status VX_API_CALL vxQueryDistribution(vx_distribution distribution, v
         return VX_ERROR_INVALID_REFERENCE;
     const vx_size length = distribution->bins * sizeof(vx_uint32);
     const vx_uint32 range = distribution->range, bins = (vx_uint32)distribution->bins;
-    /* 0 where the bins aren't of one length, as the standard has it. */
+    /* The standard wants 0 where the bins aren't of equal size. */
     const vx_uint32 window = bins > 0 && range % bins == 0 ? range / bins : 0;
     vx_status status = VX_ERROR_NOT_SUPPORTED;
     if (attribute == VX_DISTRIBUTION_DIMENSIONS)

@@ -1,9 +1,9 @@
-/* The functions as nodes of graphs and at once, and what the table says of each. */
+/* The functions as nodes and in immediate mode, made from the table. */
 #include "internal.h"
 
 enum { U8 = 1 << 0, S16 = 1 << 1, U32 = 1 << 2 };
 
-/* A policy is a scalar where it is an object. */
+/* As an object, a policy is a scalar. */
 enum { VX_TYPE_OF_ENUM = VX_TYPE_SCALAR, VX_TYPE_OF_FLOAT = VX_TYPE_SCALAR,
        VX_TYPE_OF_INT = VX_TYPE_SCALAR, VX_TYPE_OF_SCALAR = VX_TYPE_SCALAR,
        VX_TYPE_OF_IMAGE = VX_TYPE_IMAGE, VX_TYPE_OF_THRESHOLD = VX_TYPE_THRESHOLD,
@@ -23,7 +23,7 @@ const struct definition *definition_of(enum function function) { return &DEFINIT
 
 vx_uint32 count_functions(void) { return sizeof DEFINITIONS / sizeof *DEFINITIONS - 1; }
 
-/* What a parameter's type is in the two calls, and where its value goes. */
+/* A parameter's type in vx<Name>Node and in vxu<Name>, and the field of a call for it. */
 #define TYPE_OF_IMAGE vx_image
 #define TYPE_OF_THRESHOLD vx_threshold
 #define TYPE_OF_LUT vx_lut

@@ -1,4 +1,4 @@
-/* The table of the functions: what is told here is told nowhere else in the library.
+/* The table of the functions. Nothing else in the library lists them.
  *
  * FUNCTIONS(F) is F(NUMBER, Name, kernel, name, PARAMETERS, FORMATS) for each function: its number
  * in frames; the name in vx<Name>Node and vxu<Name>; the standard's kernel, by its number and by
@@ -7,7 +7,7 @@
  * PARAMETERS(P) is P(PLACE, KIND, direction, state, name) for each parameter in the node's order:
  * the place of its operand or its policy in a struct call; an object's type, or ENUM for a policy,
  * FLOAT or INT for a number that a node has in a scalar and vxu<Name> takes by value; the rest as
- * vxQueryParameter tells it.
+ * vxQueryParameter gives it.
  */
 #ifndef FEQYLDAN_FUNCTIONS_H
 #define FEQYLDAN_FUNCTIONS_H
@@ -43,8 +43,8 @@
 #define SUMMED_SQUARES(P)                                                                          \
     P_IN(P, IN1, IMAGE, input) P_IN(P, AMOUNT, SCALAR, shift) P_SUM(P, accum)
 
-/* Formats: in words, and by one row or two of the sets in1, in2 and output. An image whose format
-   is open gets the output's in the first row that has in1's, and of two the first. */
+/* Formats: in words, and as one or two rows of sets for in1, in2 and the output. An output whose
+   format is open gets the one of the first row that has in1's format. */
 #define U8_U8 "U8 to U8", {{U8, 0, U8}}
 #define U8_S16 "U8 to S16", {{U8, 0, S16}}
 #define U8_U32 "U8 to U32", {{U8, 0, U32}}

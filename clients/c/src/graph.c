@@ -1,9 +1,8 @@
-/* Graphs. Their nodes are kept here, and the server is told of them when the graph is verified or
-   run: so a border, a scale or a threshold may change until then. */
+/* Graphs and their nodes. A node is sent to the server when its graph is verified or run, see
+   run.c. Until then its border, its scalars and its other parameters may change. */
 #include "internal.h"
 
 #include <string.h>
-#include <time.h>
 
 PUBLIC vx_graph VX_API_CALL vxCreateGraph(vx_context context) {
     if (enter(context, VX_TYPE_CONTEXT) == NULL)
@@ -25,11 +24,13 @@ PUBLIC vx_status VX_API_CALL vxReleaseGraph(vx_graph *graph) {
 }
 
 void change(vx_graph graph) {
+    drop_parts(graph);
     graph->is_verified = false;
     graph->state = VX_GRAPH_STATE_UNVERIFIED;
 }
 
-/* A graph whose node couldn't be made isn't what the program meant: it is never verified. */
+/* Notes that a node couldn't be made. The graph isn't what the program meant, so it can't be
+   verified any more. */
 static vx_node fail_node(vx_graph graph, vx_status status) {
     graph->lacks_node = true;
     change(graph);
@@ -43,7 +44,8 @@ static bool is_missed(const struct _vx_graph *graph, const struct call *call) {
            memcmp(missed->policies, call->policies, sizeof call->policies) == 0;
 }
 
-/* The same for want of memory, until the program makes the node anew. */
+/* Notes that a node found no memory. The graph can't be verified until the program makes the node
+   anew. */
 static vx_node miss_node(vx_graph graph, const struct call *call) {
     if (graph->misses_node && !is_missed(graph, call))
         return fail_node(graph, VX_ERROR_NO_MEMORY);
@@ -101,23 +103,9 @@ vx_node add_node(vx_graph graph, struct call call) {
     return node;
 }
 
-/* Has the server take out of the graph what it has of a node. */
-static vx_status withdraw(vx_node node) {
-    uint8_t body[8];
-    if (node->number == 0 || node->graph->base.name == 0)
-        return VX_SUCCESS;
-    put32(put32(body, node->graph->base.name), node->number);
-    vx_status status =
-        ask(node->base.context, REMOVE_NODE, body, sizeof body, NULL, 0);
-    if (status == VX_SUCCESS)
-        node->number = 0;
-    return status;
-}
-
-/* Takes a node out of its graph, here and there. */
 vx_status detach(vx_node node) {
     vx_graph graph = node->graph;
-    vx_status status = withdraw(node);
+    vx_status status = withdraw(node->base.context, graph->base.name, &node->sent);
     vx_node *place = &graph->first;
     while (*place != node)
         place = &(*place)->next_node;
@@ -133,180 +121,6 @@ vx_status detach(vx_node node) {
     }
     drop(&node->base);
     return status;
-}
-
-/* Tells the server of a node, if it has another one or none. */
-static vx_status send_node(vx_node node) {
-    uint8_t body[4 + NODE_BYTES];
-    vx_context context = node->base.context;
-    vx_status status = encode_call(&node->base, &node->call, body + 4);
-    if (status != VX_SUCCESS)
-        return status;
-    if (node->number != 0 && memcmp(node->sent, body + 4, NODE_BYTES) == 0)
-        return VX_SUCCESS;
-    status = withdraw(node);
-    if (status != VX_SUCCESS)
-        return status;
-    put32(body, node->graph->base.name);
-    status = create(context, ADD_NODE, body, sizeof body, &node->number);
-    if (status == VX_SUCCESS) {
-        memcpy(node->sent, body + 4, NODE_BYTES);
-        note_outputs(&node->call);
-    }
-    return status;
-}
-
-/* Has the server have all nodes of a graph that may be one. */
-static vx_status send_nodes(vx_graph graph) {
-    if (graph->lacks_node || graph->misses_node) {
-        tell(&graph->base, VX_ERROR_INVALID_NODE, "a node of the graph couldn't be made");
-        return VX_ERROR_INVALID_NODE;
-    }
-    vx_status status = check_writers(graph);
-    for (vx_node node = graph->first; node != NULL; node = node->next_node) {
-        if (status == VX_SUCCESS && node->call.is_generic)
-            node->status = status = check_complete(&node->base, &node->call);
-        if (status == VX_SUCCESS)
-            node->status = status = send_node(node);
-    }
-    return status;
-}
-
-/* Sends the server what nodes read in the program's memory, or takes from it what they wrote. */
-static vx_status move_handles(vx_graph graph,
-                              vx_status (*move)(vx_reference about, const struct call *call)) {
-    vx_status status = VX_SUCCESS;
-    for (vx_node node = graph->first; node != NULL && status == VX_SUCCESS; node = node->next_node)
-        status = move(&node->base, &node->call);
-    return status;
-}
-
-/* Verifies or runs a graph on the server. */
-static vx_status ask_verdict(vx_graph graph, enum op op) {
-    vx_status status = send_nodes(graph);
-    if (status == VX_SUCCESS && op == PROCESS_GRAPH)
-        status = move_handles(graph, send_images);
-    if (status != VX_SUCCESS)
-        return status;
-    uint8_t body[4];
-    put32(body, graph->base.name);
-    status = ask_quietly(graph->base.context, op, body, sizeof body);
-    if (status == VX_SUCCESS)
-        resolve_images(graph);
-    else if (!graph->base.context->connection.has_ended)
-        explain_verdict(graph, status);
-    return status;
-}
-
-static vx_status verify(vx_graph graph) {
-    vx_status status = ask_verdict(graph, VERIFY_GRAPH);
-    graph->is_verified = status == VX_SUCCESS;
-    graph->state = graph->is_verified ? VX_GRAPH_STATE_VERIFIED : VX_GRAPH_STATE_UNVERIFIED;
-    return status;
-}
-
-static vx_uint64 now(void) {
-    struct timespec time;
-    clock_gettime(CLOCK_MONOTONIC, &time);
-    return (vx_uint64)time.tv_sec * 1000000000u + (vx_uint64)time.tv_nsec;
-}
-
-/* Counts a run that began when the graph says so. */
-static void count_time(vx_perf_t *times) {
-    times->end = now();
-    times->tmp = times->end - times->beg;
-    times->sum += times->tmp;
-    times->num++;
-    times->avg = times->sum / times->num;
-    times->min = times->num == 1 || times->tmp < times->min ? times->tmp : times->min;
-    times->max = times->tmp > times->max ? times->tmp : times->max;
-}
-
-/* After a run that ended with a status: what it means for the graph, and MinMaxLoc's outputs. */
-static vx_status end_run(vx_graph graph, vx_status status) {
-    for (vx_node node = graph->first; node != NULL && status == VX_SUCCESS; node = node->next_node)
-        if (node->number != 0)
-            status = take_extremes(graph->base.context, &node->call);
-    if (status == VX_SUCCESS)
-        status = move_handles(graph, take_images);
-    if (status == VX_SUCCESS)
-        count_time(&graph->performance);
-    graph->is_verified = status == VX_SUCCESS;
-    graph->state = status == VX_SUCCESS   ? VX_GRAPH_STATE_COMPLETED
-                   : status == VX_FAILURE ? VX_GRAPH_STATE_ABANDONED
-                                          : VX_GRAPH_STATE_UNVERIFIED;
-    return status;
-}
-
-/* Waits for a scheduled run. */
-static vx_status await_run(vx_graph graph) {
-    vx_context context = graph->base.context;
-    graph->is_scheduled = false;
-    vx_status status = await_reply(context, &graph->run, true);
-    if (status != VX_SUCCESS && !context->connection.has_ended)
-        explain_verdict(graph, status);
-    return status;
-}
-
-void settle(vx_graph graph) {
-    if (graph->is_scheduled)
-        await_run(graph);
-}
-
-PUBLIC vx_status VX_API_CALL vxVerifyGraph(vx_graph graph) {
-    vx_context context = enter(graph, VX_TYPE_GRAPH);
-    if (context == NULL)
-        return VX_ERROR_INVALID_REFERENCE;
-    if (graph->is_scheduled)
-        return leave(context, VX_ERROR_GRAPH_SCHEDULED);
-    return leave(context, verify(graph));
-}
-
-PUBLIC vx_status VX_API_CALL vxProcessGraph(vx_graph graph) {
-    vx_context context = enter(graph, VX_TYPE_GRAPH);
-    if (context == NULL)
-        return VX_ERROR_INVALID_REFERENCE;
-    if (graph->is_scheduled)
-        return leave(context, VX_ERROR_GRAPH_SCHEDULED);
-    graph->performance.beg = now();
-    /* The server verifies it too. */
-    return leave(context, end_run(graph, ask_verdict(graph, PROCESS_GRAPH)));
-}
-
-static vx_status schedule(vx_graph graph) {
-    uint8_t body[4];
-    vx_context context = graph->base.context;
-    vx_status status = graph->is_verified ? send_nodes(graph) : verify(graph);
-    if (status == VX_SUCCESS)
-        status = move_handles(graph, send_images);
-    if (status != VX_SUCCESS)
-        return status;
-    graph->performance.beg = now();
-    graph->run = (struct request){.op = PROCESS_GRAPH, .is_quiet = true};
-    put32(body, graph->base.name);
-    if (!connection_send(&context->connection, &graph->run, body, sizeof body))
-        return await_reply(context, &graph->run, false);
-    graph->is_scheduled = true;
-    graph->state = VX_GRAPH_STATE_RUNNING;
-    return VX_SUCCESS;
-}
-
-PUBLIC vx_status VX_API_CALL vxScheduleGraph(vx_graph graph) {
-    vx_context context = enter(graph, VX_TYPE_GRAPH);
-    if (context == NULL)
-        return VX_ERROR_INVALID_REFERENCE;
-    if (graph->is_scheduled)
-        return leave(context, VX_ERROR_GRAPH_SCHEDULED);
-    return leave(context, schedule(graph));
-}
-
-PUBLIC vx_status VX_API_CALL vxWaitGraph(vx_graph graph) {
-    vx_context context = enter(graph, VX_TYPE_GRAPH);
-    if (context == NULL)
-        return VX_ERROR_INVALID_REFERENCE;
-    if (!graph->is_scheduled)
-        return leave(context, VX_FAILURE);
-    return leave(context, end_run(graph, await_run(graph)));
 }
 
 PUBLIC vx_bool VX_API_CALL vxIsGraphVerified(vx_graph graph) {

@@ -1,5 +1,5 @@
-/* Images in the program's memory. That has their samples between runs: the server gets what nodes
-   read before a run, and what they wrote comes back after it. */
+/* Images from handles, whose samples are in the program's memory. Before a run the images that
+   nodes read are sent to the server. After it the images that they wrote are read back. */
 #include "internal.h"
 
 #include <string.h>
@@ -48,13 +48,14 @@ PUBLIC vx_status VX_API_CALL vxSwapImageHandle(vx_image image, void *const new_p
     return leave(context, VX_SUCCESS);
 }
 
-/* What a parameter has that is an image in the program's memory; NULL where it isn't. */
+/* A call's image from a handle for a parameter; NULL where it has none. */
 static vx_image handle_of(const struct call *call, const struct formal *formal) {
     vx_reference operand = formal->place < OPERANDS ? call->operands[formal->place] : NULL;
     bool is_image = operand != NULL && operand->type == VX_TYPE_IMAGE;
     return is_image && ((vx_image)operand)->is_handle ? (vx_image)operand : NULL;
 }
 
+/* Moves a call's images from handles, except those of a direction. */
 static vx_status move_images(vx_reference about, const struct call *call, vx_enum left_out,
                              vx_status (*move)(vx_image image)) {
     const struct definition *definition = definition_of(call->function);
@@ -65,7 +66,8 @@ static vx_status move_images(vx_reference about, const struct call *call, vx_enu
             continue;
         status = image->memory.first == NULL ? VX_ERROR_NOT_ALLOCATED : move(image);
         if (image->memory.first == NULL)
-            tell(about, status, "%s is an image from a handle that was taken away",
+            tell(about, status,
+                 "%s is an image from a handle without memory: give it some by vxSwapImageHandle",
                  definition->formals[i].name);
     }
     return status;

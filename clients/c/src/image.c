@@ -1,4 +1,4 @@
-/* Images: what they are, and their valid rectangles. */
+/* Images: their attributes and valid rectangles. */
 #include "internal.h"
 
 vx_size sample_size(vx_df_image format) {
@@ -24,9 +24,17 @@ uint8_t *put_image(uint8_t *at, const struct _vx_image *image) {
     return put_ref(at, image->base.name, NO_SLOT);
 }
 
-/* Makes the server's image by a request whose body ends with a format and two sides. */
-vx_reference create_image(vx_context context, struct _vx_image made) {
+vx_status create_samples(vx_context context, vx_uint32 scope, const struct described *as,
+                         vx_uint32 *name) {
     uint8_t body[9], *at = body;
+    if (scope != 0)
+        at = put32(at, scope);
+    at = put16(put16(put8(at, format_number(as->format)), as->width), as->height);
+    enum op op = scope != 0 ? CREATE_VIRTUAL_IMAGE : CREATE_IMAGE;
+    return create(context, op, body, (size_t)(at - body), name);
+}
+
+vx_reference create_image(vx_context context, struct _vx_image made) {
     if (made.width > GREATEST_SIDE || made.height > GREATEST_SIDE)
         return error_of(context, VX_ERROR_INVALID_DIMENSION);
     vx_image image = make(context, VX_TYPE_IMAGE, sizeof *image);
@@ -37,11 +45,7 @@ vx_reference create_image(vx_context context, struct _vx_image made) {
     image->format = made.format;
     image->found = (struct described){made.width, made.height, made.format};
     image->scope = made.scope;
-    if (made.scope != 0)
-        at = put32(at, made.scope);
-    at = put16(put16(put8(at, format_number(made.format)), made.width), made.height);
-    enum op op = made.scope != 0 ? CREATE_VIRTUAL_IMAGE : CREATE_IMAGE;
-    vx_status status = create(context, op, body, (size_t)(at - body), &image->base.name);
+    vx_status status = create_samples(context, made.scope, &image->found, &image->base.name);
     if (status == VX_SUCCESS)
         return REFERENCE(image);
     vx_reference failed = REFERENCE(image);
@@ -166,7 +170,7 @@ vx_status set_valid(vx_image image, const vx_rectangle_t *rect) {
     return ask(image->base.context, SET_VALID, body, sizeof body, NULL, 0);
 }
 
-/* Whether it is the empty rectangle, or one of an image's pixels. */
+/* Whether a rectangle is the empty one, or one within an image. */
 static bool is_rectangle(const vx_rectangle_t *rect, const struct _vx_image *image) {
     if (rect->start_x == 0 && rect->start_y == 0 && rect->end_x == 0 && rect->end_y == 0)
         return true;

@@ -1,6 +1,8 @@
-/* What the files of the library share. Nothing here locks: a public function enters a context,
-   which locks it, and leaves it, which lets others in; one that only reads objects looks at it,
-   which it may also while another call waits for the server. */
+/* Declarations that the files of the library share.
+
+   Only public functions lock. One that changes objects or asks the server calls enter and leave.
+   One that only reads objects calls look and look_away, and needn't wait for a call that waits for
+   the server. */
 #ifndef FEQYLDAN_INTERNAL_H
 #define FEQYLDAN_INTERNAL_H
 
@@ -18,7 +20,7 @@
 enum { GREATEST_SIDE = 8192, STATUSES = -VX_STATUS_MIN, NODE_BYTES = 25, NO_SLOT = 255,
        SPARES = 2 };
 
-/* What a request asks for, by its number in frames. */
+/* The op of a request, see docs/wire.md. */
 enum op {
     OPEN_CONTEXT = 1,
     CREATE_IMAGE = 3,
@@ -48,55 +50,56 @@ enum op {
 
 /* ---- connection.c: requests and replies ---- */
 
-/* A request that was sent and isn't answered, or is answered. Its reply's body is exactly as long
-   as there is room, or its code isn't 0. */
+/* A request that was sent, and its reply. The reply is refused with a code other than 0, or has a
+   body of exactly body_length + samples_length bytes. */
 struct request {
     uint8_t op, code;
-    /* Whether a refusal adds no log entry. */
+    /* Whether the reply is there; whether a refusal adds no log entry. */
     bool is_done, is_quiet;
     uint8_t *body;
-    size_t room;
-    /* Where the body goes on, for so many bytes: samples of so many bytes each, which are turned
-       into this machine's order as they come. */
+    size_t body_length;
+    /* Samples at the end of the body, of unit bytes each. The first turned bytes are in this
+       machine's byte order already. */
     uint8_t *samples;
-    size_t more, unit, turned;
+    size_t samples_length, unit, turned;
     struct request *next;
 };
 
 struct connection {
-    /* What is read from, and written to: one socket for a broker; for a program another one's
-       output, and a pipe, whose other end is held. */
-    int stream, out, held;
-    /* A program that was started, and a file with what it says on standard error; 0 and -1 for a
-       broker. */
+    /* Descriptors. A socket that was connected to is both in and out. A program that was started
+       has a socket as its output and a pipe as its input, of which this process has both ends. */
+    int in, out, pipe_reader;
+    /* The program that was started, and a file with its standard error; 0 and -1 for a socket that
+       was connected to. */
     pid_t process;
-    int said;
-    /* How long the server may take, in milliseconds; -1 for as long as it likes. */
-    int patience;
-    /* Whether nothing more comes; since it took too long, or this is a child of its process. */
-    bool has_ended, is_late, is_inherited;
-    /* Those without a reply, the oldest first. */
+    int errors;
+    /* The longest wait for the server, in milliseconds; -1 for no limit. */
+    int timeout;
+    /* Whether nothing more is sent or read; and the reason, where it isn't the server's end: a
+       timeout, or that a fork made this process. */
+    bool has_ended, has_timed_out, is_inherited;
+    /* Requests without a reply, the oldest first. */
     struct request *first, **last;
-    /* The head of the reply that is being read, how much of it is there, and how much of the body
-       is read. */
+    /* The reply that is being read: its head, and how many bytes of head and body are there. */
     uint8_t head[8];
-    size_t headed, taken;
-    /* What was read and isn't looked at yet. */
+    size_t head_count, body_count;
+    /* Bytes that were read, and which of them are still to be parsed. */
     uint8_t chunk[65536];
-    size_t at, end;
+    size_t chunk_at, chunk_end;
 };
 
 bool connection_open(struct connection *connection, char *why, size_t room);
 void connection_close(struct connection *connection);
-/* How the server ended, in words. */
+/* Says in words why the connection has ended. */
 void connection_epitaph(struct connection *connection, char *words, size_t room);
 /* Sends a request's frame; false where the server has ended. */
 bool connection_send(struct connection *connection, struct request *request, const uint8_t *body,
                      size_t length);
-/* Sends the head of a frame and a part of its body, of which so many bytes are to go on. */
+/* Sends the head of a frame and the beginning of its body. The caller sends more bytes by
+   connection_go_on. */
 bool connection_begin(struct connection *connection, struct request *request, const uint8_t *body,
                       size_t length, size_t more);
-/* Sends bytes that don't change before the reply has come. */
+/* Sends more bytes of a body, which mustn't change before the reply is there. */
 bool connection_go_on(struct connection *connection, const uint8_t *bytes, size_t count);
 /* Waits for the reply; false where the server has ended. */
 bool connection_wait(struct connection *connection, struct request *request);
@@ -105,7 +108,7 @@ bool connection_wait(struct connection *connection, struct request *request);
 
 bool reach_server(struct connection *connection, char *why, size_t room);
 void end_server(struct connection *connection);
-/* In a child of a process: leaves the server to that. */
+/* After a fork, in the child: leaves the server to the parent. */
 void leave_to_parent(struct connection *connection);
 
 /* ---- reference.c ---- */
@@ -113,50 +116,53 @@ void leave_to_parent(struct connection *connection);
 struct _vx_reference {
     vx_enum type;
     vx_context context;
-    /* References that the program has, and those of other objects. */
+    /* How many references the program has, and how many other objects have. */
     vx_uint32 count, holds;
-    /* By which the server knows it; 0 where it doesn't. */
+    /* Its name on the server; 0 where the server doesn't have it. */
     vx_uint32 name;
     /* Of an error object. */
     vx_status status;
     char label[VX_MAX_REFERENCE_NAME];
-    /* The context's objects, and the live references in one bucket of the registry. */
+    /* Neighbours in the list of the context's objects and in a bucket of the registry. */
     vx_reference next, previous, chain;
     bool is_live;
 };
 
-/* Locks the context of a live reference; NULL where it isn't live or isn't of the type, for which
-   VX_TYPE_REFERENCE is any. */
+/* Locks and returns the context of a live reference of a type, VX_TYPE_REFERENCE for any. Returns
+   NULL for anything else. */
 vx_context enter(const void *reference, vx_enum type);
+/* Unlocks the context. Returns the status that it is given. */
 vx_status leave(vx_context context, vx_status status);
-/* The same for a call that asks the server nothing, and changes nothing but a scalar's value. */
+/* The same for a call that doesn't ask the server and changes no object except a scalar's value. */
 vx_context look(const void *reference, vx_enum type);
 vx_status look_away(vx_context context, vx_status status);
-/* Whether an argument is a live reference of a type in a context: VX_SUCCESS, or why not. */
+/* Checks that an argument is a live reference of a type in a context. */
 vx_status check(vx_context context, const void *reference, vx_enum type);
-/* An object with one reference; NULL where there is no memory. */
+/* Makes an object with one reference. Returns NULL where there is no memory. */
 void *make(vx_context context, vx_enum type, size_t size);
 void register_reference(vx_reference reference);
-/* Has a child of this process leave all contexts to it. */
+/* From now on a child of this process leaves all contexts to it. */
 void watch_forks_once(void);
 void unregister_reference(vx_reference reference);
+/* Adds or removes a reference of another object. */
 void hold(vx_reference reference);
 void drop(vx_reference reference);
-/* One more reference for the program, which may have given back all that it had. */
+/* Adds a reference of the program, which may have none left. */
 vx_status retain(vx_reference reference);
 vx_reference error_of(vx_context context, vx_status status);
-/* An object that couldn't be made, for what is made of it; NULL where it is none. */
+/* Returns an error object that was given in place of an object, as the result of a call on that;
+   NULL for anything else. */
 vx_reference pass_error(const void *reference);
 vx_status release(void *pointer, vx_enum type);
-/* Frees an object's memory and nothing else. */
+/* Frees an object's memory, and asks the server nothing. */
 void free_memory(vx_reference reference);
-/* Writes an attribute's value where it has the size. */
+/* Copies an attribute's value, if the size is right. */
 vx_status give(void *ptr, vx_size size, const void *value, vx_size length);
 bool is_copy(vx_enum usage, vx_enum memory);
 
 /* ---- context.c ---- */
 
-/* Memory for samples on their way. */
+/* Memory for samples that are sent or read. */
 struct buffer {
     uint8_t *bytes;
     size_t room;
@@ -165,46 +171,46 @@ struct buffer {
 struct _vx_context {
     struct _vx_reference base;
     struct connection connection;
-    /* Who has the first may change objects and use the connection, and has the second too but while
-       it waits for the server; who has the second alone reads objects. */
+    /* A thread with both locks changes objects and uses the connection. While it waits for the
+       server it has only the first. A thread with only the second reads objects. */
     pthread_mutex_t calls, objects;
-    /* Threads in it, under the registry's lock; and whether it was released. */
+    /* How many threads use the context, under the registry's lock; whether it was released. */
     unsigned users;
     bool is_closed;
-    /* Its objects, itself and its errors not among them. */
+    /* Its objects, without itself and its error objects. */
     vx_reference first;
     struct _vx_reference errors[STATUSES + 1];
     vx_border_t border;
     vx_enum border_policy;
-    /* The extremes of vxuMinMaxLoc on the server; 0 before the first. */
+    /* The name of the object for vxuMinMaxLoc's extremes; 0 before the first call. */
     vx_uint32 extremes;
     vx_log_callback_f callback;
     bool is_logging, is_in_callback;
-    /* Buffers that are kept for the next picture. */
+    /* Buffers for the next pictures. */
     struct buffer spares[SPARES];
 };
 
 void free_context(vx_context context);
-/* In a child of a process: the context has no server, and no thread is in it. */
+/* After a fork, in the child: the context has no server, and no thread uses it. */
 void leave_context(vx_context context);
 bool is_border(const vx_border_t *border);
-/* A request and its reply, whose body is of exactly so many bytes. */
+/* Sends a request and waits for its reply, which has a body of exactly room bytes. */
 vx_status ask(vx_context context, enum op op, const uint8_t *body, size_t length, uint8_t *reply,
               size_t room);
 vx_status ask_named(vx_context context, enum op op, vx_uint32 name);
-/* The same without a log entry for a refusal, and of a reply without a body. */
+/* The same for a reply without a body. A refusal adds no log entry. */
 vx_status ask_quietly(vx_context context, enum op op, const uint8_t *body, size_t length);
-/* Makes an object on the server. */
+/* Makes an object or a node on the server. */
 vx_status create(vx_context context, enum op op, const uint8_t *body, size_t length,
                  vx_uint32 *name);
-/* Has the server forget a name, unless that is 0 or the context is closed. */
+/* Releases an object on the server, unless its name is 0 or the context is closed. */
 void forget(vx_context context, vx_uint32 name);
-/* Between the two a call waits for the server, and others may look at objects. */
+/* Between these two a call waits for the server, and other threads may look at objects. */
 void let_look(vx_context context);
 void end_look(vx_context context);
-/* Waits for the reply to a request that was sent, or wasn't, since the server has ended. */
+/* Waits for the reply to a request. One that couldn't be sent fails: the server has ended. */
 vx_status await_reply(vx_context context, struct request *request, bool is_sent);
-/* As docs/wire.md calls it. */
+/* The name of a code in docs/wire.md. */
 const char *name_of_status(vx_status status);
 
 /* ---- log.c ---- */
@@ -216,7 +222,7 @@ struct call;
 
 /* ---- image.c and patch.c ---- */
 
-/* Where the first sample of some is, and how far it is to the next one in a row and in a column. */
+/* Samples in memory: the first one, and the bytes from one column and row to the next. */
 struct grid {
     uint8_t *first;
     ptrdiff_t column, row;
@@ -227,7 +233,7 @@ struct map {
     vx_rectangle_t rect;
     vx_enum usage;
     struct grid grid;
-    /* What is freed with it; nothing where the program's memory is mapped. */
+    /* A copy of the samples; empty where the program's own memory is mapped. */
     struct buffer samples;
     struct map *next;
 };
@@ -239,20 +245,21 @@ struct described {
 
 struct _vx_image {
     struct _vx_reference base;
-    /* As declared, and of a virtual image as its graph's verification found out. */
+    /* As declared. */
     vx_uint32 width, height;
     vx_df_image format;
+    /* The same with open parts of a virtual image resolved by its graph's last verification. */
     struct described found;
-    /* The graph of a virtual one, by its name, which is never used again; else 0. */
+    /* The name of a virtual image's graph, which no other object ever gets; 0 for other images. */
     vx_uint32 scope;
-    /* The delay that it stands in, and the number of its slot. */
+    /* The delay of an image in a slot, and the number of that. */
     vx_delay delay;
     uint8_t slot;
     struct map *maps;
     vx_map_id next_map;
-    /* Whether it may not be wholly valid, since a node may have written it. */
+    /* Whether a node may have written it, so that its valid rectangle isn't known here. */
     bool is_computed;
-    /* Of an image from a handle, the program's memory; of a uniform one, its samples. */
+    /* Whether it is an image from a handle, with the program's memory, or a uniform image. */
     bool is_handle, is_uniform;
     struct grid memory;
     vx_pixel_value_t uniform;
@@ -261,26 +268,29 @@ struct _vx_image {
 vx_size sample_size(vx_df_image format);
 uint8_t format_number(vx_df_image format);
 uint8_t *put_image(uint8_t *at, const struct _vx_image *image);
+/* Makes an image on the server; with a scope, a virtual one of that graph. */
+vx_status create_samples(vx_context context, vx_uint32 scope, const struct described *as,
+                         vx_uint32 *name);
 /* An image as described, or an error. */
 vx_reference create_image(vx_context context, struct _vx_image made);
 vx_status query_valid(vx_image image, vx_rectangle_t *rect);
 vx_status set_valid(vx_image image, const vx_rectangle_t *rect);
 /* Whether pixels may be outside an image's valid rectangle. */
 bool may_be_partial(const struct _vx_image *image);
-/* That a call writes its outputs. */
+/* Marks the outputs of a call as written by a node. */
 void note_outputs(const struct call *call);
 void free_maps(vx_image image);
-/* Sends an image from a handle to the server, or takes it from there. */
+/* Copies an image from a handle to the server, or back. */
 vx_status send_memory(vx_image image);
 vx_status take_memory(vx_image image);
 void free_spares(vx_context context);
-/* Turns samples of so many bytes from the order of frames into this machine's, or back; it may be
-   in place. */
+/* Converts samples of unit bytes between the byte order of frames and this machine's. The places
+   may be the same. */
 void turn_samples(uint8_t *to, const uint8_t *from, size_t bytes, size_t unit);
 
 /* ---- view.c ---- */
 
-/* A map of an object that is no image: what it has in place, or a copy that is freed with it. */
+/* A map of an object other than an image, in place or of a copy. */
 struct view {
     vx_map_id id;
     vx_enum usage;
@@ -294,12 +304,15 @@ struct views {
 };
 
 vx_status add_view(struct views *views, vx_enum usage, void *copy, vx_map_id *id);
-/* VX_ERROR_INVALID_PARAMETERS, there is no such map; else how it was made. */
+/* Removes a map, and gives the usage that it was made with. */
 vx_status drop_view(struct views *views, vx_map_id id, vx_enum *usage);
 void free_views(struct views *views);
 bool is_map(vx_enum usage, vx_enum memory);
 
 /* ---- The other objects ---- */
+
+/* Registers the delays that age with a graph with a part of it, by the part's name. */
+vx_status register_delays(vx_graph graph, vx_uint32 part);
 
 struct _vx_delay {
     struct _vx_reference base;
@@ -364,17 +377,17 @@ struct _vx_array {
     struct views views;
 };
 
-/* The bytes of a number's type; 0 for a type that no scalar has. */
+/* The size of a scalar's type in bytes; 0 for a type that no scalar has. */
 vx_size size_of_type(vx_enum type);
 
-/* Each makes what is on the server as the object is now, unless it is there. */
+/* Make the object on the server as it is now, unless it is there. */
 vx_status send_threshold(vx_threshold threshold);
 vx_status send_lut(vx_lut lut);
 vx_status send_convolution(vx_convolution convolution);
-/* Has the next use of an object send it anew. */
+/* Drops an object on the server, since it has changed: its next use sends it again. */
 void forget_parameter(vx_reference parameter);
 
-/* ---- call.c: a use of a function, in a node or at once ---- */
+/* ---- call.c: calls of functions, by nodes or in immediate mode ---- */
 
 #define NUMBER_OF(NUMBER, ...) NUMBER,
 enum function { NO_FUNCTION, FUNCTIONS(NUMBER_OF) };
@@ -382,53 +395,53 @@ enum function { NO_FUNCTION, FUNCTIONS(NUMBER_OF) };
 enum { IN1, IN2, OUT1, OUT2, AMOUNT, MIN_VALUE, MAX_VALUE, MIN_PLACE, MAX_PLACE, MIN_COUNT,
        MAX_COUNT, OPERANDS };
 
-/* Places after the operands: policies, which a call holds by value. */
+/* Places after the operands: a call has the values of policies, not scalars. */
 enum { POLICY = OPERANDS, ROUNDING, PLACES };
 
 struct call {
     enum function function;
     vx_reference operands[OPERANDS];
     vx_enum policies[PLACES - OPERANDS];
-    /* Whether operands may still be NULL and policies 0, of a node that was made of a kernel. */
+    /* Whether it is a node made of a kernel, whose operands may still be NULL and policies 0. */
     bool is_generic;
-    /* The scale or the shift, where no scalar has it. */
+    /* The scale or shift of a call without a scalar for it. */
     double amount;
     vx_border_t border;
-    /* The extremes on the server that MinMaxLoc writes. */
+    /* The name of the object that MinMaxLoc writes on the server; 0 before it is made. */
     vx_uint32 extremes;
 };
 
-/* In these, about is what a log entry is about, and where the call is made: a context at once, a
-   graph for a new node, or a node that is there. */
+/* In these functions about is the object that log entries refer to: the context for a call in
+   immediate mode, the graph for a new node, or a node that is there. */
 
-/* Checks that the operands are what the function has. */
+/* Checks references, scopes, item types and policies. */
 vx_status check_call(vx_reference about, const struct call *call);
-/* The same of operands that are references of the right types, which the program may have given
-   back meanwhile. */
+/* The same without the references, which the program may have released since they were checked. */
 vx_status check_values(vx_reference about, const struct call *call);
 /* Checks that no two outputs are one scalar or array. */
 vx_status check_outputs(vx_reference about, const struct call *call);
-/* Checks that nothing is missing that has to be there: VX_ERROR_NOT_SUFFICIENT. */
+/* Checks that no required parameter is missing: VX_ERROR_NOT_SUFFICIENT. */
 vx_status check_complete(vx_reference about, const struct call *call);
-/* The bytes of a node, after what it uses was sent. */
+/* Makes the thresholds, tables and other objects of a call on the server, and writes the bytes of
+   the node. */
 vx_status encode_call(vx_reference about, struct call *call, uint8_t *bytes);
 /* The name of the graph in which a virtual image may be used; 0 for none. */
 vx_uint32 scope_of(vx_reference about);
-/* After a run: writes what MinMaxLoc found into the call's scalars and arrays. */
+/* After a run: reads what MinMaxLoc found into the scalars and arrays of its call. */
 vx_status take_extremes(vx_context context, const struct call *call);
 
 /* ---- functions.c ---- */
 
 enum { MOST_PARAMETERS = 7, RULES = 2 };
 
-/* A parameter of a node: its place in a call, and what vxQueryParameter tells of it. */
+/* A parameter of a function: its place in a call, and its attributes. */
 struct formal {
     uint8_t place;
     vx_enum type, direction, state;
     const char *name;
 };
 
-/* Formats that may stand together: a set for each image, a bit for each format's number. */
+/* A combination of formats: for each image a set of formats, with a bit for each. */
 struct rule {
     uint8_t in1, in2, out;
 };
@@ -447,22 +460,45 @@ const struct definition *definition_of(enum function function);
 /* Checks that a value for a parameter is a reference of the right type and context. */
 vx_status check_value(vx_reference about, const struct call *call, const struct formal *formal,
                       vx_reference value);
-/* Their numbers are from 1 to this one. */
+/* Functions are numbered from 1 to this. */
 vx_uint32 count_functions(void);
 
 /* ---- graph.c ---- */
 
+/* What a graph on the server has of a node: its number there, 0 for none, and its bytes. */
+struct sent {
+    vx_uint32 number;
+    uint8_t bytes[NODE_BYTES];
+};
+
 struct _vx_node {
     struct _vx_reference base;
-    /* NULL when it was removed, or its graph is gone. */
+    /* NULL after the node was removed or its graph was destroyed. */
     vx_graph graph;
     vx_node next_node;
     struct call call;
-    /* Of the last verification or run. */
+    /* The status in the last verification or run. */
     vx_status status;
-    /* What the server has of it: its number in the graph, 0 for none, and its bytes. */
-    vx_uint32 number;
-    uint8_t sent[NODE_BYTES];
+    struct sent sent;
+    /* In a graph that runs in parts: the number of its part, from 0, and what that has of it. */
+    vx_uint32 part;
+    struct sent sent_to_part;
+};
+
+/* The server's image that backs a virtual image in the parts of its graph. */
+struct backing {
+    vx_image image;
+    vx_uint32 name;
+};
+
+/* The parts in which a graph runs, see parts.c. */
+struct parts {
+    /* The number of parts, 0 for a graph that runs as a whole, and the names of their graphs on the
+       server, in the order of the run. */
+    vx_uint32 count;
+    vx_uint32 *names;
+    vx_size backing_count;
+    struct backing *backings;
 };
 
 struct _vx_graph {
@@ -470,42 +506,85 @@ struct _vx_graph {
     vx_node first;
     vx_size nodes;
     vx_enum state;
-    /* Whether a node couldn't be made: then it can't be verified. One that found no memory may be
-       made anew, and is missed until then. */
+    /* Whether a node couldn't be made, so that the graph can't be verified. A node that found no
+       memory is missed until the program makes it anew. */
     bool lacks_node, misses_node;
     struct call missed;
     bool is_verified, is_scheduled;
     struct request run;
-    /* How long runs took, and when the last one began, in nanoseconds. */
+    struct parts parts;
+    /* Whether the current run has run a part. */
+    bool has_begun;
+    /* The names of the delays that age with it. The server may have dropped some of them. */
+    vx_uint32 *delays;
+    vx_size delay_count;
+    /* In nanoseconds. */
     vx_perf_t performance;
-    /* Those that the graph has itself, each of one of its nodes, and how many. */
+    /* The graph's own parameters, each of which is a parameter of one of its nodes. */
     vx_parameter *parameters;
     vx_uint32 parameter_count;
 };
 
 vx_node add_node(vx_graph graph, struct call call);
-/* The error object of a node that can't be made, for which the graph is never verified. */
+/* Refuses a node with a log entry. The graph can't be verified any more. */
 vx_node add_missing_node(vx_graph graph, const char *why);
-/* Has the graph be verified anew. */
+/* Notes that the graph has changed, so that it has to be verified. */
 void change(vx_graph graph);
+/* Removes a node from its graph, here and on the server. */
 vx_status detach(vx_node node);
+
+/* ---- run.c ---- */
+
+/* Sends a call as a node to a graph on the server, unless that has it already. */
+vx_status send_call(vx_node node, struct call *call, vx_uint32 graph, struct sent *sent);
+/* Removes a node from a graph on the server, if that has it. */
+vx_status withdraw(vx_context context, vx_uint32 graph, struct sent *sent);
+/* Verifies or runs a graph on the server by its name, which is the graph's own or a part's. Adds a
+   log entry where the server refuses it. */
+vx_status ask_verdict(vx_graph graph, vx_uint32 name, enum op op);
+/* Waits for a run that was scheduled, if there is one. */
 void settle(vx_graph graph);
+
+/* ---- parts.c ---- */
+
+/* Whether a node of the graph reads a scalar that another one writes. */
+bool runs_in_parts(const struct _vx_graph *graph);
+/* Makes the parts of a verified graph, unless they are there. */
+vx_status make_parts(vx_graph graph);
+/* Drops the parts of a graph that changes, here and on the server. */
+void drop_parts(vx_graph graph);
+/* Frees what the library has of the parts. */
+void free_parts(vx_graph graph);
+/* Runs all parts but the last one, and sends the nodes of that. */
+vx_status run_first_parts(vx_graph graph);
+/* The name of the last part's graph on the server. */
+vx_uint32 last_name(const struct _vx_graph *graph);
+/* Whether a node runs last; in a graph without parts all nodes do. */
+bool is_in_last_part(const struct _vx_node *node);
 
 /* ---- verdict.c ---- */
 
-/* A node's number in its graph in order of addition, from 0, its function and its name. */
+/* Writes a node's number in order of addition, from 0, its function and its name. */
 void describe_node(vx_node node, char *words, size_t room);
-/* Checks what the server doesn't: no two nodes write one scalar or array, and none reads a scalar
-   that one writes. */
+/* Checks that no two nodes write the same scalar or array, which the server doesn't have. */
 vx_status check_writers(vx_graph graph);
-/* Adds the log entry of a graph's verdict, with the node that it is about. */
+/* Whether a node reads an image that another node writes. */
+bool reads_image_of(const struct _vx_node *reader, const struct _vx_node *writer);
+/* Whether a node's scale or shift is a scalar that another node writes, or that any node does. */
+bool reads_scalar_of(const struct _vx_node *reader, const struct _vx_node *writer);
+bool reads_written_scalar(const struct _vx_node *node);
+/* The image in a place of a node, or NULL. */
+vx_image image_at(const struct _vx_node *node, unsigned place);
+/* Adds a log entry for the server's verdict on a graph, and finds the node that it is about. */
 void explain_verdict(vx_graph graph, vx_status status);
-/* The same of a call at once. */
+/* Adds the log entry of a cycle through images and scalars. Returns false where there is none. */
+bool explain_cycle(vx_graph graph);
+/* The same for a call in immediate mode. */
 void explain_call(vx_context context, const struct call *call, vx_status status);
-/* After a verification: gives virtual images the sizes and formats that were found out. */
+/* After a verification: resolves the open sizes and formats of virtual images. */
 void resolve_images(vx_graph graph);
 
-/* ---- handle.c: before and after a run ---- */
+/* ---- handle.c: images from handles, before and after a run ---- */
 
 vx_status send_images(vx_reference about, const struct call *call);
 vx_status take_images(vx_reference about, const struct call *call);
@@ -517,7 +596,7 @@ struct _vx_kernel {
     enum function function;
 };
 
-/* Of a node, or of a kernel's function without one. */
+/* A parameter of a node, or of a kernel, which has no node. */
 struct _vx_parameter {
     struct _vx_reference base;
     enum function function;

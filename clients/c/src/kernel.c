@@ -1,10 +1,10 @@
-/* Kernels, nodes made of them, and hints and targets, which change nothing. */
+/* Kernels, generic nodes, and hints and targets, which are accepted without effect. */
 #include "internal.h"
 
 #include <string.h>
 #include <strings.h>
 
-/* The function of a kernel by its number or by its name; NO_FUNCTION where the server has none. */
+/* Finds the function of a kernel by its name, or by its number where that is NULL. */
 static enum function function_of(vx_enum kernel, const vx_char *name) {
     for (vx_uint32 function = 1; function <= count_functions(); function++) {
         const struct definition *definition = definition_of((enum function)function);
@@ -110,7 +110,7 @@ PUBLIC vx_status VX_API_CALL vxHint(vx_reference reference, vx_enum hint, const 
     return look_away(context, is_hint ? VX_SUCCESS : VX_ERROR_NOT_SUPPORTED);
 }
 
-/* The one target, by whatever name. */
+/* Checks that a target, by its number or name, is the only one: any. */
 static vx_status check_target(vx_enum target, const char *name) {
     bool is_any = target == VX_TARGET_ANY ||
                   (target == VX_TARGET_STRING && name != NULL && strcasecmp(name, "any") == 0);

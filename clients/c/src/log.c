@@ -1,9 +1,9 @@
-/* Log entries, which a function of the program is told. */
+/* Log entries, which go to the program's callback. */
 #include "internal.h"
 
 #include <stdarg.h>
 
-/* What the program can ask about: a node that it has given back is of a graph, and that of a
+/* The object that an entry refers to, or where the program has released that, its graph or its
    context. */
 static vx_reference known(vx_reference reference) {
     if (!reference->is_live && reference->type == VX_TYPE_NODE &&
@@ -18,7 +18,7 @@ static void tell_list(vx_reference reference, vx_status status, const char *word
         return;
     char message[VX_MAX_LOG_MESSAGE_LEN];
     vsnprintf(message, sizeof message, words, list);
-    /* What the callback does is told to nobody: else it might never end. */
+    /* Calls of the callback add no entries: else it might call itself without end. */
     context->is_in_callback = true;
     context->callback(context, known(reference), status, message);
     context->is_in_callback = false;

@@ -1,4 +1,4 @@
-/* Lookup tables, which the program may change: the server has one as it is when it is used. */
+/* Lookup tables. The program may change them, so one is sent to the server when it is used. */
 #include "internal.h"
 
 #include <stdlib.h>
@@ -6,7 +6,7 @@
 
 static vx_size entry_size(vx_enum item) { return item == VX_TYPE_UINT8 ? 1 : 2; }
 
-/* How many entries a table has for all samples. */
+/* The number of entries of a full table. */
 static vx_size whole_count(vx_enum item) { return item == VX_TYPE_UINT8 ? 256 : 65536; }
 
 static vx_reference make_lut(vx_context context, vx_enum item, vx_size count) {
@@ -73,8 +73,8 @@ PUBLIC vx_status VX_API_CALL vxQueryLUT(vx_lut lut, vx_enum attribute, void *ptr
     }
 }
 
-/* The entry for each sample, the least first: a sample that the table has none for gets the nearest
-   one. */
+/* Writes a full table, the entry of the least sample first. A sample without an entry gets the
+   nearest one. */
 static void put_entries(uint8_t *at, const struct _vx_lut *lut) {
     vx_size whole = whole_count(lut->item);
     vx_size skipped = lut->item == VX_TYPE_INT16 ? whole / 2 - lut->count / 2 : 0;

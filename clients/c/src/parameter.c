@@ -1,4 +1,4 @@
-/* Parameters of nodes, and those of them that a graph has itself. */
+/* Parameters of nodes, kernels and graphs. */
 #include "internal.h"
 
 #include <stdlib.h>
@@ -35,7 +35,7 @@ static const struct formal *formal_of(const struct _vx_parameter *parameter) {
     return &definition_of(parameter->function)->formals[parameter->index];
 }
 
-/* One more reference to what a node has; of a policy, which is no object, to a new scalar. */
+/* Gives a reference to the value of a node's parameter; for a policy, to a new scalar. */
 static vx_status refer(const struct _vx_parameter *parameter, vx_reference *value) {
     if (parameter->node == NULL)
         return VX_SUCCESS;
@@ -80,8 +80,7 @@ PUBLIC vx_status VX_API_CALL vxQueryParameter(vx_parameter parameter, vx_enum at
     return leave(context, status);
 }
 
-/* A node's call with another value for a parameter, as far as that is a reference of the right
-   type. */
+/* Sets a parameter of a call, if the value is a reference of the right type. */
 static vx_status put_value(vx_node node, struct call *call, const struct formal *formal,
                            vx_reference value) {
     bool may_lack = formal->place < OPERANDS && formal->state == VX_PARAMETER_STATE_OPTIONAL;

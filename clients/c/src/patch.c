@@ -1,12 +1,13 @@
-/* Parts of images in the program's memory. The server reads and writes images whole. */
+/* Copies and maps of image patches. The server reads and writes whole images, so a patch is cut out
+   of one or put into one here. */
 #include "internal.h"
 
 #include <stdlib.h>
 #include <string.h>
 
-/* What a frame has of an image before its samples: in a request with a ref before it. A picture is
-   turned and sent in pieces, so that the server reads one while the next is turned. Buffers between
-   the two lengths are kept. */
+/* DESCRIBED and WRITE_HEAD are the bytes before the samples in a reply and in a request. Samples
+   are converted and sent PIECE bytes at a time, so that the server reads one piece while the next
+   is converted. Buffers from LEAST_KEPT to GREATEST_KEPT bytes are kept. */
 enum { DESCRIBED = 5, WRITE_HEAD = 10, PIECE = 1 << 17, LEAST_KEPT = 1 << 16,
        GREATEST_KEPT = 1 << 26 };
 
@@ -16,8 +17,8 @@ static vx_size samples_of(const struct _vx_image *image) {
 
 /* ---- Buffers ---- */
 
-/* A buffer of at least so many bytes, which are 0 or what a picture had; NULL where there is no
-   memory. So nothing else of the program's memory goes out where a map isn't wholly written. */
+/* Returns a buffer of at least length bytes, or with NULL where there is no memory. It holds zeros
+   or old samples, so that a map which isn't wholly written never sends other memory. */
 static struct buffer take_buffer(vx_context context, size_t length) {
     struct buffer *best = NULL;
     for (int i = 0; i < SPARES; i++) {
@@ -36,7 +37,7 @@ static struct buffer take_buffer(vx_context context, size_t length) {
     return taken;
 }
 
-/* Keeps the largest. */
+/* Keeps the buffer if it is larger than one that is kept. */
 static void give_buffer(vx_context context, struct buffer given) {
     for (int i = 0; i < SPARES && given.room >= LEAST_KEPT && given.room <= GREATEST_KEPT; i++)
         if (context->spares[i].room < given.room) {
@@ -54,7 +55,7 @@ void free_spares(vx_context context) {
 
 /* ---- The order of bytes ---- */
 
-/* Sixteen bytes, as samples of two bytes or of four. */
+/* Vectors of 16 bytes. */
 typedef vx_uint16 words __attribute__((vector_size(16)));
 typedef vx_uint32 longs __attribute__((vector_size(16)));
 
@@ -65,7 +66,7 @@ static bool is_big_endian(void) {
     return first == 0;
 }
 
-/* Turns as many whole vectors as there are; how many bytes that is. */
+/* Converts the whole vectors of some samples. Returns how many bytes that is. */
 static size_t turn_vectors(uint8_t *to, const uint8_t *from, size_t bytes, size_t unit) {
     size_t at = 0;
     for (; unit == 2 && at + sizeof(words) <= bytes; at += sizeof(words)) {
@@ -117,7 +118,7 @@ static void copy_grid(struct grid to, struct grid from, vx_uint32 width, vx_uint
     }
 }
 
-/* The same without turning. */
+/* The same without a change of the byte order. */
 static void copy_plain(struct grid to, struct grid from, vx_uint32 width, vx_uint32 height,
                        vx_size size) {
     bool is_row = to.column == (ptrdiff_t)size && from.column == (ptrdiff_t)size;
@@ -134,7 +135,7 @@ static void copy_part(struct grid to, struct grid from, const vx_rectangle_t *re
     copy_grid(to, from, rect->end_x - rect->start_x, rect->end_y - rect->start_y, size);
 }
 
-/* The part of an image's samples as a frame has them. */
+/* A part of the samples of a whole image, which are in memory as in a frame. */
 static struct grid part_of(const struct _vx_image *image, const vx_rectangle_t *rect,
                            uint8_t *samples) {
     ptrdiff_t size = (ptrdiff_t)sample_size(image->format), row = size * image->width;
@@ -146,7 +147,7 @@ static bool is_whole(const struct _vx_image *image, const vx_rectangle_t *rect) 
            rect->end_y == image->height;
 }
 
-/* Whether rows of an image's width stand in memory without gaps. */
+/* Whether an image's samples are in memory without gaps between columns or rows. */
 static bool is_flat(const struct _vx_image *image, struct grid grid) {
     ptrdiff_t size = (ptrdiff_t)sample_size(image->format);
     return grid.column == size && grid.row == size * (ptrdiff_t)image->width;
@@ -154,12 +155,13 @@ static bool is_flat(const struct _vx_image *image, struct grid grid) {
 
 /* ---- Reading ---- */
 
-/* Reads an image's samples by rows, turned by their unit. */
+/* Reads an image's samples by rows. A unit of 1 leaves them in the byte order of frames. */
 static vx_status read_image(vx_image image, uint8_t *samples, size_t unit) {
     uint8_t body[5], described[DESCRIBED];
     vx_context context = image->base.context;
-    struct request request = {.op = READ_IMAGE, .body = described, .room = DESCRIBED,
-                              .samples = samples, .more = samples_of(image), .unit = unit};
+    struct request request = {.op = READ_IMAGE, .body = described,
+                              .body_length = DESCRIBED, .samples = samples,
+                              .samples_length = samples_of(image), .unit = unit};
     put_image(body, image);
     let_look(context);
     bool is_sent = connection_send(&context->connection, &request, body, sizeof body);
@@ -183,15 +185,15 @@ static vx_status read_part(vx_image image, const vx_rectangle_t *rect, struct gr
 
 /* ---- Writing ---- */
 
-/* Where the samples of an image are that is written: in the program's memory, from which a buffer
-   gets them as frames have them; or there already, without a buffer. */
+/* The samples for an image. If they are ready, bytes has them as they go into the frame. Otherwise
+   they are in the user's memory, and bytes is a buffer for them. */
 struct source {
     struct grid users;
     uint8_t *bytes;
     bool is_ready;
 };
 
-/* Sends the rows of an image, some of them at a time. */
+/* Sends the rows of an image, about PIECE bytes at a time. */
 static bool send_rows(vx_image image, struct source source) {
     struct connection *connection = &image->base.context->connection;
     size_t size = sample_size(image->format), row = size * image->width;
@@ -248,7 +250,7 @@ static vx_rectangle_t whole_of(const struct _vx_image *image) {
     return (vx_rectangle_t){0, 0, image->width, image->height};
 }
 
-/* The smallest rectangle around two, of which the first may be empty. */
+/* The smallest rectangle that contains both, of which the first may be empty. */
 static vx_rectangle_t around(vx_rectangle_t first, const vx_rectangle_t *second) {
     if (first.end_x == 0)
         return *second;
@@ -263,7 +265,7 @@ static vx_rectangle_t around(vx_rectangle_t first, const vx_rectangle_t *second)
     return first;
 }
 
-/* Writes a part of an image, whose valid rectangle becomes the smallest around itself and that. */
+/* Writes a part of an image, and extends its valid rectangle to contain the part. */
 static vx_status write_part(vx_image image, const vx_rectangle_t *rect, struct grid from) {
     vx_rectangle_t valid = whole_of(image);
     vx_status status = VX_SUCCESS;
@@ -294,7 +296,7 @@ vx_status take_memory(vx_image image) {
     return read_part(image, &whole, image->memory);
 }
 
-/* Where the first pixel of a part is in an image's memory. */
+/* A part of an image's own memory. */
 static struct grid memory_of(const struct _vx_image *image, const vx_rectangle_t *rect) {
     struct grid part = image->memory;
     if (part.first != NULL)
@@ -310,7 +312,7 @@ static vx_status fill(vx_image image, const vx_pixel_value_t *value) {
         return VX_ERROR_NO_MEMORY;
     for (vx_uint32 x = 0; x < image->width; x++)
         memcpy(row + x * size, value, size);
-    /* One row in place of all. */
+    /* A stride of 0 repeats the row. */
     const struct grid rows = {row, (ptrdiff_t)size, 0};
     vx_status status = VX_SUCCESS;
     if (!image->is_handle)
@@ -381,7 +383,7 @@ static vx_status check_part(const struct _vx_image *image, const vx_rectangle_t 
     return is_part ? VX_SUCCESS : VX_ERROR_INVALID_PARAMETERS;
 }
 
-/* Whether memory as described has room for a part: by rows, which don't overlap. */
+/* Whether memory as described holds a part, by rows that don't overlap. */
 static bool has_room(const vx_imagepatch_addressing_t *addr, const vx_rectangle_t *rect,
                      vx_size size) {
     if (addr == NULL || addr->dim_x < rect->end_x - rect->start_x ||
@@ -391,7 +393,7 @@ static bool has_room(const vx_imagepatch_addressing_t *addr, const vx_rectangle_
            (vx_int64)addr->stride_y >= (vx_int64)addr->stride_x * (vx_int64)addr->dim_x;
 }
 
-/* Copies a part between an image and the program's memory. */
+/* Copies a part between an image and the user's memory. */
 static vx_status copy_users(vx_image image, const vx_rectangle_t *rect, struct grid users,
                             vx_enum usage) {
     struct grid images = memory_of(image, rect);
@@ -435,8 +437,8 @@ static vx_imagepatch_addressing_t address_of(const struct map *map, vx_size size
                                         .stride_x_bits = (vx_uint16)(8 * size)};
 }
 
-/* A map: of an image from a handle in place, else of memory, whatever it holds. NULL where there is
-   no memory. */
+/* Makes a map: in place for an image from a handle, else of a buffer with any samples. Returns NULL
+   where there is no memory. */
 static struct map *make_map(vx_image image, const vx_rectangle_t *rect, vx_enum usage) {
     struct map *map = calloc(1, sizeof *map);
     if (map == NULL)
@@ -481,7 +483,7 @@ PUBLIC vx_status VX_API_CALL vxMapImagePatch(vx_image image, const vx_rectangle_
                                              vx_uint32 plane_index, vx_map_id *map_id,
                                              vx_imagepatch_addressing_t *addr, void **ptr,
                                              vx_enum usage, vx_enum mem_type, vx_uint32 flags) {
-    /* VX_NOGAP_X: what is mapped has no gaps but those of the program's own memory. */
+    /* VX_NOGAP_X changes nothing: only the program's own memory may have gaps. */
     (void)flags;
     vx_context context = enter(image, VX_TYPE_IMAGE);
     if (context == NULL)
@@ -515,7 +517,7 @@ PUBLIC vx_status VX_API_CALL vxUnmapImagePatch(vx_image image, vx_map_id map_id)
     vx_status status = VX_SUCCESS;
     if (map->usage != VX_READ_ONLY && !image->is_handle)
         status = write_part(image, &map->rect, map->grid);
-    /* What couldn't be written for want of memory can be tried again. */
+    /* The program can try again, so the map stays. */
     if (status == VX_ERROR_NO_MEMORY)
         return leave(context, status);
     *place = map->next;

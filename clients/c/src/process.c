@@ -1,4 +1,4 @@
-/* Where the server is: a broker's socket, or a program that is started. */
+/* Reaching a server: connecting to a socket, or starting a program. */
 #define _GNU_SOURCE
 #include "internal.h"
 
@@ -20,45 +20,45 @@
 
 extern char **environ;
 
-/* How long a server may take to end once its input has, in milliseconds: it has nothing to lose.
-   How much a pipe has room for, in bytes: a user's pipes have 64 MiB in all. The most seconds that
-   FEQYLDAN_TIMEOUT may say. */
-enum { PATIENCE = 1000, PIPE_BYTES = 1 << 19, GREATEST_TIMEOUT = 1000000 };
+/* END_TIME is how long a server may take to end after its input has ended, in milliseconds. It has
+   nothing to lose when it is killed. PIPE_BYTES is the capacity of the pipe: by default the pipes
+   of a user have 64 MiB together. GREATEST_TIMEOUT is in seconds. */
+enum { END_TIME = 1000, PIPE_BYTES = 1 << 19, GREATEST_TIMEOUT = 1000000 };
 
 static bool no_server(char *why, size_t room, const char *what, const char *path, int error) {
     snprintf(why, room, "%s %s: %s", what, path, strerror(error));
     return false;
 }
 
-/* A variable of the environment; NULL where it is empty or the program has more rights than its
-   user. */
+/* A variable of the environment. NULL where it is empty, and in a setuid program, whose user could
+   misuse its rights by the variables. */
 static const char *setting(const char *name) {
     const char *value = secure_getenv(name);
     return value != NULL && *value != '\0' ? value : NULL;
 }
 
-/* Sets how long the server may take to take or give a byte. */
-static bool set_patience(struct connection *connection, char *why, size_t room) {
+/* Sets how long to wait for the server to accept or send a byte. */
+static bool set_timeout(struct connection *connection, char *why, size_t room) {
     const char *said = setting("FEQYLDAN_TIMEOUT");
-    connection->patience = -1;
+    connection->timeout = -1;
     if (said == NULL)
         return true;
     char *rest;
     double seconds = strtod(said, &rest);
     if (*rest != '\0' || !(seconds >= 0.001 && seconds <= GREATEST_TIMEOUT)) {
-        snprintf(why, room, "FEQYLDAN_TIMEOUT is %s, and has to be seconds from 0.001 to %d", said,
+        snprintf(why, room, "FEQYLDAN_TIMEOUT is %s, and has to be 0.001 to %d seconds", said,
                  GREATEST_TIMEOUT);
         return false;
     }
-    connection->patience = (int)(seconds * 1000);
+    connection->timeout = (int)(seconds * 1000);
     return true;
 }
 
 static void limit_reads(struct connection *connection) {
-    const int patience = connection->patience;
-    const struct timeval limit = {patience / 1000, patience % 1000 * 1000};
-    if (patience > 0)
-        setsockopt(connection->stream, SOL_SOCKET, SO_RCVTIMEO, &limit, sizeof limit);
+    const int timeout = connection->timeout;
+    const struct timeval limit = {timeout / 1000, timeout % 1000 * 1000};
+    if (timeout > 0)
+        setsockopt(connection->in, SOL_SOCKET, SO_RCVTIMEO, &limit, sizeof limit);
 }
 
 static bool reach_socket(struct connection *connection, const char *path, char *why, size_t room) {
@@ -66,34 +66,34 @@ static bool reach_socket(struct connection *connection, const char *path, char *
     if (strlen(path) >= sizeof address.sun_path)
         return no_server(why, room, "connect to", path, ENAMETOOLONG);
     strcpy(address.sun_path, path);
-    connection->stream = socket(AF_UNIX, SOCK_STREAM | SOCK_CLOEXEC, 0);
-    if (connection->stream < 0)
+    connection->in = socket(AF_UNIX, SOCK_STREAM | SOCK_CLOEXEC, 0);
+    if (connection->in < 0)
         return no_server(why, room, "connect to", path, errno);
-    while (connect(connection->stream, (struct sockaddr *)&address, sizeof address) != 0) {
+    while (connect(connection->in, (struct sockaddr *)&address, sizeof address) != 0) {
         if (errno == EINTR)
             continue;
         int error = errno;
-        close(connection->stream);
-        connection->stream = -1;
+        close(connection->in);
+        connection->in = -1;
         return no_server(why, room, "connect to", path, error);
     }
-    connection->out = connection->stream;
+    connection->out = connection->in;
     limit_reads(connection);
     return true;
 }
 
-/* A program's descriptors: its input, its output and what it says on standard error. */
+/* What a started program gets as its standard input, output and error. */
 struct ends {
-    int input, output, said;
+    int input, output, errors;
 };
 
-/* Has all other descriptors closed: else what the program has open would stay open until the server
-   ends. */
+/* Closes all other descriptors in the started program: else the files and pipes of this one would
+   stay open until the server ends. */
 static int plan_closing(posix_spawn_file_actions_t *actions) {
 #if defined(__GLIBC__) && (__GLIBC__ > 2 || __GLIBC_MINOR__ >= 34)
     return posix_spawn_file_actions_addclosefrom_np(actions, 3);
 #else
-    /* Those that are open now, where there is no better way. */
+    /* Closes those that are open now: there is no call for all of them. */
     int error = 0;
     DIR *open = opendir("/proc/self/fd");
     for (struct dirent *entry; open != NULL && (entry = readdir(open)) != NULL;) {
@@ -110,11 +110,12 @@ static int plan_closing(posix_spawn_file_actions_t *actions) {
 static int plan_descriptors(posix_spawn_file_actions_t *actions, struct ends theirs) {
     int error = posix_spawn_file_actions_adddup2(actions, theirs.input, 0);
     error = error ? error : posix_spawn_file_actions_adddup2(actions, theirs.output, 1);
-    error = error ? error : posix_spawn_file_actions_adddup2(actions, theirs.said, 2);
+    error = error ? error : posix_spawn_file_actions_adddup2(actions, theirs.errors, 2);
     return error ? error : plan_closing(actions);
 }
 
-/* In a session of its own, so that Ctrl-C doesn't end it, and with signals as by default. */
+/* Starts a program in a session of its own, so that Ctrl-C doesn't end it, and with the default
+   handling of signals. */
 static int spawn(const char *program, struct ends theirs, pid_t *process) {
     posix_spawn_file_actions_t actions;
     posix_spawnattr_t attributes;
@@ -143,11 +144,11 @@ static int spawn(const char *program, struct ends theirs, pid_t *process) {
     return error;
 }
 
-/* The first program of those that may be meant which can be started. */
+/* Starts the program that the environment names, or else the first one that is found. */
 static int spawn_found(struct ends theirs, pid_t *process) {
-    const char *told = setting("FEQYLDAN_PROGRAM");
-    if (told != NULL)
-        return spawn(told, theirs, process);
+    const char *program = setting("FEQYLDAN_PROGRAM");
+    if (program != NULL)
+        return spawn(program, theirs, process);
     int error = spawn("feqyldan", theirs, process);
     return error == 0 ? 0 : spawn("vx_main", theirs, process);
 }
@@ -158,7 +159,8 @@ static void close_all(int *ends, int count) {
             close(ends[i]);
 }
 
-/* Moves a descriptor out of the way of the three that a program has; 0 or an error. */
+/* Moves a descriptor above the standard ones, which it would lose in the started program. Returns
+   0 or an error. */
 static int move_up(int *end) {
     if (*end >= 3)
         return 0;
@@ -170,7 +172,7 @@ static int move_up(int *end) {
     return 0;
 }
 
-/* Makes a pipe, a pair of sockets and a file in memory: 0, or an error and none of them. */
+/* Makes a pipe, a pair of sockets and a file in memory. Returns 0, or an error and none of them. */
 static int make_ends(int ends[5]) {
     for (int i = 0; i < 5; i++)
         ends[i] = -1;
@@ -188,8 +190,8 @@ static int make_ends(int ends[5]) {
 
 static bool start(struct connection *connection, char *why, size_t room) {
     int ends[5];
-    const char *told = setting("FEQYLDAN_PROGRAM");
-    const char *program = told != NULL ? told : "feqyldan or vx_main";
+    const char *set = setting("FEQYLDAN_PROGRAM");
+    const char *program = set != NULL ? set : "feqyldan or vx_main";
     int error = make_ends(ends);
     if (error != 0)
         return no_server(why, room, "start", program, error);
@@ -200,14 +202,14 @@ static bool start(struct connection *connection, char *why, size_t room) {
         return no_server(why, room, "start", program, error);
     }
     close(ends[3]);
-    /* The pipe's other end is held too: so a write never finds it closed, which would be a signal.
-       That the server has ended is seen at the socket. */
-    connection->held = ends[0];
+    /* This process keeps the reading end of the pipe too, so that a write to an ended server never
+       raises SIGPIPE. That the server has ended shows at the socket. */
+    connection->pipe_reader = ends[0];
     connection->out = ends[1];
-    connection->stream = ends[2];
-    connection->said = ends[4];
+    connection->in = ends[2];
+    connection->errors = ends[4];
     fcntl(connection->out, F_SETFL, O_NONBLOCK);
-    /* Where that much isn't allowed it goes on with less. */
+    /* If that much isn't allowed, the pipe stays as it is. */
     fcntl(connection->out, F_SETPIPE_SZ, PIPE_BYTES);
     limit_reads(connection);
     return true;
@@ -215,17 +217,17 @@ static bool start(struct connection *connection, char *why, size_t room) {
 
 bool reach_server(struct connection *connection, char *why, size_t room) {
     const char *path = setting("FEQYLDAN_SOCKET");
-    if (!set_patience(connection, why, room))
+    if (!set_timeout(connection, why, room))
         return false;
     return path != NULL ? reach_socket(connection, path, why, room) : start(connection, why, room);
 }
 
-/* Reads until the server closes its end, or for as long as the patience is. */
+/* Reads until the server closes its output, or sends nothing for END_TIME. */
 static void drain(int stream) {
     uint8_t unread[4096];
     struct pollfd wanted = {.fd = stream, .events = POLLIN};
     for (;;) {
-        int ready = poll(&wanted, 1, PATIENCE);
+        int ready = poll(&wanted, 1, END_TIME);
         if (ready == 0)
             return;
         ssize_t count = recv(stream, unread, sizeof unread, MSG_DONTWAIT);
@@ -234,11 +236,10 @@ static void drain(int stream) {
     }
 }
 
-/* Waits until a process has ended, and ends it where that takes longer than a tenth of the
-   patience. */
+/* Waits until a process has ended. Kills it if that takes longer than a tenth of END_TIME. */
 static void await_process(pid_t process) {
     const struct timespec pause = {.tv_nsec = 1000000};
-    for (int waited = 0; waited < PATIENCE / 10; waited++) {
+    for (int waited = 0; waited < END_TIME / 10; waited++) {
         if (waitpid(process, NULL, WNOHANG) != 0)
             return;
         nanosleep(&pause, NULL);
@@ -249,21 +250,21 @@ static void await_process(pid_t process) {
 }
 
 static void close_descriptors(struct connection *connection) {
-    int ends[] = {connection->stream, connection->said, connection->held,
-                  connection->out == connection->stream ? -1 : connection->out};
+    int ends[] = {connection->in, connection->errors, connection->pipe_reader,
+                  connection->out == connection->in ? -1 : connection->out};
     close_all(ends, sizeof ends / sizeof *ends);
-    connection->stream = connection->said = connection->held = connection->out = -1;
+    connection->in = connection->errors = connection->pipe_reader = connection->out = -1;
 }
 
 void end_server(struct connection *connection) {
     if (connection->process > 0) {
-        close(connection->held);
+        close(connection->pipe_reader);
         close(connection->out);
-        connection->held = connection->out = -1;
-        /* One that was late wouldn't be in time now. */
-        if (connection->is_late)
+        connection->pipe_reader = connection->out = -1;
+        /* One that didn't answer in time may not end in time either. */
+        if (connection->has_timed_out)
             kill(connection->process, SIGKILL);
-        drain(connection->stream);
+        drain(connection->in);
         await_process(connection->process);
     }
     close_descriptors(connection);

@@ -1,11 +1,11 @@
-/* References: which are live, who holds them, and what goes with the last one. */
+/* References: which are live, how many an object has, and what is destroyed with it. */
 #include "internal.h"
 
 #include <stdlib.h>
 #include <string.h>
 
-/* All live references of the process, so that what was released or never was one is told without
-   looking at it. */
+/* All live references of the process. A pointer is looked up here before it is followed, since it
+   may be stale or wrong. */
 enum { BUCKETS = 4096 };
 static struct {
     pthread_mutex_t mutex;
@@ -52,7 +52,7 @@ static void lock_registry(void) { pthread_mutex_lock(&registry.mutex); }
 
 static void unlock_registry(void) { pthread_mutex_unlock(&registry.mutex); }
 
-/* In a child of the process: its contexts stay the parent's, and their servers too. */
+/* After a fork, in the child: the contexts and their servers stay the parent's. */
 static void leave_contexts(void) {
     for (int i = 0; i < BUCKETS; i++)
         for (vx_reference found = registry.buckets[i]; found != NULL; found = found->chain)
@@ -68,8 +68,8 @@ void watch_forks_once(void) {
     pthread_once(&once, watch_forks);
 }
 
-/* The context of a live reference, which then has one user more; NULL where it isn't live or isn't
-   of the type. */
+/* Returns the context of a live reference of a type, and counts a user of it. Returns NULL for
+   anything else. */
 static vx_context use(const void *reference, vx_enum type) {
     pthread_mutex_lock(&registry.mutex);
     vx_reference found = find(reference);
@@ -80,7 +80,7 @@ static vx_context use(const void *reference, vx_enum type) {
     return context;
 }
 
-/* One user less; the last one frees what was released. */
+/* Counts one user less. The last one frees a context that was released. */
 static void unuse(vx_context context) {
     pthread_mutex_lock(&registry.mutex);
     bool is_over = --context->users == 0 && context->is_closed;
@@ -179,8 +179,11 @@ void free_memory(vx_reference reference) {
     }
     if (reference->type == VX_TYPE_DISTRIBUTION)
         free_views(&((vx_distribution)reference)->views);
-    if (reference->type == VX_TYPE_GRAPH)
+    if (reference->type == VX_TYPE_GRAPH) {
         free(((vx_graph)reference)->parameters);
+        free(((vx_graph)reference)->delays);
+        free_parts((vx_graph)reference);
+    }
     free(reference);
 }
 
@@ -193,8 +196,8 @@ static void unlink_object(vx_reference reference) {
         reference->next->previous = reference->previous;
 }
 
-/* What goes with an object that nobody has any more: slots, nodes, and what it held. */
-static void destroy_parts(vx_reference reference) {
+/* Destroys the slots and nodes of an object that is destroyed, and drops what it refers to. */
+static void destroy_members(vx_reference reference) {
     if (reference->type == VX_TYPE_DELAY)
         for (vx_size slot = 0; slot < ((vx_delay)reference)->slots; slot++) {
             vx_reference image = REFERENCE(((vx_delay)reference)->images[slot]);
@@ -222,12 +225,12 @@ static void destroy_if_unused(vx_reference reference) {
     forget(reference->context, reference->name);
     /* The server drops a graph's nodes with it. */
     reference->name = 0;
-    destroy_parts(reference);
+    destroy_members(reference);
     unlink_object(reference);
     free_memory(reference);
 }
 
-/* A slot is its delay's, and holds it. */
+/* The object whose references count: an image in a slot of a delay counts for the delay. */
 static vx_reference owner_of(vx_reference reference) {
     bool is_slot = reference->type == VX_TYPE_IMAGE && ((vx_image)reference)->delay != NULL;
     return is_slot ? REFERENCE(((vx_image)reference)->delay) : reference;
@@ -253,13 +256,13 @@ vx_status retain(vx_reference reference) {
     return VX_SUCCESS;
 }
 
-/* Takes a slot from the program where no reference to it was retained. */
+/* Makes references to a slot stale, unless the program has retained one. */
 static void unregister_slot(vx_image image) {
     if (image != NULL && image->base.count == 0)
         unregister_reference(&image->base);
 }
 
-/* With its last reference a delay takes those of its slots along. */
+/* Makes references to an object stale; to a delay, those to its slots too. */
 static void unregister_with_slots(vx_reference reference) {
     unregister_reference(reference);
     if (reference->type == VX_TYPE_DELAY)

@@ -1,4 +1,4 @@
-/* Scalars, which the library has alone: the server is told their values in nodes. */
+/* Scalars. They are objects of the library alone: nodes are sent with their values. */
 #include "internal.h"
 
 #include <string.h>
@@ -31,7 +31,7 @@ vx_size size_of_type(vx_enum type) {
     }
 }
 
-/* A scalar, or the error of the status where that isn't VX_SUCCESS. */
+/* Makes a scalar if the status is VX_SUCCESS, and returns its error object otherwise. */
 static vx_reference make_scalar(vx_context context, vx_enum type, const void *ptr,
                                 vx_status status) {
     vx_scalar made = status == VX_SUCCESS ? make(context, VX_TYPE_SCALAR, sizeof *made) : NULL;

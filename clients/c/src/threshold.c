@@ -1,4 +1,4 @@
-/* Thresholds, which the program may change: the server has one as it is when it is used. */
+/* Thresholds. The program may change them, so one is sent to the server when it is used. */
 #include "internal.h"
 
 void forget_parameter(vx_reference parameter) {
@@ -47,7 +47,7 @@ static void give_limit(const struct _vx_threshold *threshold, vx_int32 limit,
         value->S16 = (vx_int16)limit;
 }
 
-/* Whether two values can be copied: of the limits of a kind, or of the outputs for 0. */
+/* Checks a copy of two values: limits of a kind of threshold, or outputs for a kind of 0. */
 static vx_status check_copy(vx_threshold threshold, vx_enum kind, const void *first,
                             const void *second, vx_enum usage, vx_enum memory) {
     if (first == NULL || second == NULL || !is_copy(usage, memory))
@@ -55,7 +55,7 @@ static vx_status check_copy(vx_threshold threshold, vx_enum kind, const void *fi
     return kind == 0 || kind == threshold->kind ? VX_SUCCESS : VX_ERROR_NOT_COMPATIBLE;
 }
 
-/* The limits of a threshold of a kind, both from one place or each from its own. */
+/* Copies the limits of a kind of threshold. The two places may be the same. */
 static vx_status copy_limits(vx_threshold threshold, vx_enum kind, vx_pixel_value_t *lower,
                              vx_pixel_value_t *upper, vx_enum usage, vx_enum memory) {
     vx_context context = enter(threshold, VX_TYPE_THRESHOLD);

@@ -1,5 +1,5 @@
-/* The calls of the standard that the server has nothing for: each adds a log entry, and answers
-   VX_ERROR_NOT_SUPPORTED or gives an object of that status. */
+/* The calls of the standard that need what the server doesn't have. Each adds a log entry, and
+   returns VX_ERROR_NOT_SUPPORTED or an error object of that status. */
 #include "internal.h"
 
 #pragma GCC diagnostic ignored "-Wunused-parameter"
@@ -13,7 +13,7 @@ static vx_status refuse_call(const void *reference, const char *name) {
     return leave(context, VX_ERROR_NOT_SUPPORTED);
 }
 
-/* The object that a call gives in place of what it would make. */
+/* Returns an error object in place of the one that a call would make. */
 static vx_reference refuse_object(const void *reference, const char *name) {
     vx_context context = enter(reference, VX_TYPE_REFERENCE);
     if (context == NULL)

@@ -1,10 +1,11 @@
-/* Verdicts on graphs. The server gives them without a reason: here is found out which node one is
-   about, for the log, and what became of virtual images whose size or format was open. */
+/* Verdicts on graphs. The server gives only a code. So the node at fault is found here for the log,
+   and the open sizes and formats of virtual images are resolved here too. */
 #include "internal.h"
 
 #include <string.h>
 
-/* What an entry about a node is told of: for a call at once, which is no object, the context. */
+/* The object that a log entry about a node refers to. The node of a call in immediate mode is no
+   object, so it is the context. */
 static vx_reference about_of(vx_node node) {
     return node->base.type == VX_TYPE_NODE ? &node->base : &node->base.context->base;
 }
@@ -32,12 +33,12 @@ static const char *format_name(vx_df_image format) {
 
 /* ---- Sizes and formats ---- */
 
-static vx_image image_at(const struct _vx_node *node, unsigned place) {
+vx_image image_at(const struct _vx_node *node, unsigned place) {
     vx_reference operand = node->call.operands[place];
     return operand != NULL && operand->type == VX_TYPE_IMAGE ? (vx_image)operand : NULL;
 }
 
-/* The set of the one format of what stands in a place; the empty set where it has none. */
+/* The set with the format of the object in a place; the empty set where it has none. */
 static uint8_t format_at(const struct _vx_node *node, unsigned place) {
     vx_reference operand = node->call.operands[place];
     vx_df_image format = 0;
@@ -50,7 +51,7 @@ static uint8_t format_at(const struct _vx_node *node, unsigned place) {
     return (uint8_t)((1u << format_number(format)) >> 1);
 }
 
-/* The format of an output that is left open. */
+/* The format that an output gets if its own is open. */
 static vx_df_image output_of(const struct _vx_node *node) {
     static const vx_df_image formats[] = {VX_DF_IMAGE_U8, VX_DF_IMAGE_S16, VX_DF_IMAGE_U32};
     const struct rule *rules = definition_of(node->call.function)->rules;
@@ -59,7 +60,7 @@ static vx_df_image output_of(const struct _vx_node *node) {
     return formats[rule->out >> 1];
 }
 
-/* Gives an output what is left open of it; whether that is more than before. */
+/* Resolves what is open of an output. Returns whether something has changed. */
 static bool resolve_output(vx_node node, unsigned place) {
     vx_image input = image_at(node, IN1), output = image_at(node, place);
     if (input == NULL || output == NULL || output->scope == 0)
@@ -88,7 +89,7 @@ void resolve_images(vx_graph graph) {
         for (unsigned place = IN1; place <= OUT2; place++)
             forget_found(node, place);
     bool is_more = true;
-    /* A node may stand before the one that writes its input; in a cycle there may be no end. */
+    /* A node may be before the writer of its input. In a cycle this might not end by itself. */
     for (vx_size round = 0; is_more && round <= graph->nodes; round++) {
         is_more = false;
         for (vx_node node = graph->first; node != NULL; node = node->next_node)
@@ -130,8 +131,8 @@ static bool is_output(const struct _vx_node *node, const struct formal *formal) 
            node->call.operands[formal->place] != NULL;
 }
 
-/* The name of the parameter by which a node writes an object; NULL where it doesn't. With a
-   parameter, of those after it alone. */
+/* The name of the parameter by which a node writes an object; NULL where it doesn't. Looks only at
+   the parameters after the given one, unless that is NULL. */
 static const char *writes(const struct _vx_node *node, vx_reference object,
                           const struct formal *after) {
     const struct definition *definition = definition_of(node->call.function);
@@ -142,14 +143,15 @@ static const char *writes(const struct _vx_node *node, vx_reference object,
     return NULL;
 }
 
-static bool is_written(vx_graph graph, vx_reference object) {
+static bool is_written(const struct _vx_graph *graph, vx_reference object) {
     for (vx_node node = graph->first; node != NULL; node = node->next_node)
         if (writes(node, object, NULL) != NULL)
             return true;
     return false;
 }
 
-/* The first node that writes what it, by a later parameter, or a later node writes too. */
+/* Finds the first node with an output that is written a second time, by that node or a later one.
+   Looks at the outputs that are objects of the library alone, or at all others. */
 static vx_node find_second_writer(vx_graph graph, bool is_of_library, const struct formal **which,
                                   vx_node *other) {
     for (vx_node node = graph->first; node != NULL; node = node->next_node) {
@@ -177,50 +179,44 @@ static void tell_writers(vx_node node, const struct formal *formal, vx_node othe
          formal->name, second);
 }
 
-/* A node's scale or shift is told to the server before the graph runs, and all of the graph runs in
-   one request: so it can't be what that run finds out. */
-static vx_status check_reader(vx_node node) {
-    char first[VX_MAX_LOG_MESSAGE_LEN / 4], second[VX_MAX_LOG_MESSAGE_LEN / 4];
-    vx_reference amount = node->call.operands[AMOUNT];
-    for (vx_node other = node->graph->first; amount != NULL && other != NULL;
-         other = other->next_node) {
-        const char *name = writes(other, amount, NULL);
-        if (name == NULL)
-            continue;
-        describe_node(node, first, sizeof first);
-        describe_node(other, second, sizeof second);
-        tell(&node->base, VX_ERROR_NOT_SUPPORTED,
-             "%s reads a scalar that %s writes by %s: give it to a graph that runs after this one",
-             first, second, name);
-        return node->status = VX_ERROR_NOT_SUPPORTED;
-    }
-    return VX_SUCCESS;
-}
-
 vx_status check_writers(vx_graph graph) {
     const struct formal *formal;
     vx_node other, node = find_second_writer(graph, true, &formal, &other);
-    if (node != NULL) {
-        tell_writers(node, formal, other);
-        return VX_ERROR_MULTIPLE_WRITERS;
-    }
-    vx_status status = VX_SUCCESS;
-    for (node = graph->first; node != NULL && status == VX_SUCCESS; node = node->next_node)
-        status = check_reader(node);
-    return status;
+    if (node == NULL)
+        return VX_SUCCESS;
+    tell_writers(node, formal, other);
+    return VX_ERROR_MULTIPLE_WRITERS;
 }
 
-/* Whether a node reads an image that a node writes that isn't marked as done. */
-static bool waits(const struct _vx_node *node) {
-    for (vx_node other = node->graph->first; other != NULL; other = other->next_node)
-        for (unsigned place = IN1; other->status != VX_SUCCESS && place <= IN2; place++)
-            if (image_at(node, place) != NULL &&
-                writes(other, node->call.operands[place], NULL) != NULL)
-                return true;
+bool reads_image_of(const struct _vx_node *reader, const struct _vx_node *writer) {
+    for (unsigned place = IN1; place <= IN2; place++) {
+        vx_image image = image_at(reader, place);
+        if (image != NULL && writes(writer, &image->base, NULL) != NULL)
+            return true;
+    }
     return false;
 }
 
-/* The first node that is on a cycle, or reads what comes of one. */
+bool reads_scalar_of(const struct _vx_node *reader, const struct _vx_node *writer) {
+    vx_reference amount = reader->call.operands[AMOUNT];
+    return amount != NULL && writes(writer, amount, NULL) != NULL;
+}
+
+bool reads_written_scalar(const struct _vx_node *node) {
+    vx_reference amount = node->call.operands[AMOUNT];
+    return amount != NULL && is_written(node->graph, amount);
+}
+
+/* Whether a node reads an image or a scalar that is written by a node that isn't done. */
+static bool waits(const struct _vx_node *node) {
+    for (vx_node other = node->graph->first; other != NULL; other = other->next_node)
+        if (other->status != VX_SUCCESS &&
+            (reads_image_of(node, other) || reads_scalar_of(node, other)))
+            return true;
+    return false;
+}
+
+/* The first node that is on a cycle or depends on one. */
 static vx_node find_cycle(vx_graph graph) {
     for (vx_node node = graph->first; node != NULL; node = node->next_node)
         node->status = VX_ERROR_INVALID_GRAPH;
@@ -250,7 +246,7 @@ static void tell_node(vx_node node, vx_status status, const char *words) {
     tell(about_of(node), status, "%s: %s", what, words);
 }
 
-/* Each image of a node as it is, by its parameter's name. */
+/* Lists the images of a node: parameter, format and size. */
 static void list_images(const struct _vx_node *node, char *words, size_t room) {
     const struct definition *definition = definition_of(node->call.function);
     size_t length = 0;
@@ -311,24 +307,25 @@ static bool explain_writers(vx_graph graph) {
     return node != NULL;
 }
 
-static bool explain_cycle(vx_graph graph) {
+bool explain_cycle(vx_graph graph) {
     vx_node node = find_cycle(graph);
     if (node != NULL)
-        tell_node(node, VX_ERROR_INVALID_GRAPH, "it reads, also by other nodes, what it writes");
+        tell_node(node, VX_ERROR_INVALID_GRAPH,
+                  "it reads, directly or through other nodes, what it writes");
     return node != NULL;
 }
 
 void explain_verdict(vx_graph graph, vx_status status) {
-    bool is_told = false;
+    bool is_explained = false;
     if (status == VX_ERROR_MULTIPLE_WRITERS)
-        is_told = explain_writers(graph);
+        is_explained = explain_writers(graph);
     if (status == VX_ERROR_INVALID_GRAPH)
-        is_told = explain_cycle(graph);
+        is_explained = explain_cycle(graph);
     if (status == VX_ERROR_INVALID_LINK)
-        is_told = explain_link(graph);
+        is_explained = explain_link(graph);
     if (status == VX_ERROR_INVALID_FORMAT || status == VX_ERROR_INVALID_DIMENSION)
-        is_told = explain_images(graph, status);
-    if (!is_told)
+        is_explained = explain_images(graph, status);
+    if (!is_explained)
         tell(graph->base.type == VX_TYPE_GRAPH ? &graph->base : &graph->base.context->base, status,
              "the server refused the graph: %s", name_of_status(status));
 }

@@ -1,4 +1,4 @@
-/* Maps of tables, arrays and distributions: the program has their entries in place, or a copy. */
+/* Maps of tables, arrays and distributions, in place or of a copy. */
 #include "internal.h"
 
 #include <stdlib.h>

@@ -94,6 +94,14 @@ static void fail_functions(void) {
     FAILS(vxuMinMaxLoc(context, a, byte, other, NULL, NULL, NULL, NULL));
 }
 
+static void fail_to_make(vx_graph graph) {
+    FAILS(STATUS(vxCreateImage(context, SIDE, SIDE, VX_DF_IMAGE_U8)));
+    FAILS(STATUS(vxCreateDistribution(context, 4, 0, 256)));
+    FAILS(STATUS(vxCreateDelay(context, (vx_reference)a, 2)));
+    FAILS(STATUS(vxCreateGraph(context)));
+    FAILS(STATUS(vxCreateVirtualImage(graph, SIDE, SIDE, VX_DF_IMAGE_U8)));
+}
+
 /* What the server had is lost; what the library has alone stays. */
 static void fail_after_the_end(void) {
     const vx_rectangle_t whole = {0, 0, SIDE, SIDE};
@@ -112,11 +120,7 @@ static void fail_after_the_end(void) {
     EXPECT(VX_SUCCESS, vxMapImagePatch(a, &whole, 0, &written, &addr, &where, VX_WRITE_ONLY,
                                        VX_MEMORY_TYPE_HOST, 0));
     kill_server();
-    FAILS(STATUS(vxCreateImage(context, SIDE, SIDE, VX_DF_IMAGE_U8)));
-    FAILS(STATUS(vxCreateDistribution(context, 4, 0, 256)));
-    FAILS(STATUS(vxCreateDelay(context, (vx_reference)a, 2)));
-    FAILS(STATUS(vxCreateGraph(context)));
-    FAILS(STATUS(vxCreateVirtualImage(empty, SIDE, SIDE, VX_DF_IMAGE_U8)));
+    fail_to_make(empty);
     FAILS(copy_whole(a, SIDE, SIDE, 1, samples, VX_WRITE_ONLY));
     FAILS(copy_whole(a, SIDE, SIDE, 1, samples, VX_READ_ONLY));
     FAILS(vxMapImagePatch(a, &whole, 0, &map, &addr, &where, VX_READ_ONLY, VX_MEMORY_TYPE_HOST,

@@ -172,9 +172,26 @@ static void read_slots(void) {
     EXPECT(VX_SUCCESS, vxReleaseReference(&value));
 }
 
+/* What is refused changes nothing. */
+static void refuse_values(vx_node node, vx_scalar policy) {
+    const vx_enum none = 0;
+    vx_graph other = vxCreateGraph(context);
+    vx_image between = vxCreateVirtualImage(other, SIDE, SIDE, VX_DF_IMAGE_U8);
+    EXPECT(VX_SUCCESS,
+           vxCopyScalar(policy, (void *)&none, VX_WRITE_ONLY, VX_MEMORY_TYPE_HOST));
+    EXPECT(VX_ERROR_INVALID_VALUE, vxSetParameterByIndex(node, 2, (vx_reference)policy));
+    EXPECT(VX_ERROR_INVALID_TYPE, vxSetParameterByIndex(node, 2, (vx_reference)number));
+    EXPECT(VX_ERROR_INVALID_REFERENCE, vxSetParameterByIndex(node, 2, (vx_reference)a));
+    EXPECT(VX_ERROR_INVALID_REFERENCE, vxSetParameterByIndex(node, 0, NULL));
+    EXPECT(VX_ERROR_INVALID_PARAMETERS, vxSetParameterByIndex(node, 4, (vx_reference)a));
+    EXPECT(VX_ERROR_INVALID_SCOPE, vxSetParameterByIndex(node, 3, (vx_reference)between));
+    EXPECT(VX_SUCCESS, vxScheduleGraph(graph));
+    EXPECT(VX_ERROR_GRAPH_SCHEDULED, vxSetParameterByIndex(node, 0, (vx_reference)b));
+    EXPECT(VX_SUCCESS, vxWaitGraph(graph));
+}
+
 static void set_values(void) {
     const vx_enum saturate = VX_CONVERT_POLICY_SATURATE;
-    vx_enum none = 0;
     vx_node node = vxAddNode(graph, a, b, VX_CONVERT_POLICY_WRAP, c);
     vx_scalar policy = vxCreateScalar(context, VX_TYPE_ENUM, &saturate);
     vx_image d = new_image(VX_DF_IMAGE_U8);
@@ -188,19 +205,8 @@ static void set_values(void) {
     EXPECT(VX_SUCCESS, vxProcessGraph(graph));
     holds(d, 255);
     holds(c, 44);
-    EXPECT(VX_SUCCESS, vxCopyScalar(policy, &none, VX_WRITE_ONLY, VX_MEMORY_TYPE_HOST));
-    EXPECT(VX_ERROR_INVALID_VALUE, vxSetParameterByIndex(node, 2, (vx_reference)policy));
-    EXPECT(VX_ERROR_INVALID_TYPE, vxSetParameterByIndex(node, 2, (vx_reference)number));
-    EXPECT(VX_ERROR_INVALID_REFERENCE, vxSetParameterByIndex(node, 2, (vx_reference)a));
-    EXPECT(VX_ERROR_INVALID_REFERENCE, vxSetParameterByIndex(node, 0, NULL));
-    EXPECT(VX_ERROR_INVALID_PARAMETERS, vxSetParameterByIndex(node, 4, (vx_reference)a));
-    vx_graph other = vxCreateGraph(context);
-    vx_image between = vxCreateVirtualImage(other, SIDE, SIDE, VX_DF_IMAGE_U8);
-    EXPECT(VX_ERROR_INVALID_SCOPE, vxSetParameterByIndex(node, 3, (vx_reference)between));
-    EXPECT(VX_SUCCESS, vxScheduleGraph(graph));
-    EXPECT(VX_ERROR_GRAPH_SCHEDULED, vxSetParameterByIndex(node, 0, (vx_reference)b));
-    EXPECT(VX_SUCCESS, vxWaitGraph(graph));
-    /* The node has the only reference to d, and what is refused changes nothing. */
+    refuse_values(node, policy);
+    /* Now the node has the only reference to d. */
     EXPECT(VX_SUCCESS, vxReleaseImage(&d));
     EXPECT(VX_SUCCESS, vxSetParameterByIndex(node, 0, (vx_reference)b));
     d = (vx_image)value_of(node, 3);
@@ -208,7 +214,10 @@ static void set_values(void) {
     holds(d, 200);
     EXPECT(VX_SUCCESS, vxReleaseImage(&d));
     EXPECT(VX_SUCCESS, vxRemoveNode(&node));
-    node = vxSobel3x3Node(graph, a, s, NULL);
+}
+
+static void set_optional_values(void) {
+    vx_node node = vxSobel3x3Node(graph, a, s, NULL);
     EXPECT(VX_ERROR_INVALID_PARAMETERS, vxSetParameterByIndex(node, 1, NULL));
     EXPECT(VX_SUCCESS, vxSetParameterByIndex(node, 2, (vx_reference)s));
     EXPECT(VX_ERROR_MULTIPLE_WRITERS, vxVerifyGraph(graph));
@@ -273,6 +282,7 @@ int main(void) {
     read_values();
     read_slots();
     set_values();
+    set_optional_values();
     use_graph_parameters();
     EXPECT(VX_SUCCESS, vxReleaseContext(&context));
     return 0;

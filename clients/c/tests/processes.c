@@ -120,7 +120,8 @@ static void give_up(int is_long) {
     else
         status = vxProcessGraph(graph);
     EXPECT(VX_FAILURE, status);
-    CHECK(strcmp(said, "the server didn't answer within 1.5 s, which FEQYLDAN_TIMEOUT says") == 0);
+    CHECK(strcmp(said, "the server didn't answer within the 1.5 s that FEQYLDAN_TIMEOUT allows") ==
+          0);
     EXPECT(VX_FAILURE, vxProcessGraph(graph));
     EXPECT(VX_SUCCESS, vxReleaseContext(&context));
     CHECK(kill(server, 0) != 0);

@@ -75,15 +75,11 @@ static vx_image in_memory(void *memory, int size, vx_df_image format) {
     return image;
 }
 
-/* A camera's buffers: the program writes the one and reads the other, with gaps after rows. */
-static void use_handles(void) {
-    static vx_uint8 frames[2][STRIDE * HEIGHT];
-    static vx_int16 result[STRIDE * HEIGHT];
-    memset(result, 0x55, sizeof result);
-    vx_image in = in_memory(frames[0], 1, VX_DF_IMAGE_U8);
-    vx_image out = in_memory(result, 2, VX_DF_IMAGE_S16);
-    vx_graph graph = vxCreateGraph(context);
-    ERROR_CHECK_STATUS(STATUS(vxAddNode(graph, in, in, VX_CONVERT_POLICY_WRAP, out)));
+static vx_uint8 frames[2][STRIDE * HEIGHT];
+static vx_int16 result[STRIDE * HEIGHT];
+
+/* A camera's buffers: one is filled while the other is read. Gaps after rows stay as they are. */
+static void swap_handles(vx_graph graph, vx_image in) {
     for (int frame = 0; frame < 4; frame++) {
         memset(frames[frame % 2], 10 + frame, sizeof frames[0]);
         ERROR_CHECK_STATUS(vxProcessGraph(graph));
@@ -93,10 +89,13 @@ static void use_handles(void) {
         ERROR_CHECK_STATUS(vxSwapImageHandle(in, next, last, 1));
         CHECK(last[0] == frames[frame % 2]);
     }
-    vx_enum type;
-    ERROR_CHECK_STATUS(vxQueryImage(in, VX_IMAGE_MEMORY_TYPE, &type, sizeof type));
-    CHECK(type == VX_MEMORY_TYPE_HOST);
-    /* A map is in place. */
+    ERROR_CHECK_STATUS(vxScheduleGraph(graph));
+    ERROR_CHECK_STATUS(vxWaitGraph(graph));
+    CHECK(result[0] == 24);
+}
+
+/* A map is in place, and there is none of an image without memory. */
+static void map_handle(vx_graph graph, vx_image in) {
     const vx_rectangle_t part = {2, 1, WIDTH, HEIGHT};
     vx_map_id map;
     vx_imagepatch_addressing_t addr;
@@ -106,26 +105,27 @@ static void use_handles(void) {
     CHECK(where == frames[0] + STRIDE + 2 && addr.stride_y == STRIDE && addr.dim_x == WIDTH - 2);
     EXPECT(VX_ERROR_INVALID_PARAMETERS, vxSwapImageHandle(in, NULL, NULL, 1));
     ERROR_CHECK_STATUS(vxUnmapImagePatch(in, map));
-    ERROR_CHECK_STATUS(vxScheduleGraph(graph));
-    ERROR_CHECK_STATUS(vxWaitGraph(graph));
-    CHECK(result[0] == 24);
     ERROR_CHECK_STATUS(vxSwapImageHandle(in, NULL, NULL, 1));
     EXPECT(VX_ERROR_NOT_ALLOCATED, vxProcessGraph(graph));
     EXPECT(VX_ERROR_NOT_ALLOCATED, vxMapImagePatch(in, &part, 0, &map, &addr, &where,
                                                    VX_READ_ONLY, VX_MEMORY_TYPE_HOST, 0));
-    vx_image twice = in_memory(frames[1], 1, VX_DF_IMAGE_U8);
-    vx_image turned = in_memory(frames[0], 1, VX_DF_IMAGE_U8);
-    ERROR_CHECK_STATUS(vxuNot(context, twice, turned));
-    CHECK(frames[0][0] == 255 - frames[1][0]);
-    ERROR_CHECK_STATUS(vxReleaseImage(&turned));
+}
+
+/* Functions at once, and one value for all pixels, which leaves the gaps. */
+static void write_handles(void) {
     const vx_pixel_value_t value = {.U8 = 77};
-    ERROR_CHECK_STATUS(vxSetImagePixelValues(twice, &value));
+    vx_image in = in_memory(frames[1], 1, VX_DF_IMAGE_U8);
+    vx_image out = in_memory(frames[0], 1, VX_DF_IMAGE_U8);
+    ERROR_CHECK_STATUS(vxuNot(context, in, out));
+    CHECK(frames[0][0] == 255 - frames[1][0]);
+    ERROR_CHECK_STATUS(vxSetImagePixelValues(in, &value));
     CHECK(frames[1][STRIDE] == 77 && frames[1][STRIDE + WIDTH] != 77);
-    ERROR_CHECK_STATUS(vxReleaseGraph(&graph));
     ERROR_CHECK_STATUS(vxReleaseImage(&in));
     ERROR_CHECK_STATUS(vxReleaseImage(&out));
-    ERROR_CHECK_STATUS(vxReleaseImage(&twice));
-    addr = by_rows(WIDTH, HEIGHT, 2);
+}
+
+static void refuse_handles(void) {
+    const vx_imagepatch_addressing_t addr = by_rows(WIDTH, HEIGHT, 2);
     void *planes[] = {result};
     EXPECT(VX_ERROR_INVALID_PARAMETERS,
            STATUS(vxCreateImageFromHandle(context, VX_DF_IMAGE_U8, &addr, planes,
@@ -133,6 +133,24 @@ static void use_handles(void) {
     EXPECT(VX_ERROR_NOT_SUPPORTED,
            STATUS(vxCreateImageFromHandle(context, VX_DF_IMAGE_RGB, &addr, planes,
                                           VX_MEMORY_TYPE_HOST)));
+}
+
+static void use_handles(void) {
+    vx_enum type;
+    memset(result, 0x55, sizeof result);
+    vx_image in = in_memory(frames[0], 1, VX_DF_IMAGE_U8);
+    vx_image out = in_memory(result, 2, VX_DF_IMAGE_S16);
+    vx_graph graph = vxCreateGraph(context);
+    ERROR_CHECK_STATUS(STATUS(vxAddNode(graph, in, in, VX_CONVERT_POLICY_WRAP, out)));
+    ERROR_CHECK_STATUS(vxQueryImage(in, VX_IMAGE_MEMORY_TYPE, &type, sizeof type));
+    CHECK(type == VX_MEMORY_TYPE_HOST);
+    swap_handles(graph, in);
+    map_handle(graph, in);
+    write_handles();
+    refuse_handles();
+    ERROR_CHECK_STATUS(vxReleaseGraph(&graph));
+    ERROR_CHECK_STATUS(vxReleaseImage(&in));
+    ERROR_CHECK_STATUS(vxReleaseImage(&out));
 }
 
 static void use_uniform_images(void) {

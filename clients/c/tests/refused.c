@@ -150,6 +150,36 @@ static void run_graph(void) {
     EXPECT(VX_SUCCESS, vxReleaseGraph(&graph));
 }
 
+/* A graph in parts, with a virtual image over them, that ages a delay. */
+static void run_parts(void) {
+    vx_graph graph;
+    vx_delay delay;
+    vx_image input = filled(3), between, sums;
+    vx_node node;
+    vx_scalar least, greatest, count;
+    vx_int16 found[COUNT] = {0};
+    MAKE(graph, vxCreateGraph(context));
+    MAKE(between, vxCreateVirtualImage(graph, 0, 0, VX_DF_IMAGE_VIRT));
+    MAKE(sums, vxCreateImage(context, SIDE, SIDE, VX_DF_IMAGE_S16));
+    MAKE(delay, vxCreateDelay(context, (vx_reference)input, 2));
+    MAKE(least, vxCreateScalar(context, VX_TYPE_UINT8, NULL));
+    MAKE(greatest, vxCreateScalar(context, VX_TYPE_UINT8, NULL));
+    MAKE(count, vxCreateScalar(context, VX_TYPE_UINT32, NULL));
+    MAKE(node, vxNotNode(graph, input, between));
+    MAKE(node, vxMinMaxLocNode(graph, between, least, greatest, NULL, NULL, count, NULL));
+    MAKE(node, vxAccumulateSquareImageNode(graph, between, count, sums));
+    DO(vxRegisterAutoAging(graph, delay));
+    /* Two pixels are valid, so that their number is a shift. */
+    const vx_rectangle_t corner = {0, 0, 2, 1};
+    DO(vxSetImageValidRectangle(input, &corner));
+    DO(vxProcessGraph(graph));
+    DO(vxScheduleGraph(graph));
+    DO(vxWaitGraph(graph));
+    DO(copy_whole(sums, SIDE, SIDE, 2, found, VX_READ_ONLY));
+    CHECK(found[1] == 2 * ((252 * 252) >> 2) && found[2] == 0);
+    EXPECT(VX_SUCCESS, vxReleaseGraph(&graph));
+}
+
 /* What a context has alone, and functions at once. */
 static void run_functions(void) {
     vx_threshold threshold;
@@ -178,6 +208,7 @@ static int run_session(int refuse) {
     open_context();
     map_parts();
     run_graph();
+    run_parts();
     run_functions();
     EXPECT(VX_SUCCESS, vxReleaseContext(&context));
     CHECK(told == (refuse == 0 ? 0 : 1));

@@ -206,6 +206,12 @@ class Library(unittest.TestCase):
     def test_a_graph_with_a_fault_is_refused_and_the_log_names_the_node(self):
         run("verdicts")
 
+    def test_a_node_reads_the_scalar_that_another_one_wrote_in_the_same_run(self):
+        run("links")
+
+    def test_random_graphs_in_parts_give_what_their_nodes_give_one_after_another(self):
+        run("parts")
+
     def test_programs_in_the_style_of_published_ones(self):
         run("published")
 
@@ -216,7 +222,7 @@ class Library(unittest.TestCase):
         if shutil.which("valgrind") is None:
             self.skipTest("valgrind isn't installed")
         prefix = installed()
-        for name in ("published", "verdicts"):
+        for name in ("published", "verdicts", "links"):
             program = os.path.join(folder, f"{name}-plain")
             subprocess.run(["cc", "-std=c11", "-g", "-I" + os.path.join(prefix, "include"),
                             os.path.join(HERE, name + ".c"),
@@ -258,7 +264,7 @@ class Library(unittest.TestCase):
     def test_the_sanitizer_of_threads_is_silent(self):
         if not has_thread_sanitizer():
             self.skipTest("cc has no sanitizer of threads")
-        for name in ("threads", "programs", "published"):
+        for name in ("threads", "programs", "published", "links"):
             run(name, sanitizer=THREADS)
         for name in ("ended", "processes"):
             run(name, sanitizer=THREADS, env=self.server_to_kill())

@@ -36,7 +36,8 @@ static void refuse_holes(void) {
     SAYS(VX_ERROR_INVALID_REFERENCE, STATUS(vxBox3x3Node(graph, error, v8)),
          "vxBox3x3Node: input is an object that couldn't be made: status -3");
     CHECK(!vxIsGraphVerified(graph) && about == (vx_reference)graph);
-    SAYS(VX_ERROR_INVALID_NODE, vxVerifyGraph(graph), "a node of the graph couldn't be made");
+    SAYS(VX_ERROR_INVALID_NODE, vxVerifyGraph(graph),
+         "a node of the graph couldn't be made: make the graph anew");
     SAYS(VX_ERROR_INVALID_NODE, vxProcessGraph(graph), "a node of the graph couldn't be made");
     SAYS(VX_ERROR_INVALID_NODE, vxScheduleGraph(graph), "a node of the graph couldn't be made");
     vx_enum state;
@@ -60,13 +61,16 @@ static void tell_operands(void) {
     vx_scalar byte = vxCreateScalar(context, VX_TYPE_UINT8, NULL);
     LACKS("vxBox3x3Node: input is NULL, and has to be an image", VX_ERROR_INVALID_REFERENCE,
           vxBox3x3Node(graph, NULL, v8));
-    LACKS("vxAddNode: policy is 0x7, which is no policy", VX_ERROR_INVALID_VALUE,
+    LACKS("vxAddNode: policy is 0x7, and has to be VX_CONVERT_POLICY_WRAP or "
+          "VX_CONVERT_POLICY_SATURATE", VX_ERROR_INVALID_VALUE,
           vxAddNode(graph, u8, u8, 7, v8));
-    LACKS("vxConvertDepthNode: shift is a scalar of type 0x004", VX_ERROR_INVALID_TYPE,
+    LACKS("vxConvertDepthNode: shift is a scalar of VX_TYPE_INT16, and has to be of VX_TYPE_INT32",
+          VX_ERROR_INVALID_TYPE,
           vxConvertDepthNode(graph, u8, s16, VX_CONVERT_POLICY_WRAP, word));
     LACKS("vxTableLookupNode: lut isn't a lookup table", VX_ERROR_INVALID_REFERENCE,
           vxTableLookupNode(graph, u8, (vx_lut)shift, v8));
-    LACKS("vxMinMaxLocNode: minLoc is an array of type 0x003", VX_ERROR_INVALID_TYPE,
+    LACKS("vxMinMaxLocNode: minLoc is an array of VX_TYPE_UINT8, and has to be of "
+          "VX_TYPE_COORDINATES2D", VX_ERROR_INVALID_TYPE,
           vxMinMaxLocNode(graph, u8, byte, byte, numbers, NULL, NULL, NULL));
     LACKS("vxMagnitudeNode: the server has no such function", VX_ERROR_NOT_SUPPORTED,
           vxMagnitudeNode(graph, s16, s16, s16));
@@ -146,7 +150,7 @@ static void tell_links(void) {
          "node 0 (vxNotNode): input is a virtual image that no node writes");
     vx_node second = vxNotNode(graph, v8, between);
     SAYS(VX_ERROR_INVALID_GRAPH, vxVerifyGraph(graph),
-         "node 0 (vxNotNode): it reads, also by other nodes, what it writes");
+         "node 0 (vxNotNode): it reads, directly or through other nodes, what it writes");
     vx_node third = vxNotNode(graph, u8, v8);
     SAYS(VX_ERROR_MULTIPLE_WRITERS, vxVerifyGraph(graph),
          "node 0 (vxNotNode) writes output, which node 2 (vxNotNode) writes too");
@@ -183,42 +187,6 @@ static void refuse_two_writers(void) {
     EXPECT(VX_SUCCESS, vxReleaseGraph(&graph));
 }
 
-/* What the server couldn't have in time is refused, and not taken from the run before. */
-static void refuse_late_scalars(void) {
-    vx_scalar least = vxCreateScalar(context, VX_TYPE_UINT8, NULL);
-    vx_scalar greatest = vxCreateScalar(context, VX_TYPE_UINT8, NULL);
-    vx_scalar count = vxCreateScalar(context, VX_TYPE_UINT32, NULL);
-    vx_graph graph = vxCreateGraph(context);
-    vx_node node = vxAccumulateSquareImageNode(graph, u8, count, s16);
-    EXPECT(VX_SUCCESS, vxVerifyGraph(graph));
-    EXPECT(VX_SUCCESS,
-           STATUS(vxMinMaxLocNode(graph, v8, least, greatest, NULL, NULL, count, NULL)));
-    SAYS(VX_ERROR_NOT_SUPPORTED, vxProcessGraph(graph),
-         "node 0 (vxAccumulateSquareImageNode) reads a scalar that node 1 (vxMinMaxLocNode) writes "
-         "by minCount: give it to a graph that runs after this one");
-    EXPECT(VX_SUCCESS, vxRemoveNode(&node));
-    /* As the entry says: the one graph finds the shift, the other one uses it. */
-    vx_graph after = vxCreateGraph(context);
-    vx_image picture = vxCreateImage(context, WIDTH, HEIGHT, VX_DF_IMAGE_U8);
-    vx_image sums = vxCreateImage(context, WIDTH, HEIGHT, VX_DF_IMAGE_S16);
-    const vx_pixel_value_t white = {.U8 = 255}, black = {.U8 = 1};
-    const vx_rectangle_t corner = {0, 0, 1, 1};
-    const vx_imagepatch_addressing_t addr = by_rows(1, 1, 1);
-    vx_uint8 least_pixel = black.U8;
-    vx_int16 sum[WIDTH * HEIGHT];
-    EXPECT(VX_SUCCESS, STATUS(vxAccumulateSquareImageNode(after, picture, count, sums)));
-    EXPECT(VX_SUCCESS, vxSetImagePixelValues(picture, &white));
-    EXPECT(VX_SUCCESS, vxSetImagePixelValues(v8, &white));
-    EXPECT(VX_SUCCESS, vxCopyImagePatch(v8, &corner, 0, &addr, &least_pixel, VX_WRITE_ONLY,
-                                        VX_MEMORY_TYPE_HOST));
-    EXPECT(VX_SUCCESS, vxProcessGraph(graph));
-    EXPECT(VX_SUCCESS, vxProcessGraph(after));
-    EXPECT(VX_SUCCESS, copy_whole(sums, WIDTH, HEIGHT, 2, sum, VX_READ_ONLY));
-    CHECK(sum[0] == (255 * 255) >> 1);
-    EXPECT(VX_SUCCESS, vxReleaseGraph(&graph));
-    EXPECT(VX_SUCCESS, vxReleaseGraph(&after));
-}
-
 /* How many parameters of a node of a kernel take a scalar of a type, and have the direction. */
 static int count_takers(vx_kernel kernel, vx_enum type, vx_enum direction) {
     vx_graph graph = vxCreateGraph(context);
@@ -241,8 +209,8 @@ static int count_takers(vx_kernel kernel, vx_enum type, vx_enum direction) {
     return count;
 }
 
-/* The refusal above is all that there is to refuse: of all types of scalars, one is both written by
-   a node and read by one, MinMaxLoc's counts and the shift of AccumulateSquareImage. */
+/* links.c has the one kind of link that there is: of all types of scalars, one is both written by a
+   node and read by one, by MinMaxLoc's counts and as the shift of AccumulateSquareImage. */
 static void find_links_by_scalars(void) {
     static const vx_enum types[] = {VX_TYPE_CHAR,    VX_TYPE_INT8,    VX_TYPE_UINT8,
                                     VX_TYPE_INT16,   VX_TYPE_UINT16,  VX_TYPE_INT32,
@@ -308,11 +276,13 @@ static void make_of_kernels(void) {
     CHECK(count == 4 && number == VX_KERNEL_ADD && strcmp(name, "org.khronos.openvx.add") == 0);
     vx_node node = vxCreateGenericNode(graph, add);
     EXPECT(VX_SUCCESS, STATUS(node));
-    SAYS(VX_ERROR_NOT_SUFFICIENT, vxVerifyGraph(graph), "node 0 (vxAddNode): in1 wasn't set");
+    SAYS(VX_ERROR_NOT_SUFFICIENT, vxVerifyGraph(graph),
+         "node 0 (vxAddNode): in1 wasn't set: set parameter 0");
     EXPECT(VX_SUCCESS, vxSetParameterByIndex(node, 0, (vx_reference)u8));
     EXPECT(VX_SUCCESS, vxSetParameterByIndex(node, 1, (vx_reference)u8));
     EXPECT(VX_SUCCESS, vxSetParameterByIndex(node, 3, (vx_reference)v8));
-    SAYS(VX_ERROR_NOT_SUFFICIENT, vxVerifyGraph(graph), "node 0 (vxAddNode): policy wasn't set");
+    SAYS(VX_ERROR_NOT_SUFFICIENT, vxVerifyGraph(graph),
+         "node 0 (vxAddNode): policy wasn't set: set parameter 2");
     EXPECT(VX_SUCCESS, vxSetParameterByIndex(node, 2, (vx_reference)policy));
     EXPECT(VX_SUCCESS, vxProcessGraph(graph));
     vx_parameter parameter = vxGetKernelParameterByIndex(add, 3);
@@ -342,7 +312,6 @@ int main(void) {
     tell_nodes();
     tell_links();
     refuse_two_writers();
-    refuse_late_scalars();
     find_links_by_scalars();
     ask_virtual_images();
     make_of_kernels();
