@@ -251,11 +251,14 @@ module _ (tables : List Second) (high size : ℕ) (halos : List ℕ) (steps : Li
       above_is s i e = elim (program.once s i (reads_above s.node.function e)) [
         | inr one ↦ inl (let z = alone one in omega arith)
         | inl (none, own) ↦
-            inr (own, (λ x y across before low.
-            let d = r.desc s.output in
-            let w : (plane planes s.output).desc.width ≡ (plane origin s.output).desc.width = ap (λ (d : Description). d.width) d in
-            let h : (plane planes s.output).desc.height ≡ (plane origin s.output).desc.height = ap (λ (d : Description). d.height) d in
-            stands.above s.output (program.written s i own) x y (omega arith) (omega arith) (omega arith)))
+            inr (
+              own,
+              (λ x y across before low.
+                  let d = r.desc s.output in
+                  let w : (plane planes s.output).desc.width ≡ (plane origin s.output).desc.width = ap (λ (d : Description). d.width) d in
+                  let h : (plane planes s.output).desc.height ≡ (plane origin s.output).desc.height = ap (λ (d : Description). d.height) d in
+                  stands.above s.output (program.written s i own) x y (omega arith) (omega arith) (omega arith)),
+            )
       ]
 
       knows : (c : ℕ) → IsLive kept steps c → Knows tables high halos band some below kept (block_images origin) whole (length origin) solves.images planes c
