@@ -419,18 +419,24 @@ class Broker(Front):
     def look_at_clock(self) -> None:
         if self.stops_at is not None:
             self.go_on_stopping()
-        if self.now - self.looked_at < self.look_seconds:
+        late = self.now - self.looked_at - self.look_seconds
+        if late < 0:
             return
         self.looked_at = self.now
         self.manager.is_alive()
         self.end_hung()
         self.bury()
         self.end_late_visitors()
+        # Where the broker itself had no time, bytes may wait that it hasn't moved yet.
+        if late < self.look_seconds:
+            self.end_stalled()
+        self.report(len(self.open))
+
+    def end_stalled(self) -> None:
         for connection in [*self.open]:
             words = connection.stall(self.now)
             if words:
                 self.end(connection, words)
-        self.report(len(self.open))
 
     def end_hung(self) -> None:
         """Ends the servers that have been at one request for longer than a request may take."""
