@@ -1,2 +1,4 @@
 mod BlockLemmas
+mod LinkLemmas
+mod ChainLemmas
 mod RunLemmas

@@ -1,11 +1,14 @@
 //! Nodes and graphs that run in a table.
-ghost use Rattle.std.specs.Prelude.{◌≡◌, IfOk};
+ghost use Rattle.std.specs.Prelude.{◌≡◌, IfOk, OnOk};
 ghost use Rattle.vx_base.specs.declared.format.Format.TheVariants.{U8};
+ghost use Rattle.vx_base.specs.Graph.{with_node};
 ghost use Rattle.vx_base.specs.Image.{IsImage, description_of};
-ghost use Rattle.object_table.specs.Context.{new_context};
+ghost use Rattle.object_table.specs.Context.{new_context, with_graph, with_new, with_objects};
+ghost use Rattle.object_table.specs.Table.{graph_under};
+ghost use Rattle.graph_tests.specs.Chain.{IsChain, box_to, through};
 
 use crate::cells::holds;
-use crate::graphs::not;
+use crate::graphs::{is_graph, not};
 use crate::tables::hold;
 use buffer_plan::Plan;
 use graph_run::{operand_in, operand_of, run, run_once, verify_in};
@@ -16,7 +19,10 @@ use object_table::{Content, Delay, Object, Stored, Table};
 use pixel_pool::Pool;
 use std::alloc::Global;
 use std::test::Fail;
-use vx_base::{Desc, Format, Outline, Output, Picture, Samples, SlotCount, VirtualImage};
+use vx_base::{
+    Border, Desc, Format, Function, Node, NodeSpec, ObjRef, Outline, Output, Picture, Policy,
+    Samples, SlotCount, VirtualImage,
+};
 
 /// An image of two samples of U8.
 fn image(alloc: Global, pool: &mut Pool, samples: [u8; 2]) -> Result<Stored, Fail>
@@ -140,5 +146,99 @@ fn a_graph_runs_through_a_virtual_image(rt: HostRuntime) -> Result<(), Fail> {
 
     // The block in which the virtual image stood is free again.
     assert!(rt; (pool.blocks(Format::U8), pool.free(Format::U8)) == (3, 1));
+    Ok(())
+}
+
+/// Declares a virtual image of the graph of name 3.
+fn hold_through(table: &mut Table, declared: Outline) -> Result<(), Fail>
+    ensures { OnOk result (table.new ≡ with_new table.old (through declared)) }
+{
+    hold(table, Content::Virtual(VirtualImage { graph: 3, declared }))?;
+    Ok(())
+}
+
+/// Box of the image of one name to that of another.
+fn mean(input: u32, output: u32) -> Result<NodeSpec, Fail>
+    ensures { IfOk result (λ n. n ≡ box_to input output) }
+{
+    let node = Node {
+        function: Function::Box,
+        border: Border::Undefined,
+        policy: Policy::Wrap,
+        amount: 0,
+        in1: ObjRef::new(input, None),
+        in2: None,
+        out1: Some(ObjRef::new(output, None)),
+        out2: None,
+    };
+    Ok(NodeSpec::new(node).ok_or("it has what its function has")?)
+}
+
+/// Adds Box, from the image of one name to that of another, to the graph of name 3.
+fn add_box(table: &mut Table, input: u32, output: u32) -> Result<(), Fail>
+    ensures { OnOk result (table.new ≡ with_objects table.old (with_graph table.old.objects 3
+        (with_node (graph_under table.old.objects 3) (box_to input output)))) }
+{
+    let node = mean(input, output)?;
+    if !is_graph(table, 3) || table.get_held(input).is_none() || table.get_held(output).is_none() {
+        return Err("not there".into());
+    }
+    table.add_node(3, node)?;
+    Ok(())
+}
+
+/// A table with two images, a graph and five virtual images, through which six nodes of Box lead
+/// from the first image to the second.
+fn chain(alloc: Global, input: Stored, output: Stored, declared: Outline) -> Result<Table, Fail>
+    requires input { IsImage input }
+    requires output { IsImage output }
+    ensures { IfOk result (λ table. IsChain table.objects) }
+{
+    let mut table = Table::new(alloc);
+    hold(&mut table, Content::Image(input))?;
+    hold(&mut table, Content::Image(output))?;
+    hold(&mut table, Content::Graph(Graph::new(alloc)))?;
+    declared.has_sides();
+    hold_through(&mut table, declared)?;
+    hold_through(&mut table, declared)?;
+    hold_through(&mut table, declared)?;
+    hold_through(&mut table, declared)?;
+    hold_through(&mut table, declared)?;
+    add_box(&mut table, 1, 4)?;
+    add_box(&mut table, 4, 5)?;
+    add_box(&mut table, 5, 6)?;
+    add_box(&mut table, 6, 7)?;
+    add_box(&mut table, 7, 8)?;
+    add_box(&mut table, 8, 2)?;
+    Ok(table)
+}
+
+/// Runs the graph of a chain, and returns how many blocks of U8 the pool has then.
+fn run_chain(alloc: Global, table: &mut Table, pool: &mut Pool) -> Result<usize, Fail>
+    requires { IsChain table.old.objects }
+    ensures { OnOk result (IsChain table.new.objects) }
+{
+    let verified = verify_in(alloc, table, table.graph(3), 10)?;
+    let plan = Plan::new(alloc, &verified)?;
+    run(alloc, &verified, &plan, table, pool)?;
+    Ok(pool.blocks(Format::U8))
+}
+
+#[test]
+fn six_nodes_in_a_row_run_in_two_blocks(rt: HostRuntime) -> Result<(), Fail> {
+    let alloc = rt.alloc();
+    let open = Outline::new(None, None, None).ok_or("nothing is declared")?;
+
+    // The two images have their blocks of another pool.
+    let (mut pool, mut others) = (Pool::new(alloc), Pool::new(alloc));
+    let input = image(alloc, &mut others, [10, 255])?;
+    let output = image(alloc, &mut others, [1, 2])?;
+    let mut table = chain(alloc, input, output, open)?;
+    assert!(rt; pool.blocks(Format::U8) == 0);
+    assert!(rt; run_chain(alloc, &mut table, &mut pool)? == 2);
+    assert!(rt; run_chain(alloc, &mut table, &mut pool)? == 2);
+
+    // No pixel of so narrow an image is valid after Box.
+    assert!(rt; holds(&mut table, 2, [0, 0]));
     Ok(())
 }

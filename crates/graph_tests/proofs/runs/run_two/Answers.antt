@@ -8,7 +8,8 @@ use Rattle.object_table.specs.Table.{graph_under}
 use Rattle.graph_verify.specs.Verdict.{verdict}
 use Rattle.graph_verify.specs.Verified.{IsVerified}
 use Rattle.graph_run.specs.Operands.{IsReady, operand_held}
-use Rattle.graph_tests.proofs.RunLemmas.{linked, linked_held, nodes, linked_names, linked_objects, ready}
+use Rattle.graph_tests.proofs.RunLemmas.{both_find, linked, linked_held, linked_names, linked_objects, nodes, nodes_are}
+use Rattle.graph_tests.proofs.LinkLemmas.{ready}
 use Rattle.graph_tests.proofs.runs.run_two.Goals as goal
 
 pub run-requires : goal.run-requires
@@ -32,6 +33,6 @@ run-requires c =
     record {
       objects = subst (λ (o : List Named). All (λ n. IsObject n.object) o) (sym is) (linked_objects a b d c.requires.input c.requires.output c.has_sides.ensures);
       names = subst (λ (o : List Named). IsStrictlyIncreasing (map {A = Named} {B = ℕ} (λ n. n.name) o)) (sym is) (linked_names a b d);
-      ready = (nodes, subst (λ (o : List Named). IsReady o nodes v) (sym is) (ready a b d v 2 verified allowed));
+      ready = (nodes, subst (λ (o : List Named). IsReady o nodes v) (sym is) (ready (linked a b d) nodes nodes_are (both_find a b d) v 2 verified allowed));
       plan = c.in_ok-plan.ensures.plan 2 (operand_held (linked a b d)) nodes allowed verified;
     }

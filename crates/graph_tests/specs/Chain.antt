@@ -1,0 +1,42 @@
+-- A graph of six nodes in a row, and what a table holds that has it.
+use Rattle.std.specs.Prelude.{ℕ, List, [], ◌∷◌, true, None}
+use Rattle.vx_base.specs.declared.function.Function.TheVariants.{Box}
+use Rattle.vx_base.specs.declared.node.Node.{Node}
+use Rattle.vx_base.specs.declared.outline.Outline.{Outline}
+use Rattle.vx_base.specs.declared.policy.Policy.TheVariants.{Wrap}
+use Rattle.vx_base.specs.Graph.{GraphValue, new_graph, with_node}
+use Rattle.vx_base.specs.Image.{ImageValue}
+use Rattle.vx_base.specs.Object.{ObjectValue, ImageObject, GraphObject, VirtualObject}
+use Rattle.object_table.specs.Named.{Named}
+use Rattle.graph_verify.specs.Examples.{node_to}
+use Rattle.graph_run.specs.Lasting.{Lasts}
+
+-- Box of the image of one name, to that of another
+abbrev pub box_to : ℕ → ℕ → Node
+box_to input output = node_to Box Wrap input None output
+
+-- a graph with more of these nodes
+abbrev pub with_boxes : GraphValue → List (ℕ × ℕ) → GraphValue
+with_boxes g [] = g
+with_boxes g (l ∷ links) = with_boxes (with_node g (box_to l.0 l.1)) links
+
+-- from image 1 to image 2, through the virtual images 4 to 8
+abbrev pub six_boxes : GraphValue
+six_boxes = with_boxes new_graph ((1, 4) ∷ (4, 5) ∷ (5, 6) ∷ (6, 7) ∷ (7, 8) ∷ (8, 2) ∷ [])
+
+-- an object under a live name
+abbrev pub live : ℕ → ObjectValue → Named
+live name object = record { name = name; live = true; object = object }
+
+-- a virtual image of graph 3
+abbrev pub through : Outline → ObjectValue
+through declared = VirtualObject (record { graph = 3; declared = declared })
+
+-- two images, a graph, and five virtual images
+abbrev pub linked_by : GraphValue → ImageValue → ImageValue → Outline → List Named
+linked_by graph a b declared = live 1 (ImageObject a) ∷ live 2 (ImageObject b) ∷ live 3 (GraphObject graph) ∷ live 4 (through declared)
+    ∷ live 5 (through declared) ∷ live 6 (through declared) ∷ live 7 (through declared) ∷ live 8 (through declared) ∷ []
+
+-- objects of which as much lasts as of these, with the six nodes
+abbrev pub IsChain : List Named → Type 0
+IsChain objects = (a : ImageValue) × (b : ImageValue) × (declared : Outline) × Lasts (linked_by six_boxes a b declared) objects
