@@ -52,7 +52,7 @@ def clean(context: vx.Context) -> Tuple[vx.Graph, vx.Image, vx.Image]:
 
 # ---- a program
 
-def work(path: str, name: str, build: Build, told: Any) -> None:
+def work(path: str, name: str, build: Build, begun: Any, told: Any) -> None:
     """Does all pictures, one after another, whatever becomes of the server."""
     pictures = [random.Random(number).randbytes(WIDTH * HEIGHT) for number in range(PICTURES)]
     done, built = 0, 0
@@ -61,6 +61,7 @@ def work(path: str, name: str, build: Build, told: Any) -> None:
             with vx.connect(path, retry=30, timeout=10) as server, server.context() as context:
                 graph, camera, out = build(context)
                 built += 1
+                begun.release()
                 while done < PICTURES:
                     camera.write(pictures[done])
                     graph.process()
@@ -83,14 +84,16 @@ def start_door(path: str) -> "subprocess.Popen[bytes]":
 def main() -> None:
     with tempfile.TemporaryDirectory() as folder:
         path = os.path.join(folder, "socket")
+        begun: Any = multiprocessing.Semaphore(0)
         told: Any = multiprocessing.SimpleQueue()
         door = start_door(path)
         programs: List[multiprocessing.Process] = [
-            multiprocessing.Process(target=work, args=(path, name, build, told))
+            multiprocessing.Process(target=work, args=(path, name, build, begun, told))
             for name, build in (("front", outlines), ("belt", clean))]
         for one in programs:
             one.start()
-        time.sleep(1)
+        for _ in programs:
+            begun.acquire()
         door.terminate()
         door.wait()
         time.sleep(1)
