@@ -12,6 +12,11 @@ pub row_made : {A T : Type 0} (of : A → ℤ) (value : T → ℤ) (f : ℤ → 
     → map value ws ≡ map f (map of (take n xs)) → map value ws ≡ map f (map of xs)
 row_made of value f n xs ws p is = is ∙ ap (λ l. map f (map of l)) (take_all n xs (omega (arith, p)))
 
+-- and stored
+pub row_stored : {A T : Type 0} (of : A → ℤ) (value : T → ℤ) (f : ℤ → ℤ) (n : ℕ) (xs : List A) (out ws : List T) → length xs ≡ n → length out ≡ n
+    → map value ws ≡ map f (map of (take n xs)) → map value (put_chunk 0 out ws) ≡ map f (map of xs)
+row_stored of value f n xs out ws p q is = stored value (map f (map of xs)) out ws (row_made of value f n xs ws p is) (length-map (map of xs) f ∙ length-map xs of ∙ p ∙ sym q)
+
 -- what is made of two
 pub pair_made : {A B T : Type 0} (of : A → ℤ) (with : B → ℤ) (value : T → ℤ) (f : ℤ → ℤ → ℤ) (n : ℕ) (xs : List A) (ys : List B) (ws : List T)
     → length xs ≡ n → length ys ≡ n → map value ws ≡ zip2 f (map of (take n xs)) (map with (take n ys)) → map value ws ≡ zip2 f (map of xs) (map with ys)

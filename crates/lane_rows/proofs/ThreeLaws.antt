@@ -1,6 +1,6 @@
 -- Three rows of numbers that are added up, in lanes.
 use Rattle.std.proofs.Common.{◌≡◌, ℕ, ℤ, pos, negsuc, zero, suc, ◌+◌, ◌/◌, ◌%◌, ◌<◌, ◌≤◌, ◌+ℤ◌, ◌*ℤ◌, List, [], ◌∷◌, length, map, get_or, refl, ap, ◌∙◌, sym, subst, arith, w16, of_z, to_z, map-id}
-use Rattle.lane_rows.proofs.Common.{zip2, ints, Each1, length-zip2, put_chunk_whole}
+use Rattle.lane_rows.proofs.Common.{zip2, ints, Each1, length-map, length-zip2, put_chunk_whole}
 use Rattle.std.proofs.Math.Dec.{T}
 use mir.Val.{Fits}
 use lib.IntN.{nat_abs}
@@ -145,6 +145,10 @@ item_is_taken takes value xs i x below is all = subst takes (sym (item_is value 
 pub bytes_stored : (out ns : List ℕ) → length out ≡ 32 → length ns ≡ 32 → put_chunk 0 out (map (λ n. n) ns) ≡ ns
 bytes_stored out ns room long = ap (put_chunk 0 out) (map-id ns) ∙ put_chunk_whole out ns (room ∙ sym long)
 
-pub shorts_are : (ns : List ℕ) → Each1 (λ n. n ≤ 32767) ns → map (to_z w16) ns ≡ map pos ns
+shorts_are : (ns : List ℕ) → Each1 (λ n. n ≤ 32767) ns → map (to_z w16) ns ≡ map pos ns
 shorts_are [] small = refl
 shorts_are (n ∷ ns) small = let first : to_z w16 n ≡ pos n = omega (arith, ints, small.0) in cc (first, shorts_are ns small.1)
+
+pub shorts_stored : (out : List ℤ) (ns : List ℕ) → length out ≡ 32 → length ns ≡ 32 → Each1 (λ n. n ≤ 32767) ns → put_chunk 0 out (map (to_z w16) (map (λ n. n) ns)) ≡ map pos ns
+shorts_stored out ns room long small =
+    ap (λ l. put_chunk 0 out (map (to_z w16) l)) (map-id ns) ∙ put_chunk_whole out (map (to_z w16) ns) (room ∙ sym (length-map ns (to_z w16) ∙ long)) ∙ shorts_are ns small

@@ -10,7 +10,7 @@ use crate::item::shorts_of;
 use crate::kernel::{LanesOfItem, OfItem};
 use crate::overflow::{Overflow, Saturated, Wrapped, with_overflow};
 use crate::rows::map_row;
-use crate::stores::{store_halves, store_quarters};
+use crate::stores::store_halves;
 use std::simd::prelude::*;
 use vx_base::Policy;
 
@@ -31,8 +31,7 @@ impl OfItem<u8, i16> for ShiftedUp {
 
 impl LanesOfItem<u8, i16> for ShiftedUp {
     fn lanes(&self, row: &[u8], out: &mut [i16]) {
-        let shorts = shifted_up(u8x32::from_slice(row), self.amount);
-        store_quarters(&shorts.to_array(), out);
+        shifted_up(u8x32::from_slice(row), self.amount).copy_to_slice(out);
     }
 }
 

@@ -15,7 +15,6 @@ use crate::columns::OfColumn;
 use crate::nine::{OfNine, ThreeItems, write_nine};
 use crate::nine_rows::{Nine, Three, ThreeLanes, three_lanes};
 use crate::places::{AtPlaces, write_places};
-use crate::stores::store_halves;
 use std::marker::PhantomData;
 use std::simd::prelude::*;
 
@@ -113,7 +112,7 @@ impl<C: Choice> OfNine<u8> for C {
         let above = chosen_lanes::<C>(three_lanes(&nine.above, place));
         let here = chosen_lanes::<C>(three_lanes(&nine.here, place));
         let below = chosen_lanes::<C>(three_lanes(&nine.below, place));
-        store_halves(&chosen_lanes::<C>((above, here, below)).to_array(), out);
+        chosen_lanes::<C>((above, here, below)).copy_to_slice(out);
     }
 }
 
@@ -134,10 +133,7 @@ impl<C: Choice> AtPlaces<u8> for ChosenAt<'_, '_, C> {
     }
 
     fn lanes(&self, place: usize, out: &mut [u8]) {
-        store_halves(
-            &chosen_lanes::<C>(three_lanes(self.rows, place)).to_array(),
-            out,
-        );
+        chosen_lanes::<C>(three_lanes(self.rows, place)).copy_to_slice(out);
     }
 }
 
@@ -214,7 +210,7 @@ impl OfNine<u8> for Median {
         let above = three_lanes(&nine.above, place);
         let here = three_lanes(&nine.here, place);
         let below = three_lanes(&nine.below, place);
-        store_halves(&medians(above, here, below).to_array(), out);
+        medians(above, here, below).copy_to_slice(out);
     }
 }
 

@@ -34,7 +34,7 @@ pub fn store_bytes<K: OfItem<u8, u8>>(kernel: &K, row: &[u8], out: &mut [u8])
     store_sixteen(kernel, row_rest, out_rest);
 }
 
-/// Stores the items of 32 bytes of lanes: the first half, then the second.
+/// Stores the items of lanes: the first half, then the second.
 pub fn store_halves<T: Copy>(items: &[T], out: &mut [T])
     requires { length items.now ≡ length out.old }
     ensures { out.new ≡ items.now }
@@ -43,15 +43,4 @@ pub fn store_halves<T: Copy>(items: &[T], out: &mut [T])
     let (out, out_rest) = out.split_at_mut(half);
     out.copy_from_slice(&items[..half]);
     out_rest.copy_from_slice(&items[half..]);
-}
-
-/// Stores the items of 64 bytes of lanes, quarter after quarter.
-pub fn store_quarters<T: Copy>(items: &[T], out: &mut [T])
-    requires { length items.now ≡ length out.old }
-    ensures { out.new ≡ items.now }
-{
-    let half = items.len() / 2;
-    let (out, out_rest) = out.split_at_mut(half);
-    store_halves(&items[..half], out);
-    store_halves(&items[half..], out_rest);
 }

@@ -11,7 +11,6 @@ ghost use Rattle.lane_rows.specs.Limits.{greatest_addend, greatest_sum, greatest
 use crate::columns::OfColumn;
 use crate::item::Item;
 use crate::places::{AtPlaces, write_places};
-use crate::stores::store_quarters;
 use std::marker::PhantomData;
 use std::simd::prelude::*;
 
@@ -74,7 +73,7 @@ impl Stored for i16 {
     ghost most = { 32767 };
 
     fn store(numbers: u16x32, out: &mut [i16]) {
-        store_quarters(&numbers.cast::<i16>().to_array(), out);
+        numbers.cast::<i16>().copy_to_slice(out);
     }
 }
 
