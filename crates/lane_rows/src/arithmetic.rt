@@ -9,12 +9,9 @@ ghost use Rattle.vx_base.specs.declared.format.Format.TheVariants.{U8, S16};
 
 use crate::item::Short;
 use crate::kernel::OfPair;
-use crate::stores::store_halves;
 use std::simd::prelude::*;
 
-/// Computes a sample from two items: a U8 sample from two of U8, an S16 sample from two that are
-/// each U8 or S16. Whether a result that doesn't fit saturates or wraps is the kernel's: a distance
-/// saturates, sums, differences and products have a policy, and the smaller or the greater fits.
+/// What a kernel gives of two U8 or S16 items.
 pub trait Arithmetic {
     /// The sample of a format, from those of the two items.
     ghost formula: { Self → Format → ℤ → ℤ → ℤ };
@@ -53,8 +50,9 @@ impl<K: Arithmetic> OfPair<u8, u8, u8> for OfSamples<'_, K> {
     }
 
     fn lanes(&self, first: &[u8], second: &[u8], out: &mut [u8]) {
-        let (a, b) = (u8x32::from_slice(first), u8x32::from_slice(second));
-        store_halves(&self.0.bytes(a, b).to_array(), out);
+        self.0
+            .bytes(u8x32::from_slice(first), u8x32::from_slice(second))
+            .copy_to_slice(out);
     }
 }
 
@@ -72,7 +70,8 @@ fn write_sixteen<A: Short, B: Short, K: Arithmetic>(
         (map B.value second.now) }
 {
     let (a, b) = (A::shorts(first), B::shorts(second));
-    store_halves(&kernel.shorts(a, b).to_array(), out);
+    let samples = kernel.shorts(a, b);
+    samples.copy_to_slice(out);
 }
 
 impl<A: Short, B: Short, K: Arithmetic> OfPair<A, B, i16> for OfSamples<'_, K> {

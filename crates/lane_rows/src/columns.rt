@@ -1,9 +1,8 @@
 //! Kernels of three rows, by which windows go down the columns of three rows of bytes and then
 //! across three columns, and those of gradients.
 //!
-//! Gradients are plain loops, which the compiler computes in lanes as wide as the processor's.
-//! Lanes of 32 numbers of 16 bits take 1.1 to 1.2 times as long on processors with lanes of 16
-//! bytes.
+//! Gradients are plain loops, which the compiler computes in lanes as wide as the processor's. Lanes
+//! of 32 numbers of 16 bits take 1.1 to 1.2 times as long on processors with lanes of 16 bytes.
 ghost use Rattle.std.specs.Prelude.{◌≡◌, ◌≤◌, ◌+ℤ◌, ◌-ℤ◌, ◌*ℤ◌, ℤ, pos, map, length, unsigned_abs};
 ghost use Rattle.vx_base.specs.Image.{run};
 ghost use Rattle.lane_rows.specs.Threes.{AreTaken, number_at};

@@ -10,7 +10,6 @@ use crate::item::shorts_of;
 use crate::kernel::{LanesOfItem, OfItem};
 use crate::overflow::{Overflow, Saturated, Wrapped, with_overflow};
 use crate::rows::map_row;
-use crate::stores::store_halves;
 use std::simd::prelude::*;
 use vx_base::Policy;
 
@@ -56,8 +55,7 @@ impl<P: Overflow> OfItem<i16, u8> for Narrowed<P> {
 
 impl<P: Overflow> LanesOfItem<i16, u8> for Narrowed<P> {
     fn lanes(&self, row: &[i16], out: &mut [u8]) {
-        let bytes = shifted_down(shorts_of(row), self.amount, self.overflow.policy());
-        store_halves(&bytes.to_array(), out);
+        shifted_down(shorts_of(row), self.amount, self.overflow.policy()).copy_to_slice(out);
     }
 }
 

@@ -67,8 +67,7 @@ pub fn extremes_u8(row: &[u8]) -> RowExtremes<u8>
     ensures least { pos result.least ≡ chosen int_min (map pos row.now) }
     ensures greatest { pos result.greatest ≡ chosen int_max (map pos row.now) }
     ensures least_count { result.least_count ≡ count_of (pos result.least) (map pos row.now) }
-    ensures greatest_count { result.greatest_count
-        ≡ count_of (pos result.greatest) (map pos row.now) }
+    ensures greatest_count { result.greatest_count ≡ count_of (pos result.greatest) (map pos row.now) }
 {
     extremes_of(row)
 }

@@ -9,13 +9,13 @@
 //! - `item`: the numbers that rows hold
 //! - `kernel`: what a kernel is, of one row, of two, or that updates one
 //! - `rows`: the rows that kernels write, by `blocks` and by `items`
-//! - `stores`: how lanes are stored, and kernels that a processor has no lanes for
+//! - `stores`: kernels that a processor has no lanes for
 //! - `overflow`: policies as types, so that a loop asks for none
 //! - `arithmetic`: kernels of two U8 or S16 items, at the formats that they may have
 //! - `bits`, `sums`, `products`, `distances`, `extremes`, `thresholds`, `depths`, `accumulation`:
 //!   the kernels
-//! - `compared`, `extent`, `occurrences`: the extremes of a row, how often an item stands in it,
-//!   and where first
+//! - `compared`, `extent`, `occurrences`: the extremes of a row, how often an item stands in it, and
+//!   where first
 //! - `tallies`: how often each byte stands in a row
 //! - `running`: running sums of a row, beside those above it
 //! - `places`: rows that are written place by place, in blocks of 32 places of which the last may
@@ -54,7 +54,7 @@
 //! | `threshold_s16` | by a limit; by a range | a rule of S16 | 50; 86 | 38; 56 |
 //! | `widen`, `shift_up` | a, a * 2^n | n up to 7 | 46 | 23 |
 //! | `narrow` | a / 2^n, rounded down, wraps; saturates | n up to 7 | 52; 39 | 29; 24 |
-//! | `scale_u8`, `scale_s16` | a / 2^n, rounded to zero, clamped | S32 rows, n up to 31 | | |
+//! | `scale_u8`, `scale_s16` | a / 2^n, rounded to zero, at the nearest | S32 rows, n up to 31 | | |
 //! | `accumulate` | c + a, up to 32,767 | updates S16 | 90 | 44 |
 //! | `accumulate_square` | c + a * a / 2^n, rounded down, up to 32,767 | n up to 15 | 122 | 62 |
 //!

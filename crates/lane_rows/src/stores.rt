@@ -1,9 +1,4 @@
-//! How lanes are stored: one half after the other, in the order of their addresses; and bytes that
-//! are computed one by one and stored in lanes.
-//!
-//! Where a processor's registers have 16 bytes, the compiler stores the second half of 32 bytes
-//! before the first. Where a row doesn't begin with a line of the cache, the stores then go back
-//! and forth between two lines, and rows that aren't in the first cache take half as long again.
+//! Bytes that are computed one by one and stored in lanes.
 ghost use Rattle.std.specs.Prelude.{◌≡◌, pos, map, length};
 
 use crate::items::map_items;
@@ -32,15 +27,4 @@ pub fn store_bytes<K: OfItem<u8, u8>>(kernel: &K, row: &[u8], out: &mut [u8])
     let (out, out_rest) = out.split_at_mut(16);
     store_sixteen(kernel, row, out);
     store_sixteen(kernel, row_rest, out_rest);
-}
-
-/// Stores the items of lanes: the first half, then the second.
-pub fn store_halves<T: Copy>(items: &[T], out: &mut [T])
-    requires { length items.now ≡ length out.old }
-    ensures { out.new ≡ items.now }
-{
-    let half = items.len() / 2;
-    let (out, out_rest) = out.split_at_mut(half);
-    out.copy_from_slice(&items[..half]);
-    out_rest.copy_from_slice(&items[half..]);
 }

@@ -13,7 +13,6 @@ use crate::choices::{bytes_above, bytes_between, shorts_above, shorts_between};
 use crate::item::{Item, shorts_of};
 use crate::kernel::{LanesOfItem, OfItem};
 use crate::rows::map_row;
-use crate::stores::store_halves;
 use std::simd::prelude::*;
 use vx_base::{ThresholdKind, ThresholdRule};
 
@@ -131,8 +130,7 @@ impl<A: Tested> OfItem<A, u8> for Above<A> {
 
 impl<A: Tested> LanesOfItem<A, u8> for Above<A> {
     fn lanes(&self, row: &[A], out: &mut [u8]) {
-        let values = A::above(row, self.limit, self.true_value, self.false_value);
-        store_halves(&values.to_array(), out);
+        A::above(row, self.limit, self.true_value, self.false_value).copy_to_slice(out);
     }
 }
 
@@ -165,9 +163,14 @@ impl<A: Tested> OfItem<A, u8> for Between<A> {
 
 impl<A: Tested> LanesOfItem<A, u8> for Between<A> {
     fn lanes(&self, row: &[A], out: &mut [u8]) {
-        let (lower, upper) = (self.lower, self.upper);
-        let values = A::between(row, lower, upper, self.true_value, self.false_value);
-        store_halves(&values.to_array(), out);
+        A::between(
+            row,
+            self.lower,
+            self.upper,
+            self.true_value,
+            self.false_value,
+        )
+        .copy_to_slice(out);
     }
 }
 
