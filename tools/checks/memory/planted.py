@@ -89,24 +89,17 @@ def unclear(op: int) -> Type[Server]:
     return Unclear
 
 
-class Copying(Server):
-    """Has as much memory as a picture takes, beside its image's and that into which it is read."""
+def making_more(op: int, at: int) -> Type[Server]:
+    """A server that makes an image of its own before each of these requests, which stays until it
+    ends: of the format and size that the request has at this byte."""
+    class MakingMore(Server):
+        def answer(self, request: bytes) -> bytes:
+            if request[6] == op:
+                super().answer(wire.open_context(KEEPER))
+                super().answer(wire.frame(KEEPER, wire.CREATE_IMAGE, request[at:at + 5]))
+            return super().answer(request)
 
-    def answer(self, request: bytes) -> bytes:
-        if request[6] == wire.WRITE_IMAGE:
-            super().answer(wire.open_context(KEEPER))
-            super().answer(wire.frame(KEEPER, wire.CREATE_IMAGE, request[12:17]))
-        return super().answer(request)
-
-
-class Losing(Server):
-    """Has the memory of each new image once more, until it ends."""
-
-    def answer(self, request: bytes) -> bytes:
-        if request[6] == wire.CREATE_IMAGE:
-            super().answer(wire.open_context(KEEPER))
-            super().answer(wire.frame(KEEPER, wire.CREATE_IMAGE, request[7:12]))
-        return super().answer(request)
+    return MakingMore
 
 
 class InKib(Server):
@@ -156,7 +149,8 @@ READERS: Tuple[Measure, ...] = (small_in_great, soak)
 PLANTED = (
     Planted("blocks that are far too large stay so", small_in_great, TooMuchMemory, keeps="shrunk"),
     Planted("no free block is given up", rising, TooMuchMemory, keeps="great"),
-    Planted("the memory of each new image is lost", soak, TooMuchMemory, Losing),
+    Planted("the memory of each new image is lost", soak, TooMuchMemory,
+            making_more(wire.CREATE_IMAGE, 7)),
     Planted("what is registered is kept", registered, TooMuchMemory, keeps="small"),
     *(Planted(words, again, TooMuchMemory, keeping(*event)) for words, event in (
         ("a new image leaves a block", (wire.CREATE_IMAGE,)),
@@ -182,7 +176,7 @@ PLANTED = (
         ("the memory is told in KiB", InKib), ("it is the check's own", OfTheCheck),
         ("it is told as it was at first", AsAtFirst)) for measure in READERS),
     # Last, since the check itself takes memory for the pictures.
-    Planted("a picture is copied", written, TooMuchMemory, Copying),
+    Planted("a picture is copied", written, TooMuchMemory, making_more(wire.WRITE_IMAGE, 12)),
 )
 
 
