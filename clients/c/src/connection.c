@@ -132,7 +132,7 @@ static void plan_read(struct connection *connection, struct iovec parts[2], size
     }
 }
 
-/* Reads what is there. Waits for it unless the flags have MSG_DONTWAIT. */
+/* Reads the bytes that have come. Waits for some unless the flags have MSG_DONTWAIT. */
 static bool read_some(struct connection *connection, int flags) {
     struct iovec parts[2];
     size_t chunked;

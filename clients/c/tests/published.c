@@ -111,7 +111,7 @@ static void map_handle(vx_graph graph, vx_image in) {
                                                    VX_READ_ONLY, VX_MEMORY_TYPE_HOST, 0));
 }
 
-/* Functions at once, and one value for all pixels, which leaves the gaps. */
+/* Functions in immediate mode, and one value for all pixels, which leaves the gaps. */
 static void write_handles(void) {
     const vx_pixel_value_t value = {.U8 = 77};
     vx_image in = in_memory(frames[1], 1, VX_DF_IMAGE_U8);

@@ -113,9 +113,7 @@ def fault_of_input(graph: Graph, image: Any) -> str:
     for member in graph.members:
         if any(cell.reference == image.reference for cell in member.outputs):
             return f"{member}, writes it"
-    is_read = any(cell.reference == image.reference for member in graph.members
-                  for cell in member.inputs)
-    return "" if is_read else "no node reads it"
+    return "" if image.name in graph.reads else "no node reads it"
 
 
 class Names:
@@ -308,10 +306,9 @@ class Reader:
         return GraphFile(self._graph, inputs, self._outputs(), self._things)
 
     def _outputs(self) -> Dict[str, Any]:
-        written = {operand.reference for call in self._graph.calls.values()
-                   for operand in call.operands[2:] if operand is not None}
+        written = self._graph.writes
         return {name: thing for name, thing in self._things.items()
-                if isinstance(thing, (Image, Distribution, MinMax)) and thing.reference in written}
+                if isinstance(thing, (Image, Distribution, MinMax)) and thing.name in written}
 
     def _fault(self, words: str) -> GraphFileError:
         return GraphFileError(f"{self._path}: {words}")

@@ -324,7 +324,7 @@ class TestStreams(StationTest):
                     next(self.graph.stream(frames, camera, out))
 
     def test_all_that_the_graph_uses(self):
-        """Inputs beside an output; slots of a delay, of which the graph may name others; sums that
+        """Inputs next to an output; slots of a delay, of which the graph may name others; sums that
         frames are added to; and nodes that are added after the stream was opened."""
         delay, sums = self.context.delay(self.part, 2), self.context.image(vx.S16, 6, 4)
         stream = self.graph.stream([self.picture(1)], self.part, [self.out, self.part, delay[-1]])
