@@ -3,7 +3,7 @@
 import unittest
 
 from program import HERE  # noqa: F401  (has the tools on the path)
-from checks.documents import links, names, prose, surface, tree
+from checks.documents import comments, links, names, prose, surface, tree
 
 
 class TestNames(unittest.TestCase):
@@ -89,6 +89,12 @@ class TestProse(unittest.TestCase):
     def test_words_with_a_plainer_one_are_found(self):
         self.assertEqual(len(self.wrong("The rows beside a band.")), 1)
         self.assertEqual(self.wrong("The command `beside` runs.\n\n    beside at once\n"), [])
+
+    def test_comments_of_code_and_definitions_are_read(self):
+        code = "let beside = 1; // beside\n/// The rows\n/// beside a band.\nfn beside() {}\n"
+        self.assertEqual([line for line, _ in comments.faults("a.rt", code)], [2])
+        definition = "-- the rows beside a band\nabbrev pub beside : ℕ\n"
+        self.assertEqual([line for line, _ in comments.faults("a.antt", definition)], [1])
 
 
 if __name__ == "__main__":

@@ -1,8 +1,8 @@
-"""Checks of the documents: that what they name exists, and how they are written."""
+"""Checks of the documents: that what they name exists, and how they and comments are written."""
 
 from typing import Iterator
 
-from . import links, names, prose, surface, tree
+from . import comments, links, names, prose, surface, tree
 
 
 def pages() -> Iterator[str]:
@@ -24,6 +24,9 @@ def found() -> Iterator[str]:
         for line, target in links.broken(path, tree.read(path)):
             yield f"{path}:{line}: the link to {target} leads nowhere"
         for line, wrong in prose.faults(tree.read(path)):
+            yield f"{path}:{line}: {wrong}"
+    for path in filter(comments.is_read, sorted(tree.files())):
+        for line, wrong in comments.faults(path, tree.read(path)):
             yield f"{path}:{line}: {wrong}"
 
 

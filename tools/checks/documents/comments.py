@@ -1,0 +1,28 @@
+"""Comments of the code and of definitions, which are held to the style of the documents."""
+
+import re
+from typing import Iterator, Tuple
+
+from . import prose
+
+# What a comment's line begins with, in each language.
+MARKS = {".rt": r"//[/!]?", ".antt": "--"}
+FOLDERS = ("src", "specs")
+
+
+def is_read(path: str) -> bool:
+    """Whether it is a crate's code or definitions."""
+    parts = path.split("/")
+    return parts[0] == "crates" and parts[2] in FOLDERS and path.endswith(tuple(MARKS))
+
+
+def comments(path: str, text: str) -> str:
+    """The text with its comments alone, each on its line; one ends with the code that follows."""
+    mark = next(mark for ending, mark in MARKS.items() if path.endswith(ending))
+    lines = (re.match(rf"\s*{mark}(?: (.*))?$", line) for line in text.split("\n"))
+    return "\n".join(line[1] or "" if line else "" for line in lines)
+
+
+def faults(path: str, text: str) -> Iterator[Tuple[int, str]]:
+    """What is wrong with a file's comments, with the number of the line where each begins."""
+    return prose.faults(comments(path, text))
