@@ -1,11 +1,12 @@
-//! Rows of U8 images as windows see them: with what counts beside the valid places.
+//! Rows of U8 images as window functions read them, border included.
 //!
-//! `row_in_place` lends what is seen at valid columns of a row, where it stands; beside them the
-//! border's `value_beside` counts. `seen_around` says what is seen at a valid column and on both
-//! sides of it. `load_row` writes what is seen at so many places of a row, as U8 or wider numbers; a
-//! `RowWindow` keeps such a row of a whole image. These two copy a row's valid samples as a whole
-//! and treat the border beside them, so that a kernel that reads their rows asks for none.
-//! `window_valid` is where the output of a window is valid.
+//! - `row_in_place` borrows a row's samples at valid columns without a copy; `value_beside` gives
+//!   the border's sample at the row's ends.
+//! - `seen_around` returns the sample at a valid column with its left and right neighbours.
+//! - `load_row` writes part of a row, border included, as U8 or wider numbers; a `RowWindow` keeps
+//!   such a row of a whole image. Both copy the valid samples as one block and then fill in the
+//!   border, so a kernel reads the result without a case for the border.
+//! - `window_valid` returns the valid rectangle of a window function's output.
 #![tactic(auto)]
 
 mod row_window;

@@ -1,4 +1,4 @@
-//! Rows of whole images, with what stands beside them.
+//! Rows of whole images, border included.
 ghost use Rattle.std.specs.Prelude.{◌≡◌, ◌+◌, ◌*◌, ◌<◌, pos, ◌-ℤ◌, IfOk, length, map, replicate};
 ghost use Rattle.vx_base.specs.declared.format.Format.TheVariants.{U8};
 ghost use Rattle.vx_base.specs.Image.{run};
@@ -10,9 +10,9 @@ use std::alloc::{AllocError, Global};
 use std::marker::Model;
 use vx_base::Border;
 
-/// A row of a U8 image with so many samples to either side as a window of this radius sees. It is
-/// for kernels of other crates that want whole rows, border and all: those of window_kernels read
-/// rows where they stand, and convolution loads a piece of several rows at once, by `load_row`.
+/// A row of a U8 image with `radius` more samples on each side. It is for kernels of other crates
+/// that want whole rows, border included. Those of window_kernels read rows without a copy, and
+/// convolution loads pieces of several rows by `load_row`.
 #[derive(Drop)]
 pub struct RowWindow {
     width: u16,
@@ -37,7 +37,8 @@ impl Model for RowWindow {
 }
 
 impl RowWindow {
-    /// A window on rows of images of this width. No row is loaded yet, and its samples are 0.
+    /// Returns a row of this width and radius, whose samples are 0 until `load` is called, or an
+    /// error if there is no memory for it.
     pub fn new(alloc: Global, width: u16, radius: u16) -> Result<RowWindow, AllocError>
         ensures width { IfOk result (λ made. made.width ≡ width) }
         ensures radius { IfOk result (λ made. made.radius ≡ radius) }
@@ -52,7 +53,8 @@ impl RowWindow {
         })
     }
 
-    /// Makes this row y of a U8 image that is as wide, and has a valid place. It takes no memory.
+    /// Loads row `y` of a U8 image of this width, border included. The image has a valid pixel.
+    /// Allocates nothing.
     pub fn load(&mut self, image: &Image<'_>, y: i32, border: Border)
         requires format { image.now.format ≡ U8 }
         requires width { self.old.width ≡ image.now.width }
@@ -68,7 +70,7 @@ impl RowWindow {
         load_row(image, 0, self.radius, y, border, samples);
     }
 
-    /// The samples, from the place `radius` columns to the left of the image on.
+    /// Returns the samples, the first one `radius` columns to the left of the image.
     pub fn row(&self) -> &[u8]
         ensures value { map pos result.now ≡ self.now.samples }
         ensures len { length result.now ≡ self.now.width + 2 * self.now.radius }

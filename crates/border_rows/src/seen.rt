@@ -1,4 +1,4 @@
-//! Rows with what counts beside them.
+//! Rows as windows read them, border included.
 ghost use Rattle.std.specs.Prelude.{◌≡◌, ◌+◌, ◌-◌, ◌<◌, ◌≤◌, ◌++◌, pos, ◌+ℤ◌, ◌-ℤ◌, IfSome, length};
 ghost use Rattle.std.specs.Prelude.{map, replicate};
 ghost use Rattle.vx_base.specs.declared.format.Format.TheVariants.{U8};
@@ -9,7 +9,7 @@ ghost use Rattle.border_rows.specs.Seen.{value_beside, row_seen, seen_along};
 use image_core::{Image, Number, set_all};
 use vx_base::{Border, Rect};
 
-/// A number type in which rows are loaded: `u8` or `i16`.
+/// A number type into which rows are loaded: `u8` or `i16`.
 pub trait Loaded: Number {
     fn loaded(sample: u8) -> Self
         ensures { Self.value result ≡ pos sample };
@@ -27,7 +27,7 @@ impl Loaded for i16 {
     }
 }
 
-/// The sample that counts beside the valid places, where the nearest of them has this one.
+/// Returns the border's sample next to a valid edge sample; 0 under an undefined border.
 pub fn value_beside(border: Border, edge: u8) -> u8
     ensures { pos result ≡ value_beside border (pos edge) }
 {
@@ -38,7 +38,8 @@ pub fn value_beside(border: Border, edge: u8) -> u8
     }
 }
 
-/// The valid row whose samples are seen in row y. `None` where none is.
+/// The valid row that a window reads in row `y`: row `y` itself, or the border's. `None` if the
+/// border takes no row of the image.
 fn row_seen(valid: Rect, border: Border, y: i32) -> Option<u16>
     requires { valid.y0 < valid.y1 }
     ensures value { result ≡ row_seen valid border y }
@@ -55,7 +56,7 @@ fn row_seen(valid: Rect, border: Border, y: i32) -> Option<u16>
     }
 }
 
-/// Writes samples as numbers of the type.
+/// Converts samples to the number type.
 fn load_samples<T: Loaded>(samples: &[u8], out: &mut [T])
     requires { length samples.now ≡ length out.old }
     ensures { map T.value out.new ≡ map pos samples.now }
@@ -65,7 +66,7 @@ fn load_samples<T: Loaded>(samples: &[u8], out: &mut [T])
     }
 }
 
-/// Writes a row's samples, after so many times one sample and before another.
+/// Writes `left` `before` times, then the samples, then `right` up to the end.
 fn load_between<T: Loaded>(left: u8, before: usize, samples: &[u8], right: u8, out: &mut [T])
     requires { before + length samples.now ≤ length out.old }
     ensures { map T.value out.new ≡ replicate before (pos left)
@@ -79,7 +80,7 @@ fn load_between<T: Loaded>(left: u8, before: usize, samples: &[u8], right: u8, o
     set_all(back, T::loaded(right));
 }
 
-/// Writes what is seen along a valid row, as `load_row` does.
+/// Writes what a window reads along a valid row, as `load_row` does.
 fn load_line<T: Loaded>(
     image: &Image<'_>,
     start: u16,
@@ -110,7 +111,8 @@ fn load_line<T: Loaded>(
     load_between(left, before, samples, right, out);
 }
 
-/// Writes what a window sees in row y of a U8 image, from column `start - radius` on.
+/// Writes what a window reads in row `y` of a U8 image, from column `start - radius` on. The image
+/// has a valid pixel.
 pub fn load_row<T: Loaded>(
     image: &Image<'_>,
     start: u16,
@@ -131,8 +133,9 @@ pub fn load_row<T: Loaded>(
     }
 }
 
-/// What a window sees in row y of a U8 image at valid columns, so many from column x on: the
-/// image's own samples, where they stand, or the row that is given for those beside all valid rows.
+/// Returns what a window reads in row `y` of a U8 image at `count` valid columns from column `x`
+/// on: the image's own samples without a copy, or `off_rows` if the border takes no row of the
+/// image. Each sample of `off_rows` is the border's.
 pub fn row_in_place<'a>(
     image: &'a Image<'_>,
     x: u16,
@@ -156,7 +159,7 @@ pub fn row_in_place<'a>(
     }
 }
 
-/// What is seen to the left of a valid column of a valid row.
+/// The sample to the left of a valid column of a valid row, border included.
 fn left_of(image: &Image<'_>, x: u16, line: u16, border: Border) -> u8
     requires format { image.now.format ≡ U8 }
     requires line { line < image.now.valid.y1 }
@@ -170,7 +173,7 @@ fn left_of(image: &Image<'_>, x: u16, line: u16, border: Border) -> u8
     row[usize::from(x) - 1]
 }
 
-/// What is seen to the right of a valid column of a valid row.
+/// The sample to the right of a valid column of a valid row, border included.
 fn right_of(image: &Image<'_>, x: u16, line: u16, border: Border) -> u8
     requires format { image.now.format ≡ U8 }
     requires line { line < image.now.valid.y1 }
@@ -184,8 +187,8 @@ fn right_of(image: &Image<'_>, x: u16, line: u16, border: Border) -> u8
     row[usize::from(x) + 1]
 }
 
-/// What a window sees at a valid column of row y of a U8 image, and to the left and the right of
-/// it, from left to right.
+/// Returns what a window reads in row `y` of a U8 image at the column to the left of a valid one,
+/// at that column, and at the column to its right.
 pub fn seen_around(image: &Image<'_>, x: u16, y: i32, border: Border) -> (u8, u8, u8)
     requires format { image.now.format ≡ U8 }
     requires rows { image.now.valid.y0 < image.now.valid.y1 }

@@ -1,10 +1,11 @@
-//! Where outputs are valid.
+//! Valid rectangles of outputs.
 ghost use Rattle.std.specs.Prelude.{◌≡◌, ◌<◌, ◌≤◌};
 ghost use Rattle.vx_base.specs.Window.{window_valid};
 
 use vx_base::{Border, Rect};
 
-/// Where the output of a window of these radii is valid, for an input that is valid here.
+/// Returns the output's valid rectangle for a window of these radii, given that of the input: under
+/// an undefined border the pixels whose whole window is valid, otherwise that of the input.
 pub fn window_valid(border: Border, rx: u16, ry: u16, valid: Rect) -> Rect
     ensures value { result ≡ window_valid border rx ry valid }
     ensures columns { (result.x1 ≤ valid.x1) × (result.x0 < result.x1 → valid.x0 < valid.x1) }

@@ -1,5 +1,4 @@
--- When the virtual images of a graph are live, along an order of its nodes, whose steps are counted
--- from 1.
+-- Lives of the virtual images of a graph, along an order of its nodes. Steps are counted from 1.
 use Rattle.std.specs.Prelude.{◌≡◌, ℕ, ◌+◌, ◌-◌, Bool, ◌&&◌, ◌||◌, nat_le, List, map, take, drop}
 use Rattle.std.specs.List.{list_any, position_or_len}
 use Rattle.vx_base.specs.declared.node.Node.{Node}
@@ -9,28 +8,28 @@ use Rattle.graph_verify.specs.Links.{reads, writes, is_written}
 use Rattle.graph_verify.specs.Members.{In}
 use Rattle.buffer_plan.specs.declared.lives.Life.{Life}
 
--- whether a node of the list reads or writes a cell
+-- whether a node of the list reads or writes an operand
 abbrev pub is_used : List Node → Cell → Bool
 is_used nodes cell = list_any (λ n. reads n cell || writes n cell) nodes
 
--- whether a cell is live at a step: it or an earlier one writes the cell, and it or a later one
--- reads or writes it. A cell that one node writes is so from the step that writes it to the last
--- step that reads it, or at its own step alone
+-- whether an operand is live at a step: a step up to this one writes it, and a step from this one
+-- on uses it. An operand with one writer lives from the step that writes it to the last that reads
+-- it.
 abbrev pub is_live : List Node → Cell → ℕ → Bool
 is_live steps cell step = is_written (take step steps) cell && is_used (drop (step - 1) steps) cell
 
--- ---- lives as they are found
+-- ---- lives as they are computed
 
--- whether a step stands between the first and the last of a life
+-- whether a step is within a life
 abbrev pub is_in : ℕ → Life → Bool
 is_in step l = nat_le l.first step && nat_le step l.last
 
--- the steps of a life are those at which the image is live; the first is the first that writes it
+-- a life has exactly the steps at which the image is live, and begins with the first that writes it
 pub record IsLife (steps : List Node) (l : Life) : Type 0 where
   pub first : l.first ≡ position_or_len (λ n. writes n l.image.cell) steps + 1
   pub live : (step : ℕ) → is_live steps l.image.cell step ≡ is_in step l
 
--- a life for each image
+-- the lives of these images, in the same order
 pub record AreLives (steps : List Node) (images : List VirtualOutput)
     (lives : List Life) : Type 0 where
   pub each : map (λ l. l.image) lives ≡ images

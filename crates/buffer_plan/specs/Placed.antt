@@ -1,4 +1,4 @@
--- Images in slots, as they are found.
+-- The assignment of images to slots, as it is computed.
 use Rattle.std.specs.Prelude.{◌≡◌, ◌≢◌, ℕ, ◌<◌, ◌≤◌, ◌==◌, ◌⊎◌, List, [], ◌∷◌, ◌++◌, length, map, find, slice_index, slice_index_or, slice_set, Option, Some, None, true}
 use Rattle.std.specs.List.{filter}
 use Rattle.std.specs.Option.{option_map}
@@ -11,27 +11,27 @@ use Rattle.buffer_plan.specs.declared.slots.Places.{Places}
 use Rattle.buffer_plan.specs.Lives.{is_in}
 use Rattle.buffer_plan.specs.Slots.{greatest}
 
--- each ends no earlier than it begins, and none begins before one that stands before it
+-- lives in the order of their first steps, each of which ends no earlier than it begins
 abbrev pub Rising : List Life → Type 0
 Rising [] = Unit {0}
 Rising (l ∷ ls) = (l.first ≤ l.last) × ((m : Life) → In m ls → l.first ≤ m.first) × Rising ls
 
--- how many are live at the step
+-- the number of images that are live at a step
 abbrev pub count_in : ℕ → List Life → ℕ
 count_in step lives = length (filter (is_in step) lives)
 
--- the slot of an image
+-- the slot of an image, if it has one
 abbrev pub slot_among : List Placed → Cell → Option ℕ
 slot_among placed cell =
     option_map (λ p. p.slot) (find (λ p. same_cell p.life.image.cell cell) placed)
 
--- the greatest sample count of the images of a slot
+-- the greatest sample count of the images that share a slot
 abbrev pub samples_in : List Placed → ℕ → ℕ
 samples_in placed k =
     greatest (map (λ p. sample_count p.life.image.desc) (filter (λ p. p.slot == k) placed))
 
--- a slot for a life, by the last steps at which the images of each slot are live: one that is free
--- again, or a new one where none is
+-- a life takes a slot that is free again, or a new one if none is free; `ends` and `ends'` have the
+-- last live step of each slot before and after
 abbrev pub TakesSlot : Life → List ℕ → List ℕ → ℕ → Type 0
 TakesSlot l ends ends' slot =
     ((slot < length ends) × (slice_index_or ends slot 0 < l.first)
@@ -39,25 +39,25 @@ TakesSlot l ends ends' slot =
     ⊎ ((slot ≡ length ends) × (ends' ≡ ends ++ l.last ∷ [])
     × ((k : ℕ) → k < length ends → l.first ≤ slice_index_or ends k 0))
 
--- none that is live at one step with p has p's slot
+-- no image that is live together with p has p's slot
 abbrev pub IsApart : Placed → List Placed → Type 0
 IsApart p ps = (q : Placed) (step : ℕ) → In q ps → is_in step p.life ≡ true →
     is_in step q.life ≡ true → p.slot ≢ q.slot
 
--- no two that are live at one step have one slot
+-- no two images that are live together share a slot
 abbrev pub AllApart : List Placed → Type 0
 AllApart [] = Unit {0}
 AllApart (p ∷ ps) = IsApart p ps × AllApart ps
 
--- as many are live at the step as there are slots, and fewer at each before it
+-- at this step the number of live images reaches the count for the first time
 pub record IsReached (lives : List Life) (count step : ℕ) : Type 0 where
   pub some : 0 < count
   pub there : count ≤ count_in step lives
   pub fewer_before : (earlier : ℕ) → earlier < step → count_in earlier lives < count
 
--- the lives, each in a slot below the number of slots, with room for its image; where the lives
--- stand in the order of writing, no two that are live at one step have the same slot, and as many
--- are live at the peak as there are slots
+-- lives with their slots, and the greatest sample count of each slot. If the lives are in the order
+-- of their first steps, no two that overlap share a slot, and the number of live images at the peak
+-- step equals the number of slots.
 pub record ArePlaced (lives : List Life) (p : Places) : Type 0 where
   pub each : map (λ q. q.life) p.placed.items ≡ lives
   pub below : (q : Placed) → In q p.placed.items → q.slot < length p.samples.items

@@ -1,4 +1,4 @@
--- What a plan tells, by the places of each format.
+-- A plan's view, from the slots of each format.
 use Rattle.std.specs.Prelude.{List, length, slice_index}
 use Rattle.std.specs.Option.{option_or}
 use Rattle.vx_base.specs.declared.format.Format.{Format}
@@ -13,13 +13,13 @@ use Rattle.buffer_plan.specs.Placed.{slot_among, ArePlaced}
 use Rattle.buffer_plan.specs.Plan.{PlanValue}
 use Rattle.buffer_plan.specs.Slots.{of_format}
 
--- the images of a format, each in a slot
+-- the slots of the images of a format
 abbrev pub places_in : Plan → Format → Places
 places_in p U8 = p.u8s
 places_in p S16 = p.s16s
 places_in p U32 = p.u32s
 
--- what the plan tells
+-- the plan's view
 abbrev pub told : Plan → PlanValue
 told p =
     record {
@@ -31,7 +31,7 @@ told p =
       peak_step = λ format. (places_in p format).peak_step;
     }
 
--- the images of a format with their lives, each in a slot
+-- the images of a format, with exact lives and their slots
 pub record IsPlacedFor (steps : List Node) (images : List VirtualOutput) (format : Format)
     (p : Places) : Type 0 where
   pub lives : List Life

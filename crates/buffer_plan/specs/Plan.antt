@@ -1,4 +1,4 @@
--- A plan of slots for the virtual images that a graph's nodes write.
+-- Plans: slots for the virtual images that a graph's nodes write.
 use Rattle.std.specs.Prelude.{◌≡◌, ℕ, ◌<◌, false, List, map, Option, IfSome, is_some}
 use Rattle.std.specs.List.{list_any, filter}
 use Rattle.vx_base.specs.declared.format.Format.{Format}
@@ -10,16 +10,16 @@ use Rattle.graph_verify.specs.Links.{has_twice}
 use Rattle.graph_verify.specs.Members.{In}
 use Rattle.buffer_plan.specs.Slots.{of_format, is_slot, greatest, IsValid, IsPeak}
 
--- a plan by what it tells: the slot of an image, and of each format how many slots there are, how
--- many samples each has to hold, and the first step that needs so many slots
+-- a plan's view: the slot of each image; for each format the number of slots, the sample count of
+-- each slot, and the first step that needs all of them
 pub record PlanValue : Type 0 where
   pub slot_of : Cell → Option ℕ
   pub slot_count : Format → ℕ
   pub slot_samples : Format → ℕ → ℕ
   pub peak_step : Format → Option ℕ
 
--- a valid plan with a slot for each image, which are of different cells, and for no other cell;
--- there are as many slots of a format as the peak says, and each has room for those that share it
+-- a valid plan with a slot for each image and for nothing else. Each format has as many slots as
+-- its peak, and each slot has the greatest sample count of the images that share it.
 pub record IsPlan (steps : List Node) (images : List VirtualOutput) (p : PlanValue) : Type 0 where
   pub once : has_twice (map (λ o. o.cell) images) ≡ false
   pub given : (cell : Cell) →

@@ -1,4 +1,4 @@
--- Slots of virtual images: which plans of them are valid, and how many slots a format needs.
+-- Slots of virtual images: valid assignments, and the number of slots that a format needs.
 use Rattle.std.specs.Prelude.{◌≡◌, ℕ, ◌<◌, ◌≤◌, ◌==◌, Bool, false, List, [], ◌∷◌, length, nat_le, if◌then◌else◌, Option, Some, None}
 use Rattle.std.specs.List.{filter}
 use Rattle.vx_base.specs.declared.format.Format.{Format}
@@ -18,18 +18,18 @@ abbrev pub live_images : List Node → List VirtualOutput → Format → ℕ →
 live_images steps images format step =
     filter (λ o. is_live steps o.cell step) (of_format format images)
 
--- a valid plan: no two images of a format that are live at one step have one slot
+-- a valid assignment: no two images of one format that are live at one step share a slot
 abbrev pub IsValid : {S : Type 0} → List Node → List VirtualOutput → (Cell → S) → Type 0
 IsValid steps images slot = (format : Format) (step : ℕ) (a b : VirtualOutput) →
     In a (live_images steps images format step) → In b (live_images steps images format step) →
     slot a.cell ≡ slot b.cell → a ≡ b
 
--- the list has the slot of each image of the format
+-- a list that includes the slot of each image of the format
 abbrev pub AreSlotsOf : {S : Type 0} → (Cell → S) → Format → List VirtualOutput → List S → Type 0
 AreSlotsOf slot format images slots = (o : VirtualOutput) → In o (of_format format images) →
     In (slot o.cell) slots
 
--- the first step at which so many images of a format are live
+-- the first step at which count images of the format are live
 pub record IsFirstWith (steps : List Node) (images : List VirtualOutput) (format : Format)
     (count step : ℕ) : Type 0 where
   pub some : 0 < count
@@ -38,19 +38,19 @@ pub record IsFirstWith (steps : List Node) (images : List VirtualOutput) (format
       length (live_images steps images format earlier) < count
 
 -- the peak of a format: the greatest number of its images that are live at one step, and the first
--- step at which so many are, None where that is 0
+-- such step; None if the number is 0
 pub record IsPeak (steps : List Node) (images : List VirtualOutput) (format : Format) (count : ℕ)
     (first : Option ℕ) : Type 0 where
   pub most : (step : ℕ) → length (live_images steps images format step) ≤ count
   pub none : first ≡ None → count ≡ 0
   pub some : (step : ℕ) → first ≡ Some step → IsFirstWith steps images format count step
 
--- the greatest of these numbers, 0 where there are none
+-- the greatest of these numbers, or 0 if there are none
 abbrev pub greatest : List ℕ → ℕ
 greatest [] = 0
 greatest (n ∷ ns) = if nat_le n (greatest ns) then greatest ns else n
 
--- whether this slot is there
+-- whether the slot is k
 abbrev pub is_slot : ℕ → Option ℕ → Bool
 is_slot k None = false
 is_slot k (Some slot) = slot == k

@@ -1,4 +1,4 @@
-//! What plans mean.
+//! Facts about plans.
 ghost use Rattle.std.specs.Prelude.{◌≡◌, ◌≢◌, ◌∷◌, ◌++◌, List, true, false};
 ghost use Rattle.vx_base.specs.declared.node.Node.{Node};
 ghost use Rattle.graph_verify.specs.declared.known.VirtualOutput.{VirtualOutput};
@@ -7,8 +7,8 @@ ghost use Rattle.graph_verify.specs.Members.{In};
 ghost use Rattle.buffer_plan.specs.Lives.{is_used};
 ghost use Rattle.buffer_plan.specs.Plan.{IsPlan, PlanValue};
 
-/// What stands in a slot when another image of the format takes it isn't used again: neither by the
-/// step that writes that image nor by a later one.
+/// When an image takes a slot, the image that was in it before is no longer used: neither by the
+/// step that writes the new image nor by a later one.
 pub fn free_when_taken()
     ensures { (before after : List Node) (n : Node) (images : List VirtualOutput) (p : PlanValue) →
         IsPlan (before ++ n ∷ after) images p → (taken held : VirtualOutput) →

@@ -1,15 +1,16 @@
-//! Plans of slots for the virtual images of a graph, which needn't all be there at once.
+//! Plans of buffers for the virtual images of a graph, so that images that are never live together
+//! share one.
 //!
-//! A virtual image is live from the step that writes it to the last that reads it. Images of one
-//! format that are never live at one step may stand in one buffer, in one *slot* of the plan. A
-//! `Plan` gives each virtual image that the nodes of a verified graph write its slot, with as few
-//! slots of each format as any plan for this order of the nodes has; `peak_step` tells a step that
-//! needs so many.
+//! A virtual image is live from the step that writes it to the last step that reads it. Images of
+//! one format that are never live at one step can share a buffer, which the plan calls a *slot*. A
+//! `Plan` gives each virtual image that a verified graph writes its slot. No plan for the same
+//! order of the nodes has fewer slots of a format, and `peak_step` returns the first step that
+//! needs all of them.
 //!
-//! - `lives`: from which step to which images are live
-//! - `slots`: the images of one format, each in a slot
+//! - `lives`: the steps from which and up to which images are live
+//! - `slots`: the assignment of the images of one format
 //! - `plan`: the plan of a verified graph
-//! - `laws`: what plans mean
+//! - `laws`: facts about plans
 #![tactic(auto)]
 
 pub mod laws;

@@ -1,4 +1,4 @@
-//! From which step to which virtual images are live. Steps are counted from 1.
+//! Lives of virtual images. Steps are counted from 1.
 ghost use Rattle.std.specs.Prelude.{◌≡◌, ℕ, ◌+◌, ◌||◌, drop, nat_lt, position, IfOk};
 ghost use Rattle.std.specs.List.{position_or_len};
 ghost use Rattle.vx_base.specs.Sample.{same_format};
@@ -10,7 +10,7 @@ use graph_verify::VirtualOutput;
 use std::alloc::{AllocError, Global};
 use vx_base::{Format, Node, ObjRef};
 
-/// A virtual image, and the first and the last step at which it is live.
+/// A virtual image, with the first and the last step at which it is live.
 #[derive(Clone, Copy)]
 pub struct Life {
     pub image: VirtualOutput,
@@ -18,28 +18,28 @@ pub struct Life {
     pub last: usize,
 }
 
-/// Whether a node writes a cell.
+/// Whether a node writes an operand.
 fn writes(node: &Node, cell: ObjRef) -> bool
     ensures { result ≡ writes node.now cell }
 {
     node.out1 == Some(cell) || node.out2 == Some(cell)
 }
 
-/// Whether a node reads or writes a cell.
+/// Whether a node reads or writes an operand.
 fn uses(node: &Node, cell: ObjRef) -> bool
     ensures { result ≡ (reads node.now cell || writes node.now cell) }
 {
     node.in1 == cell || node.in2 == Some(cell) || writes(node, cell)
 }
 
-/// How many steps there are before the first that writes a cell.
+/// The number of steps before the first that writes an operand, if one does.
 fn steps_before(steps: &[Node], cell: ObjRef) -> Option<usize>
     ensures { result ≡ position (λ n. writes n cell) steps.now }
 {
     steps.iter().position(|node| writes(node, cell))
 }
 
-/// The first step that writes a cell, or one more than there are.
+/// The first step that writes an operand, or the number of steps plus 1 if none does.
 fn first_writing(steps: &[Node], cell: ObjRef) -> usize
     ensures { result ≡ position_or_len (λ n. writes n cell) steps.now + 1 }
 {
@@ -49,7 +49,7 @@ fn first_writing(steps: &[Node], cell: ObjRef) -> usize
     }
 }
 
-/// The last step that reads or writes a cell, 0 where none does.
+/// The last step that reads or writes an operand, or 0 if none does.
 fn last_use(steps: &[Node], cell: ObjRef) -> usize
     ensures { (j : ℕ) → is_used (drop j steps.now) cell ≡ nat_lt j result }
 {
@@ -63,7 +63,7 @@ fn last_use(steps: &[Node], cell: ObjRef) -> usize
     0
 }
 
-/// When an image is live.
+/// The life of an image.
 fn life_of(steps: &[Node], image: VirtualOutput) -> Life
     ensures image { result.image ≡ image }
     ensures life { IsLife steps.now result }
@@ -75,14 +75,14 @@ fn life_of(steps: &[Node], image: VirtualOutput) -> Life
     }
 }
 
-/// Whether an image is of a format.
+/// Whether an image has this format.
 fn is_of(image: &VirtualOutput, format: Format) -> bool
     ensures { result ≡ same_format image.now.desc.format format }
 {
     image.desc.format() == format
 }
 
-/// When the images of a format are live.
+/// Returns the lives of the images of a format, or an error if there is no memory for them.
 pub fn lives_of(
     alloc: Global,
     steps: &[Node],

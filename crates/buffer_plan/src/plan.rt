@@ -18,8 +18,7 @@ use graph_verify::Verified;
 use std::alloc::{AllocError, Global};
 use vx_base::{Format, ObjRef};
 
-/// In which slot each virtual image of a verified graph stands while it is live. Slots are counted
-/// from 0, for each format by itself.
+/// A slot for each virtual image of a verified graph. The slots of each format are counted from 0.
 #[derive(Drop)]
 pub struct Plan {
     u8s: Places,
@@ -28,8 +27,8 @@ pub struct Plan {
 }
 
 impl Plan {
-    /// Plans where the virtual images that a verified graph writes stand while it runs in its
-    /// order. It takes memory, and an error says that none was found.
+    /// Plans the slots of the virtual images that a verified graph writes, for its order of nodes.
+    /// An error means that there is no memory for the plan.
     pub fn new(alloc: Global, verified: &Verified) -> Result<Plan, AllocError>
         ensures plan { IfOk result (λ p. (work : ℕ) (is : Cell → Operand)
             (nodes : List NodeFields) →
@@ -47,7 +46,7 @@ impl Plan {
         })
     }
 
-    /// The images of a format.
+    /// The slots of the images of a format.
     fn places(&self, format: Format) -> &Places
         ensures { result.now ≡ places_in self.now format }
     {
@@ -58,8 +57,8 @@ impl Plan {
         }
     }
 
-    /// The slot of a virtual image that the nodes write, among those of its format. `None` for
-    /// every other cell.
+    /// Returns the slot of a virtual image, among those of its format, or `None` if no node of the
+    /// graph writes this operand or it isn't virtual.
     pub fn slot_of(&self, cell: ObjRef) -> Option<usize>
         ensures { result ≡ (told self.now).slot_of cell }
     {
@@ -67,7 +66,7 @@ impl Plan {
         u8s.or(s16s).or(self.u32s.slot_of(cell))
     }
 
-    /// How many slots of a format there are: no plan for this order has fewer.
+    /// Returns the number of slots of a format: no plan for this order of the nodes has fewer.
     pub fn slot_count(&self, format: Format) -> usize
         ensures value { result ≡ (told self.now).slot_count format }
         ensures least { (steps : List NodeFields) (images : List Image) →
@@ -77,8 +76,8 @@ impl Plan {
         self.places(format).samples.len()
     }
 
-    /// The greatest number of samples of the images that share a slot, 0 where there is no such
-    /// slot.
+    /// Returns the size of a slot in samples: the greatest sample count of the images that share
+    /// it, or 0 if there is no such slot.
     pub fn slot_samples(&self, format: Format, slot: usize) -> usize
         ensures { result ≡ (told self.now).slot_samples format slot }
     {
@@ -86,8 +85,8 @@ impl Plan {
         samples.get(slot).copied().unwrap_or(0)
     }
 
-    /// The first step, counted from 1, at which as many images of the format are live as it has
-    /// slots. `None` where it has none.
+    /// Returns the first step, counted from 1, at which as many images of the format are live as it
+    /// has slots, or `None` if it has none.
     pub fn peak_step(&self, format: Format) -> Option<usize>
         ensures { result ≡ (told self.now).peak_step format }
     {
@@ -95,7 +94,7 @@ impl Plan {
     }
 }
 
-/// The images of a format that a verified graph writes, each in a slot.
+/// Assigns slots to the images of a format that a verified graph writes.
 fn places_of(alloc: Global, verified: &Verified, format: Format) -> Result<Places, AllocError>
     ensures { IfOk result (λ places.
         IsPlacedFor verified.now.steps.items verified.now.virtual_outputs.items format places) }

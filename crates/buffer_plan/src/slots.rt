@@ -1,4 +1,4 @@
-//! The images of one format, each in a slot.
+//! The assignment of the images of one format to slots.
 ghost use Rattle.std.specs.Prelude.{◌≡◌, ℕ, ◌<◌, List, length, map, position, nat_lt, IfOk, Some};
 ghost use Rattle.std.specs.Prelude.{if◌then◌else◌, slice_index};
 ghost use Rattle.std.specs.List.{filter};
@@ -11,26 +11,27 @@ use crate::lives::Life;
 use std::alloc::{AllocError, Global};
 use vx_base::ObjRef;
 
-/// An image with its life, and its slot.
+/// An image's life and slot.
 #[derive(Clone, Copy)]
 pub struct Placed {
     pub life: Life,
     pub slot: usize,
 }
 
-/// The images of one format, each in a slot.
+/// The images of one format with their slots.
 #[derive(Drop)]
 pub struct Places {
-    /// In the order of writing.
+    /// The images in the order of their first steps.
     pub placed: Vec<Placed>,
     /// The greatest sample count of the images of each slot.
     pub samples: Vec<usize>,
-    /// The first step at which as many images are live as there are slots.
+    /// The first step at which as many images are live as there are slots; `None` if there is no
+    /// slot.
     pub peak_step: Option<usize>,
 }
 
 impl Places {
-    /// The slot of an image.
+    /// Returns the slot of an image, if it has one.
     pub fn slot_of(&self, cell: ObjRef) -> Option<usize>
         ensures { result ≡ slot_among self.now.placed.items cell }
     {
@@ -41,15 +42,14 @@ impl Places {
     }
 }
 
-/// The first slot whose images are live no longer, by the last steps at which those of each slot
-/// are.
+/// The first slot that is free at step `first`, by the last step at which each slot is in use.
 fn free_slot(ends: &[usize], first: usize) -> Option<usize>
     ensures { result ≡ position (λ end. nat_lt end first) ends.now }
 {
     ends.iter().position(|end| *end < first)
 }
 
-/// Takes a slot for an image: one that is free again, else a new one.
+/// Takes the first free slot for an image, or a new one if none is free.
 fn take_slot(ends: &mut Vec<usize>, life: &Life) -> Result<usize, AllocError>
     ensures { IfOk result (λ slot. TakesSlot life.now ends.old.items ends.new.items slot) }
 {
@@ -83,15 +83,16 @@ fn greatest_samples(
     Ok(samples)
 }
 
-/// The first step at which as many images are live as there are slots, once one more has a slot.
+/// The peak step after one more image: the step that writes the image if its slot is new, else as
+/// before.
 fn peak_after(before: Option<usize>, life: &Life, is_new: bool) -> Option<usize>
     ensures { result ≡ (if is_new then Some life.now.first else before) }
 {
     if is_new { Some(life.first) } else { before }
 }
 
-/// Gives each image, in the order of writing, a slot: the first that is free, so that as few are
-/// taken as can be.
+/// Gives each image a slot: the first that is free. For lives in the order of their first steps
+/// this takes as few slots as possible. An error means that there is no memory for the result.
 pub fn place(alloc: Global, lives: &[Life]) -> Result<Places, AllocError>
     ensures { IfOk result (λ places. ArePlaced lives.now places) }
 {

@@ -1,4 +1,4 @@
--- Bands of rows of an image.
+-- Bands: consecutive rows of an image.
 use Rattle.std.specs.Prelude.{ℕ, ℤ, pos, Bool, ◌+◌, ◌-◌, ◌*◌, ◌≤◌, ◌&&◌, nat_le, nat_lt, List, ◌++◌, replicate}
 use Rattle.vx_base.specs.Rectangle.{Rectangle}
 use Rattle.vx_base.specs.Description.{Description}
@@ -9,28 +9,28 @@ use Rattle.image_core.specs.declared.band.Band.{Band}
 abbrev pub all_rows : ℕ → Band
 all_rows height = record { start = 0; count = height }
 
--- a band of an image of this height
+-- a band that lies within an image of this height
 abbrev pub IsInRows : ℕ → Band → Type 0
 IsInRows height rows = rows.start + rows.count ≤ height
 
--- row y is one of the band's
+-- whether row y is in the band
 abbrev pub has_row : Band → ℕ → Bool
 has_row rows y = nat_le rows.start y && nat_lt (y - rows.start) rows.count
 
--- as many zeros as there are places in so many rows of this width
+-- the samples of count rows of this width, all 0
 abbrev pub zero_rows : ℕ → ℕ → List ℤ
 zero_rows width count = replicate (count * width) (pos 0)
 
--- the image of a description and a rectangle with these samples in the band's rows, and 0 in every other row
+-- the image with this description, valid rectangle, and samples in the band's rows; all other samples are 0
 abbrev pub image_over_rows : Description → Rectangle → Band → List ℤ → ImageValue
 image_over_rows d valid rows samples =
     image_over d valid (zero_rows d.width rows.start ++ (samples ++ zero_rows d.width (d.height - (rows.start + rows.count))))
 
--- the image of which the band's rows alone are held: 0 in every other row
+-- the image with the samples outside the band's rows set to 0
 abbrev pub held_in : Band → ImageValue → ImageValue
 held_in rows image = image_over_rows (description_of image) image.valid rows (band image.width rows.start rows.count (at image))
 
--- the image with the samples of the band's rows alone
+-- the image with the list of its samples cut to the band's rows
 abbrev pub rows_in : Band → ImageValue → ImageValue
 rows_in rows image =
     record { width = image.width; height = image.height; format = image.format; valid = image.valid; samples = band image.width rows.start rows.count (at image) }

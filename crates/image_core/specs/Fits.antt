@@ -1,4 +1,4 @@
--- What a kernel may be given.
+-- Preconditions that the kernels share.
 use Rattle.std.specs.Prelude.{IsTrue, ⊤, Option, Some}
 use Rattle.std.specs.Option.{option_and_then}
 use Rattle.vx_base.specs.declared.function.Function.{Function}
@@ -9,16 +9,16 @@ use Rattle.vx_base.specs.Object.{ObjectValue, ImageObject, object_format}
 use Rattle.image_core.specs.declared.image_mut.ImageMut.{ImageMut}
 use Rattle.image_core.specs.Target.{written, IsTarget}
 
--- the images are as wide and as high
+-- the images have the same width and height
 abbrev pub HaveSameSize : ImageValue → ImageValue → Type 0
 HaveSameSize a b = IsTrue (same_size (description_of a) (description_of b))
 
--- an image beside the first input is of its size
+-- a second input that is an image has the first input's size
 abbrev pub SecondHasSize : ImageValue → Option ObjectValue → Type 0
 SecondHasSize a (Some (ImageObject b)) = HaveSameSize b a
 SecondHasSize a other = ⊤
 
--- an output for the function's formats, of the first input's size, as is an image beside it
+-- the function takes the operands' formats, and the output and a second input image have the first input's size
 pub record Fits (function : Function) (a : ImageValue) (second : Option ObjectValue) (out : ImageMut) : Type 0 where
   pub target : IsTarget out
   pub size : HaveSameSize (written out) a

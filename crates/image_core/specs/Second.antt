@@ -1,10 +1,10 @@
--- What a node reads beside its first input.
+-- A node's second operand.
 use Rattle.std.specs.Prelude.{Option, Some, None}
 use Rattle.vx_base.specs.Object.{ObjectValue, ImageObject, LutObject, ThresholdObject, ConvolutionObject}
 use Rattle.image_core.specs.declared.second.Second.{Second}
 use Rattle.image_core.specs.declared.second.Second.TheVariants.{Nothing, Image, Lut, Threshold, Convolution}
 
--- the object that stands beside the first input
+-- the second operand as an object, if there is one
 abbrev pub second_object : Second → Option ObjectValue
 second_object Nothing = None
 second_object (Image image) = Some (ImageObject image)

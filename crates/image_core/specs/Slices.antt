@@ -1,4 +1,4 @@
--- What the slices of an image hold.
+-- The samples in a slice of an image.
 use Rattle.std.specs.Prelude.{ℕ, ℤ, pos, List, map}
 use Rattle.vx_base.specs.declared.format.Format.{Format}
 use Rattle.vx_base.specs.declared.format.Format.TheVariants as format
@@ -16,7 +16,7 @@ slice_values (U8 samples) = map pos samples.now
 slice_values (S16 samples) = samples.now
 slice_values (U32 samples) = map pos samples.now
 
--- of the samples in three slices, those in the one of the format
+-- the samples in the slice of this format, one of three
 abbrev pub slice_of : Format → (bytes : List ℕ) (shorts : List ℤ) (words : List ℕ) → List ℤ
 slice_of format.U8 bytes shorts words = map pos bytes
 slice_of format.S16 bytes shorts words = shorts

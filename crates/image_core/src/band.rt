@@ -4,7 +4,7 @@ ghost use Rattle.image_core.specs.Bands.{all_rows, has_row};
 
 use vx_base::Desc;
 
-/// So many rows of an image, from row `start` on.
+/// A band of an image: `count` rows from row `start` on.
 #[derive(Clone, Copy, Debug, PartialEq, Eq)]
 pub struct Band {
     pub start: u16,
@@ -12,7 +12,7 @@ pub struct Band {
 }
 
 impl Band {
-    /// All rows of an image.
+    /// Returns the band of all rows of an image.
     pub fn whole(desc: Desc) -> Band
         ensures { result ≡ all_rows desc.height }
     {
@@ -22,7 +22,7 @@ impl Band {
         }
     }
 
-    /// Whether row y is one of them.
+    /// Checks whether row `y` is in the band.
     pub fn has_row(self, y: u16) -> bool
         ensures { result ≡ has_row self y }
     {

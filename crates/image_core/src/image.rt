@@ -1,4 +1,4 @@
-//! Images that are read.
+//! Input images.
 ghost use Rattle.std.specs.Prelude.{◌≡◌, ◌+◌, ◌*◌, ◌<◌, ◌≤◌, map, length};
 ghost use Rattle.vx_base.specs.Image.{IsImage, image_over, description_of, run, at};
 ghost use Rattle.image_core.specs.Bands.{IsInRows, image_over_rows};
@@ -10,13 +10,13 @@ use crate::slice::Slice;
 use std::marker::Model;
 use vx_base::{Desc, Rect};
 
-/// The samples of an image, or of a band of its rows, lent to who reads it, with the description and
-/// valid rectangle of the whole image. Each sample of the other rows is read as 0.
+/// An input image: the borrowed samples of an image or of a band of its rows, with the description
+/// and valid rectangle of the whole image. All samples outside the band count as 0.
 #[derive(Drop)]
 pub struct Image<'a> {
     desc: Desc,
     valid: Rect,
-    /// The rows whose samples there are.
+    /// The band whose samples are in the slice.
     rows: Band,
     samples: Slice<'a>,
 }
@@ -39,8 +39,8 @@ impl<'a> Model for Image<'a> {
 }
 
 impl<'a> Image<'a> {
-    /// The image over these samples, by rows from the top, one for each place, and 0 at each that
-    /// is not valid.
+    /// Returns the image over these samples, in row-major order, one for each pixel. Samples
+    /// outside the valid rectangle are 0.
     pub fn new<T: Sample>(desc: Desc, valid: Rect, samples: &'a [T]) -> Image<'a>
         requires format { desc.format ≡ T.format }
         requires image { IsImage (image_over desc valid (map T.value samples.now)) }
@@ -54,8 +54,9 @@ impl<'a> Image<'a> {
         }
     }
 
-    /// The image over the samples of these rows alone, one for each place of them. The description
-    /// and the rectangle are those of the whole image, of which each other sample is 0.
+    /// Returns the image over the samples of a band, one for each of the band's pixels. The
+    /// description and the valid rectangle are those of the whole image, whose other samples count
+    /// as 0.
     pub fn of_rows<T: Sample>(desc: Desc, valid: Rect, rows: Band, samples: &'a [T]) -> Image<'a>
         requires format { desc.format ≡ T.format }
         requires rows { IsInRows desc.height rows }
@@ -71,13 +72,14 @@ impl<'a> Image<'a> {
         }
     }
 
+    /// Returns the description of the whole image.
     pub fn desc(&self) -> Desc
         ensures { result ≡ description_of self.now }
     {
         self.desc
     }
 
-    /// The rectangle outside which each sample is 0.
+    /// Returns the valid rectangle; samples outside it are 0.
     pub fn valid(&self) -> Rect
         ensures value { result ≡ self.now.valid }
         ensures image { IsImage self.now }
@@ -85,7 +87,7 @@ impl<'a> Image<'a> {
         self.valid
     }
 
-    /// Row y: as many samples as the image is wide, of its format's number type.
+    /// Returns row `y`: `width` samples in the number type of the image's format.
     pub fn row<T: Sample>(&self, y: u16) -> &[T]
         requires format { self.now.format ≡ T.format }
         requires below { y < self.now.height }
@@ -100,7 +102,7 @@ impl<'a> Image<'a> {
         &T::lent(self.samples)[start..start + width]
     }
 
-    /// Samples of row y, so many from column x on.
+    /// Returns `count` samples of row `y`, from column `x` on.
     pub fn part_of_row<T: Sample>(&self, x: u16, y: u16, count: usize) -> &[T]
         requires format { self.now.format ≡ T.format }
         requires below { y < self.now.height }

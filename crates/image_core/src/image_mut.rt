@@ -1,4 +1,4 @@
-//! Images that are written.
+//! Output images.
 ghost use Rattle.std.specs.Prelude.{◌≡◌, ◌*◌, ◌≤◌, pos, map, length};
 ghost use Rattle.vx_base.specs.declared.format.Format.TheVariants.{U8, U32};
 ghost use Rattle.vx_base.specs.Rectangle.{empty, IsWithin};
@@ -17,8 +17,8 @@ use crate::sample::Sample;
 use crate::whole::Whole;
 use vx_base::{Desc, Format, Rect};
 
-/// The samples of a band of rows of an image, or of all its rows, lent to who writes them. Of the
-/// slices the one of the format holds the samples, row by row.
+/// An output image: the mutably borrowed samples of an image or of a band of its rows. Only the
+/// slice of the image's format is in use, row by row; the other two are empty.
 #[derive(Drop)]
 pub struct ImageMut<'a> {
     pub(crate) desc: Desc,
@@ -32,8 +32,9 @@ pub struct ImageMut<'a> {
 impl<'a> ImageMut<'a> {
     ghost use Rattle.image_core.specs.Target.{written, IsTarget, SameSlices, Writes};
 
-    /// The image over these samples, one for each place, with the empty rectangle. Who lent them
-    /// learns what they end as: they stand in the slice of this name.
+    /// Returns an output over these samples, one for each pixel, with an empty valid rectangle.
+    /// `same_slice` ties the output's slice to the caller's, so the caller learns the samples when
+    /// the borrow ends.
     pub fn new<T: Sample>(desc: Desc, samples: &'a mut [T]) -> ImageMut<'a>
         requires format { desc.format ≡ T.format }
         requires size { length samples.old ≡ sample_count desc }
@@ -45,8 +46,8 @@ impl<'a> ImageMut<'a> {
         T::lend_mut(desc, Band::whole(desc), samples)
     }
 
-    /// A band of rows of the image over these samples, one for each place of these rows, with the
-    /// empty rectangle. What writes whole images to it writes these rows of them alone.
+    /// Returns an output over the samples of a band, one for each of the band's pixels, with an
+    /// empty valid rectangle. Kernels that write whole images write only the band's rows to it.
     pub fn of_rows<T: Sample>(desc: Desc, rows: Band, samples: &'a mut [T]) -> ImageMut<'a>
         requires format { desc.format ≡ T.format }
         requires rows { IsInRows desc.height rows }
@@ -59,26 +60,28 @@ impl<'a> ImageMut<'a> {
         T::lend_mut(desc, rows, samples)
     }
 
+    /// Returns the description of the whole image.
     pub fn desc(&self) -> Desc
         ensures { result ≡ self.now.desc }
     {
         self.desc
     }
 
+    /// Returns the valid rectangle.
     pub fn valid(&self) -> Rect
         ensures { result ≡ self.now.valid }
     {
         self.valid
     }
 
-    /// The rows whose samples are written.
+    /// Returns the band that is written.
     pub fn rows(&self) -> Band
         ensures { result ≡ self.now.rows }
     {
         self.rows
     }
 
-    /// Makes this the valid rectangle; the samples stay.
+    /// Sets the valid rectangle; the samples stay as they are.
     pub fn set_valid(&mut self, valid: Rect)
         requires target { IsTarget self.old }
         requires room { IsWithin valid (written self.old).width (written self.old).height }
@@ -90,7 +93,7 @@ impl<'a> ImageMut<'a> {
         self.valid = valid;
     }
 
-    /// Makes each sample outside the valid rectangle 0; those inside stay.
+    /// Sets each sample outside the valid rectangle to 0; those inside stay as they are.
     pub fn clear_outside(&mut self)
         requires target { IsTarget self.old }
         requires room { IsWithin (written self.old).valid (written self.old).width
@@ -109,8 +112,8 @@ impl<'a> ImageMut<'a> {
         }
     }
 
-    /// Updates the samples in the update's area, from what they were; each outside it becomes 0.
-    /// The area is the valid rectangle then.
+    /// Updates each sample in the update's area in place, and sets those outside it to 0. The area
+    /// becomes the valid rectangle.
     pub fn update<T: Sample, U: RowUpdate<T>>(&mut self, update: &U)
         requires target { IsTarget self.old }
         requires format { (written self.old).format ≡ T.format }
@@ -125,7 +128,8 @@ impl<'a> ImageMut<'a> {
         T::change_samples(self, &Updated { update }, &mut []);
     }
 
-    /// Writes a whole image: the formula's samples in its area, 0 elsewhere.
+    /// Writes a whole image: the formula's samples in its area, 0 elsewhere. The area becomes the
+    /// valid rectangle.
     pub fn write<T: Sample, F: Formula<T>>(&mut self, formula: &F)
         requires target { IsTarget self.old }
         requires format { (written self.old).format ≡ T.format }
@@ -137,8 +141,8 @@ impl<'a> ImageMut<'a> {
         self.write_by_rows::<T, u8, _>(&Unaided { formula }, &mut []);
     }
 
-    /// Writes a whole image: the formula's samples in its area, 0 elsewhere. The scratch memory is
-    /// the formula's.
+    /// Writes a whole image from a formula that needs scratch memory: its samples in its area, 0
+    /// elsewhere. The area becomes the valid rectangle.
     pub fn write_by_rows<T: Sample, S, F: RowFormula<T, S>>(
         &mut self,
         formula: &F,
@@ -156,7 +160,7 @@ impl<'a> ImageMut<'a> {
         T::change_samples(self, &Written { formula }, scratch);
     }
 
-    /// Writes the samples of a U32 image by rows at once, and its rectangle.
+    /// Writes a whole U32 image, row after row. The area becomes the valid rectangle.
     pub fn write_whole<W: Whole>(&mut self, whole: &W)
         requires target { IsTarget self.old }
         requires format { (written self.old).format ≡ U32 }

@@ -1,16 +1,18 @@
-//! Images over slices of samples, images that are computed place by place, and what all kernels
-//! are given.
+//! Input and output images over slices of samples, and the traits by which kernels describe what
+//! they write.
 //!
-//! An `Image` lends the samples of an image to who reads it, or of a `Band` of its rows: its rows are
-//! those of an image value, 0 outside the valid rectangle and in the rows that are not lent. An
-//! `ImageMut` lends the samples of an image to who writes it, or of a band of its rows. Both are read
-//! and written by the number type of the format, a `Sample`.
-//! What is computed place by place is a `Formula`, and one that needs scratch memory for that, and
-//! takes no more of a row than a piece at once, a `RowFormula`; `ImageMut::write` and
-//! `write_by_rows` write a whole image of one, or the band's rows of it: each sample, and 0 outside
-//! the rectangle. So whatever writes whole images by them writes any rows of them too.
-//! A `RowUpdate` is what samples become from what they were, which `ImageMut::update` does in place.
-//! `Second` is what a kernel reads beside its first image.
+//! - An `Image` borrows the samples of an input image, or of a `Band` of its rows. Its samples are
+//!   those of an image value, 0 outside the valid rectangle and outside the band.
+//! - An `ImageMut` borrows the samples of an output image, or of a band of its rows. A kernel that
+//!   writes a whole image to it writes only the band's rows, so every kernel can also compute
+//!   bands.
+//! - A `Sample` is the number type of a format; images are read and written in it.
+//! - A `Formula` gives each sample of an image by its pixel. A `RowFormula` does the same piece by
+//!   piece of a row, with scratch memory. `ImageMut::write` and `write_by_rows` write an image from
+//!   them, with 0 outside the valid rectangle.
+//! - A `RowUpdate` gives each sample's new value from its old one; `ImageMut::update` applies it in
+//!   place.
+//! - A `Second` is a kernel's second operand.
 #![tactic(auto)]
 
 mod band;

@@ -1,4 +1,4 @@
-//! What is written and updated row by row, told once.
+//! The common form of writing and updating, so that rows are walked by one implementation.
 ghost use Rattle.std.specs.Prelude.{◌≡◌, ◌+◌, ◌<◌, ◌≤◌, ℕ, ℤ, length, map};
 ghost use Rattle.vx_base.specs.Rectangle.{Rectangle};
 ghost use Rattle.vx_base.specs.Image.{run};
@@ -9,21 +9,22 @@ use crate::row_formula::RowFormula;
 use crate::row_update::RowUpdate;
 use vx_base::Rect;
 
-/// What each sample in a rectangle becomes, from what it was, with scratch memory for a row.
+/// A new value for each sample of a rectangle, computed from the old one, with scratch memory for a
+/// row.
 pub trait RowChange<T: Number, S> {
-    /// The sample in a column of a row, from the one that stood there.
+    /// The new sample in a column of a row, from the old one.
     ghost next: { Self → ℕ → ℕ → ℤ → ℤ };
 
-    /// The places whose samples can be changed.
+    /// The rectangle whose samples can be changed.
     ghost area: { Self → Rectangle };
 
-    /// How many items of scratch memory a row needs.
+    /// The number of scratch items that a row needs.
     ghost room: { Self → ℕ };
 
     fn area(&self) -> Rect
         ensures { result ≡ area self.now };
 
-    /// Changes the samples of row y from column x on.
+    /// Changes the samples of row `y` from column `x` on.
     fn change(&self, x: u16, y: u16, scratch: &mut [S], row: &mut [T])
         requires in_rows { ((area self.now).y0 ≤ y) × (y < (area self.now).y1) }
         requires in_columns { ((area self.now).x0 ≤ x) ×
@@ -33,7 +34,7 @@ pub trait RowChange<T: Number, S> {
             map T.value row.new ≡ run x (length row.old) (λ k. next self.now k y (before k)) };
 }
 
-/// A formula's samples, whatever was there before.
+/// A formula as a change that ignores the old samples.
 #[derive(Drop)]
 pub struct Written<'a, F> {
     pub formula: &'a F,
@@ -55,7 +56,7 @@ impl<T: Number, S, F: RowFormula<T, S>> RowChange<T, S> for Written<'_, F> {
     }
 }
 
-/// What samples become by an update, which needs no scratch memory.
+/// An update as a change that needs no scratch memory.
 #[derive(Drop)]
 pub struct Updated<'a, U> {
     pub update: &'a U,

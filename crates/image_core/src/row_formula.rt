@@ -1,4 +1,4 @@
-//! Samples that are computed row by row, with scratch memory.
+//! Formulas that need scratch memory, row by row.
 ghost use Rattle.std.specs.Prelude.{◌≡◌, ◌+◌, ◌<◌, ◌≤◌, ℕ, ℤ, length, map};
 ghost use Rattle.vx_base.specs.Rectangle.{Rectangle};
 ghost use Rattle.vx_base.specs.Image.{run};
@@ -7,21 +7,21 @@ use crate::formula::Formula;
 use crate::number::Number;
 use vx_base::Rect;
 
-/// What has a sample at each place of a rectangle, and needs scratch memory to compute a piece of a
-/// row of them. What the memory holds before a piece means nothing, so any piece can be asked for
-/// at any time. No piece has more than `most` columns, so the scratch memory needn't grow with the
-/// width of images.
+/// A formula that gives a sample for each pixel of a rectangle, and needs scratch memory to compute
+/// a piece of a row. The scratch memory carries nothing from one piece to the next, so pieces can
+/// be computed in any order. A piece has at most `most` columns, so the scratch memory needn't grow
+/// with the image's width.
 pub trait RowFormula<T: Number, S> {
     /// The sample in a column of a row.
     ghost at: { Self → ℕ → ℕ → ℤ };
 
-    /// The places that can be asked for.
+    /// The rectangle in which the formula is defined.
     ghost area: { Self → Rectangle };
 
-    /// How many columns of a row can be asked for at once.
+    /// The greatest number of columns in one piece.
     ghost most: { Self → ℕ };
 
-    /// How many items of scratch memory a piece needs.
+    /// The number of scratch items that a piece needs.
     ghost room: { Self → ℕ };
 
     fn area(&self) -> Rect
@@ -31,7 +31,7 @@ pub trait RowFormula<T: Number, S> {
         ensures value { result ≡ most self.now }
         ensures some { 1 ≤ result };
 
-    /// Writes samples of row y, at least one, from column x on.
+    /// Writes the samples of row `y`, at least one, from column `x` on.
     fn fill(&self, x: u16, y: u16, scratch: &mut [S], out: &mut [T])
         requires in_rows { ((area self.now).y0 ≤ y) × (y < (area self.now).y1) }
         requires in_columns { ((area self.now).x0 ≤ x) ×
@@ -42,7 +42,7 @@ pub trait RowFormula<T: Number, S> {
         ensures { map T.value out.new ≡ run x (length out.old) (λ k. at self.now k y) };
 }
 
-/// A formula that needs no scratch memory: whole rows of it are computed at once.
+/// A formula without scratch memory; a piece of it can be a whole row.
 #[derive(Drop)]
 pub struct Unaided<'a, F> {
     pub formula: &'a F,

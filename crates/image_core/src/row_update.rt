@@ -6,18 +6,18 @@ ghost use Rattle.vx_base.specs.Image.{run};
 use crate::number::Number;
 use vx_base::Rect;
 
-/// What each sample in a rectangle becomes, from what it was.
+/// A new value for each sample of a rectangle, computed from the old one.
 pub trait RowUpdate<T: Number> {
-    /// The sample in a column of a row, from the one that stood there.
+    /// The new sample in a column of a row, from the old one.
     ghost next: { Self → ℕ → ℕ → ℤ → ℤ };
 
-    /// The places whose samples can be updated.
+    /// The rectangle whose samples can be updated.
     ghost area: { Self → Rectangle };
 
     fn area(&self) -> Rect
         ensures { result ≡ area self.now };
 
-    /// Updates the samples of row y from column x on.
+    /// Updates the samples of row `y` from column `x` on.
     fn update(&self, x: u16, y: u16, row: &mut [T])
         requires in_rows { ((area self.now).y0 ≤ y) × (y < (area self.now).y1) }
         requires in_columns { ((area self.now).x0 ≤ x) ×
@@ -26,7 +26,7 @@ pub trait RowUpdate<T: Number> {
             map T.value row.new ≡ run x (length row.old) (λ k. next self.now k y (before k)) };
 }
 
-/// An update that leaves the samples of a rectangle as they are.
+/// An update that leaves the samples of a rectangle unchanged.
 #[derive(Drop)]
 pub struct Kept {
     pub area: Rect,

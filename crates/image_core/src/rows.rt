@@ -9,7 +9,7 @@ use crate::row_change::{RowChange, Updated};
 use crate::row_update::Kept;
 use vx_base::Rect;
 
-/// Writes one sample to each place.
+/// Sets all samples to one value.
 pub fn set_all<T: Number>(out: &mut [T], sample: T)
     ensures { map T.value out.new ≡ replicate (length out.old) (T.value sample) }
 {
@@ -18,8 +18,8 @@ pub fn set_all<T: Number>(out: &mut [T], sample: T)
     }
 }
 
-/// Changes a row that goes through the area of what changes it, which is in the columns from x0 to
-/// x1 - 1; the samples in other columns become 0.
+/// Changes the columns from `x0` to `x1 - 1` of a row, which are the change's area, and sets the
+/// other columns to 0.
 fn change_across<T: Number, S, C: RowChange<T, S>>(
     change: &C,
     y: u16,
@@ -44,7 +44,7 @@ fn change_across<T: Number, S, C: RowChange<T, S>>(
     set_all(tail, T::zero());
 }
 
-/// Changes row y where it is in the area of what changes it; its other samples become 0.
+/// Changes row `y` within the change's area, and sets its other samples to 0.
 fn change_row<T: Number, S, C: RowChange<T, S>>(
     change: &C,
     y: u16,
@@ -65,8 +65,8 @@ fn change_row<T: Number, S, C: RowChange<T, S>>(
     }
 }
 
-/// Changes the samples of a band of rows of an image, which stand row by row, where they are in the
-/// area of what changes them; the others become 0. `samples` has room for these rows alone.
+/// Changes the samples of a band within the change's area, and sets the others to 0. `samples` has
+/// the band's rows alone, in row-major order.
 pub fn change_rows<T: Number, S, C: RowChange<T, S>>(
     change: &C,
     width: u16,
@@ -94,8 +94,8 @@ pub fn change_rows<T: Number, S, C: RowChange<T, S>>(
     }
 }
 
-/// Makes the samples of a band of rows of an image, which stand row by row, 0 outside the
-/// rectangle.
+/// Sets the samples of a band outside the valid rectangle to 0. `samples` has the band's rows
+/// alone, in row-major order.
 pub fn clear_rows<T: Number>(valid: Rect, width: u16, rows: Band, samples: &mut [T])
     requires rows { rows.start + rows.count < 2 ^ 16 }
     requires size { length samples.old ≡ rows.count * width }

@@ -1,4 +1,4 @@
-//! Number types of the samples of each format.
+//! The number type of each format's samples.
 ghost use Rattle.std.specs.Prelude.{◌≡◌, ◌*◌, ◌≤◌, ℕ, pos, map, length, replicate};
 ghost use Rattle.vx_base.specs.declared.desc.TheConstants.{GREATEST_SIDE};
 ghost use Rattle.vx_base.specs.declared.format.Format.{Format};
@@ -17,35 +17,33 @@ use crate::rows::change_rows;
 use crate::slice::Slice;
 use vx_base::{Desc, GREATEST_SIDE, Rect};
 
-/// The number type of a format's samples. Images are read and written by it: `Image::row` and
-/// `ImageMut::write`.
+/// The number type of a format's samples. `Image::row` and `ImageMut::write` are generic over it.
 pub trait Sample: Number {
     ghost use Rattle.image_core.specs.declared.image_mut.ImageMut.{ImageMut};
     ghost use Rattle.image_core.specs.Target.{written, IsTarget, SameSlices};
 
-    /// The format of images of such samples.
+    /// The format of images with such samples.
     ghost format: { Format };
 
-    /// These samples, lent as those of an image.
+    /// Wraps the samples of an image in the slice of their format.
     fn lend(samples: &[Self]) -> Slice<'_>
         ensures format { slice_format result ≡ format }
         ensures value { slice_values result ≡ map Self.value samples.now };
 
-    /// The samples that are lent.
+    /// Unwraps the samples from the slice of their format.
     fn lent(samples: Slice<'_>) -> &[Self]
         requires { slice_format samples ≡ format }
         ensures { map Self.value result.now ≡ slice_values samples.entry };
 
-    /// So many samples that are 0, at most as many as an image is wide.
+    /// Returns `count` samples that are 0, at most as many as the widest image has columns.
     fn zeros<'a>(count: usize) -> &'a [Self]
         requires { count ≤ GREATEST_SIDE }
         ensures { map Self.value result.now ≡ replicate count (pos 0) };
 
-    /// Of the slices of an image that is written the name of the one of such samples.
+    /// The name of the slice with such samples, among the three of an output image.
     ghost slice_name: { ImageMut → ℕ };
 
-    /// The rows of an image over these samples, lent to who writes them, as `ImageMut::of_rows` has
-    /// it.
+    /// Returns the output over the samples of a band, as `ImageMut::of_rows` does.
     fn lend_mut<'a>(desc: Desc, rows: Band, samples: &'a mut [Self]) -> ImageMut<'a>
         requires format { desc.format ≡ format }
         requires rows { IsInRows desc.height rows }
@@ -55,8 +53,7 @@ pub trait Sample: Number {
         ensures value { written result ≡ image_over desc empty (map Self.value samples.old) }
         ensures same_slice { slice_name result ≡ samples.entry.ghost_name };
 
-    /// Changes the samples of the rows that an image is lent for, in the area of what changes them;
-    /// the others become 0.
+    /// Changes the samples of an output's band within the change's area, and sets the others to 0.
     fn change_samples<S, C: RowChange<Self, S>>(
         output: &mut ImageMut<'_>,
         change: &C,
@@ -75,17 +72,17 @@ pub trait Sample: Number {
         ensures slices { SameSlices output.old output.new };
 }
 
-/// The samples of the longest row.
+/// The number of samples in the longest row.
 const LONGEST_ROW: usize = GREATEST_SIDE as usize;
 
-/// Rows of zeros, as long as a row can be.
+/// Rows of zeros, as long as the longest row.
 static ZERO_BYTES: [u8; LONGEST_ROW] = [0; LONGEST_ROW];
 
 static ZERO_SHORTS: [i16; LONGEST_ROW] = [0; LONGEST_ROW];
 
 static ZERO_WORDS: [u32; LONGEST_ROW] = [0; LONGEST_ROW];
 
-/// The rows of an image over one of three slices, of which the others are empty.
+/// Makes an output over one of three slices; the others are empty.
 macro_rules! image_mut {
     ($desc:expr, $rows:expr, $bytes:expr, $shorts:expr, $words:expr) => {
         ImageMut {
@@ -99,7 +96,7 @@ macro_rules! image_mut {
     };
 }
 
-/// The samples that are lent, of this format.
+/// Unwraps the samples from a slice of this format.
 macro_rules! lent_as {
     ($samples:expr, $format:ident) => {
         match $samples {
@@ -109,7 +106,7 @@ macro_rules! lent_as {
     };
 }
 
-/// Changes the samples in one of an image's slices.
+/// Changes the samples in one of an output's slices.
 macro_rules! change_slice {
     ($output:expr, $change:expr, $scratch:expr, $slice:ident) => {{
         let (width, _limits) = ($output.desc.width(), $output.desc.height());

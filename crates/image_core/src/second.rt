@@ -1,18 +1,18 @@
-//! What stands beside a node's first input.
+//! The second operand of a node.
 use crate::image::Image;
 use vx_base::{Convolution, Lut, ThresholdRule};
 
-/// What a node reads beside its first input.
+/// A node's second operand, after its first input image.
 #[derive(Drop)]
 pub enum Second<'a> {
-    /// Nothing: its function has one input.
+    /// None: the function has one input.
     Nothing,
     /// An image of the first input's size.
     Image(Image<'a>),
-    /// A table, in which samples are looked up.
+    /// A table that maps samples.
     Lut(&'a Lut),
-    /// A threshold, with which samples are compared.
+    /// A threshold that tests samples.
     Threshold(ThresholdRule),
-    /// A matrix, by which the image is convolved.
+    /// A convolution matrix.
     Convolution(&'a Convolution),
 }

@@ -1,6 +1,6 @@
 //! Slices of samples.
 
-/// The samples of an image, by rows from the top, in a slice of its format's number type.
+/// The samples of an image in row-major order, as a slice of its format's number type.
 #[derive(Clone, Copy)]
 pub enum Slice<'a> {
     U8(&'a [u8]),

@@ -1,4 +1,4 @@
-//! Samples that are computed from those above them.
+//! Images in which each row depends on the rows above it.
 ghost use Rattle.std.specs.Prelude.{◌≡◌, ◌*◌, ℕ, ℤ, pos, length, map};
 ghost use Rattle.vx_base.specs.Rectangle.{Rectangle};
 ghost use Rattle.vx_base.specs.Image.{band, within};
@@ -7,12 +7,12 @@ ghost use Rattle.image_core.specs.Bands.{IsInRows};
 use crate::band::Band;
 use vx_base::Rect;
 
-/// What gives U32 samples of an image by rows at once, since each needs those before it.
+/// A U32 image that is written row after row, because each row is computed from the one above it.
 pub trait Whole {
     /// The sample in a column of a row.
     ghost at: { Self → ℕ → ℕ → ℤ };
 
-    /// The places that are valid; at the others the samples are 0.
+    /// The valid rectangle; outside it the samples are 0.
     ghost area: { Self → Rectangle };
 
     ghost width: { Self → ℕ };
@@ -22,7 +22,7 @@ pub trait Whole {
     fn area(&self) -> Rect
         ensures { result ≡ area self.now };
 
-    /// Writes the samples of a band of rows, row by row.
+    /// Writes the samples of a band in row-major order.
     fn fill(&self, rows: Band, out: &mut [u32])
         requires rows { IsInRows (height self.now) rows }
         requires size { length out.old ≡ rows.count * width self.now }

@@ -1,4 +1,4 @@
--- Columns of four rows, and what nodes make of them.
+-- Columns of four pixels, and the results of nodes on them.
 use Rattle.std.specs.Prelude.{ℕ, ℤ, pos, List, [], ◌∷◌, Option, Some, None}
 use Rattle.vx_base.specs.declared.format.Format.{Format}
 use Rattle.vx_base.specs.declared.format.Format.TheVariants.{U8}
@@ -14,11 +14,12 @@ use Rattle.vx_base.specs.Object.{ObjectValue}
 use Rattle.vx_base.specs.Outputs.{node_image}
 use Rattle.vx_base.specs.Rectangle.{whole}
 
--- these samples, the first in row 0
+-- an image of one column with these samples, from top to bottom
 abbrev pub column : ℕ → ℕ → ℕ → ℕ → ImageValue
 column a b c d = record { width = 1; height = 4; format = U8; valid = whole 1 4; samples = pos a ∷ pos b ∷ pos c ∷ pos d ∷ [] }
 
--- 3 columns and 5 rows, of which only the uppermost counts: it is turned by half, so each sample becomes that two rows below it
+-- a 3x5 matrix whose only non-zero coefficient is in its top row; convolution turns the matrix, so each output sample is the one two
+-- rows below
 abbrev pub upper_row : ConvolutionValue
 upper_row =
     record {
@@ -42,6 +43,6 @@ node_of function =
       out2 = None;
     }
 
--- what a node of the function makes of an image, beside which something may stand
+-- the output samples of a node of the function, from an image and its second operand
 abbrev pub made_by : Function → Format → ImageValue → Option ObjectValue → List ℤ
 made_by function format image second = (node_image (node_of function) First format image second).samples

@@ -1,4 +1,4 @@
-//! Worked examples: what comes of a column of four rows, and of one that differs in a row.
+//! Worked examples: the results for a column of four pixels, and for one that differs in one row.
 ghost use Rattle.std.specs.Prelude.{◌≡◌, [], ◌∷◌, Some, None, pos};
 ghost use Rattle.vx_base.specs.declared.format.Format.TheVariants.{U8, S16, U32};
 ghost use Rattle.vx_base.specs.declared.function.Function.TheVariants.{NotBits, Box, Convolve};
@@ -7,7 +7,7 @@ ghost use Rattle.vx_base.specs.Object.{ImageObject, ConvolutionObject};
 ghost use Rattle.node_rows.specs.Reach.{reach};
 ghost use Rattle.node_rows.specs.Examples.{column, upper_row, made_by};
 
-/// Not: where row 2 differs, row 2 of what comes of it does.
+/// Bitwise Not: if row 2 differs, row 2 of the output does.
 pub fn not_of_a_column()
     ensures reach { reach NotBits None ≡ Some 0 }
     ensures first { made_by NotBits U8 (column 10 20 30 40) None
@@ -16,7 +16,7 @@ pub fn not_of_a_column()
         ≡ pos 245 ∷ pos 235 ∷ pos 165 ∷ pos 215 ∷ [] }
 {}
 
-/// The box filter: where row 2 differs, rows 1 to 3 do, and row 0 doesn't.
+/// Box filter: if row 2 differs, rows 1 to 3 of the output do, and row 0 doesn't.
 pub fn box_of_a_column()
     ensures reach { reach Box None ≡ Some 1 }
     ensures first { made_by Box U8 (column 10 20 30 40) None
@@ -25,7 +25,7 @@ pub fn box_of_a_column()
         ≡ pos 13 ∷ pos 40 ∷ pos 50 ∷ pos 56 ∷ [] }
 {}
 
-/// A convolution by five rows: where row 2 differs, row 0 does, which is two rows above it.
+/// Convolution with five rows: if row 2 differs, row 0 of the output does, two rows above it.
 pub fn convolved_column()
     ensures reach { reach Convolve (Some upper_row) ≡ Some 2 }
     ensures first { made_by Convolve U8 (column 10 20 30 40) (Some (ConvolutionObject upper_row))
@@ -34,7 +34,7 @@ pub fn convolved_column()
         ≡ pos 90 ∷ pos 40 ∷ pos 40 ∷ pos 40 ∷ [] }
 {}
 
-/// A column that is added to another one: where that differs in row 2, the sum does there.
+/// Accumulation: if row 2 of the accumulator differs, row 2 of the output does.
 pub fn accumulated_column()
     ensures reach { reach Accumulate None ≡ Some 0 }
     ensures first { made_by Accumulate S16 (column 10 20 30 40) (Some (ImageObject
@@ -43,7 +43,7 @@ pub fn accumulated_column()
         (record (column 1 2 5 4) { format = S16 }))) ≡ pos 11 ∷ pos 22 ∷ pos 35 ∷ pos 44 ∷ [] }
 {}
 
-/// The integral image: where row 0 differs, all rows do.
+/// Integral image: if row 0 differs, all rows of the output do.
 pub fn integral_of_a_column()
     ensures reach { reach Integral None ≡ None }
     ensures first { made_by Integral U32 (column 10 20 30 40) None

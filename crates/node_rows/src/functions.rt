@@ -1,15 +1,15 @@
-//! How far functions look up and down.
+//! The vertical radius of each function.
 ghost use Rattle.std.specs.Prelude.{◌≡◌};
 ghost use Rattle.std.specs.Option.{option_copied};
 ghost use Rattle.node_rows.specs.Reach.{reach};
 
 use vx_base::{Convolution, Function};
 
-/// How many rows above a row of its output, and below it, a function looks at in its input, beside
-/// that row itself: half the rows of the matrix that stands beside its input, where one does; 1 for
-/// a 3x3 window; 0 for a pixelwise function (OpenVX 1.3, "Vision Functions"). A second image, or
-/// what its output held, it looks at in that row alone. `None`: it looks at all rows, as for an
-/// integral image, or writes no image.
+/// Returns a function's vertical radius in rows: how far above and below an output row it reads in
+/// its first input (OpenVX 1.3, "Vision Functions"). It is half the rows of the matrix if there is
+/// one, 1 for a 3x3 window, and 0 for a pixel-wise function. Of a second image or an accumulator
+/// only the output row is read. `None` if the function reads all rows, as for an integral image, or
+/// writes no image.
 pub fn reach(function: Function, matrix: Option<&Convolution>) -> Option<u16>
     ensures { result ≡ reach function (option_copied matrix.entry) }
 {

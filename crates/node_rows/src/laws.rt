@@ -1,5 +1,5 @@
-//! What a node's output owes to the rows of its inputs: functions that do nothing, whose contracts
-//! are facts.
+//! Which input rows decide an output row: each function does nothing, and its contract states the
+//! fact.
 ghost use Rattle.std.specs.Prelude.{◌≡◌, ◌<◌, ◌≤◌, ◌+◌, ◌-◌, ℕ, Option, Some, IfSome};
 ghost use Rattle.vx_base.specs.declared.format.Format.{Format};
 ghost use Rattle.vx_base.specs.declared.node.Node.{Node};
@@ -10,7 +10,8 @@ ghost use Rattle.vx_base.specs.Outputs.{node_image};
 ghost use Rattle.node_rows.specs.Reach.{matrix_in, reach};
 ghost use Rattle.node_rows.specs.Rows.{AreAlike, AgreeInRows, AgreeBeside};
 
-/// Images that agree in some rows agree in fewer of them, and two that agree in all are one.
+/// Images that agree in some rows agree in any subset of them. Two images that agree in all rows
+/// are equal.
 pub fn rows_of_images()
     ensures fewer { (above first last below : ℕ) (a b : ImageValue) → above ≤ first → last ≤ below →
         AgreeInRows above below a b → AgreeInRows first last a b }
@@ -18,8 +19,8 @@ pub fn rows_of_images()
         a ≡ b }
 {}
 
-/// An image that a node writes is as wide and high as its first input. Its valid rectangle follows
-/// from those of its inputs, whatever their samples are.
+/// A node's output image has the size of its first input. Its valid rectangle depends only on the
+/// valid rectangles of its inputs, not on their samples.
 pub fn results_are_alike()
     ensures size { (n : Node) (output : Output) (format : Format) (a : ImageValue)
         (second : Option ObjectValue) → description_of (node_image n output format a second)
@@ -30,9 +31,9 @@ pub fn results_are_alike()
         AreAlike (node_image n output format a second) (node_image n output format b other) }
 {}
 
-/// A row of a node's output is decided by those rows of its first input that are within its reach,
-/// whatever its border and the valid rectangles are, and by this very row of an image that stands
-/// beside that: its second input, or what its output held where it adds to it.
+/// An output row is decided by the rows of the first input within the vertical radius, whatever the
+/// border and the valid rectangles are. Of a second image, or of the accumulator, the same row
+/// alone counts.
 pub fn rows_in_reach_decide()
     ensures { (n : Node) (output : Output) (format : Format) (a b : ImageValue)
         (second other : Option ObjectValue) (rows x y : ℕ) → IsImage a → IfSome second IsObject →
@@ -42,8 +43,8 @@ pub fn rows_in_reach_decide()
         at (node_image n output format a second) x y ≡ at (node_image n output format b other) x y }
 {}
 
-/// So who has the rows of the inputs from so many above the first to so many below the last, has
-/// the rows of the output from the first to the last.
+/// Therefore a band of the inputs with its halo decides the same band of the output. The halo is
+/// the vertical radius, in rows, above and below the band.
 pub fn bands_in_reach_decide()
     ensures { (n : Node) (output : Output) (format : Format) (a b : ImageValue)
         (second other : Option ObjectValue) (rows first last : ℕ) → IsImage a →

@@ -1,12 +1,12 @@
-//! Which rows of its inputs a node looks at for a row of its output.
+//! The rows of its inputs that a node reads for a row of its output.
 //!
-//! Where only some rows of an image are there, the same rows of what a node makes of it can be
-//! made, but for a few at either end: so many as `reach` says. For functions that look at all rows
-//! it gives none.
+//! If only a band of an image is available, the output can be computed for the band without its
+//! outer rows: as many at each end as the vertical radius, `reach`. A function that reads all rows
+//! has none.
 //!
-//! - `functions`: how many rows above and below a function looks at
-//! - `laws`: that a row of a node's output is decided by these rows of its inputs
-//! - `examples`: columns of four rows, worked out
+//! - `functions`: the vertical radius of each function
+//! - `laws`: an output row is decided by the input rows within the radius
+//! - `examples`: columns of four pixels, worked out
 #![tactic(auto)]
 
 pub mod examples;

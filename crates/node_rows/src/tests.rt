@@ -1,4 +1,4 @@
-//! That functions look as far as they should.
+//! The vertical radii of some functions.
 use crate::reach;
 use std::test::Fail;
 use vx_base::{Convolution, Function};

@@ -1,12 +1,12 @@
--- What a node reads or writes.
+-- References to objects, by which nodes name their operands.
 use Rattle.std.specs.Prelude.{ℕ, ◌==◌, ◌<◌, ◌^◌, Bool, true, false, ◌&&◌, Option, Some, None, IfSome}
 
--- the object of that name, or of the delay of that name the image that stands slot places after the newest
+-- the object with this name, or slot k of the delay with this name: the image k places behind the newest
 pub record Cell : Type 0 where
   pub name : ℕ
   pub slot : Option ℕ
 
--- the cell of an object without slots
+-- the reference to a whole object
 abbrev pub cell_of : ℕ → Cell
 cell_of name = record { name = name; slot = None }
 
@@ -18,7 +18,7 @@ same_slot j k = false
 abbrev pub same_cell : Cell → Cell → Bool
 same_cell a b = (a.name == b.name) && same_slot a.slot b.slot
 
--- a name of 32 bits and a slot below 255
+-- a reference whose name has 32 bits and whose slot is below 255
 pub record IsCell (cell : Cell) : Type 0 where
   pub name : cell.name < 2 ^ 32
   pub slot : IfSome cell.slot (λ k. k < 255)

@@ -1,4 +1,4 @@
--- What a reply says: OpenVX's vx_status_e, with numbers of this project's own.
+-- Result codes of requests: OpenVX's vx_status_e, with numbers of this project.
 use Rattle.std.specs.Prelude.{ℕ, List, codes}
 use Rattle.vx_base.specs.declared.code.Code.{Code}
 use Rattle.vx_base.specs.declared.code.Code.TheVariants.{Success, NoMemory, InvalidParameters, InvalidReference, InvalidScope, InvalidFormat, InvalidDimension, InvalidValue, InvalidType, InvalidGraph, InvalidLink, MultipleWriters, OptimizedAway, NoResources}
@@ -19,7 +19,7 @@ code_number MultipleWriters = 11
 code_number OptimizedAway = 12
 code_number NoResources = 13
 
--- the standard's name without VX_ or VX_ERROR_
+-- the code's name in the standard, without VX_ or VX_ERROR_
 abbrev pub code_name : Code → List ℕ
 code_name Success = codes "SUCCESS"
 code_name NoMemory = codes "NO_MEMORY"

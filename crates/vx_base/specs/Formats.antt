@@ -1,22 +1,22 @@
--- The formats that a node of each function may have. Which of the standard's are taken is this project's profile.
+-- The formats that each function takes: a subset of those in the standard, chosen by this project.
 use Rattle.std.specs.Prelude.{Bool, true, false, Option, Some, None}
 use Rattle.vx_base.specs.declared.format.Format.{Format}
 use Rattle.vx_base.specs.declared.format.Format.TheVariants.{U8, S16, U32}
 use Rattle.vx_base.specs.declared.function.Function.{Function}
 use Rattle.vx_base.specs.declared.function.Function.TheVariants.{AndBits, OrBits, XorBits, NotBits, Add, Subtract, Multiply, AbsoluteDifference, MinPixel, MaxPixel, Threshold, TableLookup, ConvertDepth, Box, Gaussian, Median, Erode, Dilate, Sobel, Convolve, Histogram, Integral, MinMaxLoc, Accumulate, AccumulateSquare}
 
--- U8 and U8 to U8
+-- two U8 inputs and a U8 output
 abbrev pub are_bytes : Format → Format → Format → Bool
 are_bytes U8 U8 U8 = true
 are_bytes a b g = false
 
--- U8 and U8 to U8, or S16 and S16 to S16
+-- inputs and output all U8, or all S16
 abbrev pub are_equal : Format → Format → Format → Bool
 are_equal U8 U8 U8 = true
 are_equal S16 S16 S16 = true
 are_equal a b g = false
 
--- each U8 or S16, to S16; U8 and U8 also to U8
+-- U8 or S16 inputs and an S16 output, or all U8
 abbrev pub are_arithmetic : Format → Format → Format → Bool
 are_arithmetic U8 U8 U8 = true
 are_arithmetic U8 U8 S16 = true
@@ -25,8 +25,8 @@ are_arithmetic S16 U8 S16 = true
 are_arithmetic S16 S16 S16 = true
 are_arithmetic a b g = false
 
--- whether a function takes these formats: of its first input, of its second and of its output. A second input's is that of
--- an image, of a table's entries, of what a threshold tests or of a convolution's coefficients; none stands for no such operand, or for one without a format.
+-- whether a function takes these formats: first input, second input, output. A second input's format is that of the image, of the
+-- table's entries, of the samples that the threshold tests or of the coefficients. None: no such operand, or an operand without a format.
 abbrev pub takes_formats : Function → Format → Option Format → Option Format → Bool
 takes_formats AndBits a (Some b) (Some g) = are_bytes a b g
 takes_formats OrBits a (Some b) (Some g) = are_bytes a b g
@@ -59,8 +59,8 @@ takes_formats Accumulate U8 None (Some S16) = true
 takes_formats AccumulateSquare U8 None (Some S16) = true
 takes_formats function a second output = false
 
--- the format of an image that a node writes and whose format is open, from that of the node's first input; a function that
--- writes no image has none
+-- the format that an output image gets if its own is open, from the format of the node's first input; it has no meaning for a
+-- function that writes no image
 abbrev pub open_format : Function → Format → Format
 open_format Add first = S16
 open_format Subtract first = S16

@@ -1,4 +1,4 @@
--- The vision functions: their numbers, and what a node of each has. OpenVX 1.3, "Vision Functions".
+-- The vision functions: their numbers and their parameters. OpenVX 1.3, "Vision Functions".
 use Rattle.std.specs.Prelude.{ℕ, Bool, ◌==◌, true, false, List, [], ◌∷◌, find, Option, Some, None}
 use Rattle.vx_base.specs.declared.function.Function.{Function}
 use Rattle.vx_base.specs.declared.function.Function.TheVariants.{AndBits, OrBits, XorBits, NotBits, Add, Subtract, Multiply, AbsoluteDifference, MinPixel, MaxPixel, Threshold, TableLookup, ConvertDepth, Box, Gaussian, Median, Erode, Dilate, Sobel, Convolve, Histogram, Integral, MinMaxLoc, Accumulate, AccumulateSquare}
@@ -6,7 +6,7 @@ use Rattle.vx_base.specs.declared.function.Parameters.{Parameters}
 use Rattle.vx_base.specs.declared.kind.Kind.{Kind}
 use Rattle.vx_base.specs.declared.kind.Kind.TheVariants as kind
 
--- the number of this project's that stands for the function
+-- the function's number in this project's protocol
 abbrev pub function_number : Function → ℕ
 function_number AndBits = 1
 function_number OrBits = 2
@@ -43,17 +43,17 @@ functions =
 abbrev pub function_numbered : ℕ → Option Function
 function_numbered n = find (λ function. function_number function == n) functions
 
--- ---- what a node of the function has beside its first input, which is an image, and its border
+-- ---- a function's parameters, apart from its first input, which is an image, and the border
 
--- one image in, one image out
+-- one input image and one output image
 abbrev pub of_one_image : Parameters
 of_one_image = record { second_input = None; policy = false; greatest_amount = None; output = kind.Image; output_pair = false }
 
--- beside the image an object of this kind
+-- an input image and a second input of this kind
 abbrev pub of_two_operands : Kind → Parameters
 of_two_operands second = record of_one_image { second_input = Some second }
 
--- two images and an overflow policy
+-- two input images and an overflow policy
 abbrev pub of_arithmetic : Parameters
 of_arithmetic = record (of_two_operands kind.Image) { policy = true }
 
@@ -84,7 +84,7 @@ parameters MinMaxLoc = record of_one_image { output = kind.Extremes }
 parameters Accumulate = of_one_image
 parameters AccumulateSquare = record of_one_image { greatest_amount = Some 15 }
 
--- whether the function adds to the image that it writes: what that held as the graph's run began is an operand too
+-- whether the function adds to its output image, which is then an operand too: its content at the start of the graph's run counts
 abbrev pub accumulates : Function → Bool
 accumulates Accumulate = true
 accumulates AccumulateSquare = true

@@ -6,14 +6,14 @@ use Rattle.vx_base.specs.declared.numbered.Numbered.{Numbered}
 use Rattle.vx_base.specs.Node.{IsNode}
 use Rattle.vx_base.specs.declared.node.TheConstants.{GREATEST_NODES}
 
--- the nodes in the order of adding, each with its number, the number that comes next, and the names of the delays that age with the
--- graph (vxRegisterAutoAging)
+-- the nodes with their numbers in the order in which they were added, the next number, and the names of the delays that age after
+-- each run (vxRegisterAutoAging)
 pub record GraphValue : Type 0 where
   pub next : ℕ
   pub nodes : List Numbered
   pub delays : List ℕ
 
--- a graph without nodes, and number 1 next
+-- a graph without nodes, whose first node will get number 1
 abbrev pub new_graph : GraphValue
 new_graph = record { next = 1; nodes = []; delays = [] }
 
@@ -21,31 +21,31 @@ new_graph = record { next = 1; nodes = []; delays = [] }
 abbrev pub nodes_of : GraphValue → List Node
 nodes_of g = map (λ n. n.node) g.nodes
 
--- whether one more node can be added: a number is left, and the graph has fewer nodes than it may have
+-- whether one more node can be added: a number is left, and the graph has fewer nodes than the limit
 abbrev pub can_add : GraphValue → Bool
 can_add g = nat_lt g.next 4294967296 && nat_lt (length g.nodes) GREATEST_NODES
 
--- the graph with one more node, under the next number
+-- the graph with one more node, which gets the next number
 abbrev pub with_node : GraphValue → Node → GraphValue
 with_node g n = record g { next = g.next + 1; nodes = g.nodes ++ record { number = g.next; node = n } ∷ [] }
 
--- whether a node of the graph has this number
+-- whether the graph has a node of this number
 abbrev pub has_node : GraphValue → ℕ → Bool
 has_node g number = list_any (λ n. n.number == number) g.nodes
 
--- the graph without the node of this number, which no other node takes
+-- the graph without the node of this number; the number is not used again
 abbrev pub without_node : GraphValue → ℕ → GraphValue
 without_node g number = record g { nodes = filter (λ n. not (n.number == number)) g.nodes }
 
--- whether a delay of this name ages with the graph
+-- whether the delay of this name is registered for auto-aging
 abbrev pub is_registered : GraphValue → ℕ → Bool
 is_registered g name = list_any (λ delay. delay == name) g.delays
 
--- the graph, with which delays of these names age
+-- the graph with these delays registered for auto-aging
 abbrev pub with_delays : GraphValue → List ℕ → GraphValue
 with_delays g names = record g { delays = names }
 
--- numbers in their order, below the next, of no more nodes than it may have; each delay once
+-- a graph whose node numbers ascend and are below the next one, with no more nodes than the limit, and each delay registered once
 pub record IsGraph (g : GraphValue) : Type 0 where
   pub left : g.next ≤ 4294967296
   pub count : length g.nodes ≤ GREATEST_NODES

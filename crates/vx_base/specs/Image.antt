@@ -1,4 +1,4 @@
--- An image value: a size, a format, a valid rectangle, and a sample at each place.
+-- An image value: a size, a format, a valid rectangle, and a sample for each pixel.
 use Rattle.std.specs.Prelude.{ℕ, ℤ, pos, ◌+◌, ◌*◌, ◌<◌, ◌≤◌, ◌≡◌, false, List, map, length, slice_index_or, if◌then◌else◌}
 use Rattle.std.specs.List.{range_with_len, flat_map}
 use Rattle.vx_base.specs.declared.format.Format.{Format}
@@ -7,23 +7,23 @@ use Rattle.vx_base.specs.Rectangle.{Rectangle, inside, whole, IsOrdered, IsWithi
 use Rattle.vx_base.specs.Description.{Description}
 use Rattle.vx_base.specs.declared.desc.TheConstants.{GREATEST_SIDE}
 
--- f x, f (x + 1), .. at n places
+-- the n values f x, f (x + 1), ..
 abbrev pub run : ℕ → ℕ → (ℕ → ℤ) → List ℤ
 run x n f = map f (range_with_len x n)
 
--- f at the places of so many rows of a width, row by row from row start on
+-- f at the pixels of count rows from row start on, row by row
 abbrev pub band : ℕ → ℕ → ℕ → (ℕ → ℕ → ℤ) → List ℤ
 band width start count f = flat_map (λ y. run 0 width (λ x. f x y)) (range_with_len start count)
 
--- f at all places of a width and height, by rows from the top: the band of all rows
+-- f at all pixels of a width and height, in row-major order: the band of all rows
 abbrev pub table : ℕ → ℕ → (ℕ → ℕ → ℤ) → List ℤ
 table width height f = band width 0 height f
 
--- f at the places of the rectangle, 0 elsewhere
+-- f at the pixels of the rectangle, 0 elsewhere
 abbrev pub within : Rectangle → (ℕ → ℕ → ℤ) → ℕ → ℕ → ℤ
 within r f x y = if inside r x y then f x y else pos 0
 
--- the samples stand by rows from the top
+-- an image; its samples are in row-major order
 pub record ImageValue : Type 0 where
   pub width : ℕ
   pub height : ℕ
@@ -34,7 +34,7 @@ pub record ImageValue : Type 0 where
 abbrev pub description_of : ImageValue → Description
 description_of image = record { width = image.width; height = image.height; format = image.format }
 
--- the image of a description, a rectangle and samples
+-- the image with this description, valid rectangle and samples
 abbrev pub image_over : Description → Rectangle → List ℤ → ImageValue
 image_over d valid samples = record { width = d.width; height = d.height; format = d.format; valid = valid; samples = samples }
 
@@ -42,7 +42,7 @@ image_over d valid samples = record { width = d.width; height = d.height; format
 abbrev pub at : ImageValue → ℕ → ℕ → ℤ
 at image x y = slice_index_or image.samples (y * image.width + x) (pos 0)
 
--- at each place a sample of the format, which is 0 where the place is not valid
+-- an image within the size limits, with a sample of its format for each pixel; the samples outside the valid rectangle are 0
 pub record IsImage (image : ImageValue) : Type 0 where
   pub sides : (image.width ≤ GREATEST_SIDE) × (image.height ≤ GREATEST_SIDE)
   pub size : length image.samples ≡ image.height * image.width
@@ -51,15 +51,15 @@ pub record IsImage (image : ImageValue) : Type 0 where
   pub sampled : (x y : ℕ) → x < image.width → y < image.height → IsSample image.format (at image x y)
   pub outside : (x y : ℕ) → x < image.width → y < image.height → inside image.valid x y ≡ false → at image x y ≡ pos 0
 
--- the image whose samples are f at the valid places and 0 elsewhere
+-- the image whose samples are f in the valid rectangle and 0 elsewhere
 abbrev pub made : ℕ → ℕ → Format → Rectangle → (ℕ → ℕ → ℤ) → ImageValue
 made width height format valid f =
     record { width = width; height = height; format = format; valid = valid; samples = table width height (within valid f) }
 
--- a new image: wholly valid and 0 everywhere
+-- a new image: wholly valid, all samples 0
 abbrev pub new_image : ℕ → ℕ → Format → ImageValue
 new_image width height format = made width height format (whole width height) (λ _ _. pos 0)
 
--- the image with another valid rectangle: every sample outside it is 0 from then on
+-- the image with another valid rectangle; the samples outside it become 0
 abbrev pub with_valid : Rectangle → ImageValue → ImageValue
 with_valid valid image = made image.width image.height image.format valid (at image)

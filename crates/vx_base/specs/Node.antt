@@ -1,4 +1,4 @@
--- Nodes, which read and write cells.
+-- Nodes, and the references to the operands that they read and write.
 use Rattle.std.specs.Prelude.{ℕ, ◌<◌, ◌^◌, Bool, true, false, not, ◌&&◌, ◌||◌, ◌==◌, nat_le, IsTrue, ⊤, if◌then◌else◌, List, [], ◌∷◌, ◌++◌, Option, Some, None, IfSome, is_some, is_none, unwrap_or}
 use Rattle.vx_base.specs.declared.border.Border.{Border}
 use Rattle.vx_base.specs.declared.border.Border.TheVariants.{Undefined, Constant, Replicate}
@@ -11,11 +11,11 @@ use Rattle.vx_base.specs.declared.node.Node.{Node}
 use Rattle.vx_base.specs.Function.{parameters}
 use Rattle.vx_base.specs.Cell.{Cell, IsCell}
 
--- name 0 without a slot stands for no operand
+-- whether a reference is name 0 without a slot, which no operand may be
 abbrev pub is_nothing : Cell → Bool
 is_nothing cell = (cell.name == 0) && is_none cell.slot
 
--- whether an operand, if there is one, names something
+-- whether an operand, if it is given, names an object
 abbrev pub is_named : Option Cell → Bool
 is_named None = true
 is_named (Some cell) = not (is_nothing cell)
@@ -27,38 +27,39 @@ abbrev pub is_wrap : Policy → Bool
 is_wrap Wrap = true
 is_wrap Saturate = false
 
--- a policy that the function lacks is Wrap, an amount that it lacks is 0
+-- whether policy and amount suit the function: Wrap and 0 where it takes none
 abbrev pub has_amount : Parameters → Policy → ℕ → Bool
 has_amount p policy amount = (p.policy || is_wrap policy) && nat_le amount (unwrap_or p.greatest_amount 0)
 
--- the second input is there where the function has one; a function of two outputs has one of them or both, every other its first
+-- whether the operands suit the function: a second input exactly where it takes one; one or both outputs of a function with two,
+-- else the first alone
 abbrev pub has_operands : Parameters → Node → Bool
 has_operands p n =
     (if is_some p.second_input then is_some n.in2 else is_none n.in2)
     && (if p.output_pair then (is_some n.out1 || is_some n.out2) else (is_some n.out1 && is_none n.out2))
 
--- whether a node has what its function has and nothing else
+-- whether a node has exactly the parameters of its function
 abbrev pub is_node : Node → Bool
 is_node n = has_amount (parameters n.function) n.policy n.amount && (has_operands (parameters n.function) n && all_named n)
 
--- the node with these fields, if it is one
+-- the node with these fields, if they suit its function
 abbrev pub node_spec : Node → Option Node
 node_spec n = if is_node n then Some n else None
 
--- ---- what a node names
+-- ---- a node's operands
 
 abbrev pub given : Option Cell → List Cell
 given None = []
 given (Some cell) = cell ∷ []
 
--- the cells that a node reads, and those that it writes
+-- a node's input references, and its output references
 abbrev pub inputs : Node → List Cell
 inputs n = n.in1 ∷ given n.in2
 
 abbrev pub outputs : Node → List Cell
 outputs n = given n.out1 ++ given n.out2
 
--- the kind of object that the function has as its second input; where it has none, no node names one
+-- the kind of a node's second input; Image, which is never used, if its function has none
 abbrev pub second_kind : Node → Kind
 second_kind n = unwrap_or (parameters n.function).second_input kind.Image
 
@@ -66,7 +67,7 @@ abbrev pub with_kind : Kind → Option Cell → List (Cell × Kind)
 with_kind k None = []
 with_kind k (Some cell) = (cell, k) ∷ []
 
--- all cells that a node names, each with the kind of object that its function has there
+-- a node's operands, each with the kind of object that its function expects
 abbrev pub operands : Node → List (Cell × Kind)
 operands n =
     (n.in1, kind.Image) ∷ (with_kind (second_kind n) n.in2
@@ -77,7 +78,7 @@ IsBorder Undefined = ⊤
 IsBorder (Constant value) = value < 2 ^ 8
 IsBorder Replicate = ⊤
 
--- a node that has what its function has, of numbers that their types allow
+-- a node with exactly the parameters of its function, and numbers in the ranges of their types
 pub record IsNode (n : Node) : Type 0 where
   pub shape : IsTrue (is_node n)
   pub border : IsBorder n.border

@@ -17,12 +17,12 @@ use Rattle.vx_base.specs.Threshold.{ThresholdValue, IsThreshold}
 use Rattle.vx_base.specs.Convolution.{ConvolutionValue, IsConvolution}
 use Rattle.vx_base.specs.Statistics.{BinsValue, are_bins}
 
--- the bins of a distribution, and how many samples fell into each
+-- a histogram: its bins, and the number of samples counted in each
 pub record DistributionValue : Type 0 where
   pub bins : BinsValue
   pub counts : List ℕ
 
--- a delay is its images, the newest first
+-- an object of any kind; a delay is the list of its images, newest first
 pub data ObjectValue : Type 0 where
   ImageObject : ImageValue → ObjectValue
   LutObject : LutValue → ObjectValue
@@ -57,8 +57,8 @@ object_kind (ExtremesObject extremes) = kind.Extremes
 object_kind (GraphObject graph) = kind.Graph
 object_kind (VirtualObject image) = kind.VirtualImage
 
--- the format of an image's samples, of a table's entries, of the samples that a threshold tests, or of a convolution's
--- coefficients; an object may have none
+-- the format of an image's samples, of a table's entries, of the samples that a threshold tests, or of a convolution's coefficients;
+-- None for the other kinds
 abbrev pub object_format : ObjectValue → Option Format
 object_format (ImageObject image) = Some image.format
 object_format (LutObject lut) = Some lut.format
@@ -66,11 +66,11 @@ object_format (ThresholdObject threshold) = Some threshold.format
 object_format (ConvolutionObject convolution) = Some S16
 object_format other = None
 
--- the sample bytes of an image
+-- the size of an image's samples in bytes
 abbrev pub image_bytes : ImageValue → ℕ
 image_bytes image = byte_count (description_of image)
 
--- what an object is charged: the sample bytes of its images
+-- the bytes that an object counts against the client's quota: those of its images' samples
 abbrev pub object_bytes : ObjectValue → ℕ
 object_bytes (ImageObject image) = image_bytes image
 object_bytes (DelayObject images) = sum_by image_bytes images
@@ -78,29 +78,29 @@ object_bytes other = 0
 
 -- ---- new objects
 
--- a distribution that has counted nothing
+-- a distribution that has counted no sample
 abbrev pub new_distribution : BinsValue → DistributionValue
 new_distribution bins = record { bins = bins; counts = replicate bins.bins 0 }
 
--- extremes that were found nowhere
+-- the initial extremes: all 0
 abbrev pub no_extremes : Extremes
 no_extremes = record { min = pos 0; max = pos 0; min_count = 0; max_count = 0; min_at = (0, 0); max_at = (0, 0) }
 
--- ---- what objects are
+-- ---- well-formed objects
 
--- 1 to 16 images of one description
+-- a delay of 1 to 16 images with the same description
 pub record IsDelay (images : List ImageValue) : Type 0 where
   pub least : 1 ≤ length images
   pub greatest : length images ≤ 16
   pub each : All IsImage images
   pub alike : AllPairs (λ d e. d ≡ e) (map description_of images)
 
--- a count for each bin
+-- a distribution with permitted bins and one count for each bin
 pub record IsDistribution (d : DistributionValue) : Type 0 where
   pub bins : IsTrue (are_bins d.bins.bins d.bins.offset d.bins.range)
   pub size : length d.counts ≡ d.bins.bins
 
--- the name of a graph, and an outline
+-- a virtual image with the name of a graph and a partial description
 pub record IsVirtual (image : VirtualImage) : Type 0 where
   pub graph : image.graph < 2 ^ 32
   pub declared : IsOutline image.declared

@@ -1,4 +1,4 @@
--- A picture: the samples of a whole image, with no rectangle.
+-- A picture: the samples of a whole image, without a valid rectangle.
 use Rattle.std.specs.Prelude.{ℤ, pos, ◌≡◌, List, map, length, All}
 use Rattle.vx_base.specs.declared.format.Format.{Format}
 use Rattle.vx_base.specs.declared.format.Format.TheVariants.{U8 as FormatU8, S16 as FormatS16, U32 as FormatU32}
@@ -24,21 +24,21 @@ pub record PictureValue : Type 0 where
   pub description : Description
   pub samples : List ℤ
 
--- the picture of all places of an image
+-- an image's samples as a picture
 abbrev pub picture_of : ImageValue → PictureValue
 picture_of image = record { description = description_of image; samples = image.samples }
 
--- the image that a picture makes: wholly valid
+-- a picture as an image that is wholly valid
 abbrev pub pictured : PictureValue → ImageValue
 pictured p = image_over p.description (whole p.description.width p.description.height) p.samples
 
--- a sample of the format for each place
+-- a picture with a sample of its format for each pixel
 pub record IsPicture (p : PictureValue) : Type 0 where
   pub description : IsDescription p.description
   pub size : length p.samples ≡ sample_count p.description
   pub sampled : All (IsSample p.description.format) p.samples
 
--- samples of the description's format, one for each place
+-- samples of the description's format, one for each pixel
 pub record Describes (d : Description) (samples : Samples) : Type 0 where
   pub format : samples_format samples ≡ d.format
   pub size : length (values samples) ≡ sample_count d

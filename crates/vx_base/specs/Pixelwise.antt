@@ -1,5 +1,5 @@
--- Functions that give each sample from the samples at the same place. OpenVX 1.3, "Vision Functions"; the words in quotation
--- marks are the names of its sections. a and b are the samples of the two inputs at the place.
+-- Pixel-wise functions: each output sample depends on the input samples at the same pixel, a and b. OpenVX 1.3, "Vision Functions";
+-- the words in quotation marks are the names of its sections.
 use Rattle.std.specs.Prelude.{ℕ, ◌^◌, ℤ, pos, ◌+ℤ◌, ◌-ℤ◌, ◌*ℤ◌, bit_and, bit_or, bit_xor, unsigned_abs, int_div, if◌then◌else◌}
 use Rattle.std.specs.Int.{int_div_euclid, int_min, int_max}
 use Rattle.vx_base.specs.declared.format.Format.{Format}
@@ -15,39 +15,39 @@ use Rattle.vx_base.specs.Threshold.{ThresholdValue, passes}
 
 -- ---- the formulas
 
--- "Bitwise AND": the bits that both have
+-- "Bitwise AND": the bits that are set in both
 abbrev pub and_bits : ℤ → ℤ → ℤ
 and_bits a b = pos (bit_and (unsigned_abs a) (unsigned_abs b))
 
--- "Bitwise INCLUSIVE OR": the bits that one has or both have
+-- "Bitwise INCLUSIVE OR": the bits that are set in one or both
 abbrev pub or_bits : ℤ → ℤ → ℤ
 or_bits a b = pos (bit_or (unsigned_abs a) (unsigned_abs b))
 
--- "Bitwise EXCLUSIVE OR": the bits that one has and the other has not
+-- "Bitwise EXCLUSIVE OR": the bits that are set in exactly one
 abbrev pub xor_bits : ℤ → ℤ → ℤ
 xor_bits a b = pos (bit_xor (unsigned_abs a) (unsigned_abs b))
 
--- "Bitwise NOT": each of the eight bits turned over
+-- "Bitwise NOT": each of the eight bits inverted
 abbrev pub not_bits : ℤ → ℤ
 not_bits a = pos 255 -ℤ a
 
--- "Arithmetic Addition", narrowed to the output's format
+-- "Arithmetic Addition": the sum, narrowed to the output's format
 abbrev pub sum : Format → Policy → ℤ → ℤ → ℤ
 sum format policy a b = narrow format policy (a +ℤ b)
 
--- "Arithmetic Subtraction"
+-- "Arithmetic Subtraction": the difference, narrowed to the output's format
 abbrev pub difference : Format → Policy → ℤ → ℤ → ℤ
 difference format policy a b = narrow format policy (a -ℤ b)
 
--- "Pixel-wise Multiplication" by the scale 1 / 2^n, rounded to zero
+-- "Pixel-wise Multiplication": the product over 2^n, rounded to zero and narrowed to the output's format
 abbrev pub product : Format → Policy → ℕ → ℤ → ℤ → ℤ
 product format policy n a b = narrow format policy (int_div (a *ℤ b) (pos (2 ^ n)))
 
--- "Absolute Difference": how far the two are apart, at most the format's greatest sample
+-- "Absolute Difference": the distance of the two, at most the format's greatest sample
 abbrev pub absolute_difference : Format → ℤ → ℤ → ℤ
 absolute_difference format a b = clamp format (pos (distance a b))
 
--- "Min" and "Max": the smaller of the two, the greater
+-- "Min" and "Max": the smaller and the greater of the two
 abbrev pub smaller : ℤ → ℤ → ℤ
 smaller a b = int_min a b
 
@@ -62,31 +62,31 @@ thresholded threshold a = if passes threshold.kind a then pos threshold.true_val
 abbrev pub looked_up : LutValue → ℤ → ℤ
 looked_up lut a = entry_for lut a
 
--- "Convert Bit Depth", in this project's shifts: to S16 times 2^n; to U8 over 2^n, rounded down and narrowed
+-- "Convert Bit Depth", shifted by n as this project defines it: to S16 times 2^n; to U8 over 2^n, rounded down and narrowed
 abbrev pub converted : Format → Policy → ℕ → ℤ → ℤ
 converted U8 policy n a = narrow U8 policy (int_div_euclid a (pos (2 ^ n)))
 converted S16 policy n a = a *ℤ pos (2 ^ n)
 converted U32 policy n a = a
 
--- "Accumulate": the sample is added to what the output held there, c
+-- "Accumulate": the sample a added to the output's earlier sample c, clamped
 abbrev pub accumulated : Format → ℤ → ℤ → ℤ
 accumulated format a c = clamp format (c +ℤ a)
 
--- "Accumulate Squared": its square over 2^n, rounded down, is
+-- "Accumulate Squared": the square of a over 2^n, rounded down, added to the output's earlier sample c, clamped
 abbrev pub accumulated_square : Format → ℕ → ℤ → ℤ → ℤ
 accumulated_square format n a c = clamp format (c +ℤ int_div_euclid (a *ℤ a) (pos (2 ^ n)))
 
 -- ---- images
 
--- an image of one: a formula at each place, valid where the image is
+-- the image whose samples are f of the input's, valid where the input is
 abbrev pub from_one : Format → (ℤ → ℤ) → ImageValue → ImageValue
 from_one format f a = made a.width a.height format a.valid (λ x y. f (at a x y))
 
--- an image of two: a formula at each place, valid where both images are
+-- the image whose samples are f of the samples of two images, valid where both are
 abbrev pub from_two : Format → (ℤ → ℤ → ℤ) → ImageValue → ImageValue → ImageValue
 from_two format f a b = made a.width a.height format (meet_of a.valid b.valid) (λ x y. f (at a x y) (at b x y))
 
--- ---- the functions: the formula of each, where it has one input, and where it has two images or one and what its output held
+-- ---- the formula of each function of one input, and of each function of two images, or of one and the output's earlier content
 
 abbrev pub formula_of_one : Function → Format → Policy → ℕ → ℤ → ℤ
 formula_of_one NotBits format policy n a = not_bits a

@@ -1,53 +1,53 @@
--- Rectangles as sets of places: a start that belongs to them and an end that does not.
+-- Rectangles as sets of pixels: the start is included, the end is not.
 use Rattle.std.specs.Prelude.{ℕ, ◌≤◌, ◌<◌, ◌^◌, IsTrue, Bool, ◌&&◌, ◌||◌, ◌==◌, nat_le, nat_lt, min, max, ◌+◌, ◌-◌, if◌then◌else◌, Option, Some, None}
 
--- the columns from x0 to x1 - 1 of the rows from y0 to y1 - 1
+-- the pixels in columns x0 to x1 - 1 and rows y0 to y1 - 1
 pub record Rectangle : Type 0 where
   pub x0 : ℕ
   pub y0 : ℕ
   pub x1 : ℕ
   pub y1 : ℕ
 
--- whether a place is in the rectangle
+-- whether a pixel is in the rectangle
 abbrev pub inside : Rectangle → ℕ → ℕ → Bool
 inside r x y = (nat_le r.x0 x && nat_lt x r.x1) && (nat_le r.y0 y && nat_lt y r.y1)
 
--- the rectangle that holds no place
+-- the rectangle without pixels
 abbrev pub empty : Rectangle
 empty = record { x0 = 0; y0 = 0; x1 = 0; y1 = 0 }
 
--- whether these bounds are written as every rectangle is: all 0, or each start below its end
+-- whether these bounds are in canonical form: all 0, or each start below its end
 abbrev pub is_rectangle : ℕ → ℕ → ℕ → ℕ → Bool
 is_rectangle x0 y0 x1 y1 =
     (((x0 == 0) && (y0 == 0)) && ((x1 == 0) && (y1 == 0))) || (nat_lt x0 x1 && nat_lt y0 y1)
 
--- the rectangle with these bounds, if they are written as a rectangle's are
+-- the rectangle with these bounds, if they are in canonical form
 abbrev pub rectangle : ℕ → ℕ → ℕ → ℕ → Option Rectangle
 rectangle x0 y0 x1 y1 = if is_rectangle x0 y0 x1 y1 then Some (record { x0 = x0; y0 = y0; x1 = x1; y1 = y1 }) else None
 
--- the rectangle with these bounds; where they hold no place, it is the empty one
+-- the rectangle with these bounds, or the empty one if they include no pixel
 abbrev pub bounded : ℕ → ℕ → ℕ → ℕ → Rectangle
 bounded x0 y0 x1 y1 = if nat_lt x0 x1 && nat_lt y0 y1 then record { x0 = x0; y0 = y0; x1 = x1; y1 = y1 } else empty
 
--- all places of an image of this width and height
+-- all pixels of an image of this width and height
 abbrev pub whole : ℕ → ℕ → Rectangle
 whole width height = record { x0 = 0; y0 = 0; x1 = width; y1 = height }
 
--- the places that are in both
+-- the intersection of two rectangles
 abbrev pub meet_of : Rectangle → Rectangle → Rectangle
 meet_of r s = bounded (max r.x0 s.x0) (max r.y0 s.y0) (min r.x1 s.x1) (min r.y1 s.y1)
 
--- the places whose window, rx columns to either side and ry rows above and below, lies wholly in the rectangle
+-- the pixels whose window, of radius rx across and ry down, lies wholly in the rectangle
 abbrev pub shrunk : Rectangle → ℕ → ℕ → Rectangle
 shrunk r rx ry = bounded (r.x0 + rx) (r.y0 + ry) (r.x1 - rx) (r.y1 - ry)
 
--- what is written as a rectangle is, in numbers of 16 bits
+-- a rectangle in canonical form, whose bounds have 16 bits
 pub record IsRectangle (r : Rectangle) : Type 0 where
   pub bounds : IsTrue (is_rectangle r.x0 r.y0 r.x1 r.y1)
   pub columns : r.x1 < 2 ^ 16
   pub rows : r.y1 < 2 ^ 16
 
--- a rectangle's starts are not above its ends
+-- a rectangle whose starts are not above its ends
 pub record IsOrdered (r : Rectangle) : Type 0 where
   pub columns : r.x0 ≤ r.x1
   pub rows : r.y0 ≤ r.y1

@@ -1,4 +1,4 @@
--- A sample is a whole number; a format is a range of them.
+-- Samples are whole numbers; a format is a range of them.
 use Rattle.std.specs.Prelude.{ℕ, ℤ, pos, negsuc, Bool, true, false, ◌≡◌, ◌≤ℤ◌, ◌+ℤ◌, ◌-ℤ◌, ◌*ℤ◌, if◌then◌else◌, int_lt, unsigned_abs}
 use Rattle.std.specs.Int.{int_rem_euclid, int_max, int_min}
 use Rattle.vx_base.specs.declared.format.Format.{Format}
@@ -6,7 +6,7 @@ use Rattle.vx_base.specs.declared.format.Format.TheVariants.{U8, S16, U32}
 use Rattle.vx_base.specs.declared.policy.Policy.{Policy}
 use Rattle.vx_base.specs.declared.policy.Policy.TheVariants.{Wrap, Saturate}
 
--- the bytes of one sample
+-- the size of one sample in bytes
 abbrev pub sample_bytes : Format → ℕ
 sample_bytes U8 = 1
 sample_bytes S16 = 2
@@ -18,7 +18,7 @@ same_format S16 S16 = true
 same_format U32 U32 = true
 same_format a b = false
 
--- how many numbers are samples of the format
+-- the number of samples in the format's range
 abbrev pub range_size : Format → ℕ
 range_size U8 = 256
 range_size S16 = 65536
@@ -35,20 +35,20 @@ greatest U8 = pos 255
 greatest S16 = pos 32767
 greatest U32 = pos 4294967295
 
--- a number that is a sample of the format
+-- a number in the format's range
 pub record IsSample (format : Format) (z : ℤ) : Type 0 where
   pub at_least : least format ≤ℤ z
   pub at_most : z ≤ℤ greatest format
 
--- numbers that differ by a multiple of m
+-- v and z differ by a multiple of m
 abbrev pub AgreesModulo : ℕ → ℤ → ℤ → Type 0
 AgreesModulo m v z = (k : ℤ) × (v ≡ z +ℤ k *ℤ pos m)
 
--- how far two numbers are apart
+-- the distance between two numbers
 abbrev pub distance : ℤ → ℤ → ℕ
 distance v z = unsigned_abs (v -ℤ z)
 
--- of a number from 0 to 65535: the number from -32768 to 32767 that agrees with it modulo 65536
+-- for a number from 0 to 65,535, the number from -32,768 to 32,767 that agrees with it modulo 65,536
 abbrev pub signed_of : ℤ → ℤ
 signed_of m = if int_lt m (pos 32768) then m else (m -ℤ pos 65536)
 
@@ -58,11 +58,11 @@ wrap U8 v = int_rem_euclid v (pos 256)
 wrap S16 v = signed_of (int_rem_euclid v (pos 65536))
 wrap U32 v = int_rem_euclid v (pos 4294967296)
 
--- the sample that is nearest to v
+-- the sample nearest to v
 abbrev pub clamp : Format → ℤ → ℤ
 clamp format v = int_max (least format) (int_min v (greatest format))
 
--- the sample that v becomes under the overflow policy
+-- the sample that replaces v under the overflow policy
 abbrev pub narrow : Format → Policy → ℤ → ℤ
 narrow format Wrap v = wrap format v
 narrow format Saturate v = clamp format v

@@ -1,4 +1,4 @@
--- What the valid samples of an image come to. OpenVX 1.3, "Histogram", "Integral Image" and "Min, Max Location".
+-- Statistics of an image's valid samples. OpenVX 1.3, "Histogram", "Integral Image" and "Min, Max Location".
 use Rattle.std.specs.Prelude.{ℕ, ℤ, pos, ◌+◌, ◌-◌, ◌*◌, ◌/◌, ◌%◌, ◌^◌, ◌==◌, nat_le, nat_lt, Bool, false, ◌&&◌, unsigned_abs, if◌then◌else◌, List, [], ◌∷◌, map, Option, Some, None}
 use Rattle.std.specs.List.{range_with_len, flat_map, fold, sum_by, count_by, find}
 use Rattle.std.specs.Option.{unwrap_or}
@@ -11,38 +11,38 @@ use Rattle.vx_base.specs.Rectangle.{Rectangle, whole, meet_of}
 use Rattle.vx_base.specs.Image.{ImageValue, at, made}
 use Rattle.vx_base.specs.declared.bins.TheConstants.{GREATEST_BINS}
 
--- n places of row y, from column x on
+-- n pixels of row y, from column x on
 abbrev pub row_places : ℕ → ℕ → ℕ → List (ℕ × ℕ)
 row_places x n y = map (λ k. (k, y)) (range_with_len x n)
 
--- the places of a rectangle, by rows from the top, then from the left
+-- the pixels of a rectangle in row-major order
 abbrev pub places : Rectangle → List (ℕ × ℕ)
 places r = flat_map (row_places r.x0 (r.x1 - r.x0)) (range_with_len r.y0 (r.y1 - r.y0))
 
--- the samples at the places of a rectangle, in this order
+-- the samples of a rectangle in row-major order
 abbrev pub samples_in : Rectangle → ImageValue → List ℤ
 samples_in r image = map (λ p. at image p.0 p.1) (places r)
 
 abbrev pub valid_samples : ImageValue → List ℤ
 valid_samples image = samples_in image.valid image
 
--- ---- "Histogram", in this project's bins
+-- ---- "Histogram"; the bins are as this project defines them
 
--- so many bins of one size, which begin at the offset and together are as long as the range
+-- bins of equal size: their number, the least sample that they count, and the number of sample values that they cover
 pub record BinsValue : Type 0 where
   pub bins : ℕ
   pub offset : ℕ
   pub range : ℕ
 
--- whether these numbers are allowed; the offset and the range may pass 256 together
+-- whether these numbers are permitted; the sum of offset and range may exceed 256
 abbrev pub are_bins : ℕ → ℕ → ℕ → Bool
 are_bins bins offset range = ((nat_le 1 bins && nat_le bins GREATEST_BINS) && nat_lt offset 256) && (nat_le 1 range && nat_le range 256)
 
--- the bins with these numbers, if they are allowed
+-- the bins with these numbers, if they are permitted
 abbrev pub bins_of : ℕ → ℕ → ℕ → Option BinsValue
 bins_of bins offset range = if are_bins bins offset range then Some (record { bins = bins; offset = offset; range = range }) else None
 
--- the bin into which a sample falls, if one does
+-- the bin that counts a sample, if there is one
 abbrev pub bin_of : BinsValue → ℕ → Option ℕ
 bin_of b p = if nat_le b.offset p && nat_lt p (b.offset + b.range) then Some ((p - b.offset) * b.bins / b.range) else None
 
@@ -50,22 +50,22 @@ abbrev pub is_bin : ℕ → Option ℕ → Bool
 is_bin k None = false
 is_bin k (Some bin) = bin == k
 
--- of these samples how many fall into each bin
+-- the number of samples in each bin
 abbrev pub tallies : BinsValue → List ℤ → List ℕ
 tallies b samples = map (λ k. count_by (λ z. is_bin k (bin_of b (unsigned_abs z))) samples) (range_with_len 0 b.bins)
 
--- the histogram of a U8 image: how many valid places have a sample that falls into each bin
+-- the histogram of a U8 image: the number of its valid samples in each bin
 abbrev pub histogram : BinsValue → ImageValue → List ℕ
 histogram b image = tallies b (valid_samples image)
 
 -- ---- "Integral Image"
 
--- the sum of the samples at the valid places that are neither right of column x nor below row y, modulo 2 ^ 32; the samples are U8
+-- the sum of the valid U8 samples in columns 0 to x of rows 0 to y, modulo 2^32
 abbrev pub sum_to : ImageValue → ℕ → ℕ → ℤ
 sum_to image x y = pos (sum_by unsigned_abs (samples_in (meet_of image.valid (whole (x + 1) (y + 1))) image) % 2 ^ 32)
 
--- such sums at the valid places of a U8 image; what is not valid counts as 0. Both are this project's choice: of sums that don't
--- fit 32 bits OpenVX says nothing
+-- the integral image of a U8 image in this format, valid where the input is; samples outside the input's valid rectangle count as 0.
+-- This and the modulus are this project's choice, since OpenVX doesn't define sums beyond 32 bits.
 abbrev pub sums_in : Format → ImageValue → ImageValue
 sums_in format image = made image.width image.height format image.valid (sum_to image)
 
@@ -74,20 +74,20 @@ integral image = sums_in U32 image
 
 -- ---- "Min, Max Location"
 
--- of these samples the one that is chosen from all of them, 0 where there are none
+-- the result of folding the samples with choose, which picks one of two; 0 if there are none
 abbrev pub chosen : (ℤ → ℤ → ℤ) → List ℤ → ℤ
 chosen choose [] = pos 0
 chosen choose (z ∷ zs) = fold choose z zs
 
--- how many of these samples are z
+-- the number of these samples that are z
 abbrev pub count_of : ℤ → List ℤ → ℕ
 count_of z samples = count_by (λ s. int_eq s z) samples
 
--- the first of these places at which f is z, (0, 0) where there is none
+-- the first of these pixels at which f is z, or (0, 0) if there is none
 abbrev pub first_of : (ℕ → ℕ → ℤ) → ℤ → List (ℕ × ℕ) → ℕ × ℕ
 first_of f z ps = unwrap_or (find (λ p. int_eq (f p.0 p.1) z) ps) (0, 0)
 
--- the least and the greatest valid sample of a U8 or S16 image, how many valid places hold each, and the first of them
+-- the least and the greatest valid sample of a U8 or S16 image, the number of pixels that have each, and the first such pixel
 abbrev pub extremes : ImageValue → Extremes
 extremes image =
     let least = chosen int_min (valid_samples image) in

@@ -1,4 +1,4 @@
--- Thresholds: what is compared with what, and the two values that come of it. OpenVX 1.3, "Object: Threshold".
+-- Thresholds: the limits of a comparison and its two results. OpenVX 1.3, "Object: Threshold".
 use Rattle.std.specs.Prelude.{ℕ, ℤ, ◌<◌, ◌^◌, Bool, false, ◌&&◌, IsTrue, int_lt, int_le, if◌then◌else◌, Option, Some, None}
 use Rattle.vx_base.specs.declared.format.Format.{Format}
 use Rattle.vx_base.specs.declared.format.Format.TheVariants.{U32}
@@ -6,7 +6,7 @@ use Rattle.vx_base.specs.declared.threshold.ThresholdKind.{ThresholdKind}
 use Rattle.vx_base.specs.declared.threshold.ThresholdKind.TheVariants.{Binary, Range}
 use Rattle.vx_base.specs.Sample.{least, greatest}
 
--- the format is that of the samples that it tests
+-- a threshold for samples of the format
 pub record ThresholdValue : Type 0 where
   pub format : Format
   pub kind : ThresholdKind
@@ -17,7 +17,7 @@ pub record ThresholdValue : Type 0 where
 abbrev pub is_sample : Format → ℤ → Bool
 is_sample format z = int_le (least format) z && int_le z (greatest format)
 
--- U8 or S16; the limits are samples of the format, and the upper one is not below the lower
+-- whether the format is U8 or S16, the limits are samples of it, and the upper one is not below the lower
 abbrev pub has_limits : Format → ThresholdKind → Bool
 has_limits U32 kind = false
 has_limits format (Binary t) = is_sample format t
@@ -29,12 +29,12 @@ threshold format kind true_value false_value =
     then Some (record { format = format; kind = kind; true_value = true_value; false_value = false_value })
     else None
 
--- whether a sample passes: it is above t, or from lower to upper
+-- whether a sample passes: it is above the limit t, or in the range from lower to upper
 abbrev pub passes : ThresholdKind → ℤ → Bool
 passes (Binary t) a = int_lt t a
 passes (Range lower upper) a = int_le lower a && int_le a upper
 
--- limits that are allowed, and two U8 samples
+-- a threshold with permitted limits, whose results are U8 samples
 pub record IsThreshold (t : ThresholdValue) : Type 0 where
   pub limits : IsTrue (has_limits t.format t.kind)
   pub true_value : t.true_value < 2 ^ 8

@@ -1,5 +1,5 @@
--- Functions that give each sample from the samples around its place. OpenVX 1.3, "Vision Functions" and `vx_border_e`; the
--- words in quotation marks are the names of its sections.
+-- Window functions: each output sample depends on the input samples around the same pixel. OpenVX 1.3, "Vision Functions" and
+-- `vx_border_e`; the words in quotation marks are the names of its sections.
 use Rattle.std.specs.Prelude.{ℕ, ℤ, pos, negsuc, ◌+ℤ◌, ◌-ℤ◌, ◌*ℤ◌, Bool, ◌&&◌, List, [], ◌∷◌, if◌then◌else◌, int_lt, int_le, nat_le, unsigned_abs, unwrap_or, ◌/◌, ◌^◌, int_div, map}
 use Rattle.std.specs.Int.{int_div_euclid, int_min, int_max}
 use Rattle.std.specs.List.{count_by, find, fold, range_with_len}
@@ -15,47 +15,47 @@ use Rattle.vx_base.specs.Sample.{clamp}
 use Rattle.vx_base.specs.Rectangle.{Rectangle, shrunk}
 use Rattle.vx_base.specs.Image.{ImageValue, at, made}
 
--- ---- what is seen at a place
+-- ---- the input of a window
 
--- whether a place, which may lie beside the image, is in the rectangle
+-- whether a pixel, which may lie outside the image, is in the rectangle
 abbrev pub holds : Rectangle → ℤ → ℤ → Bool
 holds r x y = (int_le (pos r.x0) x && int_lt x (pos r.x1)) && (int_le (pos r.y0) y && int_lt y (pos r.y1))
 
--- of the numbers from low to high - 1 the one nearest to v
+-- the number from low to high - 1 that is nearest to v
 abbrev pub nearest : ℕ → ℕ → ℤ → ℕ
 nearest low high v = unsigned_abs (int_max (pos low) (int_min v (pos high -ℤ pos 1)))
 
--- what counts at a place that is not valid: nothing, which is 0 here; the given sample; the sample of the nearest valid place,
--- each coordinate moved into the rectangle by itself
+-- the sample of a pixel outside the valid rectangle: 0 under Undefined, where no result uses it; the constant; or under Replicate
+-- the nearest valid sample, with each coordinate clamped to the rectangle on its own
 abbrev pub beside : ImageValue → Border → ℤ → ℤ → ℤ
 beside image Undefined x y = pos 0
 beside image (Constant value) x y = pos value
 beside image Replicate x y = at image (nearest image.valid.x0 image.valid.x1 x) (nearest image.valid.y0 image.valid.y1 y)
 
--- what a window sees at a place: the sample where the place is valid
+-- the sample that a window reads at a pixel: the image's own in the valid rectangle, else the border's
 abbrev pub look : ImageValue → Border → ℤ → ℤ → ℤ
 look image border x y = if holds image.valid x y then at image (unsigned_abs x) (unsigned_abs y) else beside image border x y
 
--- the nine samples around a place: rows from above to below, columns from left to right
+-- the 3x3 window around a pixel, in row-major order
 abbrev pub nine_around : (ℤ → ℤ → ℤ) → ℤ → ℤ → List ℤ
 nine_around f x y =
     f (x -ℤ pos 1) (y -ℤ pos 1) ∷ f x (y -ℤ pos 1) ∷ f (x +ℤ pos 1) (y -ℤ pos 1)
     ∷ f (x -ℤ pos 1) y ∷ f x y ∷ f (x +ℤ pos 1) y
     ∷ f (x -ℤ pos 1) (y +ℤ pos 1) ∷ f x (y +ℤ pos 1) ∷ f (x +ℤ pos 1) (y +ℤ pos 1) ∷ []
 
--- ---- the formulas, of the samples of a window
+-- ---- the formulas of a window's samples
 
--- their sum
+-- the sum of the samples
 abbrev pub total : List ℤ → ℤ
 total [] = pos 0
 total (z ∷ zs) = z +ℤ total zs
 
--- the sum of the samples, each times its weight
+-- the weighted sum of the samples
 abbrev pub weighted : List ℤ → List ℤ → ℤ
 weighted (w ∷ ws) (z ∷ zs) = w *ℤ z +ℤ weighted ws zs
 weighted ws zs = pos 0
 
--- "Box Filter": the sum of the nine over 9, rounded down
+-- "Box Filter": the mean of the nine samples, rounded down
 abbrev pub box_mean : List ℤ → ℤ
 box_mean zs = int_div_euclid (total zs) (pos 9)
 
@@ -65,29 +65,29 @@ gaussian_weights =
     ∷ pos 2 ∷ pos 4 ∷ pos 2
     ∷ pos 1 ∷ pos 2 ∷ pos 1 ∷ []
 
--- "Gaussian Filter": the sum over 16, rounded down
+-- "Gaussian Filter": the weighted mean of the nine samples, rounded down
 abbrev pub gaussian_mean : List ℤ → ℤ
 gaussian_mean zs = int_div_euclid (weighted gaussian_weights zs) (pos 16)
 
--- whether at most four of the samples are below v and at most four above it
+-- whether at most four of the samples are below v, and at most four are above it
 abbrev pub is_middle : List ℤ → ℤ → Bool
 is_middle zs v = nat_le (count_by (λ z. int_lt z v) zs) 4 && nat_le (count_by (λ z. int_lt v z) zs) 4
 
--- "Median Filter": the one of the nine that is in their middle
+-- "Median Filter": the median of the nine samples
 abbrev pub median : List ℤ → ℤ
 median zs = unwrap_or (find (is_middle zs) zs) (pos 0)
 
--- "Erode Image": the least
+-- "Erode Image": the least sample
 abbrev pub least_of : List ℤ → ℤ
 least_of [] = pos 0
 least_of (z ∷ zs) = fold int_min z zs
 
--- "Dilate Image": the greatest
+-- "Dilate Image": the greatest sample
 abbrev pub greatest_of : List ℤ → ℤ
 greatest_of [] = pos 0
 greatest_of (z ∷ zs) = fold int_max z zs
 
--- "Sobel 3x3": the change from left to right
+-- "Sobel 3x3": the horizontal gradient, positive from left to right
 abbrev pub gradient_x : List ℤ → ℤ
 gradient_x =
     weighted
@@ -95,7 +95,7 @@ gradient_x =
     ∷ negsuc 1 ∷ pos 0 ∷ pos 2
     ∷ negsuc 0 ∷ pos 0 ∷ pos 1 ∷ [])
 
--- "Sobel 3x3": the change from above to below
+-- "Sobel 3x3": the vertical gradient, positive from top to bottom
 abbrev pub gradient_y : List ℤ → ℤ
 gradient_y =
     weighted
@@ -103,7 +103,7 @@ gradient_y =
     ∷ pos 0 ∷ pos 0 ∷ pos 0
     ∷ pos 1 ∷ pos 2 ∷ pos 1 ∷ [])
 
--- the formula of the nine samples by which a function gives an output
+-- the formula of a function's output over the nine samples of a 3x3 window
 abbrev pub formula_of_nine : Function → Output → List ℤ → ℤ
 formula_of_nine Box output = box_mean
 formula_of_nine Gaussian output = gaussian_mean
@@ -116,32 +116,33 @@ formula_of_nine other output = λ _. pos 0
 
 -- ---- "Custom Convolution"
 
--- the sum of a row of samples around column x, each times the coefficient at the opposite place of a row of the matrix
+-- the products of the samples around column x with row l of the matrix, summed; the samples are taken from right to left
 abbrev pub row_product : ConvolutionValue → (ℤ → ℤ) → ℤ → ℕ → ℤ
 row_product c f x l = total (map (λ k. f (x +ℤ pos (c.columns / 2) -ℤ pos k) *ℤ coefficient c l k) (range_with_len 0 c.columns))
 
--- the sum of the samples around a place, each times the coefficient at the opposite place: the matrix is turned by half
+-- the products of the samples around a pixel with the matrix turned by 180 degrees, summed
 abbrev pub matrix_product : ConvolutionValue → (ℤ → ℤ → ℤ) → ℤ → ℤ → ℤ
 matrix_product c f x y = total (map (λ l. row_product c (λ u. f u (y +ℤ pos (c.rows / 2) -ℤ pos l)) x l) (range_with_len 0 c.rows))
 
--- the sum over 2^exponent, rounded to zero and clamped
+-- the sum over 2^exponent, rounded to zero and clamped to the format
 abbrev pub convolved : ConvolutionValue → Format → (ℤ → ℤ → ℤ) → ℤ → ℤ → ℤ
 convolved c format f x y = clamp format (int_div (matrix_product c f x y) (pos (2 ^ c.exponent)))
 
 -- ---- images
 
--- where the output is valid, for windows of these radii: under Undefined where the whole window is valid, else where the input is
+-- the output's valid rectangle for windows of these radii: under Undefined the pixels whose whole window is valid, otherwise that of
+-- the input
 abbrev pub window_valid : Border → ℕ → ℕ → Rectangle → Rectangle
 window_valid Undefined rx ry valid = shrunk valid rx ry
 window_valid (Constant value) rx ry valid = valid
 window_valid Replicate rx ry valid = valid
 
--- an image of one: a formula of the nine samples around each place
+-- the image whose samples are f of the 3x3 window around each pixel
 abbrev pub from_nine : Format → (List ℤ → ℤ) → Border → ImageValue → ImageValue
 from_nine format f border a =
     made a.width a.height format (window_valid border 1 1 a.valid) (λ x y. f (nine_around (look a border) (pos x) (pos y)))
 
--- an image of one: the convolution around each place
+-- the image convolved with a matrix
 abbrev pub from_matrix : Format → ConvolutionValue → Border → ImageValue → ImageValue
 from_matrix format c border a =
     made a.width a.height format (window_valid border (c.columns / 2) (c.rows / 2) a.valid) (λ x y. convolved c format (look a border) (pos x) (pos y))

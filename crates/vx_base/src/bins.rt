@@ -4,11 +4,12 @@ ghost use Rattle.vx_base.specs.Statistics.{bins_of, bin_of};
 
 use std::marker::Model;
 
-/// The most bins that a histogram has.
+/// The greatest number of bins of a histogram.
 pub const GREATEST_BINS: usize = 256;
 
-/// The bins of a histogram of U8 samples (OpenVX 1.3, `vx_distribution`): 1 to 256 of one size,
-/// which begin at the offset, 0 to 255, and together are as long as the range, 1 to 256.
+/// The bins of a histogram of U8 samples (OpenVX 1.3, `vx_distribution`): 1 to 256 bins of equal
+/// size. The offset, 0 to 255, is the least sample that is counted; the range, 1 to 256, is the
+/// number of sample values that the bins cover.
 #[derive(Clone, Copy, PartialEq, Eq, Debug)]
 pub struct Bins {
     bins: u16,
@@ -30,7 +31,7 @@ impl Model for Bins {
 }
 
 impl Bins {
-    /// The bins with these numbers. `None` unless all three are allowed.
+    /// Returns the bins with these numbers, or `None` if one of them is out of its range.
     pub fn new(bins: u16, offset: u16, range: u16) -> Option<Bins>
         ensures { result ≡ bins_of bins offset range }
     {
@@ -46,7 +47,7 @@ impl Bins {
         }
     }
 
-    /// How many bins there are.
+    /// Returns the number of bins.
     pub fn bins(self) -> u16
         ensures value { result ≡ self.bins }
         ensures limits { (1 ≤ result) × (result ≤ 256) }
@@ -54,7 +55,7 @@ impl Bins {
         self.bins
     }
 
-    /// The least sample that falls into a bin.
+    /// Returns the least sample that is counted.
     pub fn offset(self) -> u16
         ensures value { result ≡ self.offset }
         ensures limit { result < 256 }
@@ -62,7 +63,7 @@ impl Bins {
         self.offset
     }
 
-    /// How many numbers from the offset on fall into bins.
+    /// Returns the number of sample values that the bins cover, from the offset on.
     pub fn range(self) -> u16
         ensures value { result ≡ self.range }
         ensures limits { (1 ≤ result) × (result ≤ 256) }
@@ -70,7 +71,7 @@ impl Bins {
         self.range
     }
 
-    /// The bin into which a sample falls, if one does.
+    /// Returns the bin that counts a sample, or `None` if the bins don't cover it.
     pub fn bin_of(self, sample: u8) -> Option<u16>
         ensures value { result ≡ bin_of self sample }
         ensures below { IfSome result (λ bin. bin < self.bins) }

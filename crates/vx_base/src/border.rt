@@ -1,12 +1,12 @@
-//! What a window sees beside an image.
+//! Border modes of window functions.
 
-/// What counts at a place outside the valid rectangle (OpenVX 1.3, `vx_border_e`).
+/// What a window reads outside the valid rectangle (OpenVX 1.3, `vx_border_e`).
 #[derive(Clone, Copy, PartialEq, Eq, Debug)]
 pub enum Border {
-    /// Nothing: the output is valid only where the whole window is.
+    /// Nothing: the output is valid only where the whole window lies in the valid rectangle.
     Undefined,
     /// This sample.
     Constant(u8),
-    /// The sample of the nearest valid place.
+    /// The nearest valid sample.
     Replicate,
 }

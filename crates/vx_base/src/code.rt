@@ -1,8 +1,8 @@
-//! Codes of replies.
+//! Result codes of requests.
 ghost use Rattle.std.specs.Prelude.{◌≡◌};
 ghost use Rattle.vx_base.specs.Code.{code_number, code_name};
 
-/// How a request ended. The names are those of OpenVX 1.3's `vx_status_e` without `VX_` and
+/// The result of a request. The names are those of OpenVX 1.3's `vx_status_e` without `VX_` and
 /// `VX_ERROR_`; the numbers are this project's.
 #[derive(Clone, Copy, PartialEq, Eq, Debug)]
 pub enum Code {
@@ -23,14 +23,14 @@ pub enum Code {
 }
 
 impl Code {
-    /// The byte that stands for the code in a reply.
+    /// Returns the code's number, a byte in a reply.
     pub fn number(self) -> u8
         ensures { result ≡ code_number self }
     {
         self as u8
     }
 
-    /// The code's name in capitals, as `INVALID_FORMAT`.
+    /// Returns the code's name in capitals, such as `INVALID_FORMAT`.
     pub fn name(self) -> &'static str
         ensures { result.now ≡ code_name self }
     {

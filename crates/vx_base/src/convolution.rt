@@ -1,4 +1,4 @@
-//! Matrices by which images are convolved.
+//! Convolution matrices.
 ghost use Rattle.std.specs.Prelude.{◌≡◌, ◌≤◌, ◌<◌, ◌*◌, ◌+◌, IsTrue, length, if◌then◌else◌, Some};
 ghost use Rattle.std.specs.Prelude.{None};
 ghost use Rattle.vx_base.specs.Convolution.{is_odd_side, is_convolution, IsConvolution};
@@ -6,12 +6,11 @@ ghost use Rattle.vx_base.specs.Convolution.{is_odd_side, is_convolution, IsConvo
 use crate::samples::are_shorts;
 use std::marker::Model;
 
-/// How many coefficients the largest matrix has.
+/// The number of coefficients of the largest matrix, 9x9.
 pub const GREATEST_COEFFICIENTS: usize = 81;
 
-/// A matrix by which a U8 image is convolved (OpenVX 1.3, `vx_convolution`): 3, 5, 7 or 9 columns
-/// and rows of S16 coefficients, and the exponent of the power of two, 0 to 31, by which sums are
-/// divided.
+/// A convolution matrix for U8 images (OpenVX 1.3, `vx_convolution`): 3, 5, 7 or 9 columns and rows
+/// of S16 coefficients, and an exponent, 0 to 31, of the power of two that divides each sum.
 #[derive(Debug, Drop)]
 pub struct Convolution {
     columns: u8,
@@ -37,7 +36,7 @@ impl Model for Convolution {
         (c.rows * c.columns)) };
 }
 
-/// Whether a matrix can have so many columns, or rows.
+/// Whether a matrix can have this number of columns or rows.
 fn is_odd_side(side: u8) -> bool
     ensures { result ≡ is_odd_side side }
 {
@@ -45,8 +44,8 @@ fn is_odd_side(side: u8) -> bool
 }
 
 impl Convolution {
-    /// The matrix with these coefficients by rows from the top. `None` unless the sides and the
-    /// exponent are allowed, and there is a coefficient for each place.
+    /// Returns the matrix with these coefficients, in row-major order. `None` if a side is not 3,
+    /// 5, 7 or 9, the exponent is above 31, or there isn't one coefficient for each element.
     pub fn new(columns: u8, rows: u8, exponent: u8, coefficients: &[i16]) -> Option<Convolution>
         ensures { result ≡ (if is_convolution columns rows exponent (length coefficients.now)
             then Some (record {
@@ -74,7 +73,7 @@ impl Convolution {
         })
     }
 
-    /// How many columns the matrix has: 3, 5, 7 or 9.
+    /// Returns the number of columns: 3, 5, 7 or 9.
     pub fn columns(&self) -> u8
         ensures value { result ≡ self.now.columns }
         ensures side { IsTrue (is_odd_side result) }
@@ -82,7 +81,7 @@ impl Convolution {
         self.columns
     }
 
-    /// How many rows the matrix has: 3, 5, 7 or 9.
+    /// Returns the number of rows: 3, 5, 7 or 9.
     pub fn rows(&self) -> u8
         ensures value { result ≡ self.now.rows }
         ensures side { IsTrue (is_odd_side result) }
@@ -90,7 +89,7 @@ impl Convolution {
         self.rows
     }
 
-    /// The exponent of the power of two by which sums are divided.
+    /// Returns the exponent, 0 to 31, of the power of two that divides each sum.
     pub fn exponent(&self) -> u8
         ensures value { result ≡ self.now.exponent }
         ensures limit { result ≤ 31 }
@@ -98,7 +97,7 @@ impl Convolution {
         self.exponent
     }
 
-    /// The coefficients by rows from the top.
+    /// Returns the coefficients in row-major order.
     pub fn coefficients(&self) -> &[i16]
         ensures value { result.now ≡ self.now.coefficients }
         ensures size { length result.now ≡ self.now.rows * self.now.columns }
@@ -107,7 +106,7 @@ impl Convolution {
         &self.coefficients[..count]
     }
 
-    /// The same matrix once more.
+    /// Returns a copy of the matrix.
     pub fn copy(&self) -> Convolution
         ensures { result ≡ self.now }
     {
@@ -119,8 +118,8 @@ impl Convolution {
         }
     }
 
-    /// Its numbers are those that their types allow, which the prover knows of what is read.
-    /// Nothing is done when this runs.
+    /// Proves that the matrix is well-formed. The prover learns the range of a number only where it
+    /// is read; at run time this does nothing.
     pub fn is_convolution(&self)
         ensures { IsConvolution self.now }
     {

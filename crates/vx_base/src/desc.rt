@@ -8,13 +8,13 @@ use crate::format::Format;
 use crate::rect::Rect;
 use std::marker::Model;
 
-/// The greatest width and height of an image, in samples.
+/// The greatest width and height of an image, in pixels.
 pub const GREATEST_SIDE: u16 = 8192;
 
-/// The bytes of the largest image: of four bytes a sample, and of the greatest sides.
+/// The size of the largest image in bytes: the greatest width and height, at four bytes a sample.
 pub const GREATEST_BYTES: usize = GREATEST_SIDE as usize * GREATEST_SIDE as usize * 4;
 
-/// The size and format of an image: 1 to 8192 samples wide and high.
+/// An image's description: its width and height, 1 to 8192 pixels each, and its format.
 #[derive(Clone, Copy, PartialEq, Eq, Debug)]
 pub struct Desc {
     width: u16,
@@ -36,7 +36,7 @@ impl Model for Desc {
 }
 
 impl Desc {
-    /// The description of an image. `None` unless the width and height are 1 to 8192.
+    /// Returns the description of an image, or `None` if its width or height isn't 1 to 8192.
     pub fn new(width: u16, height: u16, format: Format) -> Option<Desc>
         ensures { result ≡ description width height format }
     {
@@ -48,7 +48,7 @@ impl Desc {
         }
     }
 
-    /// The description of an image of this width and height, which are 1 to 8192.
+    /// Returns the description of an image whose width and height are 1 to 8192.
     pub fn with_sides(width: u16, height: u16, format: Format) -> Desc
         requires { IsTrue (is_side width && is_side height) }
         ensures { result ≡ record { width = width; height = height; format = format } }
@@ -60,21 +60,22 @@ impl Desc {
         }
     }
 
-    /// Its sides are allowed, which the prover knows where they are read.
+    /// Proves that the sides are permitted. The prover learns the range of a number only where it
+    /// is read; at run time this does nothing.
     pub fn has_sides(self)
         ensures { IsDescription self }
     {
         let _sides = (self.width, self.height);
     }
 
-    /// Whether the images are as wide and as high.
+    /// Checks whether the images have the same width and height.
     pub fn has_size_of(self, other: Desc) -> bool
         ensures { result ≡ same_size self other }
     {
         self.width == other.width && self.height == other.height
     }
 
-    /// The samples of a row.
+    /// Returns the width in pixels.
     pub fn width(self) -> u16
         ensures value { result ≡ self.width }
         ensures limits { (1 ≤ result) × (result ≤ GREATEST_SIDE) }
@@ -82,7 +83,7 @@ impl Desc {
         self.width
     }
 
-    /// The rows.
+    /// Returns the height in pixels.
     pub fn height(self) -> u16
         ensures value { result ≡ self.height }
         ensures limits { (1 ≤ result) × (result ≤ GREATEST_SIDE) }
@@ -90,21 +91,21 @@ impl Desc {
         self.height
     }
 
-    /// The format of the samples.
+    /// Returns the format of the samples.
     pub fn format(self) -> Format
         ensures { result ≡ self.format }
     {
         self.format
     }
 
-    /// The rectangle of all places.
+    /// Returns the rectangle of all pixels.
     pub fn whole(self) -> Rect
         ensures { result ≡ whole self.width self.height }
     {
         Rect::new(0, 0, self.width, self.height).unwrap()
     }
 
-    /// How many samples the image has.
+    /// Returns the number of samples.
     pub fn sample_count(self) -> usize
         ensures value { result ≡ sample_count self }
         ensures limit { result ≤ GREATEST_SIDE * GREATEST_SIDE }
@@ -112,7 +113,7 @@ impl Desc {
         usize::from(self.height) * usize::from(self.width)
     }
 
-    /// How many bytes its samples take.
+    /// Returns the size of the samples in bytes.
     pub fn byte_count(self) -> usize
         ensures value { result ≡ byte_count self }
         ensures limit { result ≤ GREATEST_BYTES }

@@ -1,4 +1,4 @@
-//! Worked examples: what the definitions give, in numbers.
+//! Worked examples: the definitions evaluated on numbers.
 ghost use Rattle.std.specs.Prelude.{◌≡◌, ◌-ℤ◌, List, [], ◌∷◌, Some, None, pos, negsuc, true, false};
 ghost use Rattle.std.specs.Prelude.{codes};
 ghost use Rattle.vx_base.specs.declared.format.Format.TheVariants.{U8, S16, U32};
@@ -29,7 +29,7 @@ ghost use Rattle.vx_base.specs.Outputs.{node_image};
 ghost use Rattle.vx_base.specs.Code.{code_number, code_name};
 ghost use Rattle.vx_base.specs.Node.{is_node};
 
-/// Numbers that are narrowed to samples.
+/// Numbers narrowed to samples.
 pub fn narrowed()
     ensures wrapped_up { narrow U8 Wrap (pos 300) ≡ pos 44 }
     ensures wrapped_down { narrow U8 Wrap (negsuc 99) ≡ pos 156 }
@@ -41,7 +41,7 @@ pub fn narrowed()
     ensures kept { narrow S16 Saturate (negsuc 99) ≡ negsuc 99 }
 {}
 
-/// Rectangles and their places.
+/// Rectangles and their pixels.
 pub fn rectangles()
     ensures proper { rectangle 1 0 3 1 ≡ Some (record { x0 = 1; y0 = 0; x1 = 3; y1 = 1 }) }
     ensures zeros { rectangle 0 0 0 0 ≡ Some empty }
@@ -56,7 +56,7 @@ pub fn rectangles()
     ensures too_small { shrunk (record { x0 = 0; y0 = 0; x1 = 2; y1 = 2 }) 1 1 ≡ empty }
 {}
 
-/// Descriptions within the limits and beyond.
+/// Descriptions within the limits and beyond them.
 pub fn descriptions()
     ensures least { description 1 1 U8 ≡ Some (record { width = 1; height = 1; format = U8 }) }
     ensures greatest { description 8192 8192 U32
@@ -75,7 +75,7 @@ pub fn images()
     ensures new { (new_image 2 1 S16).samples ≡ pos 0 ∷ pos 0 ∷ [] }
 {}
 
-/// Not of a row that holds 10 20 30 40 and is valid but for its ends.
+/// Bitwise Not of the row 10 20 30 40, which is valid except at its ends.
 pub fn not_of_a_row()
     ensures { (from_one U8 not_bits (record {
       width = 4;
@@ -89,14 +89,14 @@ pub fn not_of_a_row()
         ≡ pos 0 ∷ pos 235 ∷ pos 225 ∷ pos 0 ∷ [] }
 {}
 
-/// The bits of 12 and 10.
+/// Bitwise operations on 12 and 10.
 pub fn bits()
     ensures and { and_bits (pos 12) (pos 10) ≡ pos 8 }
     ensures or { or_bits (pos 12) (pos 10) ≡ pos 14 }
     ensures xor { xor_bits (pos 12) (pos 10) ≡ pos 6 }
 {}
 
-/// Sums beyond the greatest sample and within the range.
+/// Sums within the range and beyond the greatest sample.
 pub fn sums()
     ensures nearest { sum U8 Saturate (pos 200) (pos 100) ≡ pos 255 }
     ensures wrapped { sum U8 Wrap (pos 200) (pos 100) ≡ pos 44 }
@@ -106,7 +106,7 @@ pub fn sums()
     ensures wrapped_short { sum S16 Wrap (pos 32767) (pos 1) ≡ negsuc 32767 }
 {}
 
-/// 100 less 200, and how far the two ends of S16 are apart.
+/// 100 - 200, and the distance between the least and the greatest S16 sample.
 pub fn differences()
     ensures nearest { difference U8 Saturate (pos 100) (pos 200) ≡ pos 0 }
     ensures wrapped { difference U8 Wrap (pos 100) (pos 200) ≡ pos 156 }
@@ -115,7 +115,7 @@ pub fn differences()
     ensures absolute_of_ends { absolute_difference S16 (negsuc 32767) (pos 32767) ≡ pos 32767 }
 {}
 
-/// The square of -32768, as it is and over 32768, and -3 over 2.
+/// The square of -32768, unscaled and over 32768, and -3 over 2.
 pub fn products()
     ensures nearest { product S16 Saturate 0 (negsuc 32767) (negsuc 32767) ≡ pos 32767 }
     ensures wrapped { product S16 Wrap 0 (negsuc 32767) (negsuc 32767) ≡ pos 0 }
@@ -124,7 +124,7 @@ pub fn products()
     ensures to_zero { product S16 Saturate 1 (negsuc 2) (pos 1) ≡ negsuc 0 }
 {}
 
-/// 200 added to 400, 100 to 32700; and squares of 255, as they are, over 2 and over 32768.
+/// 200 added to 400, 100 added to 32700, and squares of 255: unscaled, over 2 and over 32768.
 pub fn accumulations()
     ensures added { accumulated S16 (pos 200) (pos 400) ≡ pos 600 }
     ensures nearest { accumulated S16 (pos 100) (pos 32700) ≡ pos 32767 }
@@ -133,7 +133,7 @@ pub fn accumulations()
     ensures rounded_down { accumulated_square S16 15 (pos 255) (negsuc 32767) ≡ negsuc 32766 }
 {}
 
-/// A row to which one is added that is valid in its left half alone.
+/// A row added to an accumulator that is valid in its left half only.
 pub fn accumulated_row()
     ensures { (from_two S16 (accumulated S16) (record {
       width = 4;
@@ -150,14 +150,14 @@ pub fn accumulated_row()
     })).samples ≡ pos 11 ∷ pos 22 ∷ pos 0 ∷ pos 0 ∷ [] }
 {}
 
-/// -1 over 2 to U8, and 255 times 128 to S16.
+/// -1 over 2 converted to U8, and 255 times 128 converted to S16.
 pub fn conversions()
     ensures wrapped { converted U8 Wrap 1 (negsuc 0) ≡ pos 255 }
     ensures nearest { converted U8 Saturate 1 (negsuc 0) ≡ pos 0 }
     ensures widened { converted S16 Wrap 7 (pos 255) ≡ pos 32640 }
 {}
 
-/// Samples at the limits of a range and of a binary threshold.
+/// Samples at the limits of range and binary thresholds.
 pub fn thresholds()
     ensures below { thresholded (record {
       format = U8;
@@ -214,7 +214,7 @@ pub fn tables()
     ensures not_second { (parameters AndBits).second_input ≡ Some Image }
 {}
 
-/// Formats that functions take and do not.
+/// Formats that functions take, and formats that they don't.
 pub fn formats()
     ensures widened { takes_formats Add U8 (Some U8) (Some S16) ≡ true }
     ensures narrowed { takes_formats Add U8 (Some S16) (Some U8) ≡ false }
@@ -222,7 +222,7 @@ pub fn formats()
     ensures same { takes_formats ConvertDepth U8 None (Some U8) ≡ false }
 {}
 
-/// And of a row that is valid in its left half and one that is valid in its right.
+/// Bitwise And of a row that is valid in its left half with one that is valid in its right half.
 pub fn and_of_halves()
     ensures { node_image (record {
       function = AndBits;
@@ -264,7 +264,8 @@ pub fn and_of_halves()
         } }
 {}
 
-/// A code, and nodes of Not with what it has, without an output, and with a policy that it lacks.
+/// A code, and nodes of Bitwise Not: a proper one, one without an output, and one with a policy
+/// that the function doesn't take.
 pub fn nodes()
     ensures number { code_number InvalidFormat ≡ 5 }
     ensures name { code_name InvalidFormat ≡ codes "INVALID_FORMAT" }
@@ -305,7 +306,7 @@ pub fn nodes()
     }) ≡ false }
 {}
 
-/// Outlines whose open parts are filled, and formats that are left open.
+/// Partial descriptions with their open parts filled in, and the formats of open outputs.
 pub fn outlines()
     ensures filled { filled (record { width = Some 4; height = None; format = None })
         (record { width = Some 8; height = Some 2; format = Some U8 })
@@ -320,7 +321,7 @@ pub fn outlines()
     ensures converted_back { open_format ConvertDepth U8 ≡ S16 }
 {}
 
-/// A graph whose only node is removed, and its next one: the number isn't used again.
+/// A graph whose only node is removed, and the next one that is added: its number is a new one.
 pub fn numbers_of_nodes()
     ensures first { (n : Node) → nodes_of (with_node new_graph n) ≡ n ∷ [] }
     ensures removed { (n : Node) → without_node (with_node new_graph n) 1

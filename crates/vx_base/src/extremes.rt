@@ -1,8 +1,8 @@
-//! The extremes of an image.
+//! The extremes of an image's samples.
 
-/// The least and the greatest sample of an image, how many places hold each, and the column and
-/// row of the first of them by rows from the top, then from the left (OpenVX 1.3, "Min, Max
-/// Location"). All eight numbers are 0 where an image has no valid place.
+/// The least and the greatest sample of an image, the number of pixels that have each, and the
+/// column and row of the first such pixel in row-major order (OpenVX 1.3, "Min, Max Location"). All
+/// eight numbers are 0 if the image has no valid pixel.
 #[derive(Clone, Copy, PartialEq, Eq, Debug)]
 pub struct Extremes {
     pub min: i16,

@@ -1,4 +1,4 @@
-//! Formats of images.
+//! Image formats.
 ghost use Rattle.std.specs.Prelude.{◌≡◌};
 ghost use Rattle.vx_base.specs.Sample.{sample_bytes};
 ghost use Rattle.vx_base.specs.Threshold.{is_sample};
@@ -15,7 +15,7 @@ pub enum Format {
 }
 
 impl Format {
-    /// The bytes of one sample.
+    /// Returns the size of one sample in bytes.
     pub fn sample_bytes(self) -> usize
         ensures { result ≡ sample_bytes self }
     {
@@ -26,7 +26,7 @@ impl Format {
         }
     }
 
-    /// Whether a number is a sample of the format.
+    /// Checks whether a number is a sample of the format.
     pub fn has_sample(self, number: i16) -> bool
         ensures { result ≡ is_sample self number }
     {

@@ -35,7 +35,7 @@ pub enum Function {
     Threshold,
     /// "TableLookup".
     TableLookup,
-    /// "Convert Bit Depth", shifted by the node's amount.
+    /// "Convert Bit Depth"; the node's amount is the shift.
     ConvertDepth,
     /// "Box Filter", 3x3.
     Box,
@@ -47,7 +47,7 @@ pub enum Function {
     Erode,
     /// "Dilate Image", 3x3.
     Dilate,
-    /// "Sobel 3x3": its outputs are the changes from left to right and from above to below.
+    /// "Sobel 3x3"; the outputs are the horizontal and the vertical gradient.
     Sobel,
     /// "Custom Convolution".
     Convolve,
@@ -59,27 +59,27 @@ pub enum Function {
     MinMaxLoc,
     /// "Accumulate".
     Accumulate,
-    /// "Accumulate Squared", where the square is over 2^n, n being the node's amount.
+    /// "Accumulate Squared"; the square is divided by 2^n, where n is the node's amount.
     AccumulateSquare,
 }
 
-/// What a node of a function has, beside its first input, which is an image, and its border.
+/// A function's parameters, apart from its first input, which is an image, and the border.
 #[derive(Clone, Copy, PartialEq, Eq, Debug)]
 pub struct Parameters {
-    /// It reads a second input of this kind.
+    /// The kind of its second input, if it has one.
     pub second_input: Option<Kind>,
-    /// It has an overflow policy.
+    /// Whether it takes an overflow policy.
     pub policy: bool,
-    /// It has an amount, which goes from 0 to this.
+    /// The greatest amount, if it takes one; the least is 0.
     pub greatest_amount: Option<u8>,
-    /// Its outputs are of this kind.
+    /// The kind of its outputs.
     pub output: Kind,
-    /// It has two outputs, of which one may be left out.
+    /// Whether it has two outputs, either of which may be left out.
     pub output_pair: bool,
 }
 
 impl Function {
-    /// The byte that stands for the function in a node.
+    /// Returns the function's number, a byte in a request.
     pub fn number(self) -> u8
         ensures { result ≡ function_number self }
     {
@@ -112,7 +112,7 @@ impl Function {
         }
     }
 
-    /// The function with this number, if there is one.
+    /// Returns the function with this number, or `None` if there is none.
     pub fn from_number(number: u8) -> Option<Function>
         ensures value { result ≡ function_numbered number }
         ensures inverse { (function : VisionFunction) →
@@ -148,7 +148,7 @@ impl Function {
         }
     }
 
-    /// What a node of the function has.
+    /// Returns the function's parameters.
     pub fn parameters(self) -> Parameters
         ensures { result ≡ parameters self }
     {
@@ -168,7 +168,7 @@ impl Function {
         }
     }
 
-    /// The kind of object that the function reads beside its first input, if it does.
+    /// The kind of the function's second input, if it has one.
     fn second_input(self) -> Option<Kind>
         ensures { result ≡ (parameters self).second_input }
     {
@@ -200,17 +200,18 @@ impl Function {
         }
     }
 
-    /// Whether the function adds to the image that it writes: what that held as the run began is an
-    /// operand too.
+    /// Checks whether the function adds to its output image, whose content at the start of the
+    /// graph's run is then an operand too.
     pub fn accumulates(self) -> bool
         ensures { result ≡ accumulates self }
     {
         matches!(self, Function::Accumulate | Function::AccumulateSquare)
     }
 
-    /// Whether the function takes these formats: of its first input; of its second, which is that
-    /// of an image, of a table's entries, of what a threshold tests or of a convolution's
-    /// coefficients; and of its output. `None`: there is no such operand, or it has no format.
+    /// Checks whether the function takes these formats: of its first input, its second input and
+    /// its output. A second input's format is that of the image, of the table's entries, of the
+    /// samples that the threshold tests or of the coefficients. `None` is an operand that is absent
+    /// or has no format.
     pub fn takes_formats(
         self,
         first: Format,
@@ -227,7 +228,7 @@ impl Function {
         }
     }
 
-    /// Whether the function takes an image of this format, where it writes no image.
+    /// Whether the function writes no image and takes a first input of this format.
     fn measures(self, first: Format) -> bool
         ensures { result ≡ takes_formats self first None None }
     {
@@ -238,8 +239,8 @@ impl Function {
         }
     }
 
-    /// Whether the function makes an image of one format of an image of another, where nothing
-    /// beside that has a format.
+    /// Whether the function makes an `output` image from a `first` image and no other operand with
+    /// a format.
     fn makes(self, first: Format, output: Format) -> bool
         ensures { result ≡ takes_formats self first None (Some output) }
     {
@@ -262,8 +263,8 @@ impl Function {
         }
     }
 
-    /// Whether the function makes an image of one format of an image and what has a format beside
-    /// it.
+    /// Whether the function makes an `output` image from a `first` image and a second operand of
+    /// format `second`.
     fn joins(self, first: Format, second: Format, output: Format) -> bool
         ensures { result ≡ takes_formats self first (Some second) (Some output) }
     {
@@ -292,8 +293,8 @@ impl Function {
 impl Function {
     ghost use Rattle.vx_base.specs.Formats.{open_format};
 
-    /// The format of an image that a node of this function writes and whose format is open, from
-    /// that of the node's first input.
+    /// Returns the format that an output image gets if its own is open, from the format of the
+    /// node's first input. The result has no meaning for a function that writes no image.
     pub fn open_format(self, first: Format) -> Format
         ensures { result ≡ open_format self first }
     {

@@ -1,6 +1,6 @@
 //! Kinds of objects.
 
-/// What an object is (OpenVX 1.3, `vx_type_e`).
+/// The kind of an object (OpenVX 1.3, `vx_type_e`).
 #[derive(Clone, Copy, PartialEq, Eq, Debug)]
 pub enum Kind {
     /// An image, `VX_TYPE_IMAGE`.
@@ -9,16 +9,16 @@ pub enum Kind {
     Lut,
     /// A threshold, `VX_TYPE_THRESHOLD`.
     Threshold,
-    /// A delay as a whole, `VX_TYPE_DELAY`, which no function takes: each of its slots is an image.
+    /// A whole delay, `VX_TYPE_DELAY`. No function takes it; each of its slots is an image.
     Delay,
     /// A convolution, `VX_TYPE_CONVOLUTION`.
     Convolution,
     /// A distribution, `VX_TYPE_DISTRIBUTION`.
     Distribution,
-    /// The extremes of an image, which the standard has in scalars and arrays.
+    /// The extremes of an image; the standard returns them in scalars and arrays.
     Extremes,
     /// A graph, `VX_TYPE_GRAPH`, which no function takes.
     Graph,
-    /// A virtual image, which nodes of its graph take in the place of an image.
+    /// A virtual image, which nodes of its graph use as an image.
     VirtualImage,
 }

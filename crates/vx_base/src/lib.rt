@@ -1,11 +1,10 @@
-//! The types that all of the runtime speaks of, and the definitions behind its contracts.
+//! The common types of the runtime, and the definitions behind its contracts.
 //!
-//! Formats, rectangles, descriptions, codes, nodes, pictures, tables and thresholds are small
-//! values whose invariants hold by construction: a `Rect` is a rectangle, a `Desc` is within the
-//! limits, a `NodeSpec` has the shape of its function, a `Lut` has an entry for each sample.
-//! `specs/` has the model's first definitions: samples as whole numbers, rectangles as sets of
-//! places, images as tables of functions of places, and the formula of each function of pixels.
-//! `laws` states what these definitions mean, and `examples` works some of them out.
+//! Each type keeps its invariant by construction: a `Rect` is in canonical form, a `Desc` is within
+//! the limits, a `NodeSpec` has the parameters of its function, a `Lut` has an entry for each
+//! sample value. `specs/` has the model's first definitions: samples as whole numbers, rectangles
+//! as sets of pixels, images as tables of functions of pixels, and the formula of each vision
+//! function. `laws` states facts about these definitions, and `examples` evaluates some of them.
 #![tactic(auto)]
 
 mod bins;

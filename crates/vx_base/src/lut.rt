@@ -9,8 +9,8 @@ use crate::samples::Samples;
 use std::alloc::{AllocError, Global};
 use std::marker::Model;
 
-/// A lookup table of U8 or S16 samples (OpenVX 1.3, `vx_lut`): 256 or 65,536 entries, the one for
-/// the least sample first.
+/// A lookup table of U8 or S16 samples (OpenVX 1.3, `vx_lut`): 256 or 65,536 entries, in the order
+/// of the sample values.
 #[derive(Debug, Drop)]
 pub struct Lut {
     entries: Samples,
@@ -34,7 +34,7 @@ impl Model for Lut {
 impl Lut {
     ghost use Rattle.vx_base.specs.Lut.{LutValue, IsLut};
 
-    /// The table with these entries. `None` unless they are 256 of U8 or 65,536 of S16.
+    /// Returns the table with these entries, or `None` unless there are 256 of U8 or 65,536 of S16.
     pub fn new(entries: Samples) -> Option<Lut>
         ensures { result ≡ (if is_full (samples_format entries) (length (values entries)) then Some
             (record { format = samples_format entries; entries = values entries }) else None) }
@@ -45,7 +45,7 @@ impl Lut {
         Some(Lut::of(entries))
     }
 
-    /// The table with these entries, 256 of U8 or 65,536 of S16.
+    /// Returns the table with these entries, 256 of U8 or 65,536 of S16.
     pub fn of(entries: Samples) -> Lut
         requires { IsTrue (is_full (samples_format entries) (length (values entries))) }
         ensures { result ≡ record { format = samples_format entries; entries = values entries } }
@@ -54,7 +54,7 @@ impl Lut {
         Lut { entries }
     }
 
-    /// How many entries a table of this format has: one for each sample.
+    /// Returns the number of entries of a table of this format: one for each sample value.
     pub fn entry_count(format: Format) -> usize
         ensures { result ≡ range_size format }
     {
@@ -65,7 +65,7 @@ impl Lut {
         }
     }
 
-    /// The same table once more.
+    /// Returns a copy of the table, or an error if there is no memory for it.
     pub fn copy(&self, alloc: Global) -> Result<Lut, AllocError>
         ensures value { IfOk result (λ made. made ≡ self.now) }
         ensures table { IfOk result IsLut }
@@ -75,7 +75,7 @@ impl Lut {
         })
     }
 
-    /// The format of the samples that are looked up, and of the entries.
+    /// Returns the format of the table's samples and entries.
     pub fn format(&self) -> Format
         ensures value { result ≡ self.now.format }
         ensures table { IsLut self.now }
@@ -83,7 +83,7 @@ impl Lut {
         self.entries.format()
     }
 
-    /// The entries, the one for the least sample first.
+    /// Returns the entries in the order of the sample values.
     pub fn entries(&self) -> &Samples
         ensures format { samples_format result.now ≡ self.now.format }
         ensures value { values result.now ≡ self.now.entries }

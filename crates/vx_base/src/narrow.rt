@@ -1,11 +1,11 @@
-//! Numbers that become samples.
+//! Narrowing of numbers to samples.
 ghost use Rattle.std.specs.Prelude.{◌≡◌, ◌≤ℤ◌, ◌<ℤ◌, pos};
 ghost use Rattle.vx_base.specs.declared.format.Format.TheVariants.{U8, S16};
 ghost use Rattle.vx_base.specs.Sample.{narrow, signed_of};
 
 use crate::policy::Policy;
 
-/// The U8 sample that a number becomes.
+/// Returns the U8 sample that replaces a number under the overflow policy.
 pub fn narrow_u8(number: i32, policy: Policy) -> u8
     ensures { pos result ≡ narrow U8 policy number }
 {
@@ -15,7 +15,7 @@ pub fn narrow_u8(number: i32, policy: Policy) -> u8
     }
 }
 
-/// The S16 sample that a number becomes.
+/// Returns the S16 sample that replaces a number under the overflow policy.
 pub fn narrow_s16(number: i32, policy: Policy) -> i16
     ensures { result ≡ narrow S16 policy number }
 {
@@ -25,7 +25,7 @@ pub fn narrow_s16(number: i32, policy: Policy) -> i16
     }
 }
 
-/// Of a number from 0 to 65,535 the S16 sample that agrees with it modulo 65,536.
+/// The S16 sample that agrees with a number from 0 to 65,535 modulo 65,536.
 fn signed_of(number: i32) -> i16
     requires { (pos 0 ≤ℤ number) × (number <ℤ pos 65536) }
     ensures { result ≡ signed_of number }

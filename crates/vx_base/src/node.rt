@@ -1,4 +1,4 @@
-//! Nodes.
+//! Nodes of a graph.
 ghost use Rattle.std.specs.Prelude.{◌≡◌, IsTrue};
 
 use crate::border::Border;
@@ -8,16 +8,17 @@ use crate::reference::ObjRef;
 use crate::shape::{has_numbers, is_node};
 use std::marker::Model;
 
-/// How many nodes a graph may have.
+/// The greatest number of nodes in a graph.
 pub const GREATEST_NODES: usize = 256;
 
-/// The fields of a node: a vision function, what it reads and what it writes.
+/// A node's fields: the vision function, its parameters, and the references to its inputs and
+/// outputs.
 #[derive(Clone, Copy, PartialEq, Eq, Debug)]
 pub struct Node {
     pub function: Function,
     pub border: Border,
     pub policy: Policy,
-    /// The shift or scale of a function that has one.
+    /// The shift or scale, 0 if the function takes none.
     pub amount: u8,
     pub in1: ObjRef,
     pub in2: Option<ObjRef>,
@@ -25,7 +26,7 @@ pub struct Node {
     pub out2: Option<ObjRef>,
 }
 
-/// A node that has what its function has and nothing else.
+/// A node with exactly the parameters of its function.
 #[derive(Clone, Copy, PartialEq, Eq, Debug)]
 pub struct NodeSpec {
     node: Node,
@@ -47,9 +48,9 @@ impl Model for NodeSpec {
 impl NodeSpec {
     ghost use Rattle.vx_base.specs.Node.{is_node, node_spec, IsNode};
 
-    /// The node with these fields. `None` unless it has the operands, the policy and the amount
-    /// of its function: what the function lacks is `None`, `Policy::Wrap` or 0, and no operand
-    /// that is given is name 0 without a slot.
+    /// Returns the node with these fields, or `None` if they don't suit its function. A parameter
+    /// that the function doesn't take is `None`, `Policy::Wrap` or 0; no operand is name 0 without
+    /// a slot.
     pub fn new(node: Node) -> Option<NodeSpec>
         ensures { result ≡ node_spec node }
     {
@@ -60,7 +61,7 @@ impl NodeSpec {
         }
     }
 
-    /// The node with these fields, which are those that its function has.
+    /// Returns the node with these fields, which suit its function.
     pub fn of(node: Node) -> NodeSpec
         requires { IsTrue (is_node node) }
         ensures { result ≡ node }
@@ -69,7 +70,7 @@ impl NodeSpec {
         NodeSpec { node }
     }
 
-    /// The node's fields.
+    /// Returns the node's fields.
     pub fn node(self) -> Node
         ensures value { result ≡ self }
         ensures node { IsNode self }

@@ -1,7 +1,7 @@
-//! Nodes of graphs.
+//! Numbered nodes.
 use crate::node::NodeSpec;
 
-/// A node of a graph, and its number there.
+/// A node and its number in its graph.
 #[derive(Clone, Copy, PartialEq, Eq, Debug)]
 pub struct Numbered {
     pub number: u32,

@@ -1,4 +1,4 @@
-//! What is known of images that aren't there.
+//! Partial descriptions of images.
 ghost use Rattle.std.specs.Prelude.{◌≡◌, IsTrue, ◌&&◌};
 ghost use Rattle.vx_base.specs.Outline.{outline, may_be_side, outline_of, filled, closed};
 ghost use Rattle.vx_base.specs.Outline.{IsOutline};
@@ -7,8 +7,8 @@ use crate::desc::{Desc, GREATEST_SIDE};
 use crate::format::Format;
 use std::marker::Model;
 
-/// The width, height and format of an image, as far as they are known: what isn't is open. Sides
-/// are 1 to 8192.
+/// A partial description: an image's width, height, 1 to 8192 each, and format, any of which may be
+/// open.
 #[derive(Clone, Copy, PartialEq, Eq, Debug)]
 pub struct Outline {
     width: Option<u16>,
@@ -30,8 +30,8 @@ impl Model for Outline {
 }
 
 impl Outline {
-    /// The outline with these parts; `None` leaves one open. `None` unless the sides that are given
-    /// are 1 to 8192.
+    /// Returns the partial description with these parts, where `None` is an open part, or `None` if
+    /// a given side isn't 1 to 8192.
     pub fn new(width: Option<u16>, height: Option<u16>, format: Option<Format>) -> Option<Outline>
         ensures { result ≡ outline width height format }
     {
@@ -46,7 +46,7 @@ impl Outline {
         }
     }
 
-    /// The outline of an image that is there.
+    /// Returns the description of an existing image, with no part open.
     pub fn of(desc: Desc) -> Outline
         ensures { result ≡ outline_of desc }
     {
@@ -57,32 +57,36 @@ impl Outline {
         }
     }
 
+    /// Returns the width, or `None` if it is open.
     pub fn width(self) -> Option<u16>
         ensures { result ≡ self.width }
     {
         self.width
     }
 
+    /// Returns the height, or `None` if it is open.
     pub fn height(self) -> Option<u16>
         ensures { result ≡ self.height }
     {
         self.height
     }
 
+    /// Returns the format, or `None` if it is open.
     pub fn format(self) -> Option<Format>
         ensures { result ≡ self.format }
     {
         self.format
     }
 
-    /// Its sides are allowed, which the prover knows where they are read.
+    /// Proves that the given sides are permitted. The prover learns the range of a number only
+    /// where it is read; at run time this does nothing.
     pub fn has_sides(self)
         ensures { IsOutline self }
     {
         let _sides = (self.width, self.height);
     }
 
-    /// This outline, whose open parts are as in another.
+    /// Returns this partial description with its open parts taken from another one.
     pub fn filled(self, other: Outline) -> Outline
         ensures { result ≡ filled self other }
     {
@@ -93,7 +97,7 @@ impl Outline {
         }
     }
 
-    /// The description of an image of this outline. `None` where a part is open.
+    /// Returns the full description, or `None` if a part is open.
     pub fn closed(self) -> Option<Desc>
         ensures { result ≡ closed self }
     {
@@ -106,7 +110,7 @@ impl Outline {
     }
 }
 
-/// Whether a width or height is open, or one that an image may have.
+/// Whether a width or height is open or permitted.
 fn may_be_side(side: Option<u16>) -> bool
     ensures { result ≡ may_be_side side }
 {

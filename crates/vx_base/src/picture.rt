@@ -1,4 +1,4 @@
-//! Pictures: what is written to an image and read from it.
+//! Pictures: samples that are written to an image or read from it.
 ghost use Rattle.std.specs.Prelude.{◌≡◌};
 ghost use Rattle.vx_base.specs.Picture.{values, Describes, IsPicture};
 
@@ -6,7 +6,7 @@ use crate::desc::Desc;
 use crate::samples::Samples;
 use std::marker::Model;
 
-/// The samples of a whole image, with its description and no valid rectangle.
+/// A whole image's samples and description, without a valid rectangle.
 #[derive(Debug, Drop)]
 pub struct Picture {
     desc: Desc,
@@ -26,8 +26,8 @@ impl Model for Picture {
 }
 
 impl Picture {
-    /// The picture of these samples, which are of the description's format and as many as its
-    /// width times its height.
+    /// Returns the picture of these samples, which are of the description's format, one for each
+    /// pixel.
     pub fn new(desc: Desc, samples: Samples) -> Picture
         requires { Describes desc samples }
         ensures { result ≡ record { description = desc; samples = values samples } }
@@ -37,13 +37,14 @@ impl Picture {
         Picture { desc, samples }
     }
 
+    /// Returns the description.
     pub fn desc(&self) -> Desc
         ensures { result ≡ self.now.description }
     {
         self.desc
     }
 
-    /// The samples, by rows from the top.
+    /// Returns the samples in row-major order.
     pub fn samples(&self) -> &Samples
         ensures value { values result.now ≡ self.now.samples }
         ensures described { Describes self.now.description result.now }
@@ -52,7 +53,7 @@ impl Picture {
         &self.samples
     }
 
-    /// The samples, by rows from the top.
+    /// Returns the samples in row-major order.
     pub fn into_samples(self) -> Samples
         ensures value { values result ≡ self.samples }
         ensures described { Describes self.description result }

@@ -1,6 +1,6 @@
-//! What becomes of a number that is no sample.
+//! Overflow policies.
 
-/// How a number outside a format's range becomes a sample (OpenVX 1.3,
+/// The replacement of a number outside a format's range by a sample (OpenVX 1.3,
 /// `vx_convert_policy_e`).
 #[derive(Clone, Copy, PartialEq, Eq, Debug)]
 pub enum Policy {

@@ -1,11 +1,11 @@
-//! Rectangles of places.
+//! Rectangles of pixels.
 ghost use Rattle.std.specs.Prelude.{◌≡◌};
 ghost use Rattle.vx_base.specs.Rectangle.{rectangle, empty, meet_of, shrunk, IsRectangle, IsOrdered};
 
 use std::marker::Model;
 
-/// A rectangle of places in columns and rows (OpenVX 1.3, `vx_rectangle_t`): the start belongs
-/// to it, the end does not. One that holds no place is written as four zeros.
+/// A rectangle of pixels (OpenVX 1.3, `vx_rectangle_t`): the start is included, the end is not. The
+/// empty rectangle has four zeros.
 #[derive(Clone, Copy, PartialEq, Eq, Debug)]
 pub struct Rect {
     x0: u16,
@@ -28,8 +28,8 @@ impl Model for Rect {
 }
 
 impl Rect {
-    /// The rectangle with these bounds. `None` unless all four are 0, or each start is below its
-    /// end.
+    /// Returns the rectangle with these bounds, or `None` unless all four are 0 or each start is
+    /// below its end.
     pub fn new(x0: u16, y0: u16, x1: u16, y1: u16) -> Option<Rect>
         ensures { result ≡ rectangle x0 y0 x1 y1 }
     {
@@ -41,7 +41,7 @@ impl Rect {
         }
     }
 
-    /// The rectangle that holds no place.
+    /// Returns the empty rectangle.
     pub fn empty() -> Rect
         ensures { result ≡ empty }
     {
@@ -53,14 +53,15 @@ impl Rect {
         }
     }
 
-    /// It is written as a rectangle is, which the prover knows where its bounds are read.
+    /// Proves that the bounds are in canonical form. The prover learns the range of a number only
+    /// where it is read; at run time this does nothing.
     pub fn is_rectangle(self)
         ensures { IsRectangle self }
     {
         let _bounds = (self.x0, self.y0, self.x1, self.y1);
     }
 
-    /// The places that are in both.
+    /// Returns the intersection with another rectangle.
     pub fn meet(self, other: Rect) -> Rect
         ensures { result ≡ meet_of self other }
     {
@@ -73,8 +74,8 @@ impl Rect {
         }
     }
 
-    /// Returns the places whose window of radius `rx` across and `ry` down, in pixels, lies wholly in
-    /// this rectangle: where the output of a window function is valid under an undefined border.
+    /// Returns the pixels whose window, of radius `rx` across and `ry` down, lies wholly in this
+    /// rectangle: the valid rectangle of a window function's output under an undefined border.
     pub fn shrink(self, rx: u16, ry: u16) -> Rect
         ensures { result ≡ shrunk self rx ry }
     {
@@ -87,7 +88,7 @@ impl Rect {
         }
     }
 
-    /// The first column.
+    /// Returns the first column.
     pub fn x0(self) -> u16
         ensures value { result ≡ self.x0 }
         ensures ordered { IsOrdered self }
@@ -95,7 +96,7 @@ impl Rect {
         self.x0
     }
 
-    /// The first row.
+    /// Returns the first row.
     pub fn y0(self) -> u16
         ensures value { result ≡ self.y0 }
         ensures ordered { IsOrdered self }
@@ -103,7 +104,7 @@ impl Rect {
         self.y0
     }
 
-    /// The column after the last.
+    /// Returns the column after the last.
     pub fn x1(self) -> u16
         ensures value { result ≡ self.x1 }
         ensures ordered { IsOrdered self }
@@ -111,7 +112,7 @@ impl Rect {
         self.x1
     }
 
-    /// The row below the last.
+    /// Returns the row after the last.
     pub fn y1(self) -> u16
         ensures value { result ≡ self.y1 }
         ensures ordered { IsOrdered self }

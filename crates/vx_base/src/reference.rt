@@ -4,8 +4,8 @@ ghost use Rattle.std.specs.Option.{ForSome};
 
 use std::marker::Model;
 
-/// An object by its name in the client's context, or slot k of the delay with that name: the
-/// image that stands k places behind the newest.
+/// A reference to the object with this name in the client's context, or to slot k of the delay with
+/// this name: the image k places behind the newest.
 #[derive(Clone, Copy, PartialEq, Eq, Debug)]
 pub struct ObjRef {
     name: u32,
@@ -30,7 +30,8 @@ impl ObjRef {
     ghost use Rattle.vx_base.specs.Cell.{IsCell};
     ghost use Rattle.vx_base.specs.Node.{is_nothing};
 
-    /// The object of that name, or a slot of it, which is below 255.
+    /// Returns the reference to the object of this name, or to one of its slots. A slot is below
+    /// 255.
     pub fn new(name: u32, slot: Option<u8>) -> ObjRef
         requires { ForSome slot (λ k. k < 255) }
         ensures { result ≡ record { name = name; slot = slot } }
@@ -38,6 +39,7 @@ impl ObjRef {
         ObjRef { name, slot }
     }
 
+    /// Returns the object's name.
     pub fn name(self) -> u32
         ensures value { result ≡ self.name }
         ensures limit { self.name < 2 ^ 32 }
@@ -45,6 +47,7 @@ impl ObjRef {
         self.name
     }
 
+    /// Returns the slot of the delay, or `None` for a whole object.
     pub fn slot(self) -> Option<u8>
         ensures value { result ≡ self.slot }
         ensures limit { ForSome result (λ k. k < 255) }
@@ -52,14 +55,15 @@ impl ObjRef {
         self.slot
     }
 
-    /// Its name and its slot are in their ranges, which the prover knows where they are read.
+    /// Proves that name and slot are in their ranges. The prover learns the range of a number only
+    /// where it is read; at run time this does nothing.
     pub fn is_cell(self)
         ensures { IsCell self }
     {
         let _parts = (self.name, self.slot);
     }
 
-    /// Whether it is name 0 without a slot, which stands for no operand.
+    /// Checks whether the reference is name 0 without a slot, which no operand may be.
     pub fn is_nothing(self) -> bool
         ensures { result ≡ is_nothing self }
     {

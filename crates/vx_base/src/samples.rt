@@ -8,7 +8,7 @@ use crate::format::Format;
 use std::alloc::{AllocError, Global};
 use std::mem;
 
-/// The samples of an image of one of the formats, by rows from the top.
+/// The samples of an image in one of the formats, in row-major order.
 #[derive(PartialEq, Eq, Debug, Drop)]
 pub enum Samples {
     U8(Vec<u8>),
@@ -17,7 +17,7 @@ pub enum Samples {
 }
 
 impl Samples {
-    /// So many samples of a format, each of them 0.
+    /// Returns `count` samples of a format, each 0, or an error if there is no memory for them.
     pub fn zeros(alloc: Global, format: Format, count: usize) -> Result<Samples, AllocError>
         ensures format { IfOk result (λ made. samples_format made ≡ format) }
         ensures zero { IfOk result (λ made. values made ≡ replicate count (pos 0)) }
@@ -29,7 +29,7 @@ impl Samples {
         }
     }
 
-    /// The same samples once more.
+    /// Returns a copy of the samples, or an error if there is no memory for it.
     pub fn copy(&self, alloc: Global) -> Result<Samples, AllocError>
         ensures format { IfOk result (λ made. samples_format made ≡ samples_format self.now) }
         ensures value { IfOk result (λ made. values made ≡ values self.now) }
@@ -41,7 +41,7 @@ impl Samples {
         }
     }
 
-    /// Writes over the samples with others of their format and as many.
+    /// Overwrites the samples with others of the same format and number.
     pub fn copy_from(&mut self, other: &Samples)
         requires format { samples_format self.old ≡ samples_format other.now }
         requires len { length (values self.old) ≡ length (values other.now) }
@@ -56,8 +56,8 @@ impl Samples {
         }
     }
 
-    /// Takes the samples out, for the time in which they are written; none are left. It takes no
-    /// memory.
+    /// Takes the samples out and leaves none, so that they can be written elsewhere. Allocates
+    /// nothing.
     pub fn take(&mut self) -> Samples
         ensures format { samples_format result ≡ samples_format self.old }
         ensures value { values result ≡ values self.old }
@@ -71,6 +71,7 @@ impl Samples {
         }
     }
 
+    /// Returns the format of the samples.
     pub fn format(&self) -> Format
         ensures { result ≡ samples_format self.now }
     {
@@ -81,6 +82,7 @@ impl Samples {
         }
     }
 
+    /// Returns the number of samples.
     pub fn len(&self) -> usize
         ensures { result ≡ length (values self.now) }
     {
@@ -91,8 +93,8 @@ impl Samples {
         }
     }
 
-    /// Each of them is a sample of their format. Only the prover learns something: it knows of a
-    /// signed number that it has 16 bits once that is read. Nothing is done when this runs.
+    /// Proves that each is a sample of the format. The prover learns the range of a signed number
+    /// only where it is read; at run time this does nothing.
     pub fn are_samples(&self)
         ensures { All (IsSample (samples_format self.now)) (values self.now) }
     {
@@ -104,7 +106,7 @@ impl Samples {
     }
 }
 
-/// What a vector holds, which then is empty.
+/// Takes the items out of a vector, which is left empty.
 fn take_all<T: Drop>(samples: &mut Vec<T>) -> Vec<T>
     ensures value { result.items ≡ samples.old.items }
     ensures left { samples.new.items ≡ [] }
@@ -121,8 +123,8 @@ fn are_words(samples: &[u32])
     ensures { All (IsSample U32) (map pos samples.now) }
 {}
 
-/// Each item is a sample of S16. Only the prover learns something, by reading each; the compiler
-/// removes the loop.
+/// Proves that each item is an S16 sample. The prover learns the range of a signed number only
+/// where it is read, so an otherwise empty loop reads each one; the compiler removes it.
 pub fn are_shorts(samples: &[i16])
     ensures { All (IsSample S16) samples.now }
 {

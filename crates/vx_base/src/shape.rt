@@ -1,4 +1,4 @@
-//! Whether a node has what its function has.
+//! Checks of a node's fields against the parameters of its function.
 ghost use Rattle.std.specs.Prelude.{◌≡◌, ◌<◌, ◌^◌, IfSome};
 ghost use Rattle.vx_base.specs.Cell.{IsCell};
 ghost use Rattle.vx_base.specs.Node.{is_named, all_named, has_amount, has_operands, is_node};
@@ -10,7 +10,7 @@ use crate::node::Node;
 use crate::policy::Policy;
 use crate::reference::ObjRef;
 
-/// Whether a node has what its function has and nothing else.
+/// Checks whether a node has exactly the parameters of its function.
 pub fn is_node(node: &Node) -> bool
     ensures { result ≡ is_node node.now }
 {
@@ -53,8 +53,8 @@ fn all_named(node: &Node) -> bool
     !node.in1.is_nothing() && is_named(node.in2) && is_named(node.out1) && is_named(node.out2)
 }
 
-/// Its numbers are those that their types allow, which the prover knows of what is read. Nothing is
-/// done when this runs.
+/// Proves that the node's numbers are in the ranges of their types. The prover learns the range of
+/// a number only where it is read; at run time this does nothing.
 pub fn has_numbers(node: &Node)
     ensures border { IsBorder node.now.border }
     ensures amount { node.now.amount < 2 ^ 8 }

@@ -1,13 +1,13 @@
-//! How many images a delay has.
+//! The number of images in a delay.
 ghost use Rattle.std.specs.Prelude.{◌≡◌, ◌≤◌};
 ghost use Rattle.vx_base.specs.Slots.{slot_count};
 
 use std::marker::Model;
 
-/// The greatest number of images that a delay has.
+/// The greatest number of images in a delay.
 pub const GREATEST_SLOTS: u8 = 16;
 
-/// How many images a delay has: 1 to 16.
+/// The number of images in a delay: 1 to 16.
 #[derive(Clone, Copy, PartialEq, Eq, Debug)]
 pub struct SlotCount {
     count: u8,
@@ -27,7 +27,7 @@ impl Model for SlotCount {
 }
 
 impl SlotCount {
-    /// So many slots. `None` unless they are 1 to 16.
+    /// Returns the number of slots, or `None` if it isn't 1 to 16.
     pub fn new(count: u8) -> Option<SlotCount>
         ensures { result ≡ slot_count count }
     {
@@ -38,7 +38,7 @@ impl SlotCount {
         }
     }
 
-    /// The number of slots.
+    /// Returns the number of slots.
     pub fn get(self) -> u8
         ensures value { result ≡ self }
         ensures limits { (1 ≤ result) × (result ≤ GREATEST_SLOTS) }

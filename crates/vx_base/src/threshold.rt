@@ -5,17 +5,17 @@ ghost use Rattle.vx_base.specs.Threshold.{IsThreshold, threshold, has_limits};
 use crate::format::Format;
 use std::marker::Model;
 
-/// What a sample is compared with (OpenVX 1.3, `vx_threshold_type_e`).
+/// The comparison of a threshold (OpenVX 1.3, `vx_threshold_type_e`).
 #[derive(Clone, Copy, PartialEq, Eq, Debug)]
 pub enum ThresholdKind {
-    /// It passes where it is above this.
+    /// A sample passes if it is above this limit.
     Binary(i16),
-    /// It passes from the lower to the upper limit, both included.
+    /// A sample passes if it is from the lower to the upper limit, both included.
     Range(i16, i16),
 }
 
-/// A threshold of U8 or S16 samples: what they are compared with, and the two values that come
-/// of it (OpenVX 1.3, `vx_threshold`).
+/// A threshold for U8 or S16 samples: the comparison, and the output for samples that pass and for
+/// those that don't (OpenVX 1.3, `vx_threshold`).
 #[derive(Clone, Copy, PartialEq, Eq, Debug)]
 pub struct ThresholdRule {
     format: Format,
@@ -48,8 +48,8 @@ impl Model for ThresholdRule {
 }
 
 impl ThresholdRule {
-    /// The threshold of samples of this format. `None` unless the format is U8 or S16, the limits
-    /// are samples of it, and the upper one is not below the lower.
+    /// Returns the threshold for samples of this format. `None` if the format isn't U8 or S16, a
+    /// limit isn't a sample of it, or the upper limit is below the lower.
     pub fn new(
         format: Format,
         kind: ThresholdKind,
@@ -65,7 +65,7 @@ impl ThresholdRule {
         }
     }
 
-    /// The threshold with these limits, which are allowed.
+    /// Returns the threshold with these limits, which are permitted.
     pub fn with_limits(
         format: Format,
         kind: ThresholdKind,
@@ -88,7 +88,7 @@ impl ThresholdRule {
         }
     }
 
-    /// The format of the samples that it tests.
+    /// Returns the format of the samples that it tests.
     pub fn format(self) -> Format
         ensures value { result ≡ self.format }
         ensures threshold { IsThreshold self }
@@ -97,7 +97,7 @@ impl ThresholdRule {
         self.format
     }
 
-    /// What they are compared with.
+    /// Returns the comparison.
     pub fn kind(self) -> ThresholdKind
         ensures value { result ≡ self.kind }
         ensures limits { IsTrue (has_limits self.format result) }
@@ -105,7 +105,7 @@ impl ThresholdRule {
         self.kind
     }
 
-    /// What a sample that passes becomes.
+    /// Returns the output for a sample that passes.
     pub fn true_value(self) -> u8
         ensures value { result ≡ self.true_value }
         ensures limit { self.true_value < 256 }
@@ -113,7 +113,7 @@ impl ThresholdRule {
         self.true_value
     }
 
-    /// What another sample becomes.
+    /// Returns the output for a sample that doesn't pass.
     pub fn false_value(self) -> u8
         ensures value { result ≡ self.false_value }
         ensures limit { self.false_value < 256 }

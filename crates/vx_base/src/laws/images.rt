@@ -9,13 +9,13 @@ ghost use Rattle.vx_base.specs.Image.{new_image};
 ghost use Rattle.vx_base.specs.Picture.{PictureValue, IsPicture, picture_of, pictured};
 ghost use Rattle.vx_base.specs.declared.desc.TheConstants.{GREATEST_SIDE};
 
-/// A table has a sample for each place.
+/// A table has a sample for each pixel.
 pub fn table_size()
     ensures { (width height : ℕ) (f : ℕ → ℕ → ℤ) → length (table width height f) ≡ height * width }
 {}
 
-/// The samples of an image are the band of all its rows, and two bands one below the other are the
-/// band of the rows of both.
+/// An image's samples are the band of all its rows. Two adjacent bands, one after the other, are
+/// the band of the rows of both.
 pub fn bands()
     ensures whole { (a : ImageValue) → IsImage a → band a.width 0 a.height (at a) ≡ a.samples }
     ensures joined { (width start above below : ℕ) (f : ℕ → ℕ → ℤ) →
@@ -23,8 +23,8 @@ pub fn bands()
         ≡ band width start above f ++ band width (start + above) below f }
 {}
 
-/// An image made of a function is that function at the valid places, and 0 elsewhere; where the
-/// sides are allowed and the function gives samples of the format it is an image.
+/// An image made from a function has its values in the valid rectangle and 0 elsewhere. It is
+/// well-formed if its sides are permitted and the function's values are samples of the format.
 pub fn made_samples()
     ensures image { (width height : ℕ) (format : Format) (valid : Rectangle) (f : ℕ → ℕ → ℤ) →
         width ≤ GREATEST_SIDE → height ≤ GREATEST_SIDE → IsOrdered valid →
@@ -41,26 +41,26 @@ pub fn made_samples()
         at (made width height format valid f) x y ≡ pos 0 }
 {}
 
-/// A picture makes an image, and the samples of an image make a picture.
+/// A picture is a well-formed image, and an image's samples are a well-formed picture.
 pub fn pictures()
     ensures image { (p : PictureValue) → IsPicture p → IsImage (pictured p) }
     ensures picture { (a : ImageValue) → IsDescription (description_of a) → IsImage a →
         IsPicture (picture_of a) }
 {}
 
-/// Two images of one description and rectangle that agree at each place are one.
+/// Two images of the same description and valid rectangle are equal if they agree at each pixel.
 pub fn places_decide()
     ensures { (a b : ImageValue) → IsImage a → IsImage b →
         a.width ≡ b.width → a.height ≡ b.height → a.format ≡ b.format → a.valid ≡ b.valid →
         ((x y : ℕ) → x < a.width → y < a.height → at a x y ≡ at b x y) → a ≡ b }
 {}
 
-/// An image is the one made of its own samples.
+/// An image equals the one made from its own samples.
 pub fn made_of_itself()
     ensures { (a : ImageValue) → IsImage a → made a.width a.height a.format a.valid (at a) ≡ a }
 {}
 
-/// A new image is an image, and 0 at each place.
+/// A new image is well-formed, and 0 at each pixel.
 pub fn new_is_zero()
     ensures image { (width height : ℕ) (format : Format) → width ≤ GREATEST_SIDE →
         height ≤ GREATEST_SIDE → IsImage (new_image width height format) }

@@ -25,22 +25,22 @@ ghost use Rattle.vx_base.specs.Pixelwise.{and_bits, or_bits, xor_bits, not_bits}
 ghost use Rattle.vx_base.specs.Pixelwise.{absolute_difference, thresholded, looked_up};
 ghost use Rattle.vx_base.specs.Pixelwise.{formula_of_one, formula_of_two, from_one, from_two};
 
-/// Bitwise Not turns each of the eight bits of a U8 sample over.
+/// Bitwise Not inverts each of the eight bits of a U8 sample.
 pub fn not_turns_bits()
     ensures bits { (a : ℕ) → a < 256 → not_bits (pos a) ≡ pos (bit_xor a 255) }
     ensures sample { (a : ℤ) → IsSample U8 a → IsSample U8 (not_bits a) }
     ensures twice { (a : ℤ) → not_bits (not_bits a) ≡ a }
 {}
 
-/// The bits of two U8 samples make one.
+/// Bitwise And, Or and Xor of two U8 samples are U8 samples.
 pub fn bits_are_samples()
     ensures and { (a b : ℤ) → IsSample U8 a → IsSample U8 b → IsSample U8 (and_bits a b) }
     ensures or { (a b : ℤ) → IsSample U8 a → IsSample U8 b → IsSample U8 (or_bits a b) }
     ensures xor { (a b : ℤ) → IsSample U8 a → IsSample U8 b → IsSample U8 (xor_bits a b) }
 {}
 
-/// The quotient of a product and 2^n is rounded to zero: the next number away from zero, times
-/// 2^n, is beyond the product.
+/// A product's quotient by 2^n is rounded to zero: the next number away from zero, times 2^n, lies
+/// beyond the product.
 pub fn products_round_to_zero()
     ensures not_beyond { (z : ℤ) (n : ℕ) →
         unsigned_abs (int_div z (pos (2 ^ n))) * 2 ^ n ≤ unsigned_abs z }
@@ -50,22 +50,21 @@ pub fn products_round_to_zero()
     ensures not_positive { (z : ℤ) (n : ℕ) → z ≤ℤ pos 0 → int_div z (pos (2 ^ n)) ≤ℤ pos 0 }
 {}
 
-/// The quotient of a sample and 2^n that Convert Bit Depth narrows is rounded down.
+/// The quotient by 2^n that Convert Bit Depth narrows is rounded down.
 pub fn conversions_round_down()
     ensures not_above { (a : ℤ) (n : ℕ) → (int_div_euclid a (pos (2 ^ n)) *ℤ pos (2 ^ n)) ≤ℤ a }
     ensures nearest { (a : ℤ) (n : ℕ) → a <ℤ
         ((int_div_euclid a (pos (2 ^ n)) +ℤ pos 1) *ℤ pos (2 ^ n)) }
 {}
 
-/// Absolute Difference is the distance of two U8 samples; of two S16 samples the greatest sample
-/// where that is less.
+/// Absolute Difference is the distance of two U8 samples. For S16 samples it is at most 32767.
 pub fn absolute_differences()
     ensures bytes { (a b : ℤ) → IsSample U8 a → IsSample U8 b →
         absolute_difference U8 a b ≡ pos (distance a b) }
     ensures shorts { (a b : ℤ) → absolute_difference S16 a b ≡ pos (min (distance a b) 32767) }
 {}
 
-/// From samples of the formats that a function takes come samples of the output's.
+/// If a function takes these formats, its results are samples of the output's format.
 pub fn results_are_samples()
     ensures one { (function : Function) (first output : Format) (policy : Policy) (n : ℕ) (a : ℤ) →
         IsTrue (takes_formats function first None (Some output)) →
@@ -86,7 +85,8 @@ pub fn results_are_samples()
         IsSample U8 (thresholded threshold a) }
 {}
 
-/// A formula of one image gives its value at each valid place, and where it gives samples an image.
+/// A formula of one image gives its value at each valid pixel. The result is a well-formed image if
+/// the values are samples of its format.
 pub fn from_one_samples()
     ensures image { (format : Format) (f : ℤ → ℤ) (a : ImageValue) → IsImage a →
         ((z : ℤ) → IsSample a.format z → IsSample format (f z)) → IsImage (from_one format f a) }
@@ -95,8 +95,8 @@ pub fn from_one_samples()
         at (from_one format f a) x y ≡ f (at a x y) }
 {}
 
-/// A formula of two images gives its value where both are valid, and where it gives samples an
-/// image.
+/// A formula of two images gives its value where both are valid. The result is a well-formed image
+/// if the values are samples of its format.
 pub fn from_two_samples()
     ensures image { (format : Format) (f : ℤ → ℤ → ℤ) (a b : ImageValue) → IsImage a → IsImage b →
         ((y z : ℤ) → IsSample a.format y → IsSample b.format z → IsSample format (f y z)) →
@@ -109,15 +109,15 @@ pub fn from_two_samples()
         at (from_two format f a b) x y ≡ f (at a x y) (at b x y) }
 {}
 
-/// What a node gives to an image to which it adds, is an image of its format.
+/// An accumulating node's output is a well-formed image of its format.
 pub fn accumulated_images()
     ensures { (n : Node) (output : Output) (a old : ImageValue) → IsNode n →
         IsImage a → IsImage old → accumulates n.function ≡ true →
         IsImage (node_image n output old.format a (Some (ImageObject old))) }
 {}
 
-/// What a node gives to an image, of operands of the formats and kinds that it takes, is an image
-/// of the output's format.
+/// The output image of a node whose operands have permitted kinds and formats is a well-formed
+/// image of the output's format.
 pub fn results_are_images()
     ensures { (n : Node) (output : Output) (format : Format) (a : ImageValue)
         (second : Option ObjectValue) → IsNode n →

@@ -12,7 +12,7 @@ pub fn wrap_agrees()
         AgreesModulo (range_size format) v z → z ≡ wrap format v }
 {}
 
-/// `clamp` gives the only sample that is nearest to a number.
+/// `clamp` gives the only sample nearest to a number.
 pub fn clamp_is_nearest()
     ensures sample { (format : Format) (v : ℤ) → IsSample format (clamp format v) }
     ensures nearest { (format : Format) (v z : ℤ) → IsSample format z →

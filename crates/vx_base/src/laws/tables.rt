@@ -3,8 +3,8 @@ ghost use Rattle.std.specs.Prelude.{◌≡◌, ◌<◌, ◌+ℤ◌, ℕ, ℤ, po
 ghost use Rattle.vx_base.specs.Sample.{IsSample, least};
 ghost use Rattle.vx_base.specs.Lut.{LutValue, is_full, entry_for};
 
-/// The entries stand in the order of the samples, from the least one's on, and a full table has
-/// one for each sample.
+/// Entries are in the order of the sample values, beginning with the least. A full table has one
+/// for each sample value.
 pub fn entries_in_order()
     ensures entry { (lut : LutValue) (k : ℕ) →
         entry_for lut (least lut.format +ℤ pos k) ≡ slice_index_or lut.entries k (pos 0) }

@@ -5,7 +5,8 @@ ghost use Rattle.vx_base.specs.declared.threshold.ThresholdKind.TheVariants.{Bin
 ghost use Rattle.vx_base.specs.Sample.{IsSample, greatest};
 ghost use Rattle.vx_base.specs.Threshold.{passes};
 
-/// A sample passes a binary threshold where it is above the limit, and a range where it is in it.
+/// A sample passes a binary threshold if it is above the limit, and a range threshold if it is in
+/// the range.
 pub fn passing()
     ensures binary { (limit a : ℤ) → IsTrue (passes (Binary limit) a) ↔ (limit <ℤ a) }
     ensures range { (lower upper a : ℤ) →
