@@ -11,6 +11,7 @@ use vx_base::{Border, Rect};
 
 /// A number type into which rows are loaded: `u8` or `i16`.
 pub trait Loaded: Number {
+    /// Returns the sample in the number type.
     fn loaded(sample: u8) -> Self
         ensures { Self.value result ≡ pos sample };
 }

@@ -13,8 +13,7 @@ abbrev pub is_used : List Node → Cell → Bool
 is_used nodes cell = list_any (λ n. reads n cell || writes n cell) nodes
 
 -- whether an operand is live at a step: a step up to this one writes it, and a step from this one
--- on uses it. An operand with one writer lives from the step that writes it to the last that reads
--- it.
+-- on uses it
 abbrev pub is_live : List Node → Cell → ℕ → Bool
 is_live steps cell step = is_written (take step steps) cell && is_used (drop (step - 1) steps) cell
 

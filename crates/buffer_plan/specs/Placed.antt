@@ -55,9 +55,8 @@ pub record IsReached (lives : List Life) (count step : ℕ) : Type 0 where
   pub there : count ≤ count_in step lives
   pub fewer_before : (earlier : ℕ) → earlier < step → count_in earlier lives < count
 
--- lives with their slots, and the greatest sample count of each slot. If the lives are in the order
--- of their first steps, no two that overlap share a slot, and the number of live images at the peak
--- step equals the number of slots.
+-- lives with their slots, and the size of each slot. For lives in the order of their first steps, those
+-- that overlap have different slots, and as many images are live at the peak step as there are slots.
 pub record ArePlaced (lives : List Life) (p : Places) : Type 0 where
   pub each : map (λ q. q.life) p.placed.items ≡ lives
   pub below : (q : Placed) → In q p.placed.items → q.slot < length p.samples.items

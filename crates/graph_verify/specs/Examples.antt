@@ -1,4 +1,4 @@
--- Small nodes, and what the cells are that they name, of which the examples are made.
+-- Small nodes and operands for the examples.
 use Rattle.std.specs.Prelude.{ℕ, ◌==◌, nat_lt, if◌then◌else◌, Option, Some, None}
 use Rattle.vx_base.specs.declared.format.Format.{Format}
 use Rattle.vx_base.specs.declared.format.Format.TheVariants.{U8, S16}
@@ -12,7 +12,7 @@ use Rattle.vx_base.specs.Cell.{Cell, cell_of}
 use Rattle.graph_verify.specs.declared.operand.Operand.{Operand}
 use Rattle.graph_verify.specs.declared.operand.Operand.TheVariants.{Image, Virtual}
 
--- a node of these inputs and one output
+-- a node with these inputs and one output
 abbrev pub node_to : Function → Policy → ℕ → Option Cell → ℕ → Node
 node_to function policy input second output =
     record {
@@ -26,7 +26,7 @@ node_to function policy input second output =
       out2 = None;
     }
 
--- Not of the image of one name to that of another, And and Add of two, a conversion of depth, and the sum of an image and an output
+-- nodes with operands of these names: Bitwise Not, Bitwise And, Add, Convert Bit Depth and Accumulate
 abbrev pub not_to : ℕ → ℕ → Node
 not_to input output = node_to NotBits Wrap input None output
 
@@ -42,20 +42,21 @@ convert_to input output = node_to ConvertDepth Saturate input None output
 abbrev pub accumulate_to : ℕ → ℕ → Node
 accumulate_to input output = node_to Accumulate Wrap input None output
 
+-- an image of this width, height and format
 abbrev pub image_operand : ℕ → ℕ → Format → Operand
 image_operand width height format = Image (record { width = width; height = height; format = format })
 
--- a virtual image of which no more than a format is declared
+-- a virtual image whose size is open, and whose format may be declared
 abbrev pub virtual_of : Option Format → Operand
 virtual_of format = Virtual (record { width = None; height = None; format = format })
 
--- names 1 to 3 are U8 images of one sample, 4 is an S16 image of one, 5 is a U8 image of two, and all others are virtual images
+-- names 1 to 3 are U8 images of one pixel, 4 is an S16 image of one pixel, 5 is a U8 image of two; all others are virtual images
 abbrev pub small : Cell → Operand
 small cell =
     if cell.name == 4 then image_operand 1 1 S16
     else (if cell.name == 5 then image_operand 2 1 U8
     else (if nat_lt cell.name 6 then image_operand 1 1 U8 else virtual_of None))
 
--- name 2 is this, all others are U8 images of this size
+-- name 2 is this operand; all others are U8 images of this size
 abbrev pub but_for : Operand → ℕ → ℕ → Cell → Operand
 but_for second width height cell = if cell.name == 2 then second else image_operand width height U8

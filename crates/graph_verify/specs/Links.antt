@@ -1,27 +1,27 @@
--- How the nodes of a graph are linked: by the cells that they read and write, whatever the order of adding. OpenVX 1.3, "Graphs".
+-- The links between the nodes of a graph, by the objects that they read and write, whatever the order of adding. OpenVX 1.3, "Graphs".
 use Rattle.std.specs.Prelude.{Bool, false, ◌||◌, List, [], ◌∷◌}
 use Rattle.std.specs.List.{list_any}
 use Rattle.vx_base.specs.declared.node.Node.{Node}
 use Rattle.vx_base.specs.Cell.{Cell, same_cell}
 use Rattle.vx_base.specs.Node.{inputs, outputs}
 
--- whether a node reads a cell
+-- whether a node reads an object
 abbrev pub reads : Node → Cell → Bool
 reads n cell = list_any (same_cell cell) (inputs n)
 
--- whether a node writes a cell
+-- whether a node writes an object
 abbrev pub writes : Node → Cell → Bool
 writes n cell = list_any (same_cell cell) (outputs n)
 
--- whether a node writes a cell that another reads
+-- whether node m writes an object that node n reads
 abbrev pub feeds : Node → Node → Bool
 feeds m n = list_any (reads n) (outputs m)
 
--- whether a cell stands in the list twice
+-- whether a reference occurs twice in the list
 abbrev pub has_twice : List Cell → Bool
 has_twice [] = false
 has_twice (cell ∷ cells) = list_any (same_cell cell) cells || has_twice cells
 
--- whether a node of the list writes a cell
+-- whether a node of the list writes an object
 abbrev pub is_written : List Node → Cell → Bool
 is_written nodes cell = list_any (λ n. writes n cell) nodes

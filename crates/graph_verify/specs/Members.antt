@@ -1,11 +1,11 @@
--- Members of lists.
+-- Membership in lists.
 use Rattle.std.specs.Prelude.{◌≡◌, List, [], ◌∷◌, ◌⊎◌}
 
--- x is one of the list
+-- x is a member of the list
 abbrev pub In : {X : Type 0} → X → List X → Type 0
 In x [] = ⊥
 In x (y ∷ ys) = (x ≡ y) ⊎ In x ys
 
--- each of xs is one of ys
+-- each member of xs is a member of ys
 abbrev pub AllIn : {X : Type 0} → List X → List X → Type 0
 AllIn {X} xs ys = (x : X) → In x xs → In x ys

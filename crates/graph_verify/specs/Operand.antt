@@ -1,4 +1,4 @@
--- What a verdict has to know of the objects that a node names: their kinds, sizes and formats.
+-- Operands: the properties of objects on which a verdict depends, which are kind, size and format.
 use Rattle.std.specs.Prelude.{ℕ, Bool, true, false, List, ◌++◌, Option, Some, None, option_to_list}
 use Rattle.std.specs.Option.{option_map}
 use Rattle.vx_base.specs.declared.format.Format.{Format}
@@ -14,7 +14,7 @@ use Rattle.graph_verify.specs.declared.operand.Operand.{Operand}
 use Rattle.graph_verify.specs.declared.operand.Operand.TheVariants.{Image, Lut, Threshold, Delay, Convolution, Distribution, Extremes, Graph, Virtual}
 use Rattle.graph_verify.specs.declared.operand.Operands.{Operands}
 
--- what an object is as an operand
+-- an object as an operand
 abbrev pub operand_of : ObjectValue → Operand
 operand_of (ImageObject image) = Image (description_of image)
 operand_of (LutObject lut) = Lut lut.format
@@ -37,8 +37,8 @@ operand_kind Extremes = kind.Extremes
 operand_kind Graph = kind.Graph
 operand_kind (Virtual declared) = kind.VirtualImage
 
--- the format of an image's samples, of a table's entries, of the samples that a threshold tests, or of a convolution's
--- coefficients; an operand may have none
+-- the format of an image's samples, of a table's entries, of the samples that a threshold tests, or of a convolution's coefficients;
+-- None for the other kinds
 abbrev pub operand_format : Operand → Option Format
 operand_format (Image d) = Some d.format
 operand_format (Lut format) = Some format
@@ -46,7 +46,7 @@ operand_format (Threshold format) = Some format
 operand_format Convolution = Some S16
 operand_format other = None
 
--- whether two operands are of one size, as far as both are images
+-- whether two operands have the same size; true unless both are images
 abbrev pub are_of_one_size : Operand → Operand → Bool
 are_of_one_size (Image d) (Image e) = same_size d e
 are_of_one_size a b = true
@@ -56,29 +56,30 @@ abbrev pub is_virtual : Operand → Bool
 is_virtual (Virtual declared) = true
 is_virtual other = false
 
--- whether an operand is an image, one that is there or a virtual one
+-- whether an operand is an image, virtual or not
 abbrev pub is_image : Operand → Bool
 is_image (Image d) = true
 is_image (Virtual declared) = true
 is_image other = false
 
--- the description of an image that is there
+-- the description of an image that isn't virtual
 abbrev pub operand_description : Operand → Option Description
 operand_description (Image d) = Some d
 operand_description other = None
 
--- the bytes of an image's samples
+-- the size of an image's samples in bytes
 abbrev pub virtual_bytes : Operand → ℕ
 virtual_bytes (Image d) = byte_count d
 virtual_bytes other = 0
 
--- what the cells of a node are
+-- the operands of a node, by its references
 abbrev pub operands_of : (Cell → Operand) → Node → Operands
 operands_of is n = record { in1 = is n.in1; in2 = option_map is n.in2; out1 = option_map is n.out1; out2 = option_map is n.out2 }
 
--- the operands that a node writes, and those beside its first input
+-- a node's output operands
 abbrev pub written_operands : Operands → List Operand
 written_operands o = option_to_list o.out1 ++ option_to_list o.out2
 
+-- a node's operands other than its first input
 abbrev pub other_operands : Operands → List Operand
 other_operands o = option_to_list o.in2 ++ written_operands o

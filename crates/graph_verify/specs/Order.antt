@@ -3,12 +3,12 @@ use Rattle.std.specs.Prelude.{◌≡◌, Bool, false, List, [], ◌∷◌}
 use Rattle.std.specs.List.Sorted.{IsPermutation}
 use Rattle.graph_verify.specs.Members.{In}
 
--- each node is fed by none that stands at its place or later
+-- no node is fed by itself or by a later one
 abbrev pub InTurn : {N : Type 0} → (N → N → Bool) → List N → Type 0
 InTurn feeds [] = Unit {0}
 InTurn {N} feeds (n ∷ ns) = ((m : N) → In m (n ∷ ns) → feeds m n ≡ false) × InTurn feeds ns
 
--- each node of the graph once, every node after the nodes whose outputs it reads
+-- each node of the graph once, after all nodes that feed it
 pub record IsOrder {N : Type 0} (feeds : N → N → Bool) (nodes steps : List N) : Type 0 where
   pub same_nodes : IsPermutation nodes steps
   pub in_turn : InTurn feeds steps

@@ -1,4 +1,4 @@
--- Why a graph can't run. OpenVX 1.3, "Graphs", vxVerifyGraph.
+-- Verdicts: why a graph can't run. OpenVX 1.3, "Graphs", vxVerifyGraph.
 use Rattle.std.specs.Prelude.{ℕ, Bool, false, not, ◌&&◌, ◌||◌, nat_le, sum_by, List, [], ◌∷◌, Option, Some, None, if◌then◌else◌}
 use Rattle.std.specs.List.{list_any, list_all, filter, flat_map}
 use Rattle.std.specs.Option.{option_and_then, option_or}
@@ -20,7 +20,7 @@ use Rattle.graph_verify.specs.Links.{feeds, has_twice, is_written}
 use Rattle.graph_verify.specs.Cycle.{has_cycle}
 use Rattle.graph_verify.specs.Outlines.{resolved}
 
--- the code that says so
+-- the status code of a verdict
 abbrev pub verdict_code : Verdict → Code
 verdict_code MultipleWriters = code.MultipleWriters
 verdict_code InvalidGraph = code.InvalidGraph
@@ -29,58 +29,59 @@ verdict_code InvalidDimension = code.InvalidDimension
 verdict_code InvalidLink = code.InvalidLink
 verdict_code NoResources = code.NoResources
 
--- whether two outputs of a node are one cell
+-- whether both outputs of a node are the same object
 abbrev pub writes_twice : Node → Bool
 writes_twice n = has_twice (outputs n)
 
--- whether a node reads a cell that it writes: a cycle of one node
+-- whether a node reads an object that it writes: a cycle of one node
 abbrev pub reads_own_output : Node → Bool
 reads_own_output n = list_any (λ a. list_any (same_cell a) (outputs n)) (inputs n)
 
--- whether the function takes the formats of the operands, each output beside the inputs
+-- whether the function takes the formats of its inputs together with that of each output
 abbrev pub takes_first : Function → Option Format → Option Format → List Operand → Bool
 takes_first function None second written = false
 takes_first function (Some first) second written = list_all (λ out. takes_formats function first second (operand_format out)) written
 
+-- whether the function takes the formats of a node's operands
 abbrev pub takes_operands : Function → Operands → Bool
 takes_operands function o = takes_first function (operand_format o.in1) (option_and_then operand_format o.in2) (written_operands o)
 
--- the fault of a node by its operands: formats that its function doesn't take, then an image of another size than its first input
+-- a node's fault: its function doesn't take the formats, or an image doesn't have the size of the first input
 abbrev pub node_fault : Function → Operands → Option Verdict
 node_fault function o =
     if not (takes_operands function o) then Some InvalidFormat
     else (if list_all (are_of_one_size o.in1) (other_operands o) then None else Some InvalidDimension)
 
--- the verdict on the graph of one node: none where it can run
+-- the verdict on a node alone; None if it can run
 abbrev pub verdict_on : Node → Operands → Option Verdict
 verdict_on n o =
     if writes_twice n then Some MultipleWriters
     else (if reads_own_output n then Some InvalidGraph
     else node_fault n.function o)
 
--- ---- graphs of any nodes
+-- ---- graphs
 
--- whether two outputs, of two nodes or of one, are one cell
+-- whether an object is an output twice, of two nodes or of one
 abbrev pub two_writers : List Node → Bool
 two_writers nodes = has_twice (flat_map outputs nodes)
 
--- whether a cell is a virtual image that no node writes
+-- whether an object is a virtual image that no node writes
 abbrev pub is_loose : (Cell → Operand) → List Node → Cell → Bool
 is_loose is nodes cell = is_virtual (is cell) && not (is_written nodes cell)
 
--- whether a node reads one
+-- whether a node reads an unwritten virtual image
 abbrev pub reads_loose : (Cell → Operand) → List Node → Node → Bool
 reads_loose is nodes n = list_any (is_loose is nodes) (inputs n)
 
--- whether a node adds to a virtual image, which holds nothing as a run begins
+-- whether a node accumulates into a virtual image, which has no content when a run begins
 abbrev pub adds_to_virtual : (Cell → Operand) → Node → Bool
 adds_to_virtual is n = accumulates n.function && list_any (λ cell. is_virtual (is cell)) (outputs n)
 
--- whether a node takes from a virtual image what nothing gives it
+-- whether a node needs the content of a virtual image that nothing has written
 abbrev pub has_loose_end : (Cell → Operand) → List Node → Bool
 has_loose_end is nodes = list_any (λ n. reads_loose is nodes n || adds_to_virtual is n) nodes
 
--- the fault of the node that was added first among those that have one
+-- the fault of the earliest added node that has one
 abbrev pub first_fault : (Cell → Operand) → List Node → Option Verdict
 first_fault is [] = None
 first_fault is (n ∷ nodes) = option_or (node_fault n.function (operands_of is n)) (first_fault is nodes)
@@ -89,12 +90,11 @@ first_fault is (n ∷ nodes) = option_or (node_fault n.function (operands_of is 
 abbrev pub virtual_outputs : (Cell → Operand) → List Node → List Cell
 virtual_outputs is nodes = filter (λ cell. is_virtual (is cell)) (flat_map outputs nodes)
 
--- the bytes of their samples
+-- the bytes of the samples of all virtual images that the nodes write
 abbrev pub work_bytes : (Cell → Operand) → List Node → ℕ
 work_bytes is nodes = sum_by (λ cell. virtual_bytes (resolved is nodes cell)) (virtual_outputs is nodes)
 
--- the verdict on a graph with these nodes, whose cells are these operands, where virtual images may take so many bytes: none
--- where it can run
+-- the verdict on a graph with these operands, whose virtual images may take `work` bytes; None if it can run
 abbrev pub verdict : ℕ → (Cell → Operand) → List Node → Option Verdict
 verdict work is nodes =
     if two_writers nodes then Some MultipleWriters

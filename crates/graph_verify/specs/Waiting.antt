@@ -1,4 +1,4 @@
--- Nodes that are still to be put in order.
+-- Nodes that are still to be ordered.
 use Rattle.std.specs.Prelude.{Bool, not, ◌&&◌, List}
 use Rattle.std.specs.List.{list_any}
 use Rattle.vx_base.specs.declared.node.Node.{Node}
@@ -6,18 +6,18 @@ use Rattle.vx_base.specs.Node.{given}
 use Rattle.graph_verify.specs.declared.linked.Linked.{Linked}
 use Rattle.graph_verify.specs.Links.{writes, is_written}
 
--- a node that isn't in the order yet, and whether nodes that aren't either write its inputs
+-- a node that isn't ordered yet, and for each input whether it waits for another node that isn't ordered yet
 pub record WaitingNode : Type 0 where
   pub linked : Linked
   pub for_in1 : Bool
   pub for_in2 : Bool
 
--- a node, and whether its inputs are written by nodes that aren't in the order yet
+-- a node among those that aren't ordered yet
 abbrev pub waiting_among : List Node → Linked → WaitingNode
 waiting_among nodes l =
     record { linked = l; for_in1 = is_written nodes l.node.in1; for_in2 = list_any (is_written nodes) (given l.node.in2) }
 
--- the same once one of those nodes is in the order: no other writes what that one writes
+-- the same after another node is ordered; the inputs that it writes have no other writer
 abbrev pub once_ordered : Node → WaitingNode → WaitingNode
 once_ordered ordered w =
     record {

@@ -18,7 +18,7 @@ ghost use Rattle.vx_base.specs.Cell.{cell_of};
 ghost use Rattle.graph_verify.specs.Examples.{not_to, and_to, adds, convert_to, image_operand};
 ghost use Rattle.graph_verify.specs.Examples.{accumulate_to, virtual_of, small, but_for};
 
-/// Not of an image to itself is a cycle, and two outputs are not one cell.
+/// A node that reads its own output is a cycle, and a node can't write both outputs to one object.
 pub fn cells()
     ensures cycle { verdict_on (record {
       function = NotBits;
@@ -61,7 +61,8 @@ pub fn cells()
         }) ≡ Some MultipleWriters }
 {}
 
-/// Operands of formats that a function takes and doesn't, and of one size and of two.
+/// Formats that a function takes, formats that it doesn't, and operands of equal and different
+/// sizes.
 pub fn operands()
     ensures fitting { node_fault AndBits
         (record {
@@ -111,8 +112,8 @@ pub fn operands()
         }) ≡ None }
 {}
 
-/// One graph for each verdict on links, formats and sizes; of all their nodes together the two
-/// writers are told. A graph without nodes can run.
+/// A graph for each verdict on links, formats and sizes. A graph with all their nodes is refused
+/// for its two writers. A graph without nodes can run.
 pub fn graphs()
     ensures writers { verdict 9 small (not_to 1 2 ∷ not_to 3 2 ∷ []) ≡ Some MultipleWriters }
     ensures itself { verdict 9 small (not_to 1 1 ∷ []) ≡ Some InvalidGraph }
@@ -125,7 +126,8 @@ pub fn graphs()
     ensures none { verdict 9 small [] ≡ None }
 {}
 
-/// Graphs that add to an image: what that held is no read, but nothing is added to what is virtual.
+/// Graphs that accumulate: the earlier content of the output is no read of the graph, but the
+/// output must not be virtual.
 pub fn sums()
     ensures once { verdict 9 small (accumulate_to 1 4 ∷ []) ≡ None }
     ensures read { verdict 9 small (convert_to 4 3 ∷ accumulate_to 1 4 ∷ []) ≡ None }
@@ -136,13 +138,13 @@ pub fn sums()
     ensures to_bytes { verdict 9 small (accumulate_to 1 2 ∷ []) ≡ Some InvalidFormat }
 {}
 
-/// The fault that is told is that of the node that was added first, though it runs last.
+/// The fault is that of the node that was added first, even if it runs last.
 pub fn earliest_added()
     ensures { verdict 9 small (and_to 6 5 2 ∷ not_to 4 3 ∷ not_to 1 6 ∷ [])
         ≡ Some InvalidDimension }
 {}
 
-/// Two nodes through a virtual image of two by two samples: it takes four bytes.
+/// Two nodes linked by a virtual image of 2x2 pixels, which takes four bytes.
 pub fn work()
     ensures little { verdict 3 (but_for (virtual_of None) 2 2) (not_to 1 2 ∷ not_to 2 3 ∷ [])
         ≡ Some NoResources }
@@ -150,8 +152,8 @@ pub fn work()
         (not_to 1 2 ∷ not_to 2 3 ∷ []) ≡ None }
 {}
 
-/// A sum that wraps is S16 in a virtual image whose format is open. Where U8 is declared, that
-/// stays, and the conversion of depth can't take it.
+/// The sum in a virtual image with an open format is S16. A declared U8 stays, and Convert Bit
+/// Depth can't take it.
 pub fn open_formats()
     ensures found { resolved (but_for (virtual_of None) 1 1) (adds 1 3 2 ∷ convert_to 2 4 ∷ [])
         (cell_of 2) ≡ image_operand 1 1 S16 }

@@ -1,13 +1,13 @@
-//! Why a call on a graph isn't done.
+//! Faults of calls on a graph.
 use thiserror::Error;
 
-/// Why a call on a graph isn't done; it changed nothing.
+/// Why a call on a graph failed; the graph is unchanged.
 #[derive(Clone, Copy, PartialEq, Eq, Debug, Error)]
 pub enum GraphFault {
-    /// No memory was found.
+    /// There is no memory for the node.
     #[error("no memory")]
     NoMemory,
-    /// The graph has 256 nodes, or each number was given.
+    /// The graph has 256 nodes, or all numbers have been used.
     #[error("no node more can be added")]
     NoResources,
     /// No node of the graph has this number.

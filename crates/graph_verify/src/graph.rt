@@ -1,4 +1,4 @@
-//! Graphs: nodes and their numbers.
+//! Graphs: numbered nodes.
 ghost use Rattle.std.specs.Prelude.{◌≡◌, ◌==◌, ◌≤◌, not, if◌then◌else◌, IsTrue, length, find};
 ghost use Rattle.std.specs.Prelude.{filter, IfOk, IfErr, OnOk, OnErr, Some};
 ghost use Rattle.std.specs.Prelude.{◌≢◌};
@@ -15,12 +15,12 @@ use std::alloc::Global;
 use std::marker::Model;
 use vx_base::{GREATEST_NODES, NodeSpec, Numbered};
 
-/// Each number is below this: 2^32.
+/// The limit of node numbers, 2^32: each number is below it.
 const END_OF_NUMBERS: u64 = 4_294_967_296;
 
-/// A graph (OpenVX 1.3, "Object: Graph"): its nodes in the order of adding, the number that comes
-/// next, and the names of the delays that age with it. Numbers count up from 1 and are never given
-/// again.
+/// A graph (OpenVX 1.3, "Object: Graph"): its nodes in the order in which they were added, the next
+/// number, and the names of the delays that are registered for auto-aging. Numbers count up from 1
+/// and are never reused.
 #[derive(Drop)]
 pub struct Graph {
     next: u64,
@@ -47,7 +47,7 @@ impl Model for Graph {
 }
 
 impl Graph {
-    /// A graph without nodes, with which no delay ages. Number 1 comes next.
+    /// Returns a graph without nodes and registered delays. Its first node will get number 1.
     pub fn new(alloc: Global) -> Graph
         ensures value { result ≡ new_graph }
         ensures graph { IsGraph result }
@@ -59,7 +59,7 @@ impl Graph {
         }
     }
 
-    /// The nodes in the order of adding, at most 256.
+    /// Returns the nodes in the order in which they were added, at most 256.
     pub fn nodes(&self) -> &[Numbered]
         ensures nodes { result.now ≡ self.now.nodes }
         ensures limit { length result.now ≤ GREATEST_NODES }
@@ -67,14 +67,16 @@ impl Graph {
         &self.nodes
     }
 
-    /// Whether one more node can be added: a number is left, and there are fewer than 256 nodes.
+    /// Checks whether one more node can be added: a number is left, and there are fewer than 256
+    /// nodes.
     pub fn can_add(&self) -> bool
         ensures { result ≡ can_add self.now }
     {
         self.next < END_OF_NUMBERS && self.nodes.len() < GREATEST_NODES
     }
 
-    /// Adds a node, and says its number. A fault has changed nothing.
+    /// Adds a node and returns its number. `NoResources` if `can_add` is false, `NoMemory` if there
+    /// is no memory; the graph is then unchanged.
     pub fn add_node(&mut self, node: NodeSpec) -> Result<u32, GraphFault>
         ensures number { IfOk result (λ number. number ≡ self.old.next) }
         ensures ok { OnOk result (self.new ≡ with_node self.old node) }
@@ -86,7 +88,7 @@ impl Graph {
         if !self.can_add() {
             return Err(GraphFault::NoResources);
         }
-        // The prover knows that the node is one where its fields are read.
+        // The prover learns that the node is well-formed only where its fields are read.
         let _fields = node.node();
         let number = self.next as u32;
         if self.nodes.push(Numbered { number, node }).is_err() {
@@ -96,7 +98,8 @@ impl Graph {
         Ok(number)
     }
 
-    /// Removes the node of this number, and hands it back. `InvalidReference` where there is none.
+    /// Removes the node of this number and returns it. `InvalidReference` if there is none; the
+    /// graph is then unchanged.
     pub fn remove_node(&mut self, number: u32) -> Result<NodeSpec, GraphFault>
         ensures graph { IsGraph self.old }
         ensures removed { IfOk result (λ node. find (λ n. n.number == number) self.old.nodes
@@ -115,7 +118,7 @@ impl Graph {
         }
     }
 
-    /// The names of the delays that age with the graph, each once.
+    /// Returns the names of the delays that are registered for auto-aging, each once.
     pub fn delays(&self) -> &[u32]
         ensures delays { result.now ≡ self.now.delays }
         ensures distinct { AllPairs (λ a b. a ≢ b) result.now }
@@ -123,14 +126,14 @@ impl Graph {
         &self.delays
     }
 
-    /// Whether a delay of this name ages with the graph.
+    /// Checks whether the delay of this name is registered for auto-aging.
     pub fn is_registered(&self, name: u32) -> bool
         ensures { result ≡ is_registered self.now name }
     {
         self.delays.iter().any(|delay| *delay == name)
     }
 
-    /// Makes delays of these names, each of which stands there once, those that age with the graph.
+    /// Replaces the list of delays registered for auto-aging. Each name occurs once.
     pub fn set_delays(&mut self, delays: Vec<u32>)
         requires { AllPairs (λ a b. a ≢ b) delays.items }
         ensures { self.new ≡ with_delays self.old delays.items }
@@ -138,7 +141,7 @@ impl Graph {
         self.delays = delays;
     }
 
-    /// The node of this number.
+    /// The node of this number, if there is one.
     fn find(&self, number: u32) -> Option<Numbered>
         ensures { result ≡ find (λ n. n.number == number) self.now.nodes }
     {
@@ -149,7 +152,7 @@ impl Graph {
     }
 }
 
-/// Keeps the nodes of other numbers.
+/// Removes the node of this number.
 fn keep_others(nodes: &mut Vec<Numbered>, number: u32)
     ensures { nodes.new.items ≡ filter (λ n. not (n.number == number)) nodes.old.items }
 {

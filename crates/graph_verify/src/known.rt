@@ -1,4 +1,4 @@
-//! What is known of the virtual images that nodes write.
+//! The virtual images that nodes write, resolved node by node along an order.
 ghost use Rattle.std.specs.Prelude.{◌≡◌, ◌++◌, ◌+◌, ◌*◌, ◌≤◌, false, IsTrue, length, sum_by, All};
 ghost use Rattle.std.specs.Prelude.{Some, OnOk, IfOk};
 ghost use Rattle.std.specs.List.{filter_map};
@@ -21,14 +21,14 @@ use crate::operand::{Operand, Operands};
 use std::alloc::{AllocError, Global};
 use vx_base::{Desc, Function, ObjRef, Outline};
 
-/// What is known of a virtual image that a node writes.
+/// A virtual image that a node writes, with its description as far as it is resolved.
 #[derive(Clone, Copy)]
 pub struct Known {
     pub cell: ObjRef,
     pub outline: Outline,
 }
 
-/// A virtual image that a node writes, and its description.
+/// A virtual image that a node writes, with its full description.
 #[derive(Clone, Copy, PartialEq, Eq, Debug)]
 pub struct VirtualOutput {
     pub cell: ObjRef,
@@ -36,7 +36,7 @@ pub struct VirtualOutput {
 }
 
 impl Known {
-    /// The virtual image with its description. `None` where a part of it is open.
+    /// Returns the virtual image with its full description, or `None` if a part of it is open.
     pub fn described(self) -> Option<VirtualOutput>
         ensures { result ≡ closed_output self }
     {
@@ -48,7 +48,7 @@ impl Known {
     }
 }
 
-/// What is known of the virtual image that is this cell.
+/// The description of a written virtual image, as far as it is resolved.
 fn known_of(known: &[Known], cell: ObjRef) -> Option<Outline>
     ensures { result ≡ known_of known.now cell }
 {
@@ -58,7 +58,8 @@ fn known_of(known: &[Known], cell: ObjRef) -> Option<Outline>
         .map(|known| known.outline)
 }
 
-/// What is known of a cell, which is this operand, as an image.
+/// An operand's description as an image: for a virtual image the resolved one, or the declared one
+/// if no node has written it yet.
 fn known_outline(known: &[Known], cell: ObjRef, operand: Operand) -> Outline
     ensures { result ≡ known_outline known.now cell operand }
 {
@@ -69,15 +70,15 @@ fn known_outline(known: &[Known], cell: ObjRef, operand: Operand) -> Outline
     }
 }
 
-/// Nothing is known.
+/// A description with all parts open.
 fn unknown() -> Outline
     ensures { result ≡ unknown }
 {
     Outline::new(None, None, None).unwrap()
 }
 
-/// What a function gives to an image that it writes: the size of its first input, and a format of
-/// its own.
+/// The description that a function gives its output image: the size of its first input, and its own
+/// default format.
 fn given_outline(function: Function, first: Outline) -> Outline
     ensures { result ≡ given_outline function first }
 {
@@ -86,7 +87,7 @@ fn given_outline(function: Function, first: Outline) -> Outline
     Outline::new(first.width(), first.height(), format).unwrap()
 }
 
-/// Learns of a cell that a node writes, where it is a virtual image.
+/// Resolves an output, if it is a virtual image.
 fn learn_cell(
     known: &mut Vec<Known>,
     cell: ObjRef,
@@ -107,7 +108,7 @@ fn learn_cell(
     }
 }
 
-/// Learns of an output, if it is there.
+/// Resolves an output, if it is given.
 fn learn_output(
     known: &mut Vec<Known>,
     cell: Option<ObjRef>,
@@ -123,7 +124,7 @@ fn learn_output(
     }
 }
 
-/// Learns of what a node writes.
+/// Resolves the outputs of a node.
 fn learn(known: &mut Vec<Known>, linked: &Linked) -> Result<(), AllocError>
     ensures learnt { OnOk result (known.new.items
         ≡ known.old.items ++ learnt_from known.old.items linked.now) }
@@ -136,7 +137,7 @@ fn learn(known: &mut Vec<Known>, linked: &Linked) -> Result<(), AllocError>
     learn_output(known, node.out2, operands.out2, given)
 }
 
-/// What a cell, which is this operand, is by what is known.
+/// An operand as it is resolved.
 fn known_operand(known: &[Known], cell: ObjRef, operand: Operand) -> Operand
     ensures { result ≡ known_operand known.now cell operand }
 {
@@ -146,7 +147,7 @@ fn known_operand(known: &[Known], cell: ObjRef, operand: Operand) -> Operand
     }
 }
 
-/// A virtual image of which all is known is an operand like any image.
+/// A virtual image without open parts becomes an image.
 fn as_described(known: Outline) -> Operand
     ensures { result ≡ virtual_or_image known (closed known) }
 {
@@ -156,7 +157,7 @@ fn as_described(known: Outline) -> Operand
     }
 }
 
-/// What a cell, if it is there, is by what is known.
+/// An operand, if it is given, as it is resolved.
 fn known_given(known: &[Known], cell: Option<ObjRef>, operand: Option<Operand>) -> Option<Operand>
     ensures { result ≡ known_given known.now cell operand }
 {
@@ -166,7 +167,7 @@ fn known_given(known: &[Known], cell: Option<ObjRef>, operand: Option<Operand>) 
     }
 }
 
-/// What the cells of a node are by what is known.
+/// Returns the operands of a node as they are resolved.
 pub fn known_operands(known: &[Known], linked: &Linked) -> Operands
     ensures { result ≡ known_operands known.now linked.now }
 {
@@ -179,8 +180,9 @@ pub fn known_operands(known: &[Known], linked: &Linked) -> Operands
     }
 }
 
-/// What is known of the virtual images that nodes write, which stand in an order and whose first
-/// inputs are images.
+/// Returns the virtual images that nodes write, resolved along an order of the nodes. The first
+/// input of each node is an image, and no object has two writers. An error means that there is no
+/// memory for the result.
 pub fn known_after(alloc: Global, steps: &[Linked]) -> Result<Vec<Known>, AllocError>
     requires one_writer { two_writers (linked_nodes steps.now) ≡ false }
     requires in_turn { InTurn feeds (linked_nodes steps.now) }
@@ -196,7 +198,8 @@ pub fn known_after(alloc: Global, steps: &[Linked]) -> Result<Vec<Known>, AllocE
     Ok(known)
 }
 
-/// The virtual images of which all is known.
+/// Returns the virtual images that have a full description, or an error if there is no memory for
+/// them.
 pub fn all_described(alloc: Global, known: &[Known]) -> Result<Vec<VirtualOutput>, AllocError>
     ensures { IfOk result (λ outputs. outputs.items ≡ filter_map closed_output known.now) }
 {
@@ -206,7 +209,7 @@ pub fn all_described(alloc: Global, known: &[Known]) -> Result<Vec<VirtualOutput
         .collect(alloc)
 }
 
-/// The bytes of the images' samples.
+/// Returns the size of the images' samples in bytes.
 pub fn sample_bytes(outputs: &[VirtualOutput]) -> u64
     requires { length outputs.now ≤ 512 }
     ensures { result ≡ sum_by (λ o. byte_count o.desc) outputs.now }

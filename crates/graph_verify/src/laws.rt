@@ -1,4 +1,4 @@
-//! What the definitions mean: functions that do nothing, whose contracts are facts.
+//! Facts about the definitions: each function does nothing, and its contract states the fact.
 
 pub mod cycles;
 pub mod rounds;

@@ -1,21 +1,29 @@
-//! Graphs, and verdicts on them: whether they can run, and why not.
+//! Graphs and verdicts: whether a graph can run, and if not, why.
 //!
-//! A `Graph` is a list of nodes with their numbers. Nodes are linked by the cells that they read
-//! and write, whatever the order of adding. A verdict is computed from what these cells are, their
-//! kinds, sizes and formats, and never from samples: `verdict_on` gives it on one node by itself,
-//! `verify` on a graph, and then an order of its nodes and the description of each virtual image
-//! that they write. The first reason that applies is told: two writers of a cell, a cycle, a
-//! virtual image that is read and not written, the fault of the node that was added first, bytes of
-//! virtual images above the limit.
+//! A `Graph` is a list of numbered nodes. Nodes are linked by the objects that they read and write,
+//! whatever the order in which they were added. A verdict depends on the kinds, sizes and formats
+//! of these objects, never on samples. `verdict_on` gives the verdict on a node alone. `verify`
+//! gives that on a graph, and for a graph that can run an order of its nodes and the description of
+//! each virtual image that they write.
 //!
-//! - `graph`, `fault`: nodes and their numbers, and why a call on a graph isn't done
-//! - `operand`: what a verdict has to know of the objects that a node names
-//! - `linked`: nodes beside what their cells are, and the cells by which they are linked
-//! - `order`: the nodes, each after those that feed it
-//! - `known`: what is known, along an order, of the virtual images that nodes write
-//! - `verdict`: why a graph can't run, and the verdict on one node
-//! - `verified`: the verdict on a graph, and how it runs
-//! - `laws`: what cycles, orders and rounds of all nodes at once mean
+//! The verdict is the first of these that applies:
+//!
+//! - two writers of an object
+//! - a cycle
+//! - a virtual image that is read but not written
+//! - the fault of the earliest added node that has one
+//! - virtual images that take more bytes than the limit
+//!
+//! Modules:
+//!
+//! - `graph`, `fault`: numbered nodes, and the faults of calls on a graph
+//! - `operand`: the properties of objects on which a verdict depends
+//! - `linked`: nodes with their operands, and the links between them
+//! - `order`: the nodes in an order in which each comes after those that feed it
+//! - `known`: the virtual images that nodes write, resolved along an order
+//! - `verdict`: verdicts, and the verdict on one node
+//! - `verified`: the verdict on a graph, and its order
+//! - `laws`: facts about cycles, orders and rounds
 //! - `examples`: verdicts on small graphs
 #![tactic(auto)]
 

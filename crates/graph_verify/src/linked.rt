@@ -1,4 +1,4 @@
-//! Nodes and the cells by which they are linked.
+//! Nodes with their operands, and the links between them.
 ghost use Rattle.std.specs.Prelude.{◌≡◌, ◌||◌};
 ghost use Rattle.std.specs.List.{list_any};
 ghost use Rattle.vx_base.specs.Cell.{Cell};
@@ -13,28 +13,28 @@ ghost use Rattle.graph_verify.specs.Verdict.{two_writers, writes_twice, has_loos
 use crate::operand::{Operand, Operands};
 use vx_base::{Node, ObjRef};
 
-/// A node, and what the cells are that it names.
+/// A node with its operands.
 #[derive(Clone, Copy, PartialEq, Eq, Debug)]
 pub struct Linked {
     pub node: Node,
     pub operands: Operands,
 }
 
-/// Whether a node writes a cell.
+/// Checks whether a node writes an object.
 pub fn writes(node: &Node, cell: ObjRef) -> bool
     ensures { result ≡ writes node.now cell }
 {
     node.out1 == Some(cell) || node.out2 == Some(cell)
 }
 
-/// Whether a node writes a cell, if that is there.
+/// Checks whether a node writes an object, if it is given.
 pub fn writes_given(node: &Node, cell: Option<ObjRef>) -> bool
     ensures { result ≡ list_any (writes node.now) (given cell) }
 {
     cell.is_some_and(|cell| writes(node, cell))
 }
 
-/// Whether two outputs of a node are one cell.
+/// Checks whether both outputs of a node are the same object.
 pub fn writes_twice(node: &Node) -> bool
     ensures { result ≡ writes_twice node.now }
 {
@@ -44,21 +44,21 @@ pub fn writes_twice(node: &Node) -> bool
     }
 }
 
-/// Whether one of the nodes writes a cell.
+/// Checks whether one of the nodes writes an object.
 pub fn is_written(nodes: &[Linked], cell: ObjRef) -> bool
     ensures { result ≡ is_written (linked_nodes nodes.now) cell }
 {
     nodes.iter().any(|linked| writes(&linked.node, cell))
 }
 
-/// Whether one of the nodes writes a cell, if that is there.
+/// Checks whether one of the nodes writes an object, if it is given.
 pub fn is_given_written(nodes: &[Linked], cell: Option<ObjRef>) -> bool
     ensures { result ≡ list_any (is_written (linked_nodes nodes.now)) (given cell) }
 {
     cell.is_some_and(|cell| is_written(nodes, cell))
 }
 
-/// Whether an output of a node is also another of its outputs, or one of other nodes.
+/// Whether an output of a node is an output a second time, of the node itself or of another one.
 fn shares_output(others: &[Linked], node: &Node) -> bool
     ensures { result ≡ (writes_twice node.now || list_any (is_written (linked_nodes others.now))
         (outputs node.now)) }
@@ -66,7 +66,7 @@ fn shares_output(others: &[Linked], node: &Node) -> bool
     writes_twice(node) || is_given_written(others, node.out1) || is_given_written(others, node.out2)
 }
 
-/// Whether two outputs, of two nodes or of one, are one cell.
+/// Checks whether an object is an output twice, of two nodes or of one.
 pub fn has_two_writers(nodes: &[Linked]) -> bool
     ensures { result ≡ two_writers (linked_nodes nodes.now) }
 {
@@ -80,14 +80,14 @@ pub fn has_two_writers(nodes: &[Linked]) -> bool
     false
 }
 
-/// Whether a cell, which is this operand, is a virtual image that none of the nodes writes.
+/// Whether an operand is a virtual image that none of the nodes writes.
 fn is_loose_end(nodes: &[Linked], cell: ObjRef, operand: Operand) -> bool
     ensures { result ≡ is_loose_end (linked_nodes nodes.now) cell operand }
 {
     operand.is_virtual() && !is_written(nodes, cell)
 }
 
-/// Whether a cell, if it is there, is a virtual image that none of the nodes writes.
+/// Whether an operand, if it is given, is a virtual image that none of the nodes writes.
 fn is_given_loose(nodes: &[Linked], cell: Option<ObjRef>, operand: Option<Operand>) -> bool
     ensures { result ≡ is_given_loose (linked_nodes nodes.now) cell operand }
 {
@@ -97,7 +97,7 @@ fn is_given_loose(nodes: &[Linked], cell: Option<ObjRef>, operand: Option<Operan
     }
 }
 
-/// Whether a node reads a virtual image that none of the nodes writes.
+/// Whether a node reads an unwritten virtual image.
 fn has_loose_input(nodes: &[Linked], linked: &Linked) -> bool
     ensures { result ≡ has_loose_input (linked_nodes nodes.now) linked.now }
 {
@@ -105,14 +105,14 @@ fn has_loose_input(nodes: &[Linked], linked: &Linked) -> bool
     is_loose_end(nodes, node.in1, operands.in1) || is_given_loose(nodes, node.in2, operands.in2)
 }
 
-/// Whether an operand, if it is there, is a virtual image.
+/// Whether an operand, if it is given, is a virtual image.
 fn is_given_virtual(operand: Option<Operand>) -> bool
     ensures { result ≡ is_given_virtual operand }
 {
     operand.is_some_and(Operand::is_virtual)
 }
 
-/// Whether a node adds to a virtual image, which holds nothing as a run begins.
+/// Whether a node accumulates into a virtual image, which has no content when a run begins.
 fn has_virtual_sum(linked: &Linked) -> bool
     ensures { result ≡ has_virtual_sum linked.now }
 {
@@ -121,7 +121,7 @@ fn has_virtual_sum(linked: &Linked) -> bool
         && (is_given_virtual(operands.out1) || is_given_virtual(operands.out2))
 }
 
-/// Whether a node takes from a virtual image what nothing gives it.
+/// Checks whether a node needs the content of a virtual image that nothing has written.
 pub fn has_loose_end(nodes: &[Linked]) -> bool
     ensures { (is : Cell → Operand) → AreOperands is nodes.now →
         result ≡ has_loose_end is (linked_nodes nodes.now) }

@@ -1,9 +1,9 @@
-//! What a verdict has to know of the objects that a node names.
+//! Operands: the properties of objects on which a verdict depends.
 ghost use Rattle.std.specs.Prelude.{◌≡◌};
 
 use vx_base::{Desc, Format, Kind, Outline};
 
-/// An object that a node names, by its kind, and by what verdicts ask of that kind.
+/// An object that a node names, by its kind and the properties on which a verdict depends.
 #[derive(Clone, Copy, PartialEq, Eq, Debug)]
 pub enum Operand {
     /// An image of this size and format.
@@ -12,7 +12,7 @@ pub enum Operand {
     Lut(Format),
     /// A threshold of samples of this format.
     Threshold(Format),
-    /// A delay as a whole, which no function takes; a slot of it is an image.
+    /// A whole delay, which no function takes; each of its slots is an image.
     Delay,
     /// A convolution, whose coefficients are S16.
     Convolution,
@@ -22,11 +22,11 @@ pub enum Operand {
     Extremes,
     /// A graph, which no function takes.
     Graph,
-    /// A virtual image, of which this is declared.
+    /// A virtual image, as it is declared.
     Virtual(Outline),
 }
 
-/// The operands of a node, as far as it has them.
+/// The operands of a node; those that it doesn't have are `None`.
 #[derive(Clone, Copy, PartialEq, Eq, Debug)]
 pub struct Operands {
     pub in1: Operand,
@@ -38,6 +38,7 @@ pub struct Operands {
 impl Operand {
     ghost use Rattle.graph_verify.specs.Operand.{operand_kind, operand_format, is_virtual};
 
+    /// Returns the kind of the object.
     pub fn kind(self) -> Kind
         ensures { result ≡ operand_kind self }
     {
@@ -54,15 +55,15 @@ impl Operand {
         }
     }
 
-    /// Whether it is a virtual image.
+    /// Checks whether the operand is a virtual image.
     pub fn is_virtual(self) -> bool
         ensures { result ≡ is_virtual self }
     {
         matches!(self, Operand::Virtual(_))
     }
 
-    /// The format of an image's samples, of a table's entries, of the samples that a threshold
-    /// tests, or of a convolution's coefficients. `None`: the operand has none.
+    /// Returns the format of an image's samples, of a table's entries, of the samples that a
+    /// threshold tests, or of a convolution's coefficients. `None` for the other kinds.
     pub fn format(self) -> Option<Format>
         ensures { result ≡ operand_format self }
     {

@@ -14,7 +14,7 @@ use std::alloc::{AllocError, Global};
 use std::marker::Model;
 use vx_base::Node;
 
-/// A node that isn't in the order yet, and whether nodes that aren't either write its inputs.
+/// A node that isn't ordered yet, and for each input whether it waits for another such node.
 #[derive(Drop)]
 struct Waiting<'a> {
     linked: &'a Linked,
@@ -35,7 +35,7 @@ impl<'a> Model for Waiting<'a> {
 }
 
 impl<'a> Waiting<'a> {
-    /// A node among those that aren't in the order, itself one of them.
+    /// A node among those that aren't ordered yet, which include it.
     fn among(nodes: &[Linked], linked: &'a Linked) -> Waiting<'a>
         ensures { result ≡ waiting_among (linked_nodes nodes.now) linked.now }
     {
@@ -46,7 +46,8 @@ impl<'a> Waiting<'a> {
         }
     }
 
-    /// Another node is in the order now. No third writes what that one writes.
+    /// Updates the node after another one is ordered. The inputs that it writes have no other
+    /// writer, so they wait no longer.
     fn once_ordered(&mut self, ordered: &Node)
         ensures { self.new ≡ once_ordered ordered.now self.old }
     {
@@ -56,7 +57,7 @@ impl<'a> Waiting<'a> {
     }
 }
 
-/// The nodes, before any is in the order.
+/// All nodes, none of them ordered yet.
 fn all_waiting<'a>(alloc: Global, nodes: &'a [Linked]) -> Result<Vec<Waiting<'a>>, AllocError>
     ensures { IfOk result (λ rest. rest.items
         ≡ map (waiting_among (linked_nodes nodes.now)) nodes.now) }
@@ -67,7 +68,7 @@ fn all_waiting<'a>(alloc: Global, nodes: &'a [Linked]) -> Result<Vec<Waiting<'a>
         .collect(alloc)
 }
 
-/// The index of the first node that waits for none.
+/// The index of the first node that doesn't wait.
 fn first_ready(rest: &[Waiting<'_>]) -> Option<usize>
     ensures { result ≡ position (λ w. not (w.for_in1 || w.for_in2)) rest.now }
 {
@@ -75,7 +76,7 @@ fn first_ready(rest: &[Waiting<'_>]) -> Option<usize>
         .position(|waiting| !(waiting.for_in1 || waiting.for_in2))
 }
 
-/// The nodes that are left, once one more is in the order.
+/// Updates the remaining nodes after one is ordered.
 fn settle(rest: &mut [Waiting<'_>], ordered: &Node)
     ensures { rest.new ≡ map (once_ordered ordered.now) rest.old }
 {
@@ -84,7 +85,7 @@ fn settle(rest: &mut [Waiting<'_>], ordered: &Node)
     }
 }
 
-/// Takes out the node at an index, which comes next in the order.
+/// Removes the node at an index, which comes next in the order, and updates the remaining ones.
 fn take_out(rest: &mut Vec<Waiting<'_>>, index: usize) -> Linked
     requires { index < length rest.old.items }
     ensures ordered { (d : WaitingNode) → result ≡ (slice_index_or rest.old.items index d).linked }
@@ -97,7 +98,8 @@ fn take_out(rest: &mut Vec<Waiting<'_>>, index: usize) -> Linked
     ordered
 }
 
-/// The nodes, each after those that feed it. `None` where there is a cycle.
+/// Returns the nodes, each after all that feed it, or `None` if there is a cycle. An error means
+/// that there is no memory for the result.
 pub fn put_in_order(alloc: Global, nodes: &[Linked]) -> Result<Option<Vec<Linked>>, AllocError>
     requires { two_writers (linked_nodes nodes.now) ≡ false }
     ensures order { IfOk result (λ found.

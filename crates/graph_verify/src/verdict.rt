@@ -1,4 +1,4 @@
-//! Why a graph can't run.
+//! Verdicts: why a graph can't run.
 ghost use Rattle.std.specs.Prelude.{◌≡◌, option_to_list};
 ghost use Rattle.std.specs.List.{list_any, list_all};
 ghost use Rattle.std.specs.Option.{option_and_then};
@@ -17,24 +17,25 @@ use vx_base::{Code, Desc, Format, Function, Node};
 /// Why a graph can't run (OpenVX 1.3, `vxVerifyGraph`).
 #[derive(Clone, Copy, PartialEq, Eq, Debug)]
 pub enum Verdict {
-    /// One cell is written by two outputs.
+    /// An object is an output twice.
     MultipleWriters,
-    /// A cycle: nodes of which each writes what the next reads, the last for the first.
+    /// There is a cycle: nodes each of which writes what the next one reads, and the last what the
+    /// first reads.
     InvalidGraph,
-    /// A node reads a virtual image that no node writes.
+    /// A node reads a virtual image that no node writes, or accumulates into a virtual image.
     InvalidLink,
     /// A node's function doesn't take the formats of its operands.
     InvalidFormat,
-    /// An image of a node is of another size than its first input.
+    /// An image of a node doesn't have the size of the node's first input.
     InvalidDimension,
-    /// The virtual images that the nodes write take more bytes than they may.
+    /// The virtual images that the nodes write take more bytes than the limit.
     NoResources,
 }
 
 impl Verdict {
     ghost use Rattle.graph_verify.specs.Verdict.{verdict_code};
 
-    /// The code that says so.
+    /// Returns the status code of the verdict.
     pub fn code(self) -> Code
         ensures { result ≡ verdict_code self }
     {
@@ -49,7 +50,7 @@ impl Verdict {
     }
 }
 
-/// The verdict on the graph of one node with these operands. `None` where it can run.
+/// Returns the verdict on a node alone, with these operands, or `None` if it can run.
 pub fn verdict_on(node: &Node, operands: &Operands) -> Option<Verdict>
     ensures { result ≡ verdict_on node.now operands.now }
 {
@@ -62,14 +63,14 @@ pub fn verdict_on(node: &Node, operands: &Operands) -> Option<Verdict>
     }
 }
 
-/// Whether a node reads a cell that it writes: a cycle of one node.
+/// Whether a node reads an object that it writes: a cycle of one node.
 fn reads_own_output(node: &Node) -> bool
     ensures { result ≡ reads_own_output node.now }
 {
     writes(node, node.in1) || writes_given(node, node.in2)
 }
 
-/// Whether the function takes the formats of the inputs and of an output, if that is there.
+/// Whether the function takes the formats of the inputs and of an output, if it is given.
 fn takes_output(
     function: Function,
     first: Format,
@@ -85,14 +86,14 @@ fn takes_output(
     }
 }
 
-/// The format of an operand that may be left out.
+/// The format of an operand, if the operand is given and has one.
 fn format_if_there(operand: Option<Operand>) -> Option<Format>
     ensures { result ≡ option_and_then operand_format operand }
 {
     operand?.format()
 }
 
-/// Whether the function takes the formats of the operands, each output beside the inputs.
+/// Whether the function takes the formats of its inputs with that of each output.
 fn takes_operands(function: Function, operands: &Operands) -> bool
     ensures { result ≡ takes_operands function operands.now }
 {
@@ -106,7 +107,7 @@ fn takes_operands(function: Function, operands: &Operands) -> bool
     }
 }
 
-/// Whether two operands are of one size, as far as both are images.
+/// Whether two operands have the same size; true unless both are images.
 fn are_of_one_size(operand: Operand, other: Operand) -> bool
     ensures { result ≡ are_of_one_size operand other }
 {
@@ -116,7 +117,7 @@ fn are_of_one_size(operand: Operand, other: Operand) -> bool
     }
 }
 
-/// Whether an operand, where it is an image, is of this size.
+/// Whether an operand has this size; true unless it is an image.
 fn has_size_of(operand: Operand, size: Desc) -> bool
     ensures { result ≡ are_of_one_size (Image size) operand }
 {
@@ -126,15 +127,15 @@ fn has_size_of(operand: Operand, size: Desc) -> bool
     }
 }
 
-/// Whether an operand, if it is there, is of the first input's size.
+/// Whether an operand, if it is given, has the size of the first input.
 fn fits(first: Operand, other: Option<Operand>) -> bool
     ensures { result ≡ list_all (are_of_one_size first) (option_to_list other) }
 {
     other.is_none_or(|other| are_of_one_size(first, other))
 }
 
-/// The fault of a node by its operands: formats that its function doesn't take, then an image of
-/// another size than its first input.
+/// Returns a node's fault: `InvalidFormat` if its function doesn't take the formats of the
+/// operands, else `InvalidDimension` if an image doesn't have the size of the first input.
 pub fn node_fault(function: Function, operands: &Operands) -> Option<Verdict>
     ensures { result ≡ node_fault function operands.now }
 {
@@ -147,7 +148,7 @@ pub fn node_fault(function: Function, operands: &Operands) -> Option<Verdict>
     }
 }
 
-/// Whether the images among the operands are of the first input's size.
+/// Whether all images among the operands have the size of the first input.
 fn is_of_one_size(operands: &Operands) -> bool
     ensures { result ≡ list_all (are_of_one_size operands.now.in1) (other_operands operands.now) }
 {

@@ -1,4 +1,4 @@
-//! Graphs that can run, and how.
+//! Verified graphs: the verdict on a graph, and the order in which it runs.
 ghost use Rattle.std.specs.Prelude.{◌≡◌, ◌≤◌, false, IsTrue, length, find, List, All, Some, None};
 ghost use Rattle.std.specs.Prelude.{IfOk, IfErr, OnOk};
 ghost use Rattle.vx_base.specs.Cell.{Cell, same_cell};
@@ -22,19 +22,19 @@ use crate::verdict::{Verdict, node_fault};
 use std::alloc::{AllocError, Global};
 use vx_base::{Desc, Node, ObjRef};
 
-/// A graph that can run.
+/// A verified graph.
 #[derive(Debug, Drop)]
 pub struct Verified {
-    /// Its nodes, each after those that feed it.
+    /// The nodes, each after all that feed it.
     pub steps: Vec<Node>,
-    /// The virtual images that they write, in the order of writing.
+    /// The virtual images that the nodes write, in the order of writing.
     pub virtual_outputs: Vec<VirtualOutput>,
 }
 
 /// Why a graph isn't verified.
 #[derive(Clone, Copy, PartialEq, Eq, Debug)]
 pub enum VerifyFault {
-    /// No memory was found.
+    /// There is no memory for the verification.
     NoMemory,
     /// The graph can't run.
     Refused(Verdict),
@@ -51,7 +51,8 @@ impl From<AllocError> for VerifyFault {
 }
 
 impl Verified {
-    /// The description of a virtual image that the nodes write. `None` for every other cell.
+    /// Returns the description of a virtual image that the nodes write, or `None` for any other
+    /// object.
     pub fn desc_of(&self, cell: ObjRef) -> Option<Desc>
         ensures { (is : Cell → Operand) (nodes : List NodeFields) → IsVerified is nodes self.now →
             result ≡ written_description is nodes cell }
@@ -60,7 +61,7 @@ impl Verified {
         Some(output.desc)
     }
 
-    /// The virtual image that the nodes write and that is this cell.
+    /// The virtual image with this reference, if the nodes write it.
     fn find(&self, cell: ObjRef) -> Option<VirtualOutput>
         ensures { result ≡ find (λ o. same_cell o.cell cell) self.now.virtual_outputs.items }
     {
@@ -71,8 +72,7 @@ impl Verified {
     }
 }
 
-/// The fault of the node that was added first among those that have one. The operands of each node
-/// are what its cells are once the open parts of virtual images are known.
+/// The fault of the earliest added node that has one, by the resolved operands.
 fn first_fault(nodes: &[Linked], known: &[Known]) -> Option<Verdict>
     ensures { (is : Cell → Operand) → All (λ l. known_operands known.now l ≡ operands_of is l.node)
         nodes.now → result ≡ first_fault is (linked_nodes nodes.now) }
@@ -86,7 +86,7 @@ fn first_fault(nodes: &[Linked], known: &[Known]) -> Option<Verdict>
     None
 }
 
-/// The nodes alone.
+/// The nodes without their operands.
 fn nodes_of(alloc: Global, linked: &[Linked]) -> Result<Vec<Node>, AllocError>
     ensures { IfOk result (λ nodes. nodes.items ≡ linked_nodes linked.now) }
 {
@@ -97,7 +97,7 @@ fn nodes_of(alloc: Global, linked: &[Linked]) -> Result<Vec<Node>, AllocError>
     Ok(nodes)
 }
 
-/// Verifies a graph whose nodes, of which no two write one cell, are also given in an order.
+/// Verifies a graph without two writers of an object, whose nodes are also given in an order.
 fn verify_ordered(
     alloc: Global,
     nodes: &[Linked],
@@ -133,9 +133,10 @@ fn verify_ordered(
     })
 }
 
-/// Verifies a graph: its nodes in the order of adding, each beside what its cells are. The virtual
-/// images that they write may take so many bytes. A graph has at most 256 nodes, and the first
-/// input of each is an image.
+/// Verifies a graph of at most 256 nodes, which come in the order in which they were added, with
+/// their operands. The first input of each is an image. `work` is the greatest number of bytes that
+/// the virtual images may take. `Refused` if the graph can't run, `NoMemory` if there is no memory
+/// for the result.
 pub fn verify(alloc: Global, nodes: &[Linked], work: u64) -> Result<Verified, VerifyFault>
     requires count { length nodes.now ≤ GREATEST_NODES }
     requires images { All (λ l. IsTrue (is_image l.operands.in1)) nodes.now }

@@ -14,6 +14,7 @@ pub trait Formula<T: Number> {
     /// The rectangle in which the formula is defined.
     ghost area: { Self → Rectangle };
 
+    /// Returns the rectangle in which the formula is defined.
     fn area(&self) -> Rect
         ensures { result ≡ area self.now };
 

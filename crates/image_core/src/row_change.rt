@@ -21,6 +21,7 @@ pub trait RowChange<T: Number, S> {
     /// The number of scratch items that a row needs.
     ghost room: { Self → ℕ };
 
+    /// Returns the rectangle whose samples can be changed.
     fn area(&self) -> Rect
         ensures { result ≡ area self.now };
 

@@ -24,9 +24,11 @@ pub trait RowFormula<T: Number, S> {
     /// The number of scratch items that a piece needs.
     ghost room: { Self → ℕ };
 
+    /// Returns the rectangle in which the formula is defined.
     fn area(&self) -> Rect
         ensures { result ≡ area self.now };
 
+    /// Returns the greatest number of columns in one piece, at least 1.
     fn most(&self) -> u16
         ensures value { result ≡ most self.now }
         ensures some { 1 ≤ result };

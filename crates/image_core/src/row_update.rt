@@ -14,6 +14,7 @@ pub trait RowUpdate<T: Number> {
     /// The rectangle whose samples can be updated.
     ghost area: { Self → Rectangle };
 
+    /// Returns the rectangle whose samples can be updated.
     fn area(&self) -> Rect
         ensures { result ≡ area self.now };
 

@@ -19,6 +19,7 @@ pub trait Whole {
 
     ghost height: { Self → ℕ };
 
+    /// Returns the valid rectangle.
     fn area(&self) -> Rect
         ensures { result ≡ area self.now };
 

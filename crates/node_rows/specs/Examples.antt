@@ -30,6 +30,7 @@ upper_row =
           pos 0 ∷ pos 1 ∷ pos 0 ∷ pos 0 ∷ pos 0 ∷ pos 0 ∷ pos 0 ∷ pos 0 ∷ pos 0 ∷ pos 0 ∷ pos 0 ∷ pos 0 ∷ pos 0 ∷ pos 0 ∷ pos 0 ∷ [];
     }
 
+-- a node of the function with one input and a replicated border
 abbrev pub node_of : Function → Node
 node_of function =
     record {

@@ -10,9 +10,8 @@ abbrev pub matrix_in : Option ObjectValue → Option ConvolutionValue
 matrix_in (Some (ConvolutionObject matrix)) = Some matrix
 matrix_in other = None
 
--- a function's vertical radius: the number of rows above and below an output row that it reads in its first input. Half the rows of its
--- matrix, "Custom Convolution"; 1 for a 3x3 window; 0 if it is pixel-wise. Of a second image or an accumulator it reads the output row alone.
--- None: it reads all rows, as for "Integral Image", or writes no image.
+-- a function's vertical radius: how many rows above and below an output row it reads in its first input. Half the rows of its matrix, 1 for
+-- a 3x3 window, 0 if it is pixel-wise; None if it reads all rows or writes no image. Of another image it reads the output row alone.
 abbrev pub reach : Function → Option ConvolutionValue → Option ℕ
 reach function (Some matrix) = Some (matrix.rows / 2)
 reach Box None = Some 1

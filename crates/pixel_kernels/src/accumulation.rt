@@ -14,7 +14,8 @@ use image_core::{Image, ImageMut, RowUpdate};
 use lane_rows::{Accumulated, OfSum, Squared, update_row};
 use vx_base::Rect;
 
-/// What a kernel makes of sums, of an image of their size, in an area where that is valid.
+/// The update of sums by a lane kernel from an image of their size, in an area where the image is
+/// valid.
 #[derive(Drop)]
 struct Added<'a, 'b, K> {
     kernel: &'a K,
@@ -39,7 +40,7 @@ impl<K: OfSum<u8, i16>> RowUpdate<i16> for Added<'_, '_, K> {
     }
 }
 
-/// Adds what the kernel gives of an image to sums of its size, where both are valid; the other sums
+/// Updates sums by a lane kernel from an image of their size, where both are valid; the other sums
 /// become 0.
 fn add_to_sums<K: OfSum<u8, i16>>(kernel: &K, image: &Image<'_>, sums: &mut ImageMut<'_>)
     requires target { IsTarget sums.old }
@@ -60,8 +61,9 @@ fn add_to_sums<K: OfSum<u8, i16>>(kernel: &K, image: &Image<'_>, sums: &mut Imag
     sums.update::<i16, _>(&update);
 }
 
-/// Adds the samples of a U8 image to those of an S16 one (OpenVX 1.3, "Accumulate"), where both are
-/// valid; a sum is at most 32,767. `old` is any image whose rows stood in the band of `sums`.
+/// Adds the samples of a U8 image to those of an S16 image where both are valid (OpenVX 1.3,
+/// "Accumulate"); sums above 32,767 become 32,767. In the contract `old` is any image that has the
+/// earlier sums in the band's rows.
 pub fn accumulate(image: &Image<'_>, sums: &mut ImageMut<'_>)
     requires fits { Fits Accumulate image.now None sums.old }
     requires room { IsWithin (written sums.old).valid (written sums.old).width
@@ -73,8 +75,8 @@ pub fn accumulate(image: &Image<'_>, sums: &mut ImageMut<'_>)
 }
 
 /// Adds the squares of a U8 image's samples over 2^amount, rounded down, to the samples of an S16
-/// one (OpenVX 1.3, "Accumulate Squared"), where both are valid; a sum is at most 32,767. `old` is
-/// any image whose rows stood in the band of `sums`.
+/// image where both are valid (OpenVX 1.3, "Accumulate Squared"). Sums above 32,767 become 32,767.
+/// In the contract `old` is any image that has the earlier sums in the band's rows.
 pub fn accumulate_square(image: &Image<'_>, sums: &mut ImageMut<'_>, amount: u8)
     requires fits { Fits AccumulateSquare image.now None sums.old }
     requires room { IsWithin (written sums.old).valid (written sums.old).width

@@ -1,4 +1,4 @@
-//! Functions of two U8 or S16 images, at the formats that they may have.
+//! Functions of two U8 or S16 images, for each permitted combination of formats.
 ghost use Rattle.std.specs.Prelude.{◌≡◌, IsTrue};
 ghost use Rattle.vx_base.specs.declared.format.Format.TheVariants.{S16};
 ghost use Rattle.vx_base.specs.Formats.{are_arithmetic};
@@ -11,8 +11,8 @@ use image_core::{Image, ImageMut};
 use lane_rows::{Arithmetic, OfSamples};
 use vx_base::Format;
 
-/// Writes what the kernel gives of two images to a third of their size: of U8 and U8 to U8, or of
-/// each U8 or S16 to S16.
+/// Writes the results of a lane kernel for two images to a third one of their size: U8 and U8 to
+/// U8, or U8 or S16 inputs to S16.
 pub fn write_arithmetic<K: Arithmetic>(
     kernel: &K,
     first: &Image<'_>,
@@ -34,7 +34,7 @@ pub fn write_arithmetic<K: Arithmetic>(
     }
 }
 
-/// Writes what the kernel gives of two U8 or S16 images to an S16 image of their size.
+/// Writes the results of a lane kernel for two U8 or S16 images to an S16 image of their size.
 fn write_shorts<K: Arithmetic>(
     kernel: &OfSamples<'_, K>,
     first: &Image<'_>,

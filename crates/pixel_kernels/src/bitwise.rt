@@ -14,7 +14,7 @@ use crate::two::write_two;
 use image_core::{Image, ImageMut};
 use lane_rows::{And, Not, Or, Xor};
 
-/// Writes the bits that both samples have (OpenVX 1.3, "Bitwise AND"); all images are U8.
+/// Writes the bits that are set in both samples (OpenVX 1.3, "Bitwise AND"); all images are U8.
 pub fn bit_and(first: &Image<'_>, second: &Image<'_>, output: &mut ImageMut<'_>)
     requires { Fits AndBits first.now (Some (ImageObject second.now)) output.old }
     ensures { Writes (from_two U8 and_bits first.now second.now) output.old output.new }
@@ -22,7 +22,7 @@ pub fn bit_and(first: &Image<'_>, second: &Image<'_>, output: &mut ImageMut<'_>)
     write_two::<u8, u8, u8, _>(&And, first, second, output);
 }
 
-/// Writes the bits that one sample has or both have (OpenVX 1.3, "Bitwise INCLUSIVE OR"); all
+/// Writes the bits that are set in one or both samples (OpenVX 1.3, "Bitwise INCLUSIVE OR"); all
 /// images are U8.
 pub fn bit_or(first: &Image<'_>, second: &Image<'_>, output: &mut ImageMut<'_>)
     requires { Fits OrBits first.now (Some (ImageObject second.now)) output.old }
@@ -31,7 +31,7 @@ pub fn bit_or(first: &Image<'_>, second: &Image<'_>, output: &mut ImageMut<'_>)
     write_two::<u8, u8, u8, _>(&Or, first, second, output);
 }
 
-/// Writes the bits that one sample has and the other has not (OpenVX 1.3, "Bitwise EXCLUSIVE OR");
+/// Writes the bits that are set in exactly one of the samples (OpenVX 1.3, "Bitwise EXCLUSIVE OR");
 /// all images are U8.
 pub fn bit_xor(first: &Image<'_>, second: &Image<'_>, output: &mut ImageMut<'_>)
     requires { Fits XorBits first.now (Some (ImageObject second.now)) output.old }
@@ -40,8 +40,8 @@ pub fn bit_xor(first: &Image<'_>, second: &Image<'_>, output: &mut ImageMut<'_>)
     write_two::<u8, u8, u8, _>(&Xor, first, second, output);
 }
 
-/// Writes the samples with each of the eight bits turned over (OpenVX 1.3, "Bitwise NOT"); both
-/// images are U8.
+/// Writes the samples with each of the eight bits inverted (OpenVX 1.3, "Bitwise NOT"); both images
+/// are U8.
 pub fn bit_not(image: &Image<'_>, output: &mut ImageMut<'_>)
     requires { Fits NotBits image.now None output.old }
     ensures { Writes (from_one U8 not_bits image.now) output.old output.new }

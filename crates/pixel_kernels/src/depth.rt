@@ -32,8 +32,8 @@ fn narrow_depth(image: &Image<'_>, output: &mut ImageMut<'_>, policy: Policy, am
     }
 }
 
-/// Writes the samples in another format (OpenVX 1.3, "Convert Bit Depth"): of U8 to S16 times
-/// 2^amount; of S16 to U8 over 2^amount, rounded down and narrowed by the policy.
+/// Writes the samples in another format (OpenVX 1.3, "Convert Bit Depth"): U8 to S16 times
+/// 2^amount; S16 to U8 over 2^amount, rounded down and narrowed by the policy.
 pub fn convert_depth(image: &Image<'_>, output: &mut ImageMut<'_>, policy: Policy, amount: u8)
     requires fits { Fits ConvertDepth image.now None output.old }
     requires amount { amount ≤ 7 }

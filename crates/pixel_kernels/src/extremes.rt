@@ -10,7 +10,7 @@ use crate::arithmetic::write_arithmetic;
 use image_core::{Image, ImageMut};
 use lane_rows::{Greater, Smaller};
 
-/// Writes the smaller of the samples (OpenVX 1.3, "Min"); all images are U8, or all S16.
+/// Writes the smaller of the two samples (OpenVX 1.3, "Min"); all images are U8, or all S16.
 pub fn minimum(first: &Image<'_>, second: &Image<'_>, output: &mut ImageMut<'_>)
     requires { Fits MinPixel first.now (Some (ImageObject second.now)) output.old }
     ensures { Writes (from_two (written output.old).format smaller first.now second.now)
@@ -19,7 +19,7 @@ pub fn minimum(first: &Image<'_>, second: &Image<'_>, output: &mut ImageMut<'_>)
     write_arithmetic(&Smaller, first, second, output);
 }
 
-/// Writes the greater of the samples (OpenVX 1.3, "Max"); all images are U8, or all S16.
+/// Writes the greater of the two samples (OpenVX 1.3, "Max"); all images are U8, or all S16.
 pub fn maximum(first: &Image<'_>, second: &Image<'_>, output: &mut ImageMut<'_>)
     requires { Fits MaxPixel first.now (Some (ImageObject second.now)) output.old }
     ensures { Writes (from_two (written output.old).format greater first.now second.now)

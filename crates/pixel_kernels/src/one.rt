@@ -1,4 +1,4 @@
-//! Images from one image.
+//! Output images from one input image.
 ghost use Rattle.std.specs.Prelude.{◌≡◌};
 ghost use Rattle.vx_base.specs.Rectangle.{IsWithin};
 ghost use Rattle.vx_base.specs.Image.{at};
@@ -12,7 +12,7 @@ use lane_rows::{LanesOfItem, map_row};
 use std::marker::PhantomData;
 use vx_base::Rect;
 
-/// What a kernel gives of an image, where it is valid.
+/// The results of a lane kernel for an image, where the image is valid.
 #[derive(Drop)]
 struct FromOne<'a, 'b, A: Pixel, K> {
     kernel: &'a K,
@@ -38,7 +38,7 @@ impl<A: Pixel, T: Pixel, K: LanesOfItem<A, T>> Formula<T> for FromOne<'_, '_, A,
     }
 }
 
-/// Writes what the kernel gives of an image to another of its size.
+/// Writes the results of a lane kernel for an image to another one of its size.
 pub fn write_one<A: Pixel, T: Pixel, K: LanesOfItem<A, T>>(
     kernel: &K,
     image: &Image<'_>,

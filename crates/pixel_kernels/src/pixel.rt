@@ -1,12 +1,12 @@
-//! Samples of images as items of rows.
+//! Samples of images as items of lane rows.
 ghost use Rattle.std.specs.Prelude.{◌≡◌, refl};
 
 use image_core::Sample;
 use lane_rows::Item;
 
-/// A sample of an image that is an item of a row as well.
+/// A sample of an image that is also an item of a lane row.
 pub trait Pixel: Sample + Item {
-    /// Both are the same number.
+    /// Its value as an item is its value as a sample.
     ghost same: { (a : Self) → Self.Item.value a ≡ Self.Number.value a };
 }
 

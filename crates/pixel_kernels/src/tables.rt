@@ -1,4 +1,4 @@
-//! Samples that are looked up in a table.
+//! Lookup tables.
 ghost use Rattle.std.specs.Prelude.{◌≡◌, pos, map, length, Some};
 ghost use Rattle.vx_base.specs.declared.format.Format.TheVariants.{U8, S16};
 ghost use Rattle.vx_base.specs.declared.function.Function.TheVariants.{TableLookup};
@@ -12,7 +12,7 @@ use image_core::{Image, ImageMut};
 use lane_rows::{LanesOfItem, OfItem, map_items, store_bytes};
 use vx_base::{Lut, Samples};
 
-/// The entry of a U8 sample.
+/// The table of U8 samples, as a lane kernel.
 #[derive(Drop)]
 struct ByteTable<'a> {
     entries: &'a [u8],
@@ -33,7 +33,7 @@ impl LanesOfItem<u8, u8> for ByteTable<'_> {
     }
 }
 
-/// The entry of an S16 sample.
+/// The table of S16 samples, as a lane kernel.
 #[derive(Drop)]
 struct ShortTable<'a> {
     entries: &'a [i16],
@@ -54,8 +54,8 @@ impl LanesOfItem<i16, i16> for ShortTable<'_> {
     }
 }
 
-/// Writes the table's entries for the samples (OpenVX 1.3, "TableLookup"): of U8 to U8, or of S16
-/// to S16, as the table is.
+/// Writes the table's entries for the samples (OpenVX 1.3, "TableLookup"); the images have the
+/// table's format, U8 or S16.
 pub fn lookup(image: &Image<'_>, output: &mut ImageMut<'_>, lut: &Lut)
     requires { Fits TableLookup image.now (Some (LutObject lut.now)) output.old }
     ensures { Writes (from_one (written output.old).format (looked_up lut.now) image.now)

@@ -13,7 +13,7 @@ use image_core::{Image, ImageMut};
 use lane_rows::{Above, Between, Tested};
 use vx_base::{Format, ThresholdKind, ThresholdRule};
 
-/// Writes the rule's values; it tests samples of this type.
+/// Writes the rule's values for samples of type `A`.
 fn write_tested<A: Pixel + Tested>(
     image: &Image<'_>,
     output: &mut ImageMut<'_>,
@@ -48,8 +48,8 @@ fn write_tested<A: Pixel + Tested>(
     }
 }
 
-/// Writes the rule's true value where a sample passes, else its false value (OpenVX 1.3,
-/// "Thresholding"): of U8 or S16, as the rule tests, to U8.
+/// Writes the rule's true value where a sample passes, its false value elsewhere (OpenVX 1.3,
+/// "Thresholding"). The input has the rule's format, U8 or S16; the output is U8.
 pub fn threshold(image: &Image<'_>, output: &mut ImageMut<'_>, rule: ThresholdRule)
     requires { Fits Threshold image.now (Some (ThresholdObject rule)) output.old }
     ensures { Writes (from_one U8 (thresholded rule) image.now) output.old output.new }

@@ -1,4 +1,4 @@
-//! Images from two images.
+//! Output images from two input images.
 ghost use Rattle.std.specs.Prelude.{◌≡◌};
 ghost use Rattle.vx_base.specs.Rectangle.{IsWithin, meet_of};
 ghost use Rattle.vx_base.specs.Image.{at};
@@ -12,7 +12,7 @@ use lane_rows::{OfPair, zip_rows};
 use std::marker::PhantomData;
 use vx_base::Rect;
 
-/// What a kernel gives of two images of one size, where both are valid.
+/// The results of a lane kernel for two images of one size, where both are valid.
 #[derive(Drop)]
 struct FromTwo<'a, 'b, A: Pixel, B: Pixel, K> {
     kernel: &'a K,
@@ -42,7 +42,7 @@ impl<A: Pixel, B: Pixel, T: Pixel, K: OfPair<A, B, T>> Formula<T> for FromTwo<'_
     }
 }
 
-/// Writes what the kernel gives of two images to a third of their size.
+/// Writes the results of a lane kernel for two images to a third one of their size.
 pub fn write_two<A: Pixel, B: Pixel, T: Pixel, K: OfPair<A, B, T>>(
     kernel: &K,
     first: &Image<'_>,

@@ -1,28 +1,28 @@
--- Free blocks: how many there are of each class.
+-- Free blocks, as numbers of blocks of each class.
 use Rattle.std.specs.Prelude.{◌≡◌, ◌≤◌, ◌<◌, ◌+◌, ◌-◌, ◌*◌, ℕ, zero, suc, List, slice_index, slice_set, sum_by}
 use Rattle.pixel_pool.specs.Classes.{class_room, class_count, IsClassOf}
 
--- how many blocks are free
+-- the number of free blocks
 abbrev pub free_count : List ℕ → ℕ
 free_count free = sum_by (λ n. n) free
 
--- a block of the class is free
+-- there is a free block of the class
 abbrev pub HasFree : List ℕ → ℕ → Type 0
 HasFree free class = 0 < slice_index free class
 
--- this many samples fit in a free block
+-- there is a free block that fits count samples
 abbrev pub HasRoom : List ℕ → ℕ → Type 0
 HasRoom free count = (class : ℕ) × HasFree free class × (count ≤ class_room class)
 
--- one block less of a class is free
+-- one free block of the class less
 abbrev pub without_one : List ℕ → ℕ → List ℕ
 without_one free class = slice_set free class (slice_index free class - 1)
 
--- one block more of a class is free
+-- one free block of the class more
 abbrev pub with_one : List ℕ → ℕ → List ℕ
 with_one free class = slice_set free class (slice_index free class + 1)
 
--- of the free blocks in which this many samples fit, one of the smallest class was used
+-- a free block of the smallest class that fits count samples was taken
 pub record UsesSmallest (count : ℕ) (old new : List ℕ) : Type 0 where
   pub class : ℕ
   pub free : HasFree old class
@@ -30,23 +30,23 @@ pub record UsesSmallest (count : ℕ) (old new : List ℕ) : Type 0 where
   pub smallest : (other : ℕ) → HasFree old other → count ≤ class_room other → class ≤ other
   pub used : new ≡ without_one old class
 
--- a block that has room for so many samples came to the free ones
+-- a block of this capacity became free
 pub record GetsFree (room : ℕ) (old new : List ℕ) : Type 0 where
   pub class : ℕ
   pub is_class : IsClassOf room class
   pub added : new ≡ with_one old class
   pub free : HasFree new class
 
--- for how many samples the free blocks of the classes below one have room together
+-- the total capacity of the free blocks of all classes below this one
 unfoldable pub room_below : List ℕ → ℕ → ℕ
 room_below free zero = 0
 room_below free (suc class) = room_below free class + slice_index free class * class_room class
 
--- not too many blocks are free, and they haven't too much room
+-- the number of free blocks and their total capacity are within the limits
 pub record IsTrim (free : List ℕ) : Type 0 where
   pub blocks : free_count free ≤ 16384
   pub room : room_below free class_count ≤ 67108864
 
--- of no class more blocks are free than before
+-- no class has more free blocks than before
 abbrev pub IsFewer : List ℕ → List ℕ → Type 0
 IsFewer new old = (class : ℕ) → slice_index new class ≤ slice_index old class

@@ -1,4 +1,4 @@
--- What a contract sees of a `Shelf`, the blocks of one format; and how its free blocks are linked.
+-- The view of a `Shelf`, the blocks of one format, and the links between its free blocks.
 use Rattle.std.specs.Prelude.{◌≡◌, ◌≤◌, ◌<◌, ℕ, ◌+◌, List, length, map, Some, IsSomeAnd, slice_index_or, vec_capacity}
 use Rattle.slab.specs.Slab.{Slab, get, slab_len}
 use Rattle.pixel_pool.specs.Classes.{class_room, class_count}
@@ -6,20 +6,20 @@ use Rattle.pixel_pool.specs.Free.{free_count}
 use Rattle.pixel_pool.specs.declared.shelf.Free.{Free}
 use Rattle.pixel_pool.specs.declared.stacks.Stack.{Stack}
 
--- how many blocks are lent, and how many are free of each class
+-- the number of lent blocks, and of free blocks of each class
 pub record ShelfValue : Type 0 where
   pub lent : ℕ
   pub free : List ℕ
 
--- how many blocks there are, lent and free
+-- the number of blocks, lent and free
 abbrev pub block_count : ShelfValue → ℕ
 block_count s = s.lent + free_count s.free
 
--- how many blocks each stack has
+-- the height of each stack, in blocks
 abbrev pub lengths : List Stack → List ℕ
 lengths stacks = map (λ s. s.len) stacks
 
--- a stack without blocks
+-- the empty stack
 abbrev pub no_stack : Stack
 no_stack = record { top = 0; len = 0 }
 
@@ -28,23 +28,24 @@ abbrev pub stack_at : List Stack → ℕ → Stack
 stack_at stacks class = slice_index_or stacks class no_stack
 
 module _ {T : Type 0} where
-  -- a block is the top one of a stack of so many blocks of a class
+  -- a block of the class that is on top of a stack of height len
   abbrev pub IsTopOf : ℕ → ℕ → Free T → Type 0
   IsTopOf class len block = (block.class ≡ class) × (block.under.len + 1 ≡ len)
 
-  -- the key of a stack, unless it has none, is that of its top block
+  -- the key of a stack that isn't empty is that of its top block
   abbrev pub IsStack : Slab (Free T) → ℕ → Stack → Type 0
   IsStack free class stack = 0 < stack.len → IsSomeAnd (get free stack.top) (IsTopOf class stack.len)
 
-  -- a block has the room of its class, which it knows, and it and the stack under it are in the stack of the class
+  -- a block's memory has at least its class's capacity, and the block is linked to the rest of the
+  -- stack of its class
   pub record IsStacked (stacks : List Stack) (free : Slab (Free T)) (block : Free T) : Type 0 where
     pub room : class_room block.class ≤ vec_capacity block.samples
     pub room_known : block.room ≡ class_room block.class
     pub within : block.under.len < (stack_at stacks block.class).len
     pub linked : IsStack free block.class block.under
 
-  -- the key of each stack, and of the one under each block of it, is that of its top block; no two blocks
-  -- of a class are at one height
+  -- a stack for each class, linked by the keys of top blocks; no two blocks of a class are at one height,
+  -- and the stacks have as many blocks as the slab
   pub record AreStacks (stacks : List Stack) (free : Slab (Free T)) : Type 0 where
     pub all : length stacks ≡ class_count
     pub tops : (class : ℕ) → IsStack free class (stack_at stacks class)

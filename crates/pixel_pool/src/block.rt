@@ -1,12 +1,12 @@
-//! Blocks in a hand.
+//! Lent blocks.
 ghost use Rattle.std.specs.Prelude.{◌≡◌, []};
 ghost use Rattle.vx_base.specs.Picture.{values, samples_format};
 
 use std::marker::Model;
 use vx_base::{Format, Samples};
 
-/// A block that a pool has lent, with its samples. Only a pool makes one, and it can't be copied:
-/// so it is in one hand. It is given back to the pool that lent it.
+/// A block that a pool has lent, with its samples. Only a pool makes one, and it can't be copied,
+/// so it has one owner, who gives it back to the pool that lent it.
 #[derive(Drop)]
 pub struct Block {
     samples: Samples,
@@ -21,36 +21,36 @@ impl Model for Block {
 }
 
 impl Block {
-    /// A block of these samples, which the pool lends.
+    /// Returns a lent block with these samples.
     pub(crate) fn new(samples: Samples) -> Block
         ensures { result ≡ samples }
     {
         Block { samples }
     }
 
-    /// The samples of a block that is given back.
+    /// Returns the samples of a block that is given back.
     pub(crate) fn into_samples(self) -> Samples
         ensures { result ≡ self }
     {
         self.samples
     }
 
-    /// Returns the format of the block's samples, also while they are lifted out.
+    /// Returns the format of the block's samples, also after `lift`.
     pub fn format(&self) -> Format
         ensures { result ≡ samples_format self.now }
     {
         self.samples.format()
     }
 
-    /// The samples, as many as were asked for.
+    /// Returns the samples, as many as were requested.
     pub fn samples(&self) -> &Samples
         ensures { result.now ≡ self.now }
     {
         &self.samples
     }
 
-    /// Takes the samples out of the block, so that they can be written while others are read; `put`
-    /// brings them back. It takes no memory.
+    /// Takes the samples out of the block, so that they can be written while other blocks are read;
+    /// `put` returns them. Allocates nothing.
     pub fn lift(&mut self) -> Samples
         ensures format { samples_format result ≡ samples_format self.old }
         ensures value { values result ≡ values self.old }
@@ -60,7 +60,7 @@ impl Block {
         self.samples.take()
     }
 
-    /// Gives the block samples of its format, in the place of those that were taken out.
+    /// Puts samples of the block's format into it, after `lift`.
     pub fn put(&mut self, samples: Samples)
         requires { samples_format samples ≡ samples_format self.old }
         ensures { self.new ≡ samples }

@@ -2,10 +2,11 @@
 ghost use Rattle.std.specs.Prelude.{◌≡◌, ◌<◌, ◌≤◌, ◌^◌};
 ghost use Rattle.pixel_pool.specs.Classes.{class_count, class_room, class_step, IsClassOf, FitsIn};
 
-/// The number of classes. The last has room for 67,108,864 samples, as many as the largest image has.
+/// The number of classes. The last has a capacity of 67,108,864 samples, as many as the largest
+/// image has.
 pub const CLASSES: usize = 193;
 
-/// Returns for how many samples more a class has room than the one below it.
+/// Returns the difference between the capacities of the next class and this one, in samples.
 #[tactic(auto, using(crate::proofs::ClassLemmas::step_small))]
 pub fn step(class: usize) -> usize
     requires { class < class_count }
@@ -15,8 +16,8 @@ pub fn step(class: usize) -> usize
     1 << (class / 8).saturating_sub(1)
 }
 
-/// Returns the class of a block with room for `room` samples: the greatest that has no more room. The
-/// second number is the room of this class.
+/// Returns the class of a block with a capacity of `room` samples, which is the greatest whose
+/// capacity isn't above it, and that class's capacity.
 #[tactic(auto, using(crate::proofs::ClassLemmas::room_steps))]
 pub fn class_of(room: usize) -> (usize, usize)
     ensures class { IsClassOf room result.0 }
@@ -33,8 +34,8 @@ pub fn class_of(room: usize) -> (usize, usize)
     (class, within)
 }
 
-/// Returns the room of a new block for `count` samples: that of the least class in which they fit, or
-/// `count` where they fit in none.
+/// Returns the capacity of a new block for `count` samples: that of the smallest class that fits
+/// them, or `count` if none does.
 #[tactic(auto, using(crate::proofs::ClassLemmas::room_steps))]
 pub fn room_for(count: usize) -> usize
     ensures enough { count ≤ result }

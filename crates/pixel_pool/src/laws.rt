@@ -1,4 +1,4 @@
-//! What the contracts of the pool's calls mean together.
+//! Facts that follow from the contracts of the pool's calls together.
 ghost use Rattle.std.specs.Prelude.{◌≡◌, ◌≤◌, ◌+◌, length, IfOk, OnOk};
 ghost use Rattle.vx_base.specs.Picture.{values, samples_format};
 ghost use Rattle.pixel_pool.specs.Free.{HasRoom};
@@ -9,8 +9,8 @@ use crate::pool::Pool;
 use std::alloc::AllocError;
 use vx_base::Format;
 
-/// What is given back is taken again: that takes no memory, and adds no block to that which the first
-/// call may have added.
+/// Takes a block, gives it back, and takes one again. The second `take` can't fail and adds no
+/// block, so there is at most one block more than before.
 pub fn taken_again(pool: &mut Pool, format: Format, count: usize) -> Result<Block, AllocError>
     requires { count ≤ 67108864 }
     ensures format { IfOk result (λ taken. samples_format taken ≡ format) }
@@ -25,8 +25,8 @@ pub fn taken_again(pool: &mut Pool, format: Format, count: usize) -> Result<Bloc
     Ok(again)
 }
 
-/// A block that is taken and given back leaves as many lent, of each format, as there were. Then a
-/// free one has room for as many samples.
+/// Takes a block and gives it back. As many blocks of each format are lent as before, and a free
+/// block fits `count` samples.
 pub fn taken_and_given_back(pool: &mut Pool, format: Format, count: usize) -> Result<(), AllocError>
     requires { count ≤ 67108864 }
     ensures lent { KeepsLent pool.old pool.new }

@@ -1,17 +1,17 @@
-//! Blocks of samples that are used again.
+//! Recycled blocks of samples.
 //!
-//! A block is the memory of an image's samples. The `Pool` lends a `Block` of as many samples as are
-//! asked for. A lent block is in one hand, since it can't be copied. When it is given back it is free,
-//! with its memory, and its samples aren't cleared. The pool counts the blocks of each format that
-//! are lent. The free blocks of a format lie in a slab, and those of a size class are linked by their
-//! keys: so no call looks at more than one block of a class.
+//! A block is the memory of an image's samples. The `Pool` lends a `Block` with the requested
+//! number of samples. A lent block has one owner, since it can't be copied. A block that is given
+//! back becomes free; it keeps its memory, and its samples aren't cleared. The pool counts the lent
+//! blocks of each format. The free blocks of a format are in a slab, linked by their keys into one
+//! stack for each size class. Therefore no call looks at more than one block of a class.
 //!
-//! - `block`: a block in a hand
+//! - `block`: lent blocks
 //! - `pool`: the blocks of all formats
 //! - `shelf`: the blocks of one format
-//! - `stacks`: the free blocks of each class, in stacks
+//! - `stacks`: the stacks of free blocks, one for each class
 //! - `classes`: the size classes of blocks
-//! - `laws`: what the contracts of these calls mean together
+//! - `laws`: facts that follow from the contracts of these calls together
 #![tactic(auto)]
 
 mod block;

@@ -12,7 +12,7 @@ use crate::shelf::Shelf;
 use std::alloc::{AllocError, Global};
 use vx_base::{Format, Samples};
 
-/// Blocks of samples of each format, lent or free.
+/// The blocks of each format, lent and free.
 #[derive(Drop)]
 pub struct Pool {
     u8s: Shelf<u8>,
@@ -23,7 +23,7 @@ pub struct Pool {
 impl Pool {
     ghost use Rattle.vx_base.specs.declared.format.Format.{Format};
 
-    /// A pool without blocks. It takes no memory.
+    /// Returns a pool without blocks. Allocates nothing.
     pub fn new(alloc: Global) -> Pool
         ensures lent { (format : Format) → lent_of result format ≡ 0 }
         ensures free { (format : Format) → free_of result format ≡ replicate class_count 0 }
@@ -35,12 +35,12 @@ impl Pool {
         }
     }
 
-    /// Lends a block of a format with `count` samples, which may hold anything.
+    /// Lends a block of a format with `count` samples of any value. An error means that there is no
+    /// memory for a new block; the pool is then unchanged.
     ///
-    /// Of the free blocks in which the samples fit, the smallest is used; where they fit in none, a
-    /// block is added. A block that has room for more than 1,024 samples and for more than twice
-    /// those asked for is made smaller. A new block has room for at most an eighth more samples than
-    /// are asked for.
+    /// The smallest free block that fits is used; if none fits, a block is added. A block with a
+    /// capacity above 1,024 samples and above twice `count` is shrunk. The capacity of a new block
+    /// is at most an eighth above `count`.
     pub fn take(&mut self, format: Format, count: usize) -> Result<Block, AllocError>
         ensures format { IfOk result (λ taken. samples_format taken ≡ format) }
         ensures count { IfOk result (λ taken. length (values taken) ≡ count) }
@@ -56,7 +56,7 @@ impl Pool {
         ensures other_free { KeepsOtherFree self.old self.new format }
         ensures err { OnErr result (self.new ≡ self.old) }
 
-        // No memory is taken where a free block has room.
+        // A free block that fits is lent without allocating.
         ensures fits { HasRoom (free_of self.old format) count → IsOk result }
     {
         match format {
@@ -66,7 +66,7 @@ impl Pool {
         }
     }
 
-    /// Lends a block as `take` does, each sample of which is 0.
+    /// Lends a block as `take` does, with all samples 0.
     pub fn take_zeros(&mut self, format: Format, count: usize) -> Result<Block, AllocError>
         ensures format { IfOk result (λ taken. samples_format taken ≡ format) }
         ensures zero { IfOk result (λ taken. values taken ≡ replicate count (pos 0)) }
@@ -89,8 +89,8 @@ impl Pool {
         Ok(block)
     }
 
-    /// Makes a block that was lent free. Its samples stay as they are. It takes no memory, and drops
-    /// none.
+    /// Takes back a block that the pool lent, which becomes free. Its samples are unchanged.
+    /// Allocates and frees nothing.
     pub fn give_back(&mut self, block: Block)
         requires { HasLent self.old (samples_format block) }
         ensures gets_back { GetsBack self.old self.new (samples_format block) }
@@ -106,8 +106,8 @@ impl Pool {
         }
     }
 
-    /// Drops free blocks of each format, the largest first, until at most 16,384 are free, which
-    /// have room for at most 67,108,864 samples together.
+    /// Drops free blocks of each format, the largest first, until at most 16,384 with a total
+    /// capacity of at most 67,108,864 samples are left.
     pub fn trim(&mut self)
         ensures lent { KeepsLent self.old self.new }
         ensures trim { (format : Format) → IsTrim (free_of self.new format) }
@@ -121,7 +121,8 @@ impl Pool {
         self.u32s.trim();
     }
 
-    /// Drops all free blocks: their memory goes back to the system, for who finds none otherwise.
+    /// Drops all free blocks, which returns their memory to the system for callers that find none
+    /// otherwise.
     pub fn drop_free(&mut self)
         ensures lent { KeepsLent self.old self.new }
         ensures free { (format : Format) → free_of self.new format ≡ replicate class_count 0 }
@@ -131,7 +132,7 @@ impl Pool {
         self.u32s.drop_free();
     }
 
-    /// How many blocks of a format are lent.
+    /// Returns the number of lent blocks of a format.
     pub fn lent(&self, format: Format) -> usize
         ensures { result ≡ lent_of self.now format }
     {
@@ -142,7 +143,7 @@ impl Pool {
         }
     }
 
-    /// How many blocks of a format there are, lent and free.
+    /// Returns the number of blocks of a format, lent and free.
     pub fn blocks(&self, format: Format) -> usize
         ensures { result ≡ blocks_of self.now format }
     {
@@ -153,7 +154,7 @@ impl Pool {
         }
     }
 
-    /// How many blocks of a format are free.
+    /// Returns the number of free blocks of a format.
     pub fn free(&self, format: Format) -> usize
         ensures { result ≡ free_count (free_of self.now format) }
     {
@@ -165,7 +166,7 @@ impl Pool {
     }
 }
 
-/// Makes each sample 0.
+/// Sets each sample to 0.
 fn clear(samples: &mut Samples)
     ensures format { samples_format samples.new ≡ samples_format samples.old }
     ensures zero { values samples.new ≡ replicate (length (values samples.old)) (pos 0) }

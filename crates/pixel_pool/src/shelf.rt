@@ -12,18 +12,16 @@ use slab::Slab;
 use std::alloc::{AllocError, Global};
 use std::marker::Model;
 
-/// A room may be larger than what is asked for, however few samples that is: 4,096 bytes in the
-/// widest format.
+/// Blocks up to this capacity, 4,096 bytes in the widest format, are never shrunk.
 const SMALL_ROOM: usize = 1024;
 
-/// For how many samples free blocks may have room together that are kept.
+/// The greatest total capacity, in samples, of the free blocks that `trim` keeps.
 const KEPT_ROOM: u128 = 67_108_864;
 
-/// How many free blocks may be kept: as many as one client can leave.
+/// The greatest number of free blocks that `trim` keeps: as many as one client can leave.
 const KEPT_BLOCKS: usize = 16_384;
 
-/// A free block, its class with the room of this class, and the stack of the class as it was before
-/// the block came.
+/// A free block, its class, the capacity of the class, and the stack of the class below this block.
 #[derive(Drop)]
 struct Free<T> {
     samples: Vec<T>,
@@ -32,8 +30,9 @@ struct Free<T> {
     under: Stack,
 }
 
-/// How many blocks are lent, and the free ones under their keys, stacked by their classes. `room` is
-/// the number of samples for which the free blocks have room, each as its class does.
+/// The blocks of one format: the number of lent ones, and the free ones in a slab, stacked by their
+/// classes. `room` is the total capacity of the free blocks in samples, each counted with the
+/// capacity of its class.
 #[derive(Drop)]
 pub struct Shelf<T> {
     alloc: Global,
@@ -54,14 +53,14 @@ impl<T> Model for Shelf<T> {
 
     ghost view = { λ s. record { lent = s.lent; free = lengths s.stacks } };
 
-    // Each block that is lent has a place among the free ones.
+    // The slab has a reserved entry for each lent block, so that giving it back allocates nothing.
     ghost invariant = { λ s. (s.lent + slab_len s.free ≤ s.free.capacity)
         × AreStacks s.stacks s.free
         × (s.room ≡ room_below (lengths s.stacks) class_count) };
 }
 
 impl<T: Copy + Drop> Shelf<T> {
-    /// A shelf without blocks. It takes no memory.
+    /// Returns a shelf without blocks. Allocates nothing.
     pub fn new(alloc: Global) -> Shelf<T>
         ensures { result ≡ record { lent = 0; free = replicate class_count 0 } }
     {
@@ -74,14 +73,14 @@ impl<T: Copy + Drop> Shelf<T> {
         }
     }
 
-    /// How many blocks are lent.
+    /// Returns the number of lent blocks.
     pub fn lent(&self) -> usize
         ensures { result ≡ self.now.lent }
     {
         self.lent
     }
 
-    /// How many blocks there are, lent and free.
+    /// Returns the number of blocks, lent and free.
     pub fn blocks(&self) -> usize
         ensures { result ≡ block_count self.now }
     {
@@ -89,15 +88,15 @@ impl<T: Copy + Drop> Shelf<T> {
         self.lent + self.free.len()
     }
 
-    /// How many blocks are free.
+    /// Returns the number of free blocks.
     pub fn free(&self) -> usize
         ensures { result ≡ free_count self.now.free }
     {
         self.free.len()
     }
 
-    /// Lends a block of `count` samples, which may hold anything. It looks at no more than one block
-    /// of each class.
+    /// Lends a block of `count` samples of any value. Looks at no more than one block of each
+    /// class. An error means that there is no memory for a new block; the shelf is then unchanged.
     pub fn take(&mut self, zero: T, count: usize) -> Result<Vec<T>, AllocError>
         ensures count { IfOk result (λ samples. length samples.items ≡ count) }
         ensures room { IfOk result (λ samples. FitsIn count (vec_capacity samples)) }
@@ -116,8 +115,8 @@ impl<T: Copy + Drop> Shelf<T> {
         }
     }
 
-    /// Adds a block of `count` samples, and lends it. There is a place for it among the free blocks
-    /// too, so that it can be given back without memory.
+    /// Adds a block of `count` samples and lends it. Reserves an entry for it among the free
+    /// blocks, so that giving it back allocates nothing.
     fn add(&mut self, zero: T, count: usize) -> Result<Vec<T>, AllocError>
         ensures count { IfOk result (λ samples. length samples.items ≡ count) }
         ensures room { IfOk result (λ samples. FitsIn count (vec_capacity samples)) }
@@ -132,7 +131,7 @@ impl<T: Copy + Drop> Shelf<T> {
         Ok(samples)
     }
 
-    /// Lends the free block of a class that came last.
+    /// Lends the top block of a class's stack.
     fn lend(&mut self, class: usize) -> Vec<T>
         requires { HasFree self.old.free class }
         ensures room { class_room class ≤ vec_capacity result }
@@ -150,7 +149,7 @@ impl<T: Copy + Drop> Shelf<T> {
         block.samples
     }
 
-    /// Makes a block that was lent free. Its samples stay as they are.
+    /// Takes back a lent block, which becomes free. Its samples are unchanged.
     pub fn give_back(&mut self, samples: Vec<T>)
         requires { 1 ≤ self.old.lent }
         ensures lent { self.new.lent + 1 ≡ self.old.lent }
@@ -175,7 +174,7 @@ impl<T: Copy + Drop> Shelf<T> {
         self.lent -= 1;
     }
 
-    /// Drops all free blocks: their memory goes back to the system.
+    /// Drops all free blocks, which returns their memory to the system.
     pub fn drop_free(&mut self)
         ensures { self.new ≡ record { lent = self.old.lent; free = replicate class_count 0 } }
     {
@@ -184,7 +183,8 @@ impl<T: Copy + Drop> Shelf<T> {
         self.room = 0;
     }
 
-    /// Drops free blocks, the largest first, until they are not too many and haven't too much room.
+    /// Drops free blocks, the largest first, until their number and their total capacity are within
+    /// the limits.
     pub fn trim(&mut self)
         ensures lent { self.new.lent ≡ self.old.lent }
         ensures trim { IsTrim self.new.free }
@@ -196,14 +196,15 @@ impl<T: Copy + Drop> Shelf<T> {
         }
     }
 
-    /// Returns whether the free blocks are not too many and haven't too much room together.
+    /// Whether the number of free blocks and their total capacity are within the limits.
     fn is_trim(&self) -> bool
         ensures { IsTrue result ↔ IsTrim self.now.free }
     {
         self.free.len() <= KEPT_BLOCKS && self.room <= KEPT_ROOM
     }
 
-    /// Drops a free block of the greatest class of which one is free: there are too many.
+    /// Drops a free block of the greatest class that has one. There is one, because the limits are
+    /// exceeded.
     #[tactic(auto, using(crate::proofs::FreeLemmas::none_is_trim))]
     fn drop_largest(&mut self)
         requires { IsTrim self.old.free → ⊥ }
@@ -221,7 +222,7 @@ impl<T: Copy + Drop> Shelf<T> {
     }
 }
 
-/// Returns `count` samples in new memory, as much as a block of their class has.
+/// New memory with `count` samples and the capacity of the smallest class that fits them.
 fn new_samples<T: Copy + Drop>(alloc: Global, zero: T, count: usize) -> Result<Vec<T>, AllocError>
     ensures count { IfOk result (λ samples. length samples.items ≡ count) }
     ensures room { IfOk result (λ samples. FitsIn count (vec_capacity samples)) }
@@ -231,8 +232,8 @@ fn new_samples<T: Copy + Drop>(alloc: Global, zero: T, count: usize) -> Result<V
     Ok(samples)
 }
 
-/// Returns the same memory with `count` samples, which fit. Memory that is far too large is made
-/// smaller, so that few samples can't keep much; where the system refuses, it stays as it is.
+/// The same memory with `count` samples, which fit. Memory that is far too large is shrunk, so that
+/// few samples don't keep much of it; if the system refuses, it stays as it is.
 fn resized<T: Copy + Drop>(mut samples: Vec<T>, zero: T, count: usize) -> Vec<T>
     requires { count ≤ vec_capacity samples }
     ensures count { length result.items ≡ count }
@@ -245,7 +246,7 @@ fn resized<T: Copy + Drop>(mut samples: Vec<T>, zero: T, count: usize) -> Vec<T>
     samples
 }
 
-/// Whether a room is more than twice as large as what is asked for, and isn't small.
+/// Whether a capacity is more than twice the requested one, and isn't small.
 fn is_far_too_large(room: usize, count: usize) -> bool {
     room > SMALL_ROOM && room / 2 > count
 }

@@ -1,4 +1,4 @@
-//! The free blocks of each class, in stacks.
+//! Stacks of free blocks, one for each class.
 ghost use Rattle.std.specs.Prelude.{◌≡◌, ℕ, ◌≤◌, IfSome, IfNone};
 ghost use Rattle.pixel_pool.specs.Classes.{class_room};
 ghost use Rattle.pixel_pool.specs.Free.{HasFree, HasRoom, free_count};
@@ -6,18 +6,18 @@ ghost use Rattle.pixel_pool.specs.Shelf.{lengths};
 
 use crate::classes::{CLASSES, step};
 
-/// The free blocks of a class, linked by their keys: the key of the one that came last, and how
-/// many there are.
+/// The free blocks of a class, linked by their keys: the key of the top block, and the number of
+/// blocks.
 #[derive(Clone, Copy)]
 pub struct Stack {
     pub top: usize,
     pub len: usize,
 }
 
-/// A stack without blocks.
+/// The empty stack.
 pub const EMPTY: Stack = Stack { top: 0, len: 0 };
 
-/// Returns the least class with a free block in which `count` samples fit.
+/// Returns the smallest class with a free block that fits `count` samples, if there is one.
 #[tactic(auto, using(crate::proofs::FreeLemmas::stack_steps))]
 pub fn smallest(stacks: &[Stack; CLASSES], count: usize) -> Option<usize>
     ensures free { IfSome result (HasFree (lengths stacks.now)) }
@@ -37,7 +37,7 @@ pub fn smallest(stacks: &[Stack; CLASSES], count: usize) -> Option<usize>
     None
 }
 
-/// Returns the greatest class with a free block.
+/// Returns the greatest class with a free block, if there is one.
 #[tactic(auto, using(crate::proofs::FreeLemmas::stack_steps))]
 pub fn largest(stacks: &[Stack; CLASSES]) -> Option<usize>
     ensures free { IfSome result (HasFree (lengths stacks.now)) }

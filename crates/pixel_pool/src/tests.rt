@@ -1,4 +1,4 @@
-//! That blocks are used again, and how large they stay.
+//! Reuse of blocks, and their capacities.
 ghost use Rattle.std.specs.Prelude.{◌≡◌};
 ghost use Rattle.vx_base.specs.Picture.{samples_format};
 ghost use Rattle.pixel_pool.specs.Pool.{HasLent};
@@ -8,7 +8,7 @@ use crate::{Block, Pool};
 use std::test::Fail;
 use vx_base::{Format, Samples};
 
-/// Gives a block of U8 back, and tells for how many samples it has room.
+/// Gives a U8 block back and returns its capacity in samples.
 fn give_back(pool: &mut Pool, block: Block) -> usize
     requires { HasLent pool.old (samples_format block) }
 {

@@ -1,7 +1,7 @@
--- Counts bin by bin.
+-- Sums of histograms.
 use Rattle.std.specs.Prelude.{ℕ, ◌+◌, List, length, map, slice_index}
 use Rattle.std.specs.List.{range_with_len}
 
--- counts and others, bin by bin
+-- the sum of two histograms, bin by bin
 abbrev pub added : List ℕ → List ℕ → List ℕ
 added counts more = map (λ k. slice_index counts k + slice_index more k) (range_with_len 0 (length counts))

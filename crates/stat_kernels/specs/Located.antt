@@ -1,4 +1,4 @@
--- Extremes and where they stand.
+-- Extremes with their first pixels.
 use Rattle.std.specs.Prelude.{ℕ, ℤ, ◌+◌, ◌==◌, Bool, true, false, ◌≡◌, List, map, if◌then◌else◌, int_lt}
 use Rattle.std.specs.Ordering.{int_eq}
 use Rattle.std.specs.Int.{int_min, int_max}
@@ -7,7 +7,7 @@ use Rattle.vx_base.specs.Statistics.{chosen, count_of, first_of}
 use Rattle.stat_kernels.specs.declared.located.Located.{Located}
 use Rattle.stat_kernels.specs.declared.located.Found.{Found}
 
--- the choice between two samples is the one that is beyond the other, by a strict order
+-- choose takes the sample that is beyond the other, by the strict order `beyond`
 pub record IsDirection (choose : ℤ → ℤ → ℤ) (beyond : ℤ → ℤ → Bool) : Type 0 where
   pub takes : (v z : ℤ) → beyond z v ≡ true → choose v z ≡ z
   pub keeps : (v z : ℤ) → beyond z v ≡ false → choose v z ≡ v
@@ -16,17 +16,17 @@ pub record IsDirection (choose : ℤ → ℤ → ℤ) (beyond : ℤ → ℤ → 
   pub associative : (v z w : ℤ) → choose (choose v z) w ≡ choose v (choose z w)
   pub transitive : (w z v : ℤ) → beyond w z ≡ true → beyond z v ≡ true → beyond w v ≡ true
 
--- of what f gives at these places the chosen one, how many places hold it, and the first of them
+-- the extreme of f over these pixels by choose, the number of pixels that have it, and the first of them
 abbrev pub located : (ℤ → ℤ → ℤ) → (ℕ → ℕ → ℤ) → List (ℕ × ℕ) → Located
 located choose f ps =
     let zs = map (λ p. f p.0 p.1) ps in
     record { value = chosen choose zs; count = count_of (chosen choose zs) zs; at = first_of f (chosen choose zs) ps }
 
--- the least and the greatest
+-- the least and the greatest of f over these pixels
 abbrev pub found_in : (ℕ → ℕ → ℤ) → List (ℕ × ℕ) → Found
 found_in f ps = record { least = located int_min f ps; greatest = located int_max f ps }
 
--- what is found in places and in others behind them, of what is found in each
+-- merges the extreme of some pixels with that of later ones
 abbrev pub joined : (ℤ → ℤ → Bool) → Located → Located → Located
 joined beyond a b =
     if b.count == 0 then a
@@ -35,10 +35,11 @@ joined beyond a b =
     else if int_eq b.value a.value then record { value = a.value; count = a.count + b.count; at = a.at }
     else a
 
+-- merges the extremes of some pixels with those of later ones
 abbrev pub joined_found : Found → Found → Found
 joined_found a b = record { least = joined int_lt a.least b.least; greatest = joined (λ z v. int_lt v z) a.greatest b.greatest }
 
--- extremes by what was found
+-- extremes as their two parts
 abbrev pub found_of : Extremes → Found
 found_of e =
     record {
@@ -46,6 +47,7 @@ found_of e =
       greatest = record { value = e.max; count = e.max_count; at = e.max_at };
     }
 
+-- the two parts as extremes
 abbrev pub extremes_of : Found → Extremes
 extremes_of f =
     record {
@@ -57,13 +59,13 @@ extremes_of f =
       max_at = f.greatest.at;
     }
 
--- the same so many rows further down
+-- the extreme with its pixel moved down rows lower
 abbrev pub lowered : ℕ → Located → Located
 lowered down l = record l { at = (l.at.0, l.at.1 + down) }
 
 abbrev pub lowered_found : ℕ → Found → Found
 lowered_found down f = record { least = lowered down f.least; greatest = lowered down f.greatest }
 
--- extremes of an image's rows, and of a band below them, which is so many rows further down in it
+-- merges the extremes e of the rows above a band with those of the band, which is `down` rows lower in the whole image
 abbrev pub added_extremes : ℕ → Extremes → Extremes → Extremes
 added_extremes down e band = extremes_of (joined_found (found_of e) (lowered_found down (found_of band)))

@@ -1,11 +1,11 @@
--- The valid part of an image.
+-- The valid rectangle of an image as columns and rows.
 use Rattle.std.specs.Prelude.{ℕ, ◌≡◌, ◌+◌, ◌-◌, ◌<◌, ◌≤◌, ◌^◌, min, max, Bool, ◌&&◌, nat_le, nat_lt}
 use Rattle.vx_base.specs.Image.{ImageValue}
 use Rattle.vx_base.specs.Rectangle.{Rectangle}
 use Rattle.image_core.specs.declared.band.Band.{Band}
 use Rattle.stat_kernels.specs.declared.part.Part.{Part}
 
--- the columns and rows of the valid rectangle
+-- the part has the columns and rows of the image's valid rectangle
 pub record IsValidPart (image : ImageValue) (part : Part) : Type 0 where
   pub x : part.x ≡ image.valid.x0
   pub count : part.count ≡ image.valid.x1 - image.valid.x0
@@ -18,7 +18,7 @@ pub record IsValidPart (image : ImageValue) (part : Part) : Type 0 where
   pub columns_fit : part.x + part.count < 2 ^ 16
   pub rows_fit : part.bottom < 2 ^ 16
 
--- whether there are places of it in a row
+-- whether the part has pixels in row y
 abbrev pub has_row : Part → ℕ → Bool
 has_row part y = nat_lt 0 part.count && (nat_le part.top y && nat_lt y part.bottom)
 
@@ -28,6 +28,6 @@ band_of rows r =
     let top = max r.y0 rows.start in
     record { x0 = r.x0; y0 = top; x1 = r.x1; y1 = max top (min r.y1 (rows.start + rows.count)) }
 
--- an image of which no other rows are valid
+-- the image with its valid rectangle cut to a band
 abbrev pub valid_in : Band → ImageValue → ImageValue
 valid_in rows image = record image { valid = band_of rows image.valid }

@@ -1,4 +1,4 @@
--- Sums of samples to the left and above.
+-- Sums of the samples to the left and above. OpenVX 1.3, "Integral Image".
 use Rattle.std.specs.Prelude.{ℕ, ℤ, pos, ◌≡◌, ◌+◌, ◌-◌, ◌%◌, ◌^◌, ◌<◌, ◌≤◌, ◌==◌, if◌then◌else◌, max, nat_le, unsigned_abs, Option, Some, None, List, length, map, slice_index, drop}
 use Rattle.std.specs.List.{sum_by}
 use Rattle.vx_base.specs.Rectangle.{Rectangle, inside}
@@ -6,56 +6,56 @@ use Rattle.vx_base.specs.Image.{ImageValue, IsImage, at, run, within}
 use Rattle.vx_base.specs.Statistics.{samples_in, sum_to}
 use Rattle.image_core.specs.declared.band.Band.{Band}
 
--- the part of a rectangle that is left of column x and above row y
+-- the part of a rectangle to the left of column x and above row y
 abbrev pub corner : Rectangle → ℕ → ℕ → Rectangle
 corner r x y = record { x0 = r.x0; y0 = r.y0; x1 = x; y1 = y }
 
--- the sum of the valid samples there
+-- the sum of the valid samples to the left of column x and above row y
 abbrev pub sum_before : ImageValue → ℕ → ℕ → ℕ
 sum_before image x y = sum_by unsigned_abs (samples_in (corner image.valid x y) image)
 
--- for each valid column the sum of the samples up to it and above row y, modulo 2 ^ 32
+-- item k of the list is the sum of the samples up to valid column k and above row y, modulo 2^32
 abbrev pub AreSums : ImageValue → ℕ → List ℕ → Type 0
 AreSums image y sums = (k : ℕ) → k < length sums → slice_index sums k ≡ sum_before image (image.valid.x0 + k + 1) y % 2 ^ 32
 
--- the last row of those before, if there is one
+-- the last of the rows in the list, if there is one
 abbrev pub last_row : ℕ → (before : List ℕ) → Option (List ℕ)
 last_row width before = if length before == 0 then None else Some (drop (length before - width) before)
 
--- ---- rows of which others are there already
+-- ---- bands that continue from the row above them
 
--- a row of the integral image of an image
+-- row `line` of the integral image of an image
 abbrev pub sums_row : ImageValue → ℕ → List ℤ
 sums_row whole line = run 0 whole.width (λ x. within whole.valid (sum_to whole) x line)
 
--- the row above row `line` of it, if there is one
+-- the row above row `line` of the integral image; None for row 0
 abbrev pub IsRowAbove : ImageValue → ℕ → Option (List ℕ) → Type 0
 IsRowAbove whole line None = line ≡ 0
 IsRowAbove whole line (Some row) = (1 ≤ line) × (map pos row ≡ sums_row whole (line - 1))
 
--- a row of an image is row `line` of another: the same places are valid, with the same samples
+-- row y of one image is row `line` of another: the same columns are valid, with the same samples
 pub record IsRowOf (part : ImageValue) (y : ℕ) (whole : ImageValue) (line : ℕ) : Type 0 where
   pub width : part.width ≡ whole.width
   pub valid : (x : ℕ) → inside part.valid x y ≡ inside whole.valid x line
   pub samples : (x : ℕ) → x < whole.width → at part x y ≡ at whole x line
 
--- rows of an image are those of another from row `line` on
+-- a band's rows are those of another image from row `line` on
 pub record AreRowsOf (part : ImageValue) (rows : Band) (whole : ImageValue) (line : ℕ) : Type 0 where
   pub is : IsImage whole
   pub each : (k : ℕ) → k < rows.count → IsRowOf part (rows.start + k) whole (line + k)
 
--- ---- rows that follow from the row above them
+-- ---- sums from the row above a band
 
--- the sum of the valid samples left of column x, in the rows from `start` on and above row y
+-- the sum of the valid samples to the left of column x, from row `start` to above row y
 abbrev pub sum_between : ImageValue → ℕ → ℕ → ℕ → ℕ
 sum_between image start x y = sum_by unsigned_abs (samples_in (record { x0 = image.valid.x0; y0 = max image.valid.y0 start; x1 = x; y1 = y }) image)
 
--- a sample of an integral image in a row from `start` on, by the sums in the row above `start`; where that row is above the valid rectangle
--- they don't count
+-- a sample of an integral image in a row from `start` on, from the sums in the row above `start`; these don't count if that row is above
+-- the valid rectangle
 abbrev pub sum_on : ImageValue → ℕ → (ℕ → ℕ) → ℕ → ℕ → ℤ
 sum_on image start above x y = pos (((if nat_le image.valid.y0 start then above x else 0) + sum_between image start (x + 1) (y + 1)) % 2 ^ 32)
 
--- the sums in a row; 0 where there is none
+-- the sums of a row, all 0 if there is none
 abbrev pub row_sums : Option (List ℕ) → ℕ → ℕ
 row_sums None x = 0
 row_sums (Some row) x = slice_index row x

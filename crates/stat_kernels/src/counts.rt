@@ -13,7 +13,7 @@ use image_core::{Band, Image};
 use lane_rows::tally_row;
 use vx_base::{Bins, GREATEST_BINS};
 
-/// Counts the valid samples in these rows of a U8 image by their values.
+/// Counts the valid samples of a band of a U8 image by value.
 fn count_values(
     image: &Image<'_>,
     rows: Band,
@@ -38,8 +38,7 @@ fn count_values(
     }
 }
 
-/// Counts the valid samples in these rows of a U8 image in bins, from zeros, whatever the counts
-/// were.
+/// Sets the counts to the histogram of a band's valid samples.
 fn count_in_bins(image: &Image<'_>, rows: Band, bins: Bins, counts: &mut [u32])
     requires format { image.now.format ≡ U8 }
     requires rows { IsInRows image.now.height rows }
@@ -65,8 +64,8 @@ fn count_in_bins(image: &Image<'_>, rows: Band, bins: Bins, counts: &mut [u32])
     }
 }
 
-/// Counts the valid samples of a U8 image in bins (OpenVX 1.3, "Histogram", in this project's
-/// bins), from zeros, whatever the counts were.
+/// Writes the histogram of a U8 image's valid samples (OpenVX 1.3, "Histogram"; the bins are as
+/// this project defines them). The earlier counts are overwritten.
 pub fn histogram(image: &Image<'_>, bins: Bins, counts: &mut [u32])
     requires format { image.now.format ≡ U8 }
     requires size { length counts.old ≡ bins.bins }
@@ -76,7 +75,7 @@ pub fn histogram(image: &Image<'_>, bins: Bins, counts: &mut [u32])
     count_in_bins(image, Band::whole(image.desc()), bins, counts);
 }
 
-/// Counts the valid samples in these rows of a U8 image in bins, beside what was counted before.
+/// Adds the histogram of a band's valid samples to the counts. The image is U8.
 pub fn add_histogram(image: &Image<'_>, rows: Band, bins: Bins, counts: &mut [u32])
     requires format { image.now.format ≡ U8 }
     requires rows { IsInRows image.now.height rows }

@@ -1,15 +1,15 @@
-//! Worked examples: what the definitions give, in numbers.
+//! Worked examples: the definitions evaluated on numbers.
 ghost use Rattle.std.specs.Prelude.{◌≡◌, [], ◌∷◌, Some, None, pos, negsuc};
 ghost use Rattle.vx_base.specs.declared.format.Format.TheVariants.{U8, S16, U32};
 ghost use Rattle.vx_base.specs.Statistics.{places, bins_of, histogram, integral, extremes};
 
-/// The places of a rectangle, row by row.
+/// The pixels of a rectangle, in row-major order.
 pub fn places_in_order()
     ensures { places (record { x0 = 1; y0 = 0; x1 = 3; y1 = 2 })
         ≡ (1, 0) ∷ (2, 0) ∷ (1, 1) ∷ (2, 1) ∷ [] }
 {}
 
-/// Bins within the limits and beyond.
+/// Bins within the limits and beyond them.
 pub fn bins()
     ensures allowed { bins_of 256 255 256
         ≡ Some (record { bins = 256; offset = 255; range = 256 }) }
@@ -18,7 +18,8 @@ pub fn bins()
     ensures no_range { bins_of 1 0 0 ≡ None }
 {}
 
-/// A row in four bins of two and a half: 9 is below the first and 20 above the last.
+/// A row counted in four bins of 2.5 sample values each: 9 is below the first bin, and 20 is above
+/// the last.
 pub fn histogram_of_a_row()
     ensures { histogram (record { bins = 4; offset = 10; range = 10 })
         (record {
@@ -30,7 +31,7 @@ pub fn histogram_of_a_row()
         }) ≡ 2 ∷ 1 ∷ 0 ∷ 1 ∷ [] }
 {}
 
-/// An image whose left column is not valid.
+/// The integral image of an image whose left column is not valid.
 pub fn integral_of_a_column()
     ensures { (integral (record {
       width = 2;
@@ -41,7 +42,7 @@ pub fn integral_of_a_column()
     })).samples ≡ pos 0 ∷ pos 3 ∷ pos 0 ∷ pos 7 ∷ [] }
 {}
 
-/// Sums to the left and above.
+/// The integral image of 2x2 samples.
 pub fn integral_of_four()
     ensures { (integral (record {
       width = 2;
@@ -52,8 +53,8 @@ pub fn integral_of_four()
     })).samples ≡ pos 1 ∷ pos 3 ∷ pos 4 ∷ pos 10 ∷ [] }
 {}
 
-/// The zeros that are not valid are no extremes; of two places that hold the least the upper one
-/// is told.
+/// Zeros outside the valid rectangle are no extremes. Of two pixels with the least sample the upper
+/// one is reported.
 pub fn extremes_of_four()
     ensures column { extremes (record {
       width = 2;

@@ -12,7 +12,7 @@ use crate::part::Part;
 use image_core::{Band, Image};
 use vx_base::{Extremes, Format};
 
-/// What is found in these samples and in those of row y, at places behind theirs.
+/// Merges the samples of row `y`, whose pixels come later, into the extremes found so far.
 fn with_row(found: Found, image: &Image<'_>, part: Part, y: u16) -> Found
     requires format { image.now.format ≢ U32 }
     requires row { y < image.now.height }
@@ -36,7 +36,7 @@ fn with_row(found: Found, image: &Image<'_>, part: Part, y: u16) -> Found
     }
 }
 
-/// What is found in the valid samples of these rows.
+/// The extremes of a band's valid samples.
 fn found_in(image: &Image<'_>, rows: Band) -> Found
     requires format { image.now.format ≢ U32 }
     requires rows { IsInRows image.now.height rows }
@@ -51,8 +51,8 @@ fn found_in(image: &Image<'_>, rows: Band) -> Found
     found
 }
 
-/// The least and the greatest valid sample of a U8 or S16 image (OpenVX 1.3, "Min, Max
-/// Location"), how many valid places hold each, and the first of them.
+/// Returns the least and the greatest valid sample of a U8 or S16 image, the number of pixels that
+/// have each, and the first such pixel (OpenVX 1.3, "Min, Max Location").
 pub fn min_max(image: &Image<'_>) -> Extremes
     requires { image.now.format ≢ U32 }
     ensures { result ≡ extremes image.now }
@@ -61,8 +61,8 @@ pub fn min_max(image: &Image<'_>) -> Extremes
     extremes_of(found_in(image, Band::whole(image.desc())))
 }
 
-/// The extremes of the rows of an image of which these are the extremes of the upper ones, and a
-/// band of this image is the rest: its rows are so many further down.
+/// Merges the extremes of a band into those of the rows above it. The band is `down` rows lower in
+/// the whole image than in `image`.
 pub fn add_min_max(image: &Image<'_>, rows: Band, down: u16, above: Extremes) -> Extremes
     requires format { image.now.format ≢ U32 }
     requires rows { IsInRows image.now.height rows }
@@ -78,7 +78,7 @@ pub fn add_min_max(image: &Image<'_>, rows: Band, down: u16, above: Extremes) ->
     extremes_of(Found::of(above).beside(found))
 }
 
-/// What was found, as extremes.
+/// The two parts as `Extremes`.
 fn extremes_of(found: Found) -> Extremes
     ensures { result ≡ extremes_of found }
 {

@@ -9,8 +9,8 @@ ghost use Rattle.stat_kernels.specs.Located.{added_extremes};
 ghost use Rattle.stat_kernels.specs.Part.{valid_in};
 ghost use Rattle.stat_kernels.specs.Sums.{AreRowsOf};
 
-/// No valid sample of an image is beyond its extremes, and where it has valid samples, the extremes
-/// are among them.
+/// No valid sample of an image is beyond its extremes. If there are valid samples, the extremes are
+/// among them.
 pub fn extremes_bound()
     ensures least { (image : ImageValue) →
         All (λ z. (extremes image).min ≤ℤ z) (valid_samples image) }
@@ -22,7 +22,7 @@ pub fn extremes_bound()
         Contains (valid_samples image) (extremes image).max }
 {}
 
-/// The histogram of two bands of which one follows the other is that of each, bin by bin.
+/// The histogram of two adjacent bands is the sum of theirs, bin by bin.
 pub fn bands_are_counted()
     ensures { (bins : BinsValue) (image : ImageValue) (start first second : ℕ) →
         histogram bins (valid_in (record { start = start; count = first + second }) image)
@@ -30,8 +30,8 @@ pub fn bands_are_counted()
         (histogram bins (valid_in (record { start = start + first; count = second }) image)) }
 {}
 
-/// The extremes of two bands of which one follows the other, the second's added to the first's, are
-/// those of the rows of both together: as `min_max` finds them, with counts and first places.
+/// The merged extremes of two adjacent bands are those of the rows of both, including the counts
+/// and the first pixels.
 pub fn bands_are_located()
     ensures { (image : ImageValue) (start first second : ℕ) →
         added_extremes 0
@@ -40,8 +40,8 @@ pub fn bands_are_located()
         ≡ extremes (valid_in (record { start = start; count = first + second }) image) }
 {}
 
-/// The second band may be rows of another image, which stand for those of `whole` so many rows
-/// further down.
+/// The second band may belong to another image, `part`, whose rows are `down` rows lower in
+/// `whole`.
 pub fn bands_of_parts_are_located()
     ensures { (part whole : ImageValue) (rows : Rows) (start first down : ℕ) →
         rows.start + down ≡ start + first → AreRowsOf part rows whole (start + first) →

@@ -1,12 +1,13 @@
-//! What the valid samples of an image come to.
+//! Statistics of an image's valid samples.
 //!
-//! `histogram` counts the samples by value and then in bins, `min_max` finds the least and the
-//! greatest, and where they stand first, `integral` sums them up to each place. All go over the
-//! valid part of the rows from the top; what is done with a row says what the row adds to those
-//! above it, whatever they were; so `add_histogram`, `add_min_max` and `integral_on` can go over an
-//! image band by band. None takes memory. The loops over samples are kernels of `lane_rows`. `laws`
-//! states what the extremes mean, and what bands of rows come to together; `examples` works the
-//! definitions out.
+//! - `histogram` counts the samples in bins.
+//! - `min_max` finds the least and the greatest sample, and the first pixel of each.
+//! - `integral` sums the samples above and to the left of each pixel.
+//!
+//! All process the valid rows from top to bottom, and each row only adds to the result of those
+//! above it. Therefore `add_histogram`, `add_min_max` and `integral_on` can process an image band
+//! by band. None allocates memory. The loops over samples are kernels of `lane_rows`. `laws` states
+//! facts about the extremes and about bands; `examples` evaluates the definitions.
 #![tactic(auto)]
 
 mod counts;

@@ -1,4 +1,4 @@
-//! The least and the greatest of samples, and where they stand.
+//! The least and the greatest of samples, with their first pixels.
 ghost use Rattle.std.specs.Prelude.{◌≡◌, ◌+◌, ◌<◌, ◌^◌, ◌++◌, [], ℕ, ℤ, Bool, List, map, length};
 ghost use Rattle.vx_base.specs.Image.{run};
 ghost use Rattle.vx_base.specs.Statistics.{row_places, chosen, count_of};
@@ -6,8 +6,8 @@ ghost use Rattle.vx_base.specs.Statistics.{row_places, chosen, count_of};
 use lane_rows::{Compared, count_of, first_of, greatest_of, least_of};
 use vx_base::Extremes;
 
-/// The least or the greatest of some samples, how many places hold it, and the first of them; all
-/// numbers are 0 where there are no samples.
+/// The least or the greatest of some samples, the number of pixels that have it, and the first of
+/// them. All numbers are 0 if there are no samples.
 #[derive(Clone, Copy)]
 pub struct Located {
     pub value: i16,
@@ -18,9 +18,8 @@ pub struct Located {
 impl Located {
     ghost use Rattle.stat_kernels.specs.Located.{located, IsDirection};
 
-    /// The same of these samples and of a row's, at places behind theirs, of which this one is the
-    /// least or the greatest. The caller says whether it is beyond the value: below the least,
-    /// above the greatest.
+    /// Merges a row, whose pixels come later, into this extreme. `sample` is the row's own extreme.
+    /// `is_beyond` tells whether it is beyond this one: below the least, or above the greatest.
     fn joined<T: Compared>(self, is_beyond: bool, sample: T, x: u16, y: u16, row: &[T]) -> Located
         requires among { 0 < count_of (T.value sample) (map T.value row.now) }
         requires columns { x + length row.now < 2 ^ 16 }
@@ -55,8 +54,8 @@ impl Located {
 impl Located {
     ghost use Rattle.stat_kernels.specs.Located.{joined, lowered};
 
-    /// The same of these samples and of others, at places behind theirs. The caller says whether
-    /// the other is beyond this one: below the least, above the greatest.
+    /// Merges the extreme of later pixels into this one. `is_beyond` tells whether the other is
+    /// beyond this one: below the least, or above the greatest.
     fn beside(self, is_beyond: bool, other: Located) -> Located
         requires { self.count + other.count < 2 ^ 32 }
         ensures { (beyond : ℤ → ℤ → Bool) → is_beyond ≡ beyond other.value self.value →
@@ -76,7 +75,7 @@ impl Located {
         }
     }
 
-    /// The same so many rows further down.
+    /// The extreme with its pixel moved `down` rows lower.
     fn lowered(self, down: u16) -> Located
         requires { self.at.1 + down < 2 ^ 16 }
         ensures { result ≡ lowered down self }
@@ -98,7 +97,7 @@ pub struct Found {
 impl Found {
     ghost use Rattle.stat_kernels.specs.Located.{found_in, found_of, joined_found, lowered_found};
 
-    /// What is found in no samples.
+    /// Returns the extremes of no samples.
     pub fn nowhere() -> Found
         ensures { (f : ℕ → ℕ → ℤ) → result ≡ found_in f [] }
     {
@@ -113,7 +112,7 @@ impl Found {
         }
     }
 
-    /// What is found in these samples and in a row's, at places behind theirs.
+    /// Merges a row, whose pixels come later, into these extremes.
     pub fn joined<T: Compared>(self, x: u16, y: u16, row: &[T]) -> Found
         requires columns { x + length row.now < 2 ^ 16 }
         requires least_room { self.least.count + length row.now < 2 ^ 32 }
@@ -133,7 +132,7 @@ impl Found {
             greatest: self.greatest.joined(is_above, high, x, y, row),
         }
     }
-    /// What was found as these extremes are told.
+    /// Returns `Extremes` as their two parts.
     pub fn of(extremes: Extremes) -> Found
         ensures { result ≡ found_of extremes }
     {
@@ -151,7 +150,7 @@ impl Found {
         }
     }
 
-    /// What is found in these samples and in others, at places behind theirs.
+    /// Merges the extremes of later pixels into these.
     pub fn beside(self, other: Found) -> Found
         requires least_room { self.least.count + other.least.count < 2 ^ 32 }
         requires greatest_room { self.greatest.count + other.greatest.count < 2 ^ 32 }
@@ -165,7 +164,7 @@ impl Found {
         }
     }
 
-    /// The same so many rows further down.
+    /// Returns the extremes with their pixels moved `down` rows lower.
     pub fn lowered(self, down: u16) -> Found
         requires least { self.least.at.1 + down < 2 ^ 16 }
         requires greatest { self.greatest.at.1 + down < 2 ^ 16 }

@@ -1,12 +1,12 @@
-//! The valid part of an image.
+//! The valid rectangle of an image as columns and rows.
 ghost use Rattle.std.specs.Prelude.{◌≡◌, ◌+◌, ◌<◌, ◌^◌};
 ghost use Rattle.vx_base.specs.Image.{ImageValue};
 ghost use Rattle.image_core.specs.Bands.{IsInRows};
 
 use image_core::{Band, Image};
 
-/// Where the valid samples of an image stand: in each row from the top to above the bottom one, so
-/// many from column x on.
+/// The valid rectangle of an image: `count` columns from `x` on, and the rows from `top` to `bottom
+/// - 1`.
 #[derive(Clone, Copy)]
 pub struct Part {
     pub x: u16,
@@ -18,6 +18,7 @@ pub struct Part {
 impl Part {
     ghost use Rattle.stat_kernels.specs.Part.{IsValidPart, has_row, valid_in};
 
+    /// Returns the valid rectangle of an image.
     pub fn of(image: &Image<'_>) -> Part
         ensures { IsValidPart image.now result }
     {
@@ -30,14 +31,14 @@ impl Part {
         }
     }
 
-    /// Whether there are valid samples in a row.
+    /// Checks whether the part has pixels in row `y`.
     pub fn has_row(self, y: u16) -> bool
         ensures { result ≡ has_row self y }
     {
         self.count > 0 && self.top <= y && y < self.bottom
     }
 
-    /// The places of these rows alone.
+    /// Returns the part cut to the rows of a band.
     pub fn in_rows(self, rows: Band) -> Part
         requires { rows.start + rows.count < 2 ^ 16 }
         ensures { (image : ImageValue) → IsInRows image.height rows → IsValidPart image self →

@@ -21,10 +21,10 @@ use vx_base::{GREATEST_SIDE, Rect};
 
 const LONGEST_ROW: usize = GREATEST_SIDE as usize;
 
-/// What stands above the first row.
+/// The row above the first one, all zeros.
 static ZEROS: [u32; LONGEST_ROW] = [0; LONGEST_ROW];
 
-/// Makes the sums above the first valid row those above row y.
+/// Adds the valid rows above row `y` to the sums, which are those above the first valid row.
 fn add_lines(image: &Image<'_>, part: Part, y: u16, sums: &mut [u32])
     requires format { image.now.format ≡ U8 }
     requires part { IsValidPart image.now part }
@@ -43,7 +43,7 @@ fn add_lines(image: &Image<'_>, part: Part, y: u16, sums: &mut [u32])
     }
 }
 
-/// Writes row y of the integral image by the sums of all valid rows down to it.
+/// Writes row `y` of the integral image by summing all valid rows up to it.
 fn write_from_top(image: &Image<'_>, y: u16, out: &mut [u32])
     requires format { image.now.format ≡ U8 }
     requires row { y < image.now.height }
@@ -59,8 +59,8 @@ fn write_from_top(image: &Image<'_>, y: u16, out: &mut [u32])
     add_lines(image, part, y + 1, &mut out[x..x + part.count]);
 }
 
-/// Writes the sums above a part of a row, from column x on, and of its samples: where there is no
-/// row above, of these alone.
+/// Writes the running sums of part of a row, from column `x` on, on top of the sums in the row
+/// above; these are 0 if there is none.
 fn write_part(row: &[u8], above: Option<&[u32]>, x: usize, out: &mut [u32])
     requires above_len { IfSome above (λ sums. x + length row.now ≤ length sums.now) }
     requires out_len { length out.old ≡ length row.now }
@@ -75,7 +75,7 @@ fn write_part(row: &[u8], above: Option<&[u32]>, x: usize, out: &mut [u32])
     }
 }
 
-/// Writes row y of the integral image, which goes through the valid part, as `write_row` does.
+/// Writes row `y` of the integral image as `write_row` does; the row has valid pixels.
 fn write_across(image: &Image<'_>, part: Part, y: u16, above: Option<&[u32]>, out: &mut [u32])
     requires format { image.now.format ≡ U8 }
     requires part { IsValidPart image.now part }
@@ -99,8 +99,8 @@ fn write_across(image: &Image<'_>, part: Part, y: u16, above: Option<&[u32]>, ou
     right.fill(0);
 }
 
-/// Writes a row of an integral image from the row above it: of the image `whole` whose row `line`
-/// is row y of this one. The first row of an image has none above it.
+/// Writes a row of an integral image from the row above it, which is `None` for the first row of an
+/// image. In the contract `whole` is any image whose row `line` is row `y` of this one.
 fn write_row(image: &Image<'_>, part: Part, y: u16, above: Option<&[u32]>, out: &mut [u32])
     requires format { image.now.format ≡ U8 }
     requires part { IsValidPart image.now part }
@@ -119,7 +119,7 @@ fn write_row(image: &Image<'_>, part: Part, y: u16, above: Option<&[u32]>, out: 
     }
 }
 
-/// The last of the rows before the next one. `None` where there are none.
+/// Returns the last of the rows in `before`, or `None` if there is none.
 pub fn row_above(before: &[u32], width: usize) -> Option<&[u32]>
     requires { length before.now ≡ 0 ⊎ width ≤ length before.now }
     ensures { option_copied result ≡ last_row width before.now }
@@ -131,8 +131,9 @@ pub fn row_above(before: &[u32], width: usize) -> Option<&[u32]>
     }
 }
 
-/// Writes rows of an integral image from the row above them, which is there already: of the image
-/// `whole` whose rows from `line` on are these of this one. It looks at these rows alone.
+/// Writes a band of an integral image, continuing from the row above it, which is `None` at the top
+/// of an image. Reads the band's rows only. In the contract `whole` is any image whose rows from
+/// `line` on are the band's.
 pub fn integral_on(image: &Image<'_>, rows: Band, above: Option<&[u32]>, samples: &mut [u32])
     requires format { image.now.format ≡ U8 }
     requires rows { IsInRows image.now.height rows }
@@ -154,8 +155,8 @@ pub fn integral_on(image: &Image<'_>, rows: Band, above: Option<&[u32]>, samples
     }
 }
 
-/// Writes the samples of a band of the integral image: the first row from the top, the others from
-/// the row above them.
+/// Writes a band of the integral image: its first row by summing all rows above it, the others each
+/// from the row above.
 fn write_sums(image: &Image<'_>, rows: Band, samples: &mut [u32])
     requires format { image.now.format ≡ U8 }
     requires rows { IsInRows image.now.height rows }
@@ -176,7 +177,7 @@ fn write_sums(image: &Image<'_>, rows: Band, samples: &mut [u32])
     integral_on(image, below, Some(first), others);
 }
 
-/// The integral image of an image.
+/// An image whose integral image is written.
 #[derive(Drop)]
 struct Sums<'a, 'b> {
     image: &'a Image<'b>,
@@ -202,7 +203,7 @@ impl Whole for Sums<'_, '_> {
 }
 
 /// Writes the integral image of a U8 image (OpenVX 1.3, "Integral Image") to a U32 image of its
-/// size; the sums are modulo 2^32.
+/// size; sums are modulo 2^32.
 pub fn integral(image: &Image<'_>, output: &mut ImageMut<'_>)
     requires format { image.now.format ≡ U8 }
     requires target { IsTarget output.old }

@@ -10,6 +10,7 @@ pub record ConvolutionValue : Type 0 where
   pub exponent : ℕ
   pub coefficients : List ℤ
 
+-- whether a matrix may have this number of columns or rows
 abbrev pub is_odd_side : ℕ → Bool
 is_odd_side n = (n == 3 || n == 5) || (n == 7 || n == 9)
 

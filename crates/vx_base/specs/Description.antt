@@ -4,6 +4,7 @@ use Rattle.vx_base.specs.declared.format.Format.{Format}
 use Rattle.vx_base.specs.Sample.{sample_bytes}
 use Rattle.vx_base.specs.declared.desc.TheConstants.{GREATEST_SIDE}
 
+-- an image's width and height in pixels, and its format
 pub record Description : Type 0 where
   pub width : ℕ
   pub height : ℕ

@@ -34,6 +34,7 @@ function_number MinMaxLoc = 23
 function_number Accumulate = 24
 function_number AccumulateSquare = 25
 
+-- all functions, in the order of their numbers
 abbrev pub functions : List Function
 functions =
     AndBits ∷ OrBits ∷ XorBits ∷ NotBits ∷ Add ∷ Subtract ∷ Multiply ∷ AbsoluteDifference ∷ MinPixel ∷ MaxPixel ∷ Threshold ∷ TableLookup ∷ ConvertDepth
@@ -57,6 +58,7 @@ of_two_operands second = record of_one_image { second_input = Some second }
 abbrev pub of_arithmetic : Parameters
 of_arithmetic = record (of_two_operands kind.Image) { policy = true }
 
+-- the parameters of each function
 abbrev pub parameters : Function → Parameters
 parameters AndBits = of_two_operands kind.Image
 parameters OrBits = of_two_operands kind.Image

@@ -20,6 +20,7 @@ abbrev pub is_named : Option Cell → Bool
 is_named None = true
 is_named (Some cell) = not (is_nothing cell)
 
+-- whether each given operand names an object
 abbrev pub all_named : Node → Bool
 all_named n = not (is_nothing n.in1) && (is_named n.in2 && (is_named n.out1 && is_named n.out2))
 
@@ -48,14 +49,16 @@ node_spec n = if is_node n then Some n else None
 
 -- ---- a node's operands
 
+-- a reference as a list, empty if it is not given
 abbrev pub given : Option Cell → List Cell
 given None = []
 given (Some cell) = cell ∷ []
 
--- a node's input references, and its output references
+-- a node's input references
 abbrev pub inputs : Node → List Cell
 inputs n = n.in1 ∷ given n.in2
 
+-- a node's output references
 abbrev pub outputs : Node → List Cell
 outputs n = given n.out1 ++ given n.out2
 
@@ -63,6 +66,7 @@ outputs n = given n.out1 ++ given n.out2
 abbrev pub second_kind : Node → Kind
 second_kind n = unwrap_or (parameters n.function).second_input kind.Image
 
+-- a reference with this kind as a list, empty if it is not given
 abbrev pub with_kind : Kind → Option Cell → List (Cell × Kind)
 with_kind k None = []
 with_kind k (Some cell) = (cell, k) ∷ []
@@ -73,6 +77,7 @@ operands n =
     (n.in1, kind.Image) ∷ (with_kind (second_kind n) n.in2
     ++ (with_kind (parameters n.function).output n.out1 ++ with_kind (parameters n.function).output n.out2))
 
+-- a border whose constant, if it has one, is a U8 sample
 abbrev pub IsBorder : Border → Type 0
 IsBorder Undefined = ⊤
 IsBorder (Constant value) = value < 2 ^ 8

@@ -105,6 +105,7 @@ pub record IsVirtual (image : VirtualImage) : Type 0 where
   pub graph : image.graph < 2 ^ 32
   pub declared : IsOutline image.declared
 
+-- a well-formed object of any kind
 abbrev pub IsObject : ObjectValue → Type 0
 IsObject (ImageObject image) = IsImage image
 IsObject (LutObject lut) = IsLut lut

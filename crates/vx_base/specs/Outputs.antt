@@ -43,6 +43,7 @@ node_output n output (ImageObject a) second (DistributionObject d) = Distributio
 node_output n output (ImageObject a) second (ExtremesObject e) = ExtremesObject (extremes a)
 node_output n output first second old = old
 
+-- the new value of an output, as a list of one; none if an object is missing
 abbrev pub written_to : Node → Output → Cell → Option ObjectValue → Option ObjectValue → Option ObjectValue → List (Cell × ObjectValue)
 written_to n output cell (Some first) second (Some old) = (cell, node_output n output first second old) ∷ []
 written_to n output cell first second old = []

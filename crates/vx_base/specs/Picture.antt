@@ -20,6 +20,7 @@ samples_format (U8 samples) = FormatU8
 samples_format (S16 samples) = FormatS16
 samples_format (U32 samples) = FormatU32
 
+-- a picture; its samples are in row-major order
 pub record PictureValue : Type 0 where
   pub description : Description
   pub samples : List ℤ

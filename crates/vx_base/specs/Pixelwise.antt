@@ -88,11 +88,13 @@ from_two format f a b = made a.width a.height format (meet_of a.valid b.valid) (
 
 -- ---- the formula of each function of one input, and of each function of two images, or of one and the output's earlier content
 
+-- the formula of a function of one image; n is the node's amount
 abbrev pub formula_of_one : Function → Format → Policy → ℕ → ℤ → ℤ
 formula_of_one NotBits format policy n a = not_bits a
 formula_of_one ConvertDepth format policy n a = converted format policy n a
 formula_of_one other format policy n a = pos 0
 
+-- the formula of a function of two images, or of one and its accumulator
 abbrev pub formula_of_two : Function → Format → Policy → ℕ → ℤ → ℤ → ℤ
 formula_of_two AndBits format policy n a b = and_bits a b
 formula_of_two OrBits format policy n a b = or_bits a b

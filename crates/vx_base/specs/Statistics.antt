@@ -23,6 +23,7 @@ places r = flat_map (row_places r.x0 (r.x1 - r.x0)) (range_with_len r.y0 (r.y1 -
 abbrev pub samples_in : Rectangle → ImageValue → List ℤ
 samples_in r image = map (λ p. at image p.0 p.1) (places r)
 
+-- the samples of the valid rectangle in row-major order
 abbrev pub valid_samples : ImageValue → List ℤ
 valid_samples image = samples_in image.valid image
 
@@ -46,6 +47,7 @@ bins_of bins offset range = if are_bins bins offset range then Some (record { bi
 abbrev pub bin_of : BinsValue → ℕ → Option ℕ
 bin_of b p = if nat_le b.offset p && nat_lt p (b.offset + b.range) then Some ((p - b.offset) * b.bins / b.range) else None
 
+-- whether the bin is bin k
 abbrev pub is_bin : ℕ → Option ℕ → Bool
 is_bin k None = false
 is_bin k (Some bin) = bin == k
@@ -69,6 +71,7 @@ sum_to image x y = pos (sum_by unsigned_abs (samples_in (meet_of image.valid (wh
 abbrev pub sums_in : Format → ImageValue → ImageValue
 sums_in format image = made image.width image.height format image.valid (sum_to image)
 
+-- the integral image of a U8 image, in U32
 abbrev pub integral : ImageValue → ImageValue
 integral image = sums_in U32 image
 

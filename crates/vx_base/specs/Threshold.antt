@@ -23,6 +23,7 @@ has_limits U32 kind = false
 has_limits format (Binary t) = is_sample format t
 has_limits format (Range lower upper) = is_sample format lower && (is_sample format upper && int_le lower upper)
 
+-- the threshold with these limits and results, if its limits are permitted
 abbrev pub threshold : Format → ThresholdKind → ℕ → ℕ → Option ThresholdValue
 threshold format kind true_value false_value =
     if has_limits format kind

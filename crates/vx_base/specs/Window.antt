@@ -59,6 +59,7 @@ weighted ws zs = pos 0
 abbrev pub box_mean : List ℤ → ℤ
 box_mean zs = int_div_euclid (total zs) (pos 9)
 
+-- the weights of the Gaussian filter, in row-major order
 abbrev pub gaussian_weights : List ℤ
 gaussian_weights =
     pos 1 ∷ pos 2 ∷ pos 1

@@ -1,4 +1,5 @@
--- That three columns give what the nine samples do. Their samples are numbered by rows: column a d g is the left one.
+-- Window functions by columns: down each column of the window, then across the three results. Samples are named by rows; a, d, g is the
+-- left column.
 use Rattle.std.specs.Prelude.{ℕ, ℤ, ◌≡◌, ◌<◌, [], ◌∷◌, pos, ◌+ℤ◌, ◌-ℤ◌, ◌*ℤ◌}
 use Rattle.std.specs.Int.{int_min, int_max, int_div_euclid}
 use Rattle.std.proofs.Common.{arith, ap, ◌∙◌}
@@ -6,7 +7,7 @@ use Rattle.std.proofs.lemmas.Int.{ints}
 use Rattle.vx_base.specs.Window.{least_of, greatest_of, gradient_x, gradient_y, box_mean, gaussian_mean}
 use Rattle.lane_rows.specs.Threes.{IsUpTo}
 
--- of an operation whose order doesn't matter
+-- for an associative operation whose inner operands can be exchanged
 module _ (op : ℤ → ℤ → ℤ) (assoc : (x y z : ℤ) → op x (op y z) ≡ op (op x y) z) (turned : (x y z u : ℤ) → op (op x y) (op z u) ≡ op (op x z) (op y u)) where
   in_rows : (a b c d e f g h i : ℤ) → op (op (op (op a d) g) (op (op b e) h)) (op (op c f) i) ≡ op (op (op (op a b) c) (op (op d e) f)) (op (op g h) i)
   in_rows a b c d e f g h i =
@@ -41,7 +42,7 @@ greatest_is_greatest = by_columns int_max assoc turned
     turned : (x y z u : ℤ) → int_max (int_max x y) (int_max z u) ≡ int_max (int_max x z) (int_max y u)
     turned x y z u = grind (arith, ints)
 
--- changes of three columns
+-- gradients from three columns
 
 pub x_is_x : (a b c d e f g h i : ℤ) → (c +ℤ pos 2 *ℤ f +ℤ i) -ℤ (a +ℤ pos 2 *ℤ d +ℤ g) ≡ gradient_x (a ∷ b ∷ c ∷ d ∷ e ∷ f ∷ g ∷ h ∷ i ∷ [])
 x_is_x a b c d e f g h i = omega (arith, ints)
@@ -49,7 +50,7 @@ x_is_x a b c d e f g h i = omega (arith, ints)
 pub y_is_y : (a b c d e f g h i : ℤ) → ((g -ℤ a) +ℤ pos 2 *ℤ (h -ℤ b)) +ℤ (i -ℤ c) ≡ gradient_y (a ∷ b ∷ c ∷ d ∷ e ∷ f ∷ g ∷ h ∷ i ∷ [])
 y_is_y a b c d e f g h i = omega (arith, ints)
 
--- sums of three columns
+-- means from the sums of three columns
 
 pub box_is_box : (a b c d e f g h i : ℤ) → int_div_euclid ((a +ℤ d +ℤ g) +ℤ (b +ℤ e +ℤ h) +ℤ (c +ℤ f +ℤ i)) (pos 9) ≡ box_mean (a ∷ b ∷ c ∷ d ∷ e ∷ f ∷ g ∷ h ∷ i ∷ [])
 box_is_box a b c d e f g h i = ap (λ z. int_div_euclid z (pos 9)) (omega (arith, ints))
@@ -57,9 +58,9 @@ box_is_box a b c d e f g h i = ap (λ z. int_div_euclid z (pos 9)) (omega (arith
 pub gaussian_is_gaussian : (a b c d e f g h i : ℤ) → int_div_euclid ((a +ℤ pos 2 *ℤ d +ℤ g) +ℤ pos 2 *ℤ (b +ℤ pos 2 *ℤ e +ℤ h) +ℤ (c +ℤ pos 2 *ℤ f +ℤ i)) (pos 16) ≡ gaussian_mean (a ∷ b ∷ c ∷ d ∷ e ∷ f ∷ g ∷ h ∷ i ∷ [])
 gaussian_is_gaussian a b c d e f g h i = ap (λ z. int_div_euclid z (pos 16)) (omega (arith, ints))
 
--- ---- which numbers are taken
+-- ---- the ranges of the intermediate numbers
 
--- bytes down columns, and across three columns what that gives
+-- the function down a column takes all bytes, and the function across takes the results of three columns
 pub record AreBytesTaken (down across : ℤ → Type 0) (formula : ℤ → ℤ → ℤ → ℤ) : Type 0 where
   pub bytes : (n : ℕ) → n < 256 → down (pos n)
   pub columns : (a b c : ℕ) → a < 256 → b < 256 → c < 256 → across (formula (pos a) (pos b) (pos c))

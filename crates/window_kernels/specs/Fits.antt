@@ -1,4 +1,4 @@
--- What a kernel of windows may be given.
+-- Preconditions of the window functions.
 use Rattle.std.specs.Prelude.{◌≡◌, IsTrue, Some}
 use Rattle.vx_base.specs.declared.format.Format.{Format}
 use Rattle.vx_base.specs.declared.format.Format.TheVariants.{U8, S16}
@@ -9,14 +9,14 @@ use Rattle.image_core.specs.declared.image_mut.ImageMut.{ImageMut}
 use Rattle.image_core.specs.Fits.{HaveSameSize}
 use Rattle.image_core.specs.Target.{written, IsTarget}
 
--- a U8 image, and an output of its size and of this format
+-- a U8 input, and an output of its size in this format
 pub record WindowFits (output : Format) (a : ImageValue) (out : ImageMut) : Type 0 where
   pub target : IsTarget out
   pub size : HaveSameSize (written out) a
   pub input_format : a.format ≡ U8
   pub format : (written out).format ≡ output
 
--- a U8 image, and an output of its size, of U8 or S16
+-- a U8 input, and a U8 or S16 output of its size
 pub record ConvolutionFits (a : ImageValue) (out : ImageMut) : Type 0 where
   pub target : IsTarget out
   pub size : HaveSameSize (written out) a

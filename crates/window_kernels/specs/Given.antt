@@ -1,4 +1,4 @@
--- Outputs that may be absent.
+-- Optional outputs.
 use Rattle.std.proofs.Common.{inl, inr}
 use Rattle.std.specs.Prelude.{◌⊎◌, Option, Some, None}
 use Rattle.std.specs.Borrow.{MutBor}
@@ -6,7 +6,7 @@ use Rattle.vx_base.specs.Image.{ImageValue}
 use Rattle.image_core.specs.declared.image_mut.ImageMut.{ImageMut}
 use Rattle.image_core.specs.Target.{Writes}
 
--- the value is written to an output that is given
+-- an output that is given gets the value
 abbrev pub WritesGiven : ImageValue → Option (MutBor ImageMut) → Unit {0} ⊎ ((MutBor ImageMut × Unit {0}) ⊎ ⊥) → Type 0
 WritesGiven value (Some old) (inr (inl new)) = Writes value old.now new.0.now
 WritesGiven value (Some old) _ = ⊥

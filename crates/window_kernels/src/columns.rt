@@ -1,13 +1,13 @@
-//! Kernels of nine samples that go down the columns of three rows, and then across three columns.
+//! Window functions that go down the columns of three rows, and then across three of the results.
 ghost use Rattle.std.specs.Prelude.{◌≡◌, ℤ, List, [], ◌∷◌};
 ghost use Rattle.window_kernels.specs.ByColumns.{AreBytesTaken};
 
 use crate::windows::{OfWindow, SampleItem};
 use lane_rows::{Item, OfColumn, ThreeItems};
 
-/// A function of three columns, from what `D` gives down each.
+/// A function across three columns, of the results of `D` down each.
 pub trait Across<S: Item, T: Item, D: OfColumn<u8, S>>: OfColumn<S, T> {
-    /// What it gives of nine samples by rows from above to below.
+    /// The same function of the nine samples, in row-major order.
     ghost of_nine: { List ℤ → ℤ };
 
     ghost is_of_nine: { (a b c d e f g h i : ℤ) →
@@ -17,7 +17,7 @@ pub trait Across<S: Item, T: Item, D: OfColumn<u8, S>>: OfColumn<S, T> {
     ghost takes_bytes: { AreBytesTaken D.takes Self.takes D.formula };
 }
 
-/// A kernel by a function of three rows for the columns, and one of what that gives.
+/// A window function from one function down the columns, and one across their results.
 #[derive(Drop)]
 pub struct ByColumns<D, A>(pub D, pub A);
 

@@ -1,4 +1,4 @@
-//! Images that are convolved by a matrix.
+//! Convolution of images with a matrix.
 ghost use Rattle.std.specs.Prelude.{◌≡◌, ◌+◌, ◌*◌, ◌/◌, ◌<◌, ◌≤◌, ◌+ℤ◌, ◌-ℤ◌};
 ghost use Rattle.std.specs.Prelude.{pos, min, length, FitsSigned, All, IsTrue, refl};
 ghost use Rattle.std.specs.Int.{w16};
@@ -22,7 +22,7 @@ use image_core::{Image, ImageMut, RowFormula, Sample};
 use lane_rows::{Clamped, MatrixRows};
 use vx_base::{Border, Convolution, Format, Rect};
 
-/// Samples that convolution writes: U8 and S16.
+/// Output samples of convolution: U8 and S16.
 trait Convolved: SampleItem + Clamped {
     ghost same_format: { Self.Clamped.format ≡ Self.Sample.format };
 }
@@ -35,7 +35,7 @@ impl Convolved for i16 {
     ghost same_format = { refl };
 }
 
-/// A coefficient of a row of the matrix turned by half; 0 in the columns after its last.
+/// A coefficient of a row with the columns reversed, 0 after the last column.
 fn turned(convolution: &Convolution, row: usize, column: usize) -> i16
     requires { row < convolution.now.rows }
     ensures { result ≡ turned convolution.now row column }
@@ -48,7 +48,7 @@ fn turned(convolution: &Convolution, row: usize, column: usize) -> i16
     }
 }
 
-/// Writes two coefficients in turn, each eight times.
+/// Writes two coefficients alternately, each eight times.
 fn write_pair(first: i16, second: i16, out: &mut [i16])
     requires { length out.old ≡ 16 }
     ensures { out.new ≡ alternating 8 first second }
@@ -57,7 +57,7 @@ fn write_pair(first: i16, second: i16, out: &mut [i16])
     out.copy_from_slice(&[a, b, a, b, a, b, a, b, a, b, a, b, a, b, a, b]);
 }
 
-/// Writes the pairs of coefficients of a row of a matrix that is turned, each eight times.
+/// Writes the coefficient pairs of a row with the columns reversed, each pair eight times.
 fn write_pairs(convolution: &Convolution, row: usize, pairs: &mut [i16])
     requires row { row < convolution.now.rows }
     requires len { length pairs.old ≡ 16 * (convolution.now.columns / 2 + 1) }
@@ -71,7 +71,7 @@ fn write_pairs(convolution: &Convolution, row: usize, pairs: &mut [i16])
     }
 }
 
-/// Writes the table of a row of a matrix that is turned: the pairs that it has, and zeros.
+/// Writes the table of a row: its coefficient pairs, then zeros.
 fn write_table(convolution: &Convolution, row: usize, table: &mut [i16])
     requires row { row < convolution.now.rows }
     requires len { length table.old ≡ 80 }
@@ -84,7 +84,7 @@ fn write_table(convolution: &Convolution, row: usize, table: &mut [i16])
     rest.fill(0);
 }
 
-/// Writes the tables of a matrix that is turned.
+/// Writes the tables of all rows of a matrix.
 fn write_tables(convolution: &Convolution, tables: &mut [i16])
     requires { length tables.old ≡ convolution.now.rows * 80 }
     ensures value { tables.new ≡ turned_tables convolution.now }
@@ -95,18 +95,18 @@ fn write_tables(convolution: &Convolution, tables: &mut [i16])
     }
 }
 
-/// The constant that counts beside the valid places is a sample.
+/// Proves that the border's constant is a U8 sample; at run time this does nothing.
 fn has_constant(border: Border)
     ensures { IsBorder border }
 {
     if let Border::Constant(_value) = border {}
 }
 
-/// How many more items than a piece of a row has columns are loaded of each row: what the windows
-/// of a whole block at its last column see.
+/// The number of items of each row that are loaded beyond the columns of a piece: the windows of a
+/// whole block of lanes at the last column read that far.
 const AROUND: usize = 48;
 
-/// What a matrix gives of a U8 image under a border.
+/// A U8 image convolved with a matrix under a border.
 #[derive(Drop)]
 struct FromMatrix<'a, 'b> {
     image: &'a Image<'b>,
@@ -125,7 +125,7 @@ struct FromMatrix<'a, 'b> {
 }
 
 impl FromMatrix<'_, '_> {
-    /// Loads what the windows see in a row, from those of column x on.
+    /// Loads what the windows read in a row, from the window of column `x` on.
     fn load_line(&self, x: u16, row: i32, line: &mut [i16])
         requires columns { self.now.image.now.valid.x0 < self.now.image.now.valid.x1 }
         requires rows { self.now.image.now.valid.y0 < self.now.image.now.valid.y1 }
@@ -140,8 +140,8 @@ impl FromMatrix<'_, '_> {
         load_row(self.image, x, radius, row, self.border, line);
     }
 
-    /// Loads the rows that the windows of row y see, from those of column x on: the lowest first,
-    /// as the rows of the matrix follow each other when it is turned.
+    /// Loads the rows that the windows of row `y` read, from the window of column `x` on. The
+    /// bottom row comes first, which turns the matrix vertically.
     fn load_rows(&self, x: u16, y: u16, line: u16, rows: &mut [i16])
         requires columns { self.now.image.now.valid.x0 < self.now.image.now.valid.x1 }
         requires rows { self.now.image.now.valid.y0 < self.now.image.now.valid.y1 }
@@ -199,8 +199,8 @@ impl<T: Convolved> RowFormula<T, i16> for FromMatrix<'_, '_> {
     }
 }
 
-/// Writes what the matrix gives of a U8 image to another of its size, with scratch memory for what
-/// the windows of a piece of a row see.
+/// Writes the convolution of a U8 image to another one of its size. `scratch` is for the rows that
+/// the windows of a piece read.
 fn write_convolved<T: Convolved>(
     image: &Image<'_>,
     convolution: &Convolution,
@@ -231,9 +231,9 @@ fn write_convolved<T: Convolved>(
     output.write_by_rows::<T, i16, _>(&formula, scratch);
 }
 
-/// `with_rows!(width, rows => call)` makes the call with `rows` on the stack, for a piece of each
-/// of nine rows of an image of this width and what a block sees beside it. It is cleared once, and
-/// a small image needs little of it.
+/// `with_rows!(width, rows => call)` makes the call with `rows`, scratch memory on the stack: nine
+/// rows of a piece, halo included, for an image of this width. It is cleared once; a small image
+/// gets a small one.
 macro_rules! with_rows {
     ($width:expr, $rows:ident => $call:expr) => {
         if $width <= 64 {
@@ -249,7 +249,7 @@ macro_rules! with_rows {
     };
 }
 
-/// Writes what the matrix gives, to an output of U8 or S16.
+/// Writes the convolution to a U8 or S16 output.
 fn convolve_with(
     image: &Image<'_>,
     convolution: &Convolution,
@@ -269,9 +269,9 @@ fn convolve_with(
     }
 }
 
-/// Writes the sums of the samples around each place, each times the coefficient at the opposite
-/// place of the matrix, over the matrix's power of two, rounded to zero and clamped (OpenVX 1.3,
-/// "Custom Convolution"): of U8 to U8 or S16.
+/// Writes the convolution of a U8 image with a matrix to a U8 or S16 image of its size (OpenVX 1.3,
+/// "Custom Convolution"). The matrix is turned by 180 degrees. Each sum is divided by the matrix's
+/// power of two, rounded to zero and clamped.
 pub fn convolve(
     image: &Image<'_>,
     convolution: &Convolution,

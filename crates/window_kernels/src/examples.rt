@@ -1,4 +1,4 @@
-//! Worked examples: what the definitions give, in numbers.
+//! Worked examples: the definitions evaluated on numbers.
 #![tactic(auto, using(crate::proofs::Computed::computed))]
 
 ghost use Rattle.std.specs.Prelude.{◌≡◌, ℤ, List, [], ◌∷◌, pos, negsuc};
@@ -11,7 +11,7 @@ ghost use Rattle.vx_base.specs.Window.{from_nine, from_matrix};
 ghost use Rattle.window_kernels.specs.Examples.{row_of_four, two_by_two, three_by_three, single};
 ghost use Rattle.window_kernels.specs.Examples.{at_centre, upper_left, minus_three};
 
-/// What windows see of a row that holds 0 20 30 0 and is valid but for its ends.
+/// What windows read of the row 0 20 30 0, which is valid except at its ends.
 pub fn places()
     ensures valid { look row_of_four Replicate (pos 1) (pos 0) ≡ pos 20 }
     ensures left { look row_of_four Replicate (pos 0) (negsuc 0) ≡ pos 20 }
@@ -19,7 +19,7 @@ pub fn places()
     ensures constant { look row_of_four (Constant 7) (pos 3) (pos 0) ≡ pos 7 }
 {}
 
-/// The nine samples 1 2 9, 3 4 8 and 5 6 7.
+/// The formulas for the window 1 2 9, 3 4 8, 5 6 7.
 pub fn formulas()
     ensures mean { box_mean (pos 1 ∷ pos 2 ∷ pos 9 ∷ pos 3 ∷ pos 4 ∷ pos 8 ∷ pos 5 ∷ pos 6
         ∷ pos 7 ∷ []) ≡ pos 5 }
@@ -39,7 +39,7 @@ pub fn formulas()
         ∷ pos 5 ∷ []) ≡ negsuc 19 }
 {}
 
-/// The box filter of 10 20 over 30 40, under the three border modes.
+/// The box filter of the rows 10 20 and 30 40 under the three border modes.
 pub fn boxes()
     ensures undefined { from_nine U8 box_mean Undefined two_by_two
         ≡ record {
@@ -58,8 +58,7 @@ pub fn boxes()
         ≡ pos 152 ∷ pos 152 ∷ pos 152 ∷ pos 152 ∷ [] }
 {}
 
-/// The least and the greatest of the nine in a row whose ends are not valid: these don't count,
-/// and stay 0.
+/// Erosion and dilation of a row whose ends are not valid: these are not read, and stay 0.
 pub fn beside_the_valid()
     ensures least { (from_nine U8 least_of Replicate row_of_four).samples
         ≡ pos 0 ∷ pos 20 ∷ pos 20 ∷ pos 0 ∷ [] }
@@ -67,18 +66,19 @@ pub fn beside_the_valid()
         ≡ pos 0 ∷ pos 30 ∷ pos 30 ∷ pos 0 ∷ [] }
 {}
 
-/// The change from left to right in the only place whose window is whole.
+/// The horizontal gradient at the only pixel whose window is whole.
 pub fn gradients()
     ensures { from_nine S16 gradient_x Undefined three_by_three ≡ at_centre S16 (pos 8) }
 {}
 
-/// A matrix with 1 at its upper left corner alone gives the sample to the lower right.
+/// A matrix whose only coefficient is 1 in its upper left corner gives the sample to the lower
+/// right.
 pub fn turned_matrix()
     ensures { from_matrix U8 upper_left Undefined three_by_three ≡ at_centre U8 (pos 9) }
 {}
 
-/// What a matrix with -3 at its centre alone gives of an image that holds 1: -3 over 2 to zero,
-/// clamped to each format, and -3 over 2^31.
+/// A matrix with -3 at its centre on an image of one sample, 1: -3 over 2 is rounded to zero and
+/// clamped to each format, and -3 over 2^31 is 0.
 pub fn scaled_sums()
     ensures to_zero { (from_matrix S16 (minus_three 1) Replicate single).samples ≡ negsuc 0 ∷ [] }
     ensures clamped { (from_matrix U8 (minus_three 1) Replicate single).samples ≡ pos 0 ∷ [] }

@@ -1,4 +1,4 @@
-//! How the samples around a place change along a row and from row to row.
+//! Horizontal and vertical gradients.
 ghost use Rattle.std.specs.Prelude.{IfSome};
 ghost use Rattle.vx_base.specs.declared.format.Format.TheVariants.{S16};
 ghost use Rattle.vx_base.specs.Window.{gradient_x, gradient_y, from_nine};
@@ -29,7 +29,7 @@ impl Across<Change, i16, Rise> for Weighted {
     ghost takes_bytes = { all_taken };
 }
 
-/// Writes the change from left to right (OpenVX 1.3, "Sobel 3x3"): of U8 to S16.
+/// Writes the horizontal gradient (OpenVX 1.3, "Sobel 3x3") of a U8 image to an S16 image.
 fn sobel_x3(image: &Image<'_>, output: &mut ImageMut<'_>, border: Border)
     requires { WindowFits S16 image.now output.old }
     ensures { Writes (from_nine S16 gradient_x border image.now) output.old output.new }
@@ -40,7 +40,7 @@ fn sobel_x3(image: &Image<'_>, output: &mut ImageMut<'_>, border: Border)
     })
 }
 
-/// Writes the change from above to below (OpenVX 1.3, "Sobel 3x3"): of U8 to S16.
+/// Writes the vertical gradient (OpenVX 1.3, "Sobel 3x3") of a U8 image to an S16 image.
 fn sobel_y3(image: &Image<'_>, output: &mut ImageMut<'_>, border: Border)
     requires { WindowFits S16 image.now output.old }
     ensures { Writes (from_nine S16 gradient_y border image.now) output.old output.new }
@@ -51,8 +51,8 @@ fn sobel_y3(image: &Image<'_>, output: &mut ImageMut<'_>, border: Border)
     })
 }
 
-/// Writes the changes from left to right and from above to below (OpenVX 1.3, "Sobel 3x3"), each
-/// to an image of its own, if it is given: of U8 to S16.
+/// Writes the horizontal and the vertical gradient of a U8 image (OpenVX 1.3, "Sobel 3x3"), each to
+/// an S16 image of its own, if that is given.
 pub fn sobel3(
     image: &Image<'_>,
     output_x: Option<&mut ImageMut<'_>>,

@@ -1,4 +1,4 @@
-//! What the definitions mean: functions that do nothing, whose contracts are facts.
+//! Facts about the definitions: each function does nothing, and its contract states the fact.
 ghost use Rattle.std.specs.Prelude.{◌≡◌, ◌<◌, ◌≤◌, ℕ, ℤ, pos, true, List, [], ◌∷◌, Contains};
 ghost use Rattle.std.specs.Prelude.{int_lt};
 ghost use Rattle.std.specs.List.{count_by};
@@ -13,13 +13,13 @@ ghost use Rattle.vx_base.specs.Node.{IsBorder};
 ghost use Rattle.vx_base.specs.Window.{nearest, look, box_mean, gaussian_mean, median, least_of};
 ghost use Rattle.vx_base.specs.Window.{greatest_of, gradient_x, gradient_y, from_nine, from_matrix};
 
-/// At a valid place the image's sample is seen, under each border.
+/// At a valid pixel a window reads the image's sample, under every border mode.
 pub fn valid_places()
     ensures { (image : ImageValue) (border : Border) (x y : ℕ) → inside image.valid x y ≡ true →
         look image border (pos x) (pos y) ≡ at image x y }
 {}
 
-/// The nearest of the numbers from `low` to `high - 1` is one of them, and none is nearer.
+/// `nearest` gives one of the numbers from `low` to `high - 1`, and none of them is nearer.
 pub fn nearest_number()
     ensures within { (low high : ℕ) (v : ℤ) → low < high → (low ≤ nearest low high v) ×
         (nearest low high v < high) }
@@ -27,8 +27,8 @@ pub fn nearest_number()
         distance v (pos (nearest low high v)) ≤ distance v (pos n) }
 {}
 
-/// Nine numbers have one median: it is among them, at most four are smaller and at most four
-/// greater, and no other number is so.
+/// Nine numbers have exactly one median: it is among them, at most four are smaller, and at most
+/// four are greater.
 pub fn median_of_nine()
     ensures among { (a b c d e f g h i : ℤ) →
         let zs = a ∷ b ∷ c ∷ d ∷ e ∷ f ∷ g ∷ h ∷ i ∷ [] in Contains zs (median zs) }
@@ -42,8 +42,8 @@ pub fn median_of_nine()
         count_by (λ z. int_lt z v) zs ≤ 4 → count_by (λ z. int_lt v z) zs ≤ 4 → v ≡ median zs }
 {}
 
-/// What a function of the nine samples gives of a U8 image is an image of the output's format, and
-/// so is what a matrix gives.
+/// The result of a 3x3 window function on a U8 image is a well-formed image of the output's format,
+/// and so is that of a convolution.
 pub fn results_are_images()
     ensures box_means { (border : Border) (a : ImageValue) → IsBorder border → IsImage a →
         a.format ≡ U8 → IsImage (from_nine U8 box_mean border a) }

@@ -1,5 +1,5 @@
-//! Means of the nine samples around a place: the sums of the columns of three rows, which stand in
-//! scratch memory, and then what three of these sums give.
+//! Means of 3x3 windows: sums of the columns of three rows, in scratch memory, then the mean from
+//! three of these sums.
 ghost use Rattle.vx_base.specs.declared.format.Format.TheVariants.{U8};
 ghost use Rattle.vx_base.specs.Window.{box_mean, gaussian_mean, from_nine};
 ghost use Rattle.image_core.specs.Target.{Writes};
@@ -29,8 +29,7 @@ impl Across<i16, u8, WeightedSumOfThree> for Sixteenth {
     ghost takes_bytes = { weighted_sums_taken };
 }
 
-/// Writes the mean of the nine samples, rounded down (OpenVX 1.3, "Box Filter"); both images are
-/// U8.
+/// Writes the mean of each 3x3 window, rounded down (OpenVX 1.3, "Box Filter"); both images are U8.
 pub fn box3(image: &Image<'_>, output: &mut ImageMut<'_>, border: Border)
     requires { WindowFits U8 image.now output.old }
     ensures { Writes (from_nine U8 box_mean border image.now) output.old output.new }
@@ -41,8 +40,8 @@ pub fn box3(image: &Image<'_>, output: &mut ImageMut<'_>, border: Border)
     })
 }
 
-/// Writes the mean of the nine samples with the weights 1 2 1, 2 4 2 and 1 2 1, rounded down
-/// (OpenVX 1.3, "Gaussian Filter"); both images are U8.
+/// Writes the mean of each 3x3 window with the weights 1 2 1, 2 4 2 and 1 2 1, rounded down (OpenVX
+/// 1.3, "Gaussian Filter"); both images are U8.
 pub fn gaussian3(image: &Image<'_>, output: &mut ImageMut<'_>, border: Border)
     requires { WindowFits U8 image.now output.old }
     ensures { Writes (from_nine U8 gaussian_mean border image.now) output.old output.new }

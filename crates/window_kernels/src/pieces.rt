@@ -1,5 +1,5 @@
-//! How much of a row is computed at once.
+//! The size of the pieces in which rows are computed.
 
-/// How many columns a piece of a row has at most, so that the scratch memory that it needs doesn't
-/// grow with the width of images.
+/// The greatest number of columns in a piece, so that its scratch memory doesn't grow with the
+/// image's width.
 pub const PIECE: usize = 1024;

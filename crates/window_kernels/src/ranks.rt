@@ -1,4 +1,4 @@
-//! The least, the greatest and the middle one of the nine samples around a place.
+//! The least, the greatest and the median sample of 3x3 windows.
 ghost use Rattle.vx_base.specs.declared.format.Format.TheVariants.{U8};
 ghost use Rattle.vx_base.specs.Window.{least_of, greatest_of, median, from_nine};
 ghost use Rattle.image_core.specs.Target.{Writes};
@@ -48,7 +48,7 @@ impl OfWindow<u8, u8> for Median {
     }
 }
 
-/// Writes the least of the nine samples (OpenVX 1.3, "Erode Image"); both images are U8.
+/// Writes the least sample of each 3x3 window (OpenVX 1.3, "Erode Image"); both images are U8.
 pub fn erode3(image: &Image<'_>, output: &mut ImageMut<'_>, border: Border)
     requires { WindowFits U8 image.now output.old }
     ensures { Writes (from_nine U8 least_of border image.now) output.old output.new }
@@ -59,7 +59,7 @@ pub fn erode3(image: &Image<'_>, output: &mut ImageMut<'_>, border: Border)
     })
 }
 
-/// Writes the greatest of the nine samples (OpenVX 1.3, "Dilate Image"); both images are U8.
+/// Writes the greatest sample of each 3x3 window (OpenVX 1.3, "Dilate Image"); both images are U8.
 pub fn dilate3(image: &Image<'_>, output: &mut ImageMut<'_>, border: Border)
     requires { WindowFits U8 image.now output.old }
     ensures { Writes (from_nine U8 greatest_of border image.now) output.old output.new }
@@ -73,7 +73,7 @@ pub fn dilate3(image: &Image<'_>, output: &mut ImageMut<'_>, border: Border)
     })
 }
 
-/// Writes the median of the nine samples (OpenVX 1.3, "Median Filter"); both images are U8.
+/// Writes the median of each 3x3 window (OpenVX 1.3, "Median Filter"); both images are U8.
 pub fn median3(image: &Image<'_>, output: &mut ImageMut<'_>, border: Border)
     requires { WindowFits U8 image.now output.old }
     ensures { Writes (from_nine U8 median border image.now) output.old output.new }

@@ -1,4 +1,4 @@
-//! Images of the nine samples around each place.
+//! 3x3 window functions on whole images.
 ghost use Rattle.std.specs.Prelude.{◌≡◌, ◌+◌, ◌*◌, ◌<◌, ◌≤◌, ℕ, ℤ, List, pos, map, length};
 ghost use Rattle.std.specs.Prelude.{replicate, refl};
 ghost use Rattle.vx_base.specs.declared.format.Format.TheVariants.{U8};
@@ -14,7 +14,7 @@ use image_core::{Image, ImageMut, RowFormula, Sample, set_all};
 use lane_rows::{Item, ThreeItems};
 use vx_base::{Border, GREATEST_SIDE, Rect};
 
-/// Samples that are items of rows, the same numbers: U8 and S16.
+/// Samples that are also items of lane rows, with the same value: U8 and S16.
 pub trait SampleItem: Sample + Item {
     ghost same: { (z : Self) → Self.Item.value z ≡ Self.Number.value z };
 }
@@ -27,18 +27,19 @@ impl SampleItem for i16 {
     ghost same = { λ _. refl };
 }
 
-/// A kernel of the nine samples around a place.
+/// A function of a 3x3 window.
 pub trait OfWindow<T: Sample, S> {
-    /// The sample, from the nine by rows from above to below.
+    /// The output sample, from the nine samples in row-major order.
     ghost formula: { Self → List ℤ → ℤ };
 
-    /// How many items of scratch memory it needs for each column of three rows.
+    /// The number of scratch items that it needs for each column of three rows.
     ghost room: { ℕ };
 
+    /// Returns the output sample of one window.
     fn item(&self, above: ThreeItems, here: ThreeItems, below: ThreeItems) -> T
         ensures { T.value result ≡ formula self.now (nine_of above here below) };
 
-    /// Writes what it gives in the middle of each three columns of three rows.
+    /// Writes the results for all windows in three rows; `out` has two items fewer than each row.
     fn write_row(&self, above: &[u8], here: &[u8], below: &[u8], scratch: &mut [S], out: &mut [T])
         requires above { length above.now ≡ length out.old + 2 }
         requires here { length here.now ≡ length out.old + 2 }
@@ -48,12 +49,12 @@ pub trait OfWindow<T: Sample, S> {
             (λ i. formula self.now (nine_from above.now here.now below.now i)) };
 }
 
-/// A U8 image under a border, and where its windows give something.
+/// A U8 image under a border, and the output's valid rectangle.
 #[derive(Drop)]
 struct Window<'a, 'b> {
     image: &'a Image<'b>,
     border: Border,
-    /// A row as it is seen above and below all valid rows, where none of them is.
+    /// The border's samples, for rows that the border doesn't take from the image.
     off_rows: &'a [u8],
     area: Rect,
     ghost format: { image.now.format ≡ U8 },
@@ -67,7 +68,7 @@ struct Window<'a, 'b> {
     ghost room: { image.now.width ≤ length off_rows.now },
 }
 
-/// What a kernel gives of a U8 image under a border.
+/// The results of a window function on a U8 image under a border.
 #[derive(Drop)]
 struct FromNine<'a, 'b, K> {
     kernel: &'a K,
@@ -75,7 +76,7 @@ struct FromNine<'a, 'b, K> {
 }
 
 impl<K> FromNine<'_, '_, K> {
-    /// Writes the sample at one place.
+    /// Writes the sample of one pixel.
     fn write_place<T: Sample, S>(&self, x: u16, y: u16, out: &mut [T])
     where
         K: OfWindow<T, S>,
@@ -94,8 +95,8 @@ impl<K> FromNine<'_, '_, K> {
         set_all(out, self.kernel.item(above, here, below));
     }
 
-    /// Writes the samples of row y to the right of column x, where only valid columns are seen:
-    /// from the rows where they stand.
+    /// Writes the samples of row `y` to the right of column `x`, whose windows lie in valid
+    /// columns. The rows are read without a copy.
     fn write_inside<T: Sample, S>(&self, x: u16, y: u16, scratch: &mut [S], out: &mut [T])
     where
         K: OfWindow<T, S>,
@@ -145,7 +146,7 @@ impl<T: Sample, S, K: OfWindow<T, S>> RowFormula<T, S> for FromNine<'_, '_, K> {
         if last == 0 {
             self.write_place::<T, S>(x, y, out);
         } else {
-            // At the first and the last place there may be columns that aren't valid.
+            // Only the windows of the first and the last pixel may reach beyond the valid columns.
             let (first, others) = out.split_at_mut(1);
             let (inside, end) = others.split_at_mut(last - 1);
             self.write_place::<T, S>(x, y, first);
@@ -155,7 +156,7 @@ impl<T: Sample, S, K: OfWindow<T, S>> RowFormula<T, S> for FromNine<'_, '_, K> {
     }
 }
 
-/// Writes what the kernel gives, with a row as it is seen where no valid row is.
+/// Writes the results of a window function, given a row of the border's samples.
 fn write_with_rows<T: Sample, S, K: OfWindow<T, S>>(
     kernel: &K,
     image: &Image<'_>,
@@ -193,8 +194,8 @@ fn write_with_rows<T: Sample, S, K: OfWindow<T, S>>(
 pub const SIDE: usize = GREATEST_SIDE as usize;
 
 /// `with_scratch!(count, [item; most], row => call)` makes the call with `row`, a slice of at least
-/// `count` items on the stack, of which there are at most `most`. They are written once; a small
-/// image needs few of them.
+/// `count` and at most `most` items on the stack. It is initialized once; a small image gets a
+/// small one.
 macro_rules! with_scratch {
     ($count:expr, [$item:expr; $most:expr], $row:ident => $call:expr) => {
         if $count <= 64 {
@@ -212,8 +213,8 @@ macro_rules! with_scratch {
 
 pub(crate) use with_scratch;
 
-/// Writes what the kernel gives of a U8 image to another of its size. The row that is seen where no
-/// valid row is stands on the stack.
+/// Writes the results of a window function on a U8 image to another one of its size. The row of the
+/// border's samples is on the stack.
 pub fn write_windows<T: Sample, S, K: OfWindow<T, S>>(
     kernel: &K,
     image: &Image<'_>,

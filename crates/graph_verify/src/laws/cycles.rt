@@ -3,7 +3,7 @@ ghost use Rattle.std.specs.Prelude.{◌≡◌, ◌↔◌, Bool, true, false, Lis
 ghost use Rattle.graph_verify.specs.Cycle.{HasCycle, has_cycle};
 ghost use Rattle.graph_verify.specs.Order.{IsOrder};
 
-/// The test finds a cycle exactly where there is one, whatever the nodes are.
+/// The test finds a cycle if and only if there is one, whatever the nodes are.
 pub fn found_cycles<N>()
     ensures { (feeds : N → N → Bool) (nodes : List N) →
         (has_cycle feeds nodes ≡ true) ↔ HasCycle feeds nodes }

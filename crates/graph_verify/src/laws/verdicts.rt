@@ -10,14 +10,14 @@ ghost use Rattle.graph_verify.specs.Operand.{is_virtual, operands_of};
 ghost use Rattle.graph_verify.specs.Outlines.{resolved};
 ghost use Rattle.graph_verify.specs.Verdict.{verdict, verdict_on};
 
-/// A node of a graph that can run can run by itself, on what its cells are found to be.
+/// Each node of a graph that can run can also run alone, on its resolved operands.
 pub fn each_node_can_run()
     ensures { (work : ℕ) (is : Cell → Operand) (nodes : List Node) (n : Node) →
         verdict work is nodes ≡ None → In n nodes →
         verdict_on n (operands_of (resolved is nodes) n) ≡ None }
 {}
 
-/// The verdict on a graph of one node that names no virtual image is that on the node.
+/// For a graph of one node without virtual images the verdict on the graph is that on the node.
 pub fn one_node()
     ensures { (work : ℕ) (is : Cell → Operand) (n : Node) →
         list_any (λ c. is_virtual (is c)) (inputs n ++ outputs n) ≡ false →
