@@ -1,4 +1,4 @@
--- What is seen along rows.
+-- What windows read along rows.
 use Rattle.std.proofs.Common.{◌≡◌, ℕ, ℤ, pos, ◌+◌, ◌-◌, ◌<◌, ◌≤◌, ◌+ℤ◌, ◌-ℤ◌, ◌<ℤ◌, ◌≤ℤ◌, ◌&&◌, Bool, true, false, cond, List, ◌++◌, length, map, replicate, min, max, take, get_or, refl, ap, ◌∙◌, sym, arith, zero-add, Option, Some, None, int_lt, int_le, unsigned_abs}
 use Rattle.std.proofs.lemmas.Int.{ints, by_lt_z}
 use Rattle.std.proofs.lemmas.List.{take-map, take-replicate}
@@ -72,13 +72,13 @@ line_near valid y line e = known (int_le (pos valid.y0) y && int_lt y (pos valid
     known true inside e = cc (nearest_tested valid.y0 valid.y1 y inside)
     known false outside e = cc
 
--- what counts beside the columns of a row that is seen
+-- the border's sample in a row that takes the samples of a valid row
 beside_line : (image : ImageValue) (border : Border) (x y : ℤ) (line edge : ℕ) → row_seen image.valid border y ≡ Some line → nearest image.valid.x0 image.valid.x1 x ≡ edge → beside image border x y ≡ value_beside border (at image edge line)
 beside_line image Undefined x y line edge e near = refl
 beside_line image (Constant value) x y line edge e near = refl
 beside_line image Replicate x y line edge e near = ap (λ n. at image n (nearest image.valid.y0 image.valid.y1 y)) near ∙ ap (at image edge) (line_near image.valid y line e)
 
--- beside the columns
+-- outside the valid columns
 look_beside : (image : ImageValue) (border : Border) (x y : ℤ) (line edge : ℕ) → row_seen image.valid border y ≡ Some line → nearest image.valid.x0 image.valid.x1 x ≡ edge → (int_le (pos image.valid.x0) x && int_lt x (pos image.valid.x1)) ≡ false → look image border x y ≡ value_beside border (at image edge line)
 look_beside image border x y line edge e near out = rw out (beside_line image border x y line edge e near)
 
@@ -94,7 +94,7 @@ look_inside image border x y line e a b =
     rw (at_most (pos image.valid.x0) x a, below x (pos image.valid.x1) b)
     (inner_row image border x y line (int_le (pos image.valid.y0) y && int_lt y (pos image.valid.y1)) e e (nearest_inside image.valid.x0 image.valid.x1 x a b))
 
--- what is seen in a row is what is seen along the valid row that counts for it
+-- a window reads in row y what it reads along the valid row that the border takes for it
 pub look_along : (image : ImageValue) (border : Border) (x y : ℤ) (line : ℕ) → image.valid.x0 < image.valid.x1 → row_seen image.valid border y ≡ Some line → look image border x y ≡ seen_along image border line x
 look_along image border x y line some e = by_lt_z x (pos image.valid.x0) left (λ a. by_lt_z x (pos image.valid.x1) (λ b. between a b) (λ b. right a b))
   where
@@ -111,7 +111,7 @@ look_along image border x y line some e = by_lt_z x (pos image.valid.x0) left (�
         look_beside image border x y line (image.valid.x1 - 1) e (nearest_above image.valid.x0 image.valid.x1 x some b) (cc (at_most (pos image.valid.x0) x a, not_below x (pos image.valid.x1) b))
         ∙ sym (seen_right image border x line a b)
 
--- where no row counts
+-- where the border takes no valid row
 off_row : (image : ImageValue) (border : Border) (x y : ℤ) (b c : Bool) → cond b (Some (unsigned_abs y)) (row_beside image.valid border y) ≡ None → cond (c && b) (at image (unsigned_abs x) (unsigned_abs y)) (beside image border x y) ≡ value_beside border (pos 0)
 off_row image border x y true c e = cc
 off_row image Undefined x y false true e = refl
@@ -125,7 +125,7 @@ look_off image border x y e = off_row image border x y (int_le (pos image.valid.
 
 -- ---- a part of a row
 
--- what is seen so many places from column start - radius on, in three parts
+-- a row from column start - radius on, in three parts: border, valid samples, border
 pub seen_in_three : (image : ImageValue) (border : Border) (line start radius n b m first left right : ℕ) (samples : List ℕ)
     → image.valid.x0 < image.valid.x1 → length samples ≡ m
     → b ≡ min (image.valid.x0 + radius - start) n → m ≡ min (image.valid.x1 + radius - start) n - b → first ≡ min (max (start - radius) image.valid.x0) image.valid.x1
@@ -175,14 +175,14 @@ seen_nowhere image border x count y all off same room =
     rw (← take-map pos count all, same, take-replicate count (length all) (value_beside border (pos 0)) room, ← run-constant (value_beside border (pos 0)) x count)
     (run-same (λ _. value_beside border (pos 0)) (λ c. look image border (pos c) y) x count (λ k a b. sym (look_off image border (pos k) y off)))
 
--- ---- beside the valid columns the border counts for the nearest one
+-- ---- outside the valid columns the border depends on the nearest one
 
 beside_again : (border : Border) (z : ℤ) → value_beside border (value_beside border z) ≡ value_beside border z
 beside_again Undefined z = refl
 beside_again (Constant value) z = refl
 beside_again Replicate z = refl
 
--- column x beside them, of which column e is the nearest
+-- column x outside the valid ones; column e is the nearest of them
 look_from_edge : (image : ImageValue) (border : Border) (x y : ℤ) (e : ℕ) (seen : Option ℕ) → row_seen image.valid border y ≡ seen → image.valid.x0 < image.valid.x1
     → ((line : ℕ) → seen_along image border line x ≡ value_beside border (at image e line)) → image.valid.x0 ≤ e → e < image.valid.x1 → look image border x y ≡ value_beside border (look image border (pos e) y)
 look_from_edge image border x y e (Some line) is some along left right =
@@ -198,9 +198,9 @@ pub look_right : (image : ImageValue) (border : Border) (x y : ℤ) → image.va
 look_right image border x y some h =
     look_from_edge image border x y (image.valid.x1 - 1) (row_seen image.valid border y) refl some (λ line. seen_right image border x line (omega (arith, ints)) h) (omega arith) (omega arith)
 
--- ---- beside one column
+-- ---- the neighbours of a column
 
--- what is seen to the left of the first valid column, and of another
+-- the left neighbour of the first valid column, and of another one
 pub left_of_first : (image : ImageValue) (border : Border) (x line : ℕ) (v : ℕ) → x ≡ image.valid.x0 → pos v ≡ at image x line → value_beside border (pos v) ≡ seen_along image border line (pos x -ℤ pos 1)
 left_of_first image border x line v first is =
     ap (value_beside border) (is ∙ ap (λ k. at image k line) first) ∙ sym (seen_left image border (pos x -ℤ pos 1) line (omega (arith, ints)))
@@ -209,7 +209,7 @@ pub left_of_other : (image : ImageValue) (border : Border) (x line k v : ℕ) �
 left_of_other image border x line k v after before here is =
     is ∙ ap (λ j. at image j line) (let e : k ≡ unsigned_abs (pos x -ℤ pos 1) = omega (arith, ints) in e) ∙ sym (seen_inside image border (pos x -ℤ pos 1) line (omega (arith, ints)) (omega (arith, ints)))
 
--- to the right of the last valid column, and of another
+-- the right neighbour of the last valid column, and of another one
 pub right_of_last : (image : ImageValue) (border : Border) (x line : ℕ) (v : ℕ) → image.valid.x0 ≤ x → x + 1 ≡ image.valid.x1 → pos v ≡ at image x line → value_beside border (pos v) ≡ seen_along image border line (pos x +ℤ pos 1)
 right_of_last image border x line v inside last is =
     ap (value_beside border) (is ∙ ap (λ k. at image k line) (let e : x ≡ image.valid.x1 - 1 = omega arith in e)) ∙ sym (seen_right image border (pos x +ℤ pos 1) line (omega (arith, ints)) (omega (arith, ints)))

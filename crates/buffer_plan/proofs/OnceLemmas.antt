@@ -1,4 +1,4 @@
--- Things whose cells stand in a list once.
+-- Lists without a repeated reference.
 use Rattle.std.proofs.Common.{◌≡◌, arith, Bool, false, List, [], ◌∷◌, map, refl, ◌∙◌}
 use Rattle.buffer_plan.proofs.Common.{filter, list_any, cases_Bool, false_from_ne_true, or_parts, Cell, same_cell, has_twice, In, same_cell-is, same_cell-true, In-map, In-from_map, In-from_any, any-from_In, In-from_filter}
 
@@ -18,7 +18,7 @@ module _ {X : Type 0} (f : X → Cell) where
         or_parts (list_any (same_cell (f z)) (map f xs)) (has_twice (map f xs)) once,
       )
 
-  -- those that pass a test stand once too
+  -- the members that pass a test have no repeated reference either
   pub once-filter : (p : X → Bool) (xs : List X) → has_twice (map f xs) ≡ false → has_twice (map f (filter p xs)) ≡ false
   once-filter p [] once = refl
   once-filter p (x ∷ xs) once =

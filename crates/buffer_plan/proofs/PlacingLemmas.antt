@@ -47,7 +47,7 @@ live_slots_distinct s (p ∷ ps) h = elim (cases_Bool (is_in s p.life)) [
   | inr k ↦ rw k (live_slots_distinct s ps h.1)
 ]
 
--- so many slots are needed as are live at a step
+-- at least as many slots are needed as images are live at a step
 pub count-within : (s : ℕ) (placed : List Placed) (n : ℕ) → AllApart placed → ((p : Placed) → In p placed → p.slot < n) → count_in s (map (λ p. p.life) placed) ≤ n
 count-within s placed n apart below =
     let few = length-le_from_distinct_below (live_slots s placed) n (live_slots_distinct s placed apart) (λ q a.

@@ -110,7 +110,7 @@ module _ (steps : List Node) (images : List VirtualOutput) (p : Plan) (lives : F
           → (told p).slot_of c ≡ Some k
       told_is f c k own none = grind (arith, none U8, none S16, cases_format f)
 
-      -- an image stands in its slot
+      -- an image has its slot
       found : (f : Format) (o : VirtualOutput) → In o (of_format f images) → (q : Placed) × In q (places_in p f).placed.items × (q.life.image ≡ o) × ((told p).slot_of o.cell ≡ Some q.slot)
       found f o i = elim (find_cases (λ (q : Placed). same_cell q.life.image.cell o.cell) (places_in p f).placed.items) [
         | inl r ↦ (

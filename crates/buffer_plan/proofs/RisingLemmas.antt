@@ -1,4 +1,4 @@
--- The lives of images that stand in the order of writing.
+-- Lives of images in the order of their first steps.
 use Rattle.std.proofs.Common.{◌≡◌, ℕ, ◌+◌, ◌-◌, ◌<◌, ◌≤◌, inl, inr, suc, Bool, true, false, List, [], ◌∷◌, ◌++◌, length, take, drop, map, refl, sym, ◌∙◌, ap, subst, arith, ◌||◌, take_all, ltb-true, lt-ltb}
 use Rattle.buffer_plan.proofs.Common.{filter, flat_map, position_or_len, filter-append, cases_Bool, or_left, or_right, and_from, Format, Node, Cell, outputs, same_format, VirtualOutput, reads, writes, is_written, has_twice, In, same-from_In, In-filter, In-from_filter, In-map, In-from_map, In-from_flat_map, any-from_In, Life, is_used, IsLife, AreLives, Rising, of_format}
 use Rattle.graph_verify.proofs.LinkLemmas.{In-from_same, once_across, once_after}
@@ -6,7 +6,7 @@ use Rattle.graph_verify.proofs.MemberLemmas.{In-append}
 use Rattle.buffer_plan.proofs.LiveLemmas.{written_by}
 use Rattle.buffer_plan.proofs.PlacingLemmas.{in_life}
 
--- no cell has a greater number than one that stands after it
+-- the numbers of the references don't decrease
 abbrev pub Rise : (Cell → ℕ) → List Cell → Type 0
 Rise f [] = Unit {0}
 Rise f (c ∷ cs) = ((d : Cell) → In d cs → f c ≤ f d) × Rise f cs

@@ -1,4 +1,4 @@
--- What stands in a slot as another image takes it.
+-- The earlier content of a slot when another image takes it.
 use Rattle.std.proofs.Common.{◌≡◌, ◌≢◌, ℕ, ◌+◌, ◌-◌, true, false, List, [], ◌∷◌, ◌++◌, length, take, Option, refl, ap, arith, ◌||◌}
 use Rattle.buffer_plan.proofs.Common.{false_from_ne_true, or_left, or_right, Node, Cell, VirtualOutput, reads, writes, is_written, In, In-filter, is_used, is_live, IsPlan, PlanValue, of_format, IsValid}
 use Rattle.std.proofs.Math.Bool.{or-false}
@@ -23,7 +23,8 @@ live_now before after n c written used =
       written,
     ) used
 
--- of two images in one slot, of which a step writes one, the other is that one if it has been written and is used again
+-- if a step writes one of two images in a slot, and the other has been written and is used from
+-- that step on, they are the same image
 pub one_when_taken : (before after : List Node) (n : Node) (images : List VirtualOutput) (slot : Cell → Option ℕ) → IsValid (before ++ n ∷ after) images slot → (taken held : VirtualOutput)
     → In taken images → In held images → held.desc.format ≡ taken.desc.format → writes n taken.cell ≡ true → (is_written before held.cell || writes n held.cell) ≡ true
     → is_used (n ∷ after) held.cell ≡ true → slot held.cell ≡ slot taken.cell → held ≡ taken

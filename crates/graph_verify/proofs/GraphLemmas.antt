@@ -16,7 +16,7 @@ module _ {X : Type 0} where
   is_none-find p [] = refl
   is_none-find p (x ∷ xs) = grind (arith, is_none-find p xs)
 
-  -- what is found passes
+  -- the item that `find` returns passes the test
   find-passes : (p : X → Bool) (xs : List X) (x : X) → find p xs ≡ Some x → p x ≡ true
   find-passes p [] x found = absurd (cc)
   find-passes p (y ∷ xs) x found = grind (arith, find-passes p xs x)
@@ -34,7 +34,7 @@ module _ {X P : Type 0} (R : P → X → Bool → P → Type 0) (I : P → Type 
           let said = says p x b answers.0 i answers.1 in
           grind (arith, said.0, picked answers.0 q xs bs said.1 (omega (arith, same)) answers.2, cases_Bool b)
 
--- what is found under a number has that number
+-- the node found by a number has that number
 pub find_numbered : (nodes : List Numbered) (number : ℕ) (n : Numbered) → find (λ k. k.number == number) nodes ≡ Some n → find (λ k. k.number == number) nodes ≡ Some (record { number = number; node = n.node })
 find_numbered nodes number n found = grind (arith, eqb-true n.number number (find-passes (λ k. k.number == number) nodes n found), find-passes (λ k. k.number == number) nodes n found)
 

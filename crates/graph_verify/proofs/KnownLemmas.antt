@@ -1,4 +1,4 @@
--- What is known of the virtual images that nodes write, node by node.
+-- The virtual images that nodes write, resolved node by node.
 use Rattle.std.proofs.Common.{◌≡◌, ℕ, ◌+◌, ◌<◌, ◌≤◌, Bool, true, false, List, [], ◌∷◌, ◌++◌, length, map, take, drop, get_or, IsTrue, refl, sym, ◌∙◌, ap, subst, inl, inr, arith, find, unwrap_or, All, ◌⊎◌, Option, Some, None, append-nil, take_all, take-append-drop}
 use Rattle.graph_verify.proofs.Common.{option_map, filter, flat_map, cases_Bool, false_from_ne_true, map-append, filter-append, flat_map-append, Node, Cell, same_cell, given, inputs, outputs, Outline, filled, Known, Linked, Operand, Image, Virtual, In, known_operands, AreKnown, linked_nodes, AreOperands, writes, feeds, is_virtual, is_image, operands_of, InTurn, operand_outline, given_outline, written_outline, outlines, resolved, IsSolution, two_writers, virtual_outputs}
 use Rattle.std.proofs.lemmas.List.{drop_more, take_more}
@@ -13,7 +13,7 @@ find_cases p [] = inr (refl, λ x i. absurd i)
 find_cases p (x ∷ xs) = grind (arith, find_cases p xs, cases_Bool (p x))
 
 module _ (is : Cell → Operand) where
-  -- what is known of the nodes that are done, by the outlines of all
+  -- the virtual images that the done nodes write, with their final descriptions
   pub record AreLearnt (all done : List Node) (known : List Known) : Type 0 where
     pub cells : map (λ k. k.cell) known ≡ virtual_outputs is done
     pub each : (k : Known) → In k known → k.outline ≡ outlines is all k.cell
@@ -24,7 +24,7 @@ module _ (is : Cell → Operand) where
   virtual_written : (n : Node) (done : List Node) (c : Cell) → In n done → writes n c ≡ true → is_virtual (is c) ≡ true → In c (virtual_outputs is done)
   virtual_written n done c i w virtual = In-filter (λ d. is_virtual (is d)) c (flat_map outputs done) (In-outputs n c done i w) virtual
 
-  -- what is known of a cell is what is to be known, where the nodes that write it are done
+  -- a virtual image is fully resolved once the node that writes it is done
   virtual_known : (all done : List Node) (known : List Known) → Solves all → AreLearnt all done known → (c : Cell) (declared : Outline) → is c ≡ Virtual declared
       → ((n : Node) → In n all → writes n c ≡ true → In n done) → unwrap_or (known_of known c) declared ≡ outlines is all c
   virtual_known all done known solves h c declared virtual writers_done = elim (find_cases (λ k. same_cell k.cell c) known) [
@@ -133,7 +133,7 @@ module _ (is : Cell → Operand) where
         each = (λ k d within. h.each (get_or known k d) (In-at known k d within));
       }
 
-  -- what is known is what was learnt of all nodes
+  -- the resolved virtual images are those of all nodes
   pub learnt_from_known : (all : List Node) (known : List Known) → AreKnown is all known → AreLearnt all all known
   learnt_from_known all known h = record {
     cells = h.cells;

@@ -49,7 +49,7 @@ is_fed-written g n = sym (same_tests (list_any (is_written g) (inputs n)) (is_fe
     let written = any-from_In (λ m. writes m cell.0) feeder.0 g feeder.1 (same-from_In cell.0 (outputs feeder.0) cell.1) in
     any-from_In (is_written g) cell.0 (inputs n) (In-from_same cell.0 (inputs n) cell.2) written))
 
--- ---- no cell stands twice in a list
+-- ---- lists without a repeated reference
 
 has_twice-append : (xs ys : List Cell) → has_twice (xs ++ ys) ≡ ((has_twice xs || list_any (λ c. list_any (same_cell c) ys) xs) || has_twice ys)
 has_twice-append [] ys = refl

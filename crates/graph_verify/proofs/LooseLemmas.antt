@@ -1,4 +1,4 @@
--- Virtual images that are read and not written, or added to.
+-- Virtual images that are read but not written, or accumulated into.
 use Rattle.std.proofs.Common.{◌≡◌, zero, suc, List, [], ◌∷◌, refl, arith, Option, ◌||◌}
 use Rattle.graph_verify.proofs.Common.{option_map, list_any, list_any-append, Node, Cell, given, inputs, Linked, Operand, linked_nodes, AreOperands, has_loose_input, has_virtual_sum, operands_of, is_virtual, is_loose}
 use Rattle.graph_verify.specs.Linked.{is_given_loose, is_given_virtual}
@@ -17,7 +17,7 @@ module _ (is : Cell → Operand) (all : List Node) where
   virtual_sum : (l : Linked) → l.operands ≡ operands_of is l.node → has_virtual_sum l ≡ adds_to_virtual is l.node
   virtual_sum l operands = grind (arith, given_virtual l.node.out1, given_virtual l.node.out2, list_any-append (λ c. is_virtual (is c)) (given l.node.out1) (given l.node.out2))
 
-  -- whether one of the nodes has a loose end, by what stands beside it
+  -- whether a node needs the content of an unwritten virtual image, from the nodes with their operands
   pub loose_end-linked : (nodes : List Linked) → AreOperands is nodes
       → list_any (λ l. has_loose_input all l || has_virtual_sum l) nodes ≡ list_any (λ n. reads_loose is all n || adds_to_virtual is n) (linked_nodes nodes)
   loose_end-linked [] operands = refl

@@ -70,7 +70,7 @@ module _ {N : Type 0} (feeds : N → N → Bool) where
 
   -- ---- an order is made node by node
 
-  -- each node of `steps` is fed by none that stands at its place or later, or in `rest`
+  -- no node of `steps` is fed by itself, by a later one, or by one of `rest`
   abbrev pub InTurnThen : List N → List N → Type 0
   InTurnThen [] rest = Unit {0}
   InTurnThen (n ∷ ns) rest = ((m : N) → In m ((n ∷ ns) ++ rest) → feeds m n ≡ false) × InTurnThen ns rest

@@ -1,4 +1,4 @@
--- Rounds of all nodes at once, and one run through the nodes in an order.
+-- Rounds in which all nodes act simultaneously, and a run of the nodes one after another.
 use Rattle.std.proofs.Common.{◌≡◌, ℕ, ◌+◌, ◌⊎◌, suc, Bool, true, false, List, [], ◌∷◌, length, refl, sym, ◌∙◌, ap, subst, inl, inr, arith}
 use Rattle.graph_verify.proofs.Common.{cases_Bool, false_from_ne_true, list_any, In, AllIn, InTurn, round, rounds, once, OneWriter, IsSolution, ReadsAlone}
 use Rattle.graph_verify.specs.Rounds.{step}
@@ -14,7 +14,7 @@ module _ {N C V : Type 0} (reads writes : N → C → Bool) (feeds : N → N →
     once_stays [] held c h = refl
     once_stays (n ∷ ns) held c h = grind (arith, once_stays ns (step writes value n held) c (λ m i. h m (inr i)))
 
-    -- a node fed by none of the list reads what is held
+    -- a node that no node of the list feeds reads the values from before the run
     unread : (ns : List N) (n : N) → ((m : N) → In m ns → feeds m n ≡ false) → (held : C → V) (c : C) → reads n c ≡ true → once writes value ns held c ≡ held c
     unread ns n h held c r = once_stays ns held c (λ m i. false_from_ne_true (writes m c) (λ w. let k = h m i in let l = feeds_is m n c w r in cc))
 

@@ -1,4 +1,4 @@
--- What a verdict of none says of each output of a node: the function takes its format, and it is of the first input's size.
+-- A node without a fault: its function takes the format of each output, and each output has the size of the first input.
 use Rattle.std.proofs.Common.{◌≡◌, Bool, true, false, IsTrue, ◌++◌, Option, Some, None, IfSome, sym, ◌∙◌, cond, arith, not, option_to_list}
 use Rattle.graph_verify.proofs.Common.{list_all, option_map, option_and_then, and_parts, cases_Bool, not-false, Format, Function, Node, takes_formats, Operand, Operands, InvalidFormat, operand_format, written_operands, takes_first, takes_operands, node_fault, verdict_on, writes_twice, reads_own_output}
 use Rattle.graph_verify.specs.declared.verdict.Verdict.TheVariants.{InvalidDimension}
@@ -21,12 +21,12 @@ abbrev pub takes_output : Function → Option Format → Option Format → Opera
 takes_output function None second out = false
 takes_output function (Some first) second out = takes_formats function first second (operand_format out)
 
--- an output that the function takes beside the inputs, of the size of the first
+-- an output whose format the function takes with those of the inputs, and which has the size of the first input
 pub record Suits (function : Function) (first : Operand) (second : Option Format) (out : Operand) : Type 0 where
   pub formats : IsTrue (takes_output function (operand_format first) second out)
   pub size : IsTrue (are_of_one_size first out)
 
--- a test that both operands pass, as far as they are there
+-- both operands pass a test, if they are given
 both_pass : {X : Type 0} (p : X → Bool) (x y : Option X) → list_all p (option_to_list x ++ option_to_list y) ≡ true → IfSome x (λ z. p z ≡ true) × IfSome y (λ z. p z ≡ true)
 both_pass p x y h = grind arith
 
@@ -36,7 +36,7 @@ formats_taken : (function : Function) (first second : Option Format) (out1 out2 
 formats_taken function None second out1 out2 h = cc
 formats_taken function (Some first) second out1 out2 h = both_pass (λ out. takes_formats function first second (operand_format out)) out1 out2 h
 
--- an output of which both hold suits
+-- an output that is given and has both properties
 suits_if : (function : Function) (first : Operand) (second : Option Format) (out : Option Operand) → IfSome out (λ x. IsTrue (takes_output function (operand_format first) second x)) → IfSome out (λ x. IsTrue (are_of_one_size first x)) → IfSome out (Suits function first second)
 suits_if function first second out formats size = grind arith
 
@@ -53,7 +53,7 @@ no_fault_suits function o h =
       suits_if function o.in1 (option_and_then operand_format o.in2) o.out2 formats.1 sizes.1,
     )
 
--- the operands of a node beside its first input
+-- operands from the first input and the others
 abbrev pub beside_first : Option Operand → Option Operand → Option Operand → Operand → Operands
 beside_first in2 out1 out2 in1 = record { in1 = in1; in2 = in2; out1 = out1; out2 = out2 }
 

@@ -3,7 +3,7 @@ use Rattle.std.proofs.Common.{◌≡◌, ℕ, ◌<◌, ◌≤◌, Bool, true, fa
 use Rattle.graph_verify.proofs.Common.{option_or, Node, Cell, Operand, Verdict, InvalidLink, NoResources, feeds, has_cycle, resolved, two_writers, has_loose_end, first_fault, work_bytes, verdict}
 use Rattle.std.proofs.lemmas.Bool.{lt-leb}
 
--- what is known of a graph that can run
+-- the properties of a graph that can run
 pub record CanRun (work : ℕ) (is : Cell → Operand) (nodes : List Node) : Type 0 where
   pub one_writer : two_writers nodes ≡ false
   pub no_cycle : has_cycle feeds nodes ≡ false

@@ -1,4 +1,4 @@
--- Why a graph is found to run, or not, by what is known of its virtual images.
+-- The verdict on a graph, from the resolved virtual images.
 use Rattle.std.proofs.Common.{◌≡◌, ℕ, ◌+◌, ◌*◌, ◌≤◌, Bool, true, false, List, [], ◌∷◌, length, map, get_or, IsTrue, refl, sym, ◌∙◌, ap, subst, inl, inr, arith, rules, unwrap_or, All, find, sum_by, ◌&&◌, if◌then◌else◌, Option, Some, None}
 use Rattle.graph_verify.proofs.Common.{option_map, option_or, filter, flat_map, filter_map, IsPermutation, and_parts, false_from_ne_true, filter-append, sum_by-IsPermutation, length_permutation, Format, Function, Node, Cell, same_cell, Description, byte_count, outputs, Outline, outline_of, filled, Known, Linked, Operand, Image, Virtual, Operands, Verdict, InvalidLink, In, has_cycle, closed_output, known_operands, AreKnown, linked_nodes, AreOperands, writes, feeds, is_written, is_virtual, is_image, operand_format, operands_of, IsOrder, operand_outline, given_outline, written_outline, outlines, as_known, resolved, IsSolution, two_writers, has_loose_end, node_fault, first_fault, virtual_outputs, work_bytes, verdict, sum_by-cons, sum_by-append, fun_ext}
 use Rattle.std.proofs.lemmas.Bool.{and_from}
@@ -52,14 +52,14 @@ sum_map f h [] = refl
 sum_map f h (x ∷ xs) = grind (arith, sum_map f h xs, sum_by-cons (λ y. f (h y)) x xs, sum_by-cons f (h x) (map h xs))
 
 module _ (is : Cell → Operand) where
-  -- what is known of a cell is a virtual image
+  -- each resolved object is a virtual image
   pub known_virtual : (all : List Node) (known : List Known) → AreKnown is all known → (k : Known) → In k known → is_virtual (is k.cell) ≡ true
   known_virtual all known h k i = (In-from_filter (λ c. is_virtual (is c)) k.cell (flat_map outputs all) (subst (In k.cell) h.cells (In-map (λ (j : Known). j.cell) k known i))).1
 
   virtual_resolved : (all : List Node) (c : Cell) (o : Operand) → is_virtual o ≡ true → as_known o (outlines is all c) ≡ virtual_or_image (outlines is all c) (closed (outlines is all c))
   virtual_resolved all c o e = grind arith
 
-  -- what is known of a virtual image says what it is
+  -- the resolved description of a virtual image is that of the rounds
   pub known_resolved : (all : List Node) (known : List Known) → AreKnown is all known → (k : Known) → In k known → virtual_or_image k.outline (closed k.outline) ≡ resolved is all k.cell
   known_resolved all known h k i = grind (arith, learnt_from_known is all known h, virtual_resolved all k.cell (is k.cell) (known_virtual all known h k i), known_virtual all known h k i)
 
@@ -88,7 +88,7 @@ first_fault-None is (m ∷ nodes) h n i =
 pub first_format : (function : Function) (o : Operands) → node_fault function o ≡ None → (f : Format) × (operand_format o.in1 ≡ Some f)
 first_format function o h = grind arith
 
--- an outline of which nothing is open
+-- a description without open parts
 closed_is : (o : Outline) (d : Description) → closed o ≡ Some d → o ≡ outline_of d
 closed_is o d h = grind arith
 
@@ -139,7 +139,7 @@ In-closed_output : (known : List Known) (o : VirtualOutput) → In o (filter_map
 In-closed_output [] o i = absurd i
 In-closed_output (k ∷ known) o i = grind (arith, In-closed_output known o)
 
--- ---- the nodes beside their operands, and the steps
+-- ---- the nodes with their operands, and the steps
 
 abbrev links : Linked → Linked → Bool
 links a b = feeds a.node b.node
@@ -169,11 +169,11 @@ module _ (nodes steps : List Linked) (one : two_writers (linked_nodes nodes) ≡
   pub steps_images : All (λ (l : Linked). IsTrue (is_image l.operands.in1)) nodes → All (λ (l : Linked). IsTrue (is_image l.operands.in1)) steps
   steps_images images = All-permutation (λ (l : Linked). IsTrue (is_image l.operands.in1)) nodes steps order.same_nodes images
 
-  -- what is known of the steps' virtual images: of any cells that their operands are
+  -- the resolved virtual images of the steps, whatever objects the operands belong to
   abbrev Told : List Known → Type 0
   Told known = (is : Cell → Operand) → AreOperands is steps → AreKnown is (linked_nodes steps) known
 
-  -- the fault that is found by what is known
+  -- the fault that the resolved operands give
   abbrev Finds : List Known → Option Verdict → Type 0
   Finds known fault = (is : Cell → Operand) → All (λ l. known_operands known l ≡ operands_of is l.node) nodes → fault ≡ first_fault is (linked_nodes nodes)
 

@@ -65,7 +65,7 @@ no_cycle_when_ordered nodes steps order = sym (has_cycle-map (λ (l : Linked). l
 
 -- ---- one more node is in the order
 
--- what is written by a node or by others, and not by that node, is written by the others
+-- an object that a node or one of the others writes, and not that node, is written by the others
 without_one : (a b : Bool) → (a ≡ true → b ≡ false) → ((a || b) && not a) ≡ b
 without_one a b h = grind (arith, cases_Bool a, cases_Bool b)
 

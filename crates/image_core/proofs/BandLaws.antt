@@ -1,4 +1,4 @@
--- Rows of images that are written.
+-- Bands of output images.
 use Rattle.std.proofs.Common.{◌≡◌, ℕ, ℤ, pos, ◌+◌, ◌-◌, ◌*◌, ◌<◌, ◌≤◌, zero, suc, List, length, refl, ap, ◌∙◌, sym, subst, cond, arith, add-zero}
 use Rattle.vx_base.specs.declared.format.Format.{Format}
 use Rattle.vx_base.specs.Description.{Description}
@@ -19,7 +19,7 @@ pub rows_made : (d : Description) (format : Format) (r s : Rectangle) (f : ℕ �
 rows_made d format r s f rows room same is =
     rw (is, ← same) (ap (image_over d s) (sym (band_of_table d.width d.height rows.start rows.count (within s f) room)))
 
--- what is written where these rows of it are
+-- an output whose samples are these rows
 pub made_written : (old new : ImageMut) (format : Format) (r s : Rectangle) (f : ℕ → ℕ → ℤ) → IsTarget old → SameSlices old new
     → written new ≡ image_over old.desc r (band old.desc.width old.rows.start old.rows.count (within s f)) → old.desc.format ≡ format → r ≡ s → Writes (made old.desc.width old.desc.height format s f) old new
 made_written old new format r s f target same is known at =
@@ -44,7 +44,7 @@ pub slice_written : (old new : ImageMut) (format : Format) (s : Rectangle) (f : 
 slice_written old new format s f target same desc valid known is =
     made_written old new format new.valid s f target same (rw (desc, known, is) refl) known valid
 
--- the same, where what is written names its sides otherwise
+-- the same, with other terms for the image's sides
 pub slice_written_as : (old new : ImageMut) (format : Format) (width height : ℕ) (s : Rectangle) (f : ℕ → ℕ → ℤ) → IsTarget old → SameSlices old new → new.desc ≡ old.desc → new.valid ≡ s → old.desc.format ≡ format
     → old.desc.width ≡ width → old.desc.height ≡ height → slice_of format new.bytes.now new.shorts.now new.words.now ≡ band width old.rows.start old.rows.count (within s f) → Writes (made width height format s f) old new
 slice_written_as old new format width height s f target same desc valid known wide high is =
@@ -62,17 +62,17 @@ slice_cleared old new format width before target same desc valid known wide held
 pub all_rows_are : (image : ImageValue) → length image.samples ≡ image.height * image.width → rows_in (all_rows image.height) image ≡ image
 all_rows_are image size = same_parts (rows_in (all_rows image.height) image) image refl refl refl refl (samples_are_band image.samples image.width image.height size)
 
--- who lent all rows of an image has the image that is written
+-- an output over all rows is the whole image
 pub all_written : (image : ImageValue) (old new : ImageMut) → old.rows ≡ all_rows image.height → length image.samples ≡ image.height * image.width → Writes image old new → written new ≡ image
 all_written image old new all size is = is.value ∙ ap (λ rows. rows_in rows image) all ∙ all_rows_are image size
 
--- ---- what is written, said in another way
+-- ---- equal descriptions of an output
 
--- what is written is any image that is the same
+-- an output of an equal image
 pub written_same : (image other : ImageValue) (old new : ImageMut) → image ≡ other → Writes other old new → Writes image old new
 written_same image other old new is = subst (λ (a : ImageValue). Writes a old new) (sym is)
 
--- what is written is the image of the output's format
+-- an output in a format that equals the known one
 pub in_format : (image : Format → ImageValue) (format known : Format) (old new : ImageMut) → format ≡ known → Writes (image known) old new → Writes (image format) old new
 in_format image format known old new is = written_same (image format) (image known) old new (ap image is)
 
@@ -96,7 +96,7 @@ place_of_band width start count x y f across above below =
     ∙ get_or-table width count x (y - start) (λ x y. f x (start + y)) across (omega arith)
     ∙ ap (f x) back
 
--- who updates rows of an image writes what becomes of its samples
+-- an update of a band writes the band of the updated image
 pub updated_written : (old new : ImageMut) (before : ImageValue) (format : Format) (r : Rectangle) (next : ℕ → ℕ → ℤ → ℤ) → IsTarget old → rows_in old.rows before ≡ written old
     → Writes (made old.desc.width old.desc.height format r (λ x y. next x y (sample_from old.desc.width old.rows.start (written old).samples x y))) old new
     → Writes (made old.desc.width old.desc.height format r (λ x y. next x y (at before x y))) old new

@@ -1,4 +1,4 @@
--- Images of which only some rows are held.
+-- Images with the samples of one band, 0 elsewhere.
 use Rattle.std.proofs.Common.{◌≡◌, ℕ, ℤ, pos, ◌+◌, ◌-◌, ◌*◌, ◌<◌, ◌≤◌, true, false, List, [], ◌++◌, length, map, replicate, take, drop, get_or, ap, ◌∙◌, sym, subst, arith, length-append, append-nil, ltb, inl, inr}
 use Rattle.std.proofs.lemmas.Bool.{cases_Bool, ltb-true, ltb-false}
 use Rattle.std.proofs.lemmas.Bool.Decides.{nat_tests}
@@ -22,7 +22,7 @@ zeros_taken value zero m n is room = ap (map value) (take-replicate n m zero roo
 no_rows : (width : ℕ) → zero_rows width 0 ≡ []
 no_rows width = let none : 0 * width ≡ 0 = omega arith in ap (λ n. replicate n (pos 0)) none
 
--- where all rows are held
+-- for the band of all rows
 pub all_held : (d : Description) (valid : Rectangle) (rows : Band) (held samples : List ℤ) → rows ≡ all_rows d.height → held ≡ samples → image_over_rows d valid rows held ≡ image_over d valid samples
 all_held d valid rows held samples all same =
     let none : d.height - (0 + d.height) ≡ 0 = omega arith in
@@ -71,7 +71,7 @@ module _ (d : Description) (valid : Rectangle) (rows : Band) (samples : List ℤ
   fits : (x k n : ℕ) → k < n → x < width → k * width + x < n * width
   fits x k n a b = grind arith
 
-  -- the sample at a place of a row that is held
+  -- a sample in a row of the band
   pub at_held : (x y : ℕ) → x < width → has_row rows y ≡ true → at (image_over_rows d valid rows samples) x y ≡ sample_from width rows.start samples x y
   at_held x y across there =
       let from : rows.start ≤ y = grind (arith, nat_tests) in
@@ -82,7 +82,7 @@ module _ (d : Description) (valid : Rectangle) (rows : Band) (samples : List ℤ
       ∙ ap (λ n. get_or (samples ++ below) n (pos 0)) (omega arith)
       ∙ get_or_append_left samples below (pos 0) ((y - rows.start) * width + x) (omega arith)
 
-  -- the sample at a place of any other row
+  -- a sample in any other row
   pub at_other : (x y : ℕ) → x < width → y < d.height → has_row rows y ≡ false → at (image_over_rows d valid rows samples) x y ≡ pos 0
   at_other x y across low absent = elim (cases_Bool (ltb y rows.start)) [
     | inl e ↦
@@ -101,7 +101,7 @@ module _ (d : Description) (valid : Rectangle) (rows : Band) (samples : List ℤ
         ∙ get_or-replicate ((d.height - end) * width) (y * width + x - rows.start * width - rows.count * width) (pos 0) (pos 0) (omega arith)
   ]
 
-  -- a row that is held
+  -- a row of the band
   pub row_held : {T : Type 0} (value : T → ℤ) (xs : List T) (start step y : ℕ) → map value xs ≡ samples → start ≡ (y - rows.start) * width → step ≡ width → has_row rows y ≡ true
       → map value (take (start + step - start) (drop start xs)) ≡ row_of (image_over_rows d valid rows samples) y
   row_held value xs start step y same begin is there =
@@ -115,13 +115,13 @@ module _ (d : Description) (valid : Rectangle) (rows : Band) (samples : List ℤ
   row_other y low absent =
       sym (run-same (λ x. at (image_over_rows d valid rows samples) x y) (λ _. pos 0) 0 width (λ x a b. at_other x y (omega arith) low absent) ∙ run-constant (pos 0) 0 width)
 
--- a row that is held is a part of the samples
+-- the samples of a row of the band are within the band's samples
 pub row_in_held : (rows : Band) (width y : ℕ) → has_row rows y ≡ true → (y - rows.start) * width + width ≤ rows.count * width
 row_in_held rows width y there =
     let inside : y - rows.start < rows.count = grind (arith, nat_tests) in
     row_fits width rows.count (y - rows.start) inside
 
--- rows of an image, held alone
+-- a band of an image
 module _ (a : ImageValue) (rows : Band) (room : IsInRows a.height rows) where
   size : length (band a.width rows.start rows.count (at a)) ≡ rows.count * a.width
   size = length-band a.width rows.start rows.count (at a)

@@ -33,7 +33,7 @@ piece_written value g out ws x m k r n end size begun at_end before long is =
     rw (take-put_mid (m * k) r out ws (min (m * (k + 1)) n) more (omega (arith, size)), map-append value (take (m * k) out) ws, so_far, is, more)
     (sym (run-append g x (m * k) (length ws)))
 
--- a row of which all pieces are written
+-- a row after all its pieces are written
 pub row_of_pieces : {T : Type 0} (value : T → ℤ) (g : ℕ → ℤ) (out : List T) (x m k n : ℕ) → 1 ≤ m → length out ≡ n → n / m + min 1 (n % m) ≤ k → map value (take (min (m * k) n) out) ≡ run x (min (m * k) n) g → map value out ≡ run x n g
 row_of_pieces value g out x m k n some size h written =
     let end = pieces_end n m k some h in

@@ -13,7 +13,7 @@ row_lent value xs image start step y h same at is below =
     row_part value xs start step image.width image.height y (sym (length-map xs value) ∙ ap length same ∙ h.size) below at is
     ∙ ap (λ zs. run 0 image.width (λ x. get_or zs (y * image.width + x) (pos 0))) same
 
--- samples of a row, so many from a place on
+-- n samples of a row, from column x on
 pub part_of : {A : Type 0} (of : A → ℤ) (row : List A) (g : ℕ → ℤ) (w start x n : ℕ) → start ≡ x → x + n ≤ w → length row ≡ w → map of row ≡ run 0 w g → map of (take n (take (length row - start) (drop start row))) ≡ run x n g
 part_of of row g w start x n at room long same =
     ap (map of) (take-take n (length row - start) (drop start row) (omega arith))
@@ -31,7 +31,7 @@ row_of_band_written value width start count k first step f out row size below at
     (ap (λ n. map value (take n out)) at ∙ before)
     (here ∙ ap (λ n. run 0 n (λ x. f x (start + k))) part)
 
--- a row through an area is zeros, what is written in its columns, and zeros
+-- a row that crosses an area: zeros, the samples of the area's columns, zeros
 pub row_in_three : {T : Type 0} (value : T → ℤ) (r : Rectangle) (f : ℕ → ℕ → ℤ) (n x0 x1 y a b c : ℕ) (v w : ℤ) (front inside back : List T) → v ≡ pos 0 → w ≡ pos 0 → a ≡ x0 → b ≡ x1 - x0 → c ≡ n - x1
     → map value front ≡ replicate a v → map value inside ≡ run x0 b (λ x. f x y) → map value back ≡ replicate c w
     → r.x0 ≡ x0 → r.x1 ≡ x1 → x0 ≤ x1 → x1 ≤ n → r.y0 ≤ y → y < r.y1 → map value (front ++ (inside ++ back)) ≡ run 0 n (λ x. within r f x y)

@@ -1,11 +1,11 @@
--- What windows see in rows around a place.
+-- What windows read in rows near a pixel.
 use Rattle.std.proofs.Common.{◌≡◌, ℕ, ℤ, pos, ◌+◌, ◌-◌, ◌/◌, ◌<◌, ◌≤◌, ◌+ℤ◌, ◌-ℤ◌, ◌*ℤ◌, ◌≤ℤ◌, true, cond, map, refl, sym, ◌∙◌, ap, arith, zero, suc, unsigned_abs}
 use Rattle.node_rows.proofs.Common.{ints, cases_Bool, nat_tests, Border, Undefined, Constant, Replicate, Rectangle, inside, ImageValue, IsImage, at, ConvolutionValue, holds, nearest, look, nine_around, row_product, matrix_product, window_valid, AgreeInRows}
 use Rattle.std.specs.List.{range_with_len}
 use Rattle.vx_base.specs.Convolution.{coefficient}
 use Rattle.vx_base.specs.Window.{total}
 
--- ---- what is seen, said of a rectangle and a function of places
+-- ---- what a window reads, for a rectangle and a function of pixels
 
 abbrev pub beside_of : Rectangle → (ℕ → ℕ → ℤ) → Border → ℤ → ℤ → ℤ
 beside_of r f Undefined x y = pos 0
@@ -18,7 +18,7 @@ look_of r f border x y = cond (holds r x y) (f (unsigned_abs x) (unsigned_abs y)
 pub look-of : (image : ImageValue) (border : Border) (x y : ℤ) → look image border x y ≡ look_of image.valid (at image) border x y
 look-of image border x y = grind arith
 
--- a row at most so many rows above row y or below it
+-- a row at most `rows` rows above or below row y
 pub record IsNear (rows y : ℕ) (v : ℤ) : Type 0 where
   pub above : pos y ≤ℤ (v +ℤ pos rows)
   pub below : v ≤ℤ (pos y +ℤ pos rows)
@@ -115,11 +115,11 @@ matrix_near c f g x y same =
 
 -- ---- images that agree near a row
 
--- where a window has its place, its image is valid in the place's row
+-- a row with an output pixel of a window function has a valid pixel in the input
 pub valid_row : (border : Border) (rx ry : ℕ) (r : Rectangle) (x y : ℕ) → inside (window_valid border rx ry r) x y ≡ true → HasRow r y
 valid_row border rx ry r x y h = grind (arith, nat_tests)
 
--- what is seen in rows near that of a place
+-- windows read the same in rows near that of a pixel
 pub look_near : (a b : ImageValue) (border : Border) (rx ry rows x y : ℕ) → IsImage a → inside (window_valid border rx ry a.valid) x y ≡ true → AgreeInRows (y - rows) (y + rows) a b → (u v : ℤ) → IsNear rows y v → look a border u v ≡ look b border u v
 look_near a b border rx ry rows x y image h agree u v near =
     look-of a border u v

@@ -1,4 +1,4 @@
--- What a node gives in a row.
+-- One row of a node's result.
 use Rattle.std.proofs.Common.{◌≡◌, ℕ, ℤ, pos, ◌+◌, ◌-◌, ◌/◌, ◌<◌, ◌≤◌, true, List, refl, ◌∙◌, ap, arith, Option, Some, None, IfSome, int_div, ◌^◌}
 use Rattle.node_rows.proofs.Common.{cases_Bool, Border, Format, Function, NotBits, ConvertDepth, Node, Output, Rectangle, inside, meet_of, clamp, Description, ImageValue, IsImage, at, made, ConvolutionValue, ObjectValue, ImageObject, LutObject, ThresholdObject, ConvolutionObject, IsObject, from_one, from_two, formula_of_one, formula_of_two, looked_up, thresholded, look, nine_around, convolved, window_valid, from_nine, from_matrix, formula_of_nine, image_of_one, node_image, at-made, at-made_outside, column_inside, both_inside, matrix_in, reach, AgreeInRows}
 use Rattle.vx_base.specs.Image.{description_of}
@@ -50,7 +50,7 @@ agree_in_all a b p q agree =
 agree_itself : (first last : ℕ) (a : ImageValue) → AgreeInRows first last a a
 agree_itself first last a = record { alike = record { description = refl; valid = refl }; samples = λ x y i j k l. refl }
 
--- what stands beside is the same in fewer rows too
+-- second operands that agree in some rows agree in fewer of them
 beside_fewer : (above first last below : ℕ) (second other : Option ObjectValue) → above ≤ first → last ≤ below → AgreeBeside above below second other → AgreeBeside first last second other
 beside_fewer above first last below (Some (ImageObject a)) (Some (ImageObject b)) from to agree = agree_fewer above first last below a b from to agree
 beside_fewer above first last below second other from to same = same
@@ -116,7 +116,7 @@ module _ (n : Node) (output : Output) (format : Format) (a b : ImageValue) where
       (within_reach rows 1 y a b e agree) left high in
       grind (arith, nine, zero_row format a b n.border x y agree.alike left high)
 
-  -- with the same beside the first input
+  -- with equal second operands
   same_beside_row : (second : Option ObjectValue) (rows x y : ℕ) → IfSome second IsObject → reach n.function (matrix_in second) ≡ Some rows → IsImage a → AgreeInRows (y - rows) (y + rows) a b → x < a.width → y < a.height → at (node_image n output format a second) x y ≡ at (node_image n output format b second) x y
   same_beside_row None rows x y object far image agree left high = one_image_row n.function rows x y far image agree left high
   same_beside_row (Some (ImageObject c)) rows x y object far image agree left high =
@@ -127,7 +127,7 @@ module _ (n : Node) (output : Output) (format : Format) (a b : ImageValue) where
       matrix_row format a b matrix n.border x y image (within_reach rows (matrix.rows / 2) y a b far agree) left high
   same_beside_row (Some other) rows x y object far image agree left high = one_row format a b (λ _. pos 0) x y (here rows y a b agree) left high
 
-  -- with images beside the first inputs that agree in the row, or the same
+  -- with second operands that are equal, or images that agree in the row
   pub node_row : (second other : Option ObjectValue) (rows x y : ℕ) → IfSome second IsObject → reach n.function (matrix_in second) ≡ Some rows → IsImage a → AgreeInRows (y - rows) (y + rows) a b → AgreeBeside y y second other → x < a.width → y < a.height → at (node_image n output format a second) x y ≡ at (node_image n output format b other) x y
   node_row (Some (ImageObject c)) (Some (ImageObject d)) rows x y object far image agree beside left high =
       two_row format a b (formula_of_two n.function format n.policy n.amount) c d x y object (here rows y a b agree) beside left high

@@ -28,7 +28,7 @@ room_mono class other within =
     let e : class + (other - class) ≡ other = omega arith in
     rw e at (room_rises class (other - class) (omega arith))
 
--- the room of a class is far from the end of the numbers
+-- the capacity of a class can't overflow
 pub room_small : (class : ℕ) → class ≤ class_count → class_room class ≤ class * 2 ^ 23
 room_small zero within = omega (arith, room_zero)
 room_small (suc class) within = omega (arith, room_suc class, step_small class (omega arith), room_small class (omega arith))

@@ -25,7 +25,7 @@ length_at stacks class = get_or-map (λ (s : Stack). s.len) stacks class no_stac
 pub lengths_set : (stacks : List Stack) (class : ℕ) (stack : Stack) → lengths (set stacks class stack) ≡ set (lengths stacks) class stack.len
 lengths_set stacks class stack = map-set (λ (s : Stack). s.len) stacks class stack
 
--- a class of which a block is free is one
+-- a class with a free block exists
 pub free_within : (free : List ℕ) (class : ℕ) → 0 < get_or free class 0 → class < length free
 free_within [] class some = absurd (omega arith)
 free_within (n ∷ free) zero some = omega arith
@@ -69,11 +69,11 @@ no_room free none zero = below_zero free
 no_room free none (suc class) =
     rw (← add-one) (below_more free class ∙ rw (no_room free none class, no_len free none class) (omega arith))
 
--- no free blocks are not too many
+-- without free blocks the limits are kept
 pub none_is_trim : (free : List ℕ) → free_count free ≡ 0 → IsTrim free
 none_is_trim free none = record { blocks = omega (arith, none); room = omega (arith, no_room free none class_count) }
 
--- the room of free blocks is far from the end of the numbers
+-- the total capacity of the free blocks can't overflow
 pub room_bound : (free : List ℕ) (class : ℕ) → class ≤ class_count → room_below free class ≤ class * (free_count free * 2 ^ 31)
 room_bound free zero within = omega (arith, below_zero free)
 room_bound free (suc class) within =
@@ -89,7 +89,7 @@ room_beside free class n (suc top) within =
     let more : room_below (set free class n) (top + 1) ≡ room_below (set free class n) top + get_or free top 0 * class_room top = rw e at (below_more (set free class n) top) in
     rw (← add-one) (omega (arith, more, below_more free top, room_beside free class n top (omega arith)))
 
--- the room of free blocks after those of one class are others
+-- the total capacity of the free blocks after their number in one class changes
 pub room_set : (free : List ℕ) (class n top : ℕ) → class < length free → class < top
     → room_below (set free class n) top + get_or free class 0 * class_room class ≡ room_below free top + n * class_room class
 room_set free class n zero inside below = absurd (omega arith)

@@ -1,4 +1,4 @@
--- Lemmas on stacks of free blocks: what stays of them where a block comes or goes.
+-- Stacks of free blocks: what is unchanged when a block is added or removed.
 use Rattle.std.proofs.Common.{◌≡◌, ◌≢◌, ℕ, zero, suc, ◌+◌, ◌-◌, ◌<◌, ◌≤◌, ◌⊎◌, List, length, get_or, set, replicate, length-set, [], ◌∷◌, Some, ◌*◌, None, IsSomeAnd, vec_capacity, refl, sym, ap, ◌∙◌, inl, inr, arith}
 use Rattle.std.proofs.lemmas.List.{length-map, length-replicate, get_or-set_same, get_or-set_other}
 use Rattle.std.proofs.lemmas.List.Sums.{sum_by-set, get_or-le-sum_by}
@@ -50,7 +50,7 @@ module _ {T : Type 0} where
       → get free stack.top ≡ Some block → IsTopOf class stack.len block
   top_of free class stack block is some found = rw found at (is some)
 
-  -- the top block of a class of which one is free
+  -- the top block of a class with a free block
   pub top_free : (stacks : List Stack) (free : Slab (Free T)) (lent class : ℕ) (was : ShelfValue) (block : Free T)
       → ◌≡◌ {A = ShelfValue} (record { lent = lent; free = lengths stacks }) was → AreStacks stacks free → HasFree was.free class
       → get free (stack_at stacks class).top ≡ Some block
@@ -73,7 +73,7 @@ module _ {T : Type 0} where
       → (0 < stack.len → get new stack.top ≡ get old stack.top) → IsStack new class stack
   stack_kept old new class stack is same some = rw (same some) (is some)
 
-  -- what is found where one key was emptied was there before
+  -- a value found after one key was removed was there before
   pub kept_value : (old new : Slab (Free T)) (gone key : ℕ) (block : Free T) → Updates old new gone None → get new key ≡ Some block → get old key ≡ Some block
   kept_value old new gone key block u h =
       elim (same_or_not key gone) [
@@ -81,7 +81,7 @@ module _ {T : Type 0} where
         | inr other ↦ let e = u.others key other in cc
       ]
 
-  -- a key where something is found isn't the one that was emptied
+  -- a key with a value isn't the one that was removed
   pub not_gone : (old new : Slab (Free T)) (gone key : ℕ) (block : Free T) → Updates old new gone None → get new key ≡ Some block → key ≢ gone
   not_gone old new gone key block u h same = let e : get new key ≡ None = rw same u.changed in cc
 
@@ -285,7 +285,7 @@ module _ {T : Type 0} where
         counted = ap free_count (empty_lengths 193) ∙ empty_count 193 ∙ sym (no_values free none);
       }
 
-  -- what is seen of a shelf once the top block of a class is lent
+  -- the view of a shelf after the top block of a class is lent
   pub lent_value : (stacks : List Stack) (free : Slab (Free T)) (class lent : ℕ) (block : Free T) (was : ShelfValue)
       → ◌≡◌ {A = ShelfValue} (record { lent = lent; free = lengths stacks }) was → IsTopOf class (stack_at stacks class).len block
       → ◌≡◌ {A = ShelfValue} (record { lent = lent + 1; free = lengths (set stacks class block.under) }) (record { lent = was.lent + 1; free = without_one was.free class })
@@ -299,7 +299,7 @@ module _ {T : Type 0} where
   lent_count stacks free class lent block was is top inside =
       rw (← is) (omega (arith, counted_set stacks class block.under inside, top.1))
 
--- what is seen of a shelf once a block has come to a class
+-- the view of a shelf after a block is added to a class
 pub back_value : (stacks : List Stack) (class lent room key : ℕ) (was : ShelfValue) → ◌≡◌ {A = ShelfValue} (record { lent = lent; free = lengths stacks }) was
     → IsClassOf room class → class < length stacks
     → GetsFree room was.free (lengths (set stacks class (record { top = key; len = (stack_at stacks class).len + 1 })))

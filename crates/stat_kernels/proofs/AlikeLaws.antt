@@ -1,4 +1,4 @@
--- Rows of an image that stand for rows of another, so many further down.
+-- Rows of an image that equal rows of another one, at different heights.
 use Rattle.std.proofs.Common.{◌≡◌, ◌∙◌, ℕ, ℤ, ◌+◌, ◌-◌, ◌<◌, ◌≤◌, true, false, ◌&&◌, nat_le, nat_lt, [], if◌then◌else◌, inl, inr, ap, sym, subst, arith}
 use Rattle.stat_kernels.proofs.Common.{cases_Bool, nat_tests, ImageValue, Rectangle, at, extremes, places, row_places, Band, band_of, valid_in}
 use Rattle.vx_base.specs.Rectangle.{inside}
@@ -27,7 +27,7 @@ none_inside r y none x = elim (cases_Bool (inside r x y)) [
   | inr not ↦ not
 ]
 
--- rows with the same valid places and the same samples there, the second so many rows further down
+-- rows with the same valid columns and the same samples there, the second `down` rows lower
 pub row_lowered : (r s : Rectangle) (f g : ℕ → ℕ → ℤ) (y down width : ℕ) → ((x : ℕ) → inside r x y ≡ inside s x (y + down)) → ((x : ℕ) → x < width → f x y ≡ g x (y + down)) → s.x1 ≤ width
     → AreLowered down f g (row_of r y) (row_of s (y + down))
 row_lowered r s f g y down width same samples within = elim (cases_Bool (inside r r.x0 y)) [
@@ -57,7 +57,7 @@ band_lowered part whole rows line down at_line are =
     (row_lowered part.valid whole.valid (at part) (at whole) (rows.start + j) down whole.width
     (λ x. row.valid x ∙ ap (inside whole.valid x) there) (λ x inside_it. row.samples x inside_it ∙ ap (at whole x) there) are.is.room.columns))
 
--- extremes of two bands of which one follows the other
+-- the extremes of two adjacent bands
 pub parts_located : (part whole : ImageValue) (rows : Band) (start first down : ℕ) → rows.start + down ≡ start + first → AreRowsOf part rows whole (start + first)
     → added_extremes down (extremes (valid_in (rows_at start first) whole)) (extremes (valid_in rows part)) ≡ extremes (valid_in (rows_at start (first + rows.count)) whole)
 parts_located part whole rows start first down at_line are =
@@ -65,7 +65,7 @@ parts_located part whole rows start first down at_line are =
     (places (band_of (rows_at (start + first) rows.count) whole.valid)) (band_lowered part whole rows (start + first) down at_line are)
     ∙ cc (rows_follow whole.valid start first rows.count)
 
--- of one image, whose rows stand for themselves
+-- for two bands of one image
 pub bands_joined : (image : ImageValue) (start first second : ℕ)
     → added_extremes 0 (extremes (valid_in (rows_at start first) image)) (extremes (valid_in (rows_at (start + first) second) image)) ≡ extremes (valid_in (rows_at start (first + second)) image)
 bands_joined image start first second =

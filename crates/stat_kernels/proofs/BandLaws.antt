@@ -142,7 +142,7 @@ added_all before more now k past so_far =
     fill_by_all (λ j. slice_index before j + slice_index more j) now (length before)
     0 so_far.size (λ j below. grind (arith, nat_tests, so_far.each j, past, below))
 
--- the samples of two bands of which the second follows the first, from the top
+-- the samples of two adjacent bands, in row-major order
 pub bands_fit : (image : ImageValue) → IsImage image → (start count : ℕ)
     → length (valid_samples (valid_in (rows_at 0 start) image)) + length (valid_samples (valid_in (rows_at start count) image)) < 4294967296
 bands_fit image is start count =
@@ -172,7 +172,7 @@ few_samples image is rows =
 
 -- ---- extremes of bands
 
--- rows of an image, and those of another that are so many rows further down: the same places of each row, and samples
+-- bands of two images with the same valid columns and samples in each row, the second `down` rows lower
 pub places_lowered : (a b : ImageValue) (down one other count : ℕ)
     → ((j : ℕ) → j < count → AreLowered down (at a) (at b) (row_of a.valid (one + j)) (row_of b.valid (other + j)))
     → AreLowered down (at a) (at b) (places (band_of (rows_at one count) a.valid)) (places (band_of (rows_at other count) b.valid))
@@ -182,7 +182,7 @@ places_lowered a b down one other (suc count) rows =
     let first = places_lowered a b down one other count (λ j below. rows j (omega (arith, below))) in
     rw (next, one_row a.valid one count, one_row b.valid other count) (lowered_more down (at a) (at b) _ _ _ _ first (rows count (omega arith)))
 
--- extremes of the upper rows of an image, and of a band of another that stands for those below them
+-- the extremes of the upper rows of an image, merged with those of a band of another image that equals the rows below them
 pub bands_located : (a b : ImageValue) (down one start count : ℕ)
     → AreLowered down (at a) (at b) (places (band_of (rows_at one count) a.valid)) (places (band_of (rows_at start count) b.valid))
     → added_extremes down (extremes (valid_in (rows_at 0 start) b)) (extremes (valid_in (rows_at one count) a)) ≡ extremes (valid_in (rows_at 0 (start + count)) b)

@@ -1,4 +1,4 @@
--- Extremes of one more row.
+-- Extremes with one more row.
 use Rattle.std.proofs.Common.{zero, suc, ◌⊎◌, inl, inr, ◌≡◌, ℕ, ℤ, pos, ◌+◌, ◌<◌, ◌≤◌, List, [], ◌∷◌, ◌++◌, length, map, cond, Bool, true, false, ap, ◌∙◌, sym, refl, arith, Some, None, ◌-◌, take, get_or, add-one, int_lt, append-nil}
 use Rattle.stat_kernels.proofs.Common.{fold, flat_map, range_with_len, All, Rectangle, int_eq, int_min, int_max, cases_Bool, cases_eq, ints, map-append, length-map, sum_by-append, sum_by-cons, count_by-le-length, All-nil, All-cons, All-head, All-tail, nat_tests, ImageValue, at, run, row_places, places, chosen, count_of, first_of, Part, Found, IsValidPart, get_or-run, take-map-range_with_len, found_in, extremes_of}
 use Rattle.stat_kernels.specs.declared.located.Located.{Located}
@@ -117,7 +117,7 @@ first_in_row f v x n y i m split none is =
 pub at_most : (choose : ℤ → ℤ → ℤ) (f : ℕ → ℕ → ℤ) (ps : List (ℕ × ℕ)) → (located choose f ps).count ≤ length ps
 at_most choose f ps = omega (arith, count_by-le-length (λ s. int_eq s (chosen choose (samples f ps))) (samples f ps), length-map ps (λ p. f p.0 p.1))
 
--- ---- what is found in places and in others behind them
+-- ---- the extremes of some pixels and of later ones
 
 abbrev pub parts : ℤ → ℕ → ℕ × ℕ → Located
 parts value count place = record { value = value; count = count; at = place }
@@ -241,7 +241,7 @@ row_found image x count y n row old new wide same more before found =
 pub found_joined : (f : ℕ → ℕ → ℤ) (ps qs : List (ℕ × ℕ)) → joined_found (found_in f ps) (found_in f qs) ≡ found_in f (ps ++ qs)
 found_joined f ps qs = cc (located_joined int_min int_lt downwards f ps qs, located_joined int_max (λ z v. int_lt v z) upwards f ps qs)
 
--- so many places more may hold what is found in the rows above
+-- the counts of the rows above leave room for the pixels of one more row
 pub found_room : (image : ImageValue) (part : Part) → IsValidPart image part → (y : ℕ) (found : Found) → found ≡ found_in (at image) (places (above image.valid y)) → part.top ≤ y → y < part.bottom
     → (found.least.count + part.count < 4294967296) × (found.greatest.count + part.count < 4294967296)
 found_room image part is y found same from below =
@@ -249,9 +249,9 @@ found_room image part is y found same from below =
     let few = λ (choose : ℤ → ℤ → ℤ). at_most choose (at image) (places (above image.valid y)) in
     (omega (arith, ap (λ (f : Found). f.least.count) same, few int_min, fit), omega (arith, ap (λ (f : Found). f.greatest.count) same, few int_max, fit))
 
--- ---- places and the same so many rows further down
+-- ---- pixels, and the same pixels some rows lower
 
--- what is found first is above the end of the places' rows
+-- the first pixel found is not below the last row
 find_row : (t : ℕ × ℕ → Bool) (x n y end : ℕ) → y ≤ end → (unwrap_or (find t (row_places x n y)) (0, 0)).1 ≤ end
 find_row t x zero y end below = omega arith
 find_row t x (suc n) y end below = grind (arith, cases_Bool (t (x, y)), find_row t (x + 1) n y end below)
@@ -266,7 +266,7 @@ find_rows t x n y (suc m) end below =
 pub first_within : (f : ℕ → ℕ → ℤ) (v : ℤ) (r : Rectangle) → (first_of f v (places r)).1 ≤ r.y0 + (r.y1 - r.y0)
 first_within f v r = find_rows (holds f v) r.x0 (r.x1 - r.x0) r.y0 (r.y1 - r.y0) (r.y0 + (r.y1 - r.y0)) (omega arith)
 
--- where the first of them is in each of two lists of places, of which the second's are so many rows further down
+-- the first pixel found in each of two lists of pixels, the second of which is some rows lower
 abbrev down_by : ℕ → ℕ × ℕ → ℕ × ℕ
 down_by down p = (p.0, p.1 + down)
 
@@ -297,7 +297,7 @@ module _ (down : ℕ) (f g : ℕ → ℕ → ℤ) where
       let rest : samples f ps ≡ samples g (map (down_by down) ps) = cc in
       grind (arith, cases_Bool (int_eq (f p.0 p.1) v), count_cons v (f p.0 p.1) (samples f ps), here, first_same v ps rest)
 
-  -- what is found in the one and lowered is what is found in the other, as far as something is found
+  -- merging the extreme of one list, moved down, equals merging that of the other
   pub joined_lowered : (choose : ℤ → ℤ → ℤ) (beyond : ℤ → ℤ → Bool) (ps qs : List (ℕ × ℕ)) → AreLowered ps qs → (a : Located)
       → joined beyond a (lowered down (located choose f ps)) ≡ joined beyond a (located choose g qs)
   joined_lowered choose beyond ps qs are a = elim (cases_eq (located choose f ps).count 0) [

@@ -155,7 +155,7 @@ pub last_is : (width : ℕ) (before : List ℕ) (last above : Option (Bor (List 
 last_is width before None above is = grind (arith, is, cases_Bool (length before == 0))
 last_is width before (Some r) above is = grind (arith, is, cases_Bool (length before == 0))
 
--- above the next row stands the last of those that are there, or the one above them all
+-- the row above the next one: the last of those written, or the row above them all
 pub row_above : (whole : ImageValue) (line k width : ℕ) (before : List ℕ) (above : Option (List ℕ)) → 1 ≤ width → width ≡ whole.width → map pos before ≡ band width line k (within whole.valid (sum_to whole))
     → length before ≡ k * width → IsRowAbove whole line above → IsRowAbove whole (line + k) (last_or width before above)
 row_above whole line k width before above wide same are long is_above = by_count k are long

@@ -63,11 +63,11 @@ module _ (image : ImageValue) (part : Part) (is : IsValidPart image part) where
       ap (λ l. places (above image.valid y) ++ l) (ap (λ k. row_places k part.count y) is.x ∙ ap (λ n. row_places image.valid.x0 n y) is.count)
       ∙ sym (places_more image.valid y (omega arith))
 
-  -- so many places are counted in 32 bits
+  -- the number of pixels fits in 32 bits
   pub places_fit : (y : ℕ) → part.top ≤ y → y < part.bottom → length (places (above image.valid y)) + part.count < 4294967296
   places_fit y ordered below = omega (arith, length-places (above image.valid y), is.count, is.top, rows_fit (y - image.valid.y0) (image.valid.x1 - image.valid.x0) (omega (arith, is.rows_fit, is.top)) (omega (arith, is.count, is.columns_fit)))
 
-  -- so many samples are counted in 32 bits
+  -- the number of samples fits in 32 bits
   pub samples_fit : length (samples_in image.valid image) < 4294967296
   samples_fit = omega (arith, length-samples image.valid image, area_fits (image.valid.y1 - image.valid.y0) (image.valid.x1 - image.valid.x0) (omega (arith, is.rows_fit, is.bottom)) (omega (arith, is.count, is.columns_fit)))
 

@@ -93,7 +93,7 @@ sums_go_on image start mid above x y from to is = elim (cases_lt image.valid.y0 
 
 -- ---- one row
 
--- the samples beside and in the valid columns
+-- the samples in the valid columns and outside them
 pub row_is : (r : Rectangle) (f : ℕ → ℕ → ℤ) (width x count y : ℕ) (left sums right : List ℕ) → x ≡ r.x0 → count ≡ r.x1 - r.x0 → r.x0 ≤ r.x1 → x + count ≤ width → r.y0 ≤ y → y < r.y1
     → left ≡ replicate x 0 → right ≡ replicate (width - (x + count)) 0 → length sums ≡ count → ((k : ℕ) → k < count → pos (get_or sums k 0) ≡ f (r.x0 + k) y)
     → map pos (left ++ (sums ++ right)) ≡ run 0 width (λ k. within r f k y)

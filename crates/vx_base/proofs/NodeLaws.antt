@@ -28,7 +28,7 @@ amount_of n shape = front (has_amount (parameters n.function) n.policy n.amount)
     front true q h = refl
     front false q h = h
 
--- ---- what beside the first input isn't an image
+-- ---- second operands that aren't images
 
 -- no entry, or past them 0, is anything but a sample
 looked_up_sample : (lut : LutValue) (a : ℤ) → All (IsSample lut.format) lut.entries → IsSample lut.format (looked_up lut a)
@@ -143,7 +143,7 @@ pub takes_no_extremes : (function : Function) → (parameters function).second_i
 takes_no_extremes AndBits h = cc
 takes_no_extremes other h = cc
 
--- no function has a graph or only a virtual image beside its first input
+-- no function has a graph or a virtual image as its second operand
 pub takes_no_graph : (function : Function) → (parameters function).second_input ≡ Some kind.Graph → ⊥
 takes_no_graph AndBits h = cc
 takes_no_graph other h = cc
@@ -200,7 +200,7 @@ module _ (n : Node) (format : Format) (a : ImageValue) (is : IsNode n) (image : 
   node_image_is output (Some (GraphObject graph)) h k t = absurd (takes_no_graph n.function k)
   node_image_is output (Some (VirtualObject image)) h k t = absurd (takes_no_virtual n.function k)
 
-  -- what accumulates gives an image, whatever the output held
+  -- an accumulating function gives an image, whatever its output was before
   pub accumulated_image_is : (output : Output) (old : ImageValue) → accumulates n.function ≡ true → IsImage old → IsImage (node_image n output format a (Some (ImageObject old)))
   accumulated_image_is output old h is_old =
       from_two_is format (formula_of_two n.function format n.policy n.amount) a old image is_old (λ y z p q. accumulated_is n.function format n.policy n.amount y z h)

@@ -83,11 +83,11 @@ places_decide r s p q same = cases (empty_or_proper r p) (empty_or_proper s q)
 bounded_inside : (x0 y0 x1 y1 x y : ℕ) → inside (bounded x0 y0 x1 y1) x y ≡ inside (record { x0 = x0; y0 = y0; x1 = x1; y1 = y1 }) x y
 bounded_inside x0 y0 x1 y1 x y = grind (arith, nat_tests)
 
--- what is written as a rectangle is ordered
+-- the starts of a rectangle in canonical form are not above its ends
 pub rectangle_ordered : (r : Rectangle) → IsTrue (is_rectangle r.x0 r.y0 r.x1 r.y1) → IsOrdered r
 rectangle_ordered r h = record { columns = grind (arith, nat_tests); rows = grind (arith, nat_tests) }
 
--- a rectangle by its bounds is ordered, and no farther than they are
+-- the same for a rectangle made from bounds; and it does not exceed the bounds
 pub bounded_ordered : (x0 y0 x1 y1 : ℕ) → IsOrdered (bounded x0 y0 x1 y1)
 bounded_ordered x0 y0 x1 y1 = record { columns = grind (arith, nat_tests); rows = grind (arith, nat_tests) }
 

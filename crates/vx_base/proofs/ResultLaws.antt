@@ -1,4 +1,4 @@
--- What comes of samples is a sample.
+-- The results of samples are samples.
 use Rattle.std.proofs.Common.{ℕ, ℤ, pos, negsuc, ◌+ℤ◌, ◌-ℤ◌, ◌*ℤ◌, ◌≤◌, ◌*◌, ◌^◌, arith, rules, ◌≡◌, true, false, IsTrue, Some, None, int_div}
 use Rattle.vx_base.proofs.Common.{int_div_euclid, ints, Format, U8, S16, Function, AndBits, OrBits, XorBits, NotBits, Add, Subtract, Multiply, AbsoluteDifference, MinPixel, MaxPixel, Threshold, TableLookup, ConvertDepth, Box, Gaussian, Median, Erode, Dilate, Sobel, Convolve, Histogram, Integral, MinMaxLoc, Accumulate, AccumulateSquare, IsSample, wrap, parameters, accumulates, takes_formats, has_amount, formula_of_one, formula_of_two}
 use Rattle.std.proofs.lemmas.Nat.{or_lt, xor_lt}
@@ -107,7 +107,7 @@ of_two Accumulate first second output policy n a b t p q = clamp_sample output (
 of_two AccumulateSquare first second output policy n a b t p q = clamp_sample output (b +ℤ int_div_euclid (a *ℤ a) (pos (2 ^ n)))
 of_two function first second output policy n a b t p q = not_so t
 
--- whatever an output held
+-- whatever the output was before
 pub accumulated_is : (function : Function) (format : Format) (policy : Policy) (n : ℕ) (a c : ℤ) → accumulates function ≡ true → IsSample format (formula_of_two function format policy n a c)
 accumulated_is Accumulate format policy n a c h = clamp_sample format (c +ℤ a)
 accumulated_is AccumulateSquare format policy n a c h = clamp_sample format (c +ℤ int_div_euclid (a *ℤ a) (pos (2 ^ n)))

@@ -9,7 +9,7 @@ pub rest_agrees : (m : ℕ) (v : ℤ) → 0 < m → AgreesModulo m v (int_rem_eu
 rest_agrees m (pos a) h = (pos (a / m), omega (arith, ints))
 rest_agrees m (negsuc a) h = (negsuc (a / m), omega (arith, ints))
 
--- half of the rests stand for negative numbers
+-- the upper half of the remainders represents negative numbers
 pub signed_agrees : (v m : ℤ) → AgreesModulo 65536 v m → AgreesModulo 65536 v (signed_of m)
 signed_agrees v m h = signed (int_lt m (pos 32768)) h
   where

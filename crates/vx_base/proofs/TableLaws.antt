@@ -82,7 +82,7 @@ row_in_parts g x0 n rest before after =
     ∙ ap (λ l. replicate x0 (pos 0) ++ l) (run-append g x0 n rest)
     ∙ ap (λ l. replicate x0 (pos 0) ++ (run x0 n g ++ l)) (run-same g (λ _. pos 0) (x0 + n) rest (λ k a b. after k (omega arith)) ∙ run-constant (pos 0) (x0 + n) rest)
 
--- a place beside the rectangle
+-- a pixel outside the rectangle
 pub within_beside : (r : Rectangle) (f : ℕ → ℕ → ℤ) (x y : ℕ) → (((x < r.x0) ⊎ (r.x1 ≤ x)) ⊎ ((y < r.y0) ⊎ (r.y1 ≤ y))) → within r f x y ≡ pos 0
 within_beside r f x y h = grind (arith, nat_tests)
 

@@ -1,4 +1,4 @@
--- What windows see, and what comes of it.
+-- The inputs and results of window functions.
 use Rattle.std.proofs.Common.{◌≡◌, ℕ, ℤ, pos, negsuc, ◌+◌, ◌-◌, ◌*◌, ◌/◌, ◌<◌, ◌≤◌, ◌+ℤ◌, ◌-ℤ◌, ◌≤ℤ◌, Bool, true, false, ◌&&◌, cond, List, [], ◌∷◌, ◌++◌, length, map, take, set, zero, suc, nat_lt, refl, ap, ◌∙◌, sym, subst, arith, rules, add-zero, Some, unsigned_abs, unwrap_or, int_div, ◌^◌}
 use Rattle.vx_base.proofs.Common.{int_div_euclid, Each1, ints, nat_tests, take_more_set, Format, U8, S16, IsSample, Rectangle, inside, empty, IsOrdered, IsWithin, ImageValue, IsImage, run, at, made, from_nine}
 use Rattle.std.specs.Int.{int_min, int_max}
@@ -34,7 +34,7 @@ item_written value f x k out z before room is =
 
 -- ---- results
 
--- what is seen of a U8 image is a U8 sample
+-- a window reads U8 samples from a U8 image
 
 within_columns : (r : Rectangle) (x y : ℤ) → holds r x y ≡ true → (unsigned_abs x < r.x1) × (unsigned_abs y < r.y1)
 within_columns r x y h = (grind (arith, ints), grind (arith, ints))
@@ -172,7 +172,7 @@ area_within Undefined rx ry valid w l h = record { columns = grind (arith, nat_t
 area_within (Constant value) rx ry valid w l h = h
 area_within Replicate rx ry valid w l h = h
 
--- an image of windows is an image, where what is given at each of its places is a sample
+-- the result of a window function is a well-formed image if each of its values is a sample
 windows_image : (format : Format) (border : Border) (rx ry : ℕ) (f : ℕ → ℕ → ℤ) (a : ImageValue) → IsImage a → ((x y : ℕ) → a.valid.x0 < a.valid.x1 → a.valid.y0 < a.valid.y1 → IsSample format (f x y))
     → IsImage (made a.width a.height format (window_valid border rx ry a.valid) f)
 windows_image format border rx ry f a h gives =
@@ -180,7 +180,7 @@ windows_image format border rx ry f a h gives =
     (area_ordered border rx ry a.valid h.ordered) (area_within border rx ry a.valid a.width a.height h.room)
     (λ x y e. let some = area_some border rx ry a.valid x y e in gives x y some.0 some.1)
 
--- where the formula of the nine gives samples of U8 samples
+-- for a formula that maps nine U8 samples to a sample
 pub nine_image : (format : Format) (f : List ℤ → ℤ) (border : Border) (a : ImageValue) → ((zs : List ℤ) → length zs ≡ 9 → Each1 (IsSample U8) zs → IsSample format (f zs)) → IsImage a → a.format ≡ U8 → IsBorder border → IsImage (from_nine format f border a)
 nine_image format f border a gives h is k =
     windows_image format border 1 1 (λ x y. f (nine_around (look a border) (pos x) (pos y))) a h

@@ -1,4 +1,4 @@
--- What a matrix that is turned gives of the rows that its windows see.
+-- The results of a matrix with reversed columns on the rows that its windows read.
 use Rattle.std.proofs.Common.{◌≡◌, ℕ, ℤ, pos, zero, suc, ◌+◌, ◌-◌, ◌*◌, ◌/◌, ◌%◌, ◌<◌, ◌≤◌, ◌+ℤ◌, ◌-ℤ◌, List, length, map, take, get_or, refl, zero-add, ap, ◌∙◌, sym, subst, arith, ◌*ℤ◌, map-id, IsTrue}
 use Rattle.window_kernels.proofs.Common.{chunk, Each1, ints, put_mid, run, table, length-run, get_or-run, run_part, run-same, run_shifted, alternating, sum_of_first, line_of, row_sum, sum_of_rows, first_of_pair, second_of_pair, IsPairTable, turned, turned_pairs}
 use Rattle.std.proofs.lemmas.Bool.Decides.{nat_tests}
@@ -17,7 +17,7 @@ odd_side n h = (grind (arith, nat_tests), grind (arith, nat_tests), grind (arith
 
 -- ---- tables
 
--- a coefficient in the tables: pair j of row l stands eight times
+-- a coefficient in the tables, which have pair j of row l eight times
 entry : ConvolutionValue → ℕ → ℤ
 entry m n = turned m (n / 80) (n % 80 / 16 * 2 + n % 2)
 

@@ -7,7 +7,7 @@ use Rattle.vx_base.specs.Sample.{IsSample}
 use Rattle.vx_base.proofs.WindowLaws.{look_sample}
 use Rattle.lane_rows.proofs.BitLaws.{Each1-append}
 
--- what is seen of a U8 image are bytes
+-- windows read bytes from a U8 image
 seen_up_to : (z : ℤ) → IsSample U8 z → IsNear 255 z
 seen_up_to z is = omega (arith, ints, is.at_least, is.at_most)
 
@@ -37,7 +37,7 @@ row_in_bits y h l a b d first second third low half row =
     rw (first, second, third, small (pos y) (omega (arith, ints)), small (pos h) (omega (arith, ints)), small (pos l) (omega (arith, ints)), s)
     (small (pos y +ℤ pos h -ℤ pos l) (omega (arith, ints)))
 
--- what is seen in a row of the image, as a row of what the windows see
+-- what windows read in a row of the image, as a row of the loaded samples
 pub line_seen : (f : ℤ → ℤ → ℤ) (row : List ℤ) (x n line r y h l : ℕ) (at : ℤ) → row ≡ run x n (λ c. f (pos c -ℤ pos r) at) → n ≡ line → at ≡ pos y +ℤ pos h -ℤ pos l
     → map (λ z. z) row ≡ run 0 line (λ c. f (pos (x + c) -ℤ pos r) (pos y +ℤ pos h -ℤ pos l))
 line_seen f row x n line r y h l at are long is =

@@ -1,4 +1,4 @@
--- What the windows of rows that are read where they stand give.
+-- The results of windows in rows that are read without a copy.
 use Rattle.std.proofs.Common.{◌≡◌, ℕ, ℤ, pos, ◌+◌, ◌<◌, ◌+ℤ◌, ◌-ℤ◌, ◌≤◌, zero, suc, List, [], ◌∷◌, ◌++◌, length, map, take, drop, get_or, refl, ap, ◌∙◌, sym, subst, arith, zero-add, replicate, w8, Fits, get_or-drop}
 use Rattle.window_kernels.proofs.Common.{ints, get_or-map, map-append, run, run-append, get_or-run, run_shifted, nine_around}
 use Rattle.std.proofs.lemmas.List.{drop-map, length-replicate, take-map}
@@ -40,7 +40,7 @@ nines_inside of_nine f x m n y over on under above here below a b d is_over is_o
         ap (λ i. of_nine (nine_from above here below i)) (zero-add k)
         ∙ ap of_nine (cc (left.0, middle.0, right.0, left.1, middle.1, right.1, left.2, middle.2, right.2))
 
--- a run that is written in three parts, the first and the last of which are one sample
+-- a run that is written in three parts; the first and the last are one sample each
 pub parts_joined : {T : Type 0} (value : T → ℤ) (f : ℕ → ℤ) (x n m last : ℕ) (xs ys zs : List T) → map value xs ≡ run x 1 f → map value ys ≡ run (x + 1) m f → map value zs ≡ run last 1 f
     → last ≡ x + 1 + m → n ≡ 1 + (m + 1) → map value (xs ++ (ys ++ zs)) ≡ run x n f
 parts_joined value f x n m last xs ys zs one two three to_last whole =
