@@ -29,7 +29,7 @@ abbrev pub AreSlotsOf : {S : Type 0} → (Cell → S) → Format → List Virtua
 AreSlotsOf slot format images slots = (o : VirtualOutput) → In o (of_format format images) →
     In (slot o.cell) slots
 
--- the first step at which count images of the format are live
+-- the first step at which `count` images of the format are live
 pub record IsFirstWith (steps : List Node) (images : List VirtualOutput) (format : Format)
     (count step : ℕ) : Type 0 where
   pub some : 0 < count

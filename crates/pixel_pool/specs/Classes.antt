@@ -21,7 +21,8 @@ pub record IsClassOf (room class : ℕ) : Type 0 where
   pub within : class_room class ≤ room
   pub greatest : (other : ℕ) → other < class_count → class_room other ≤ room → other ≤ class
 
--- the capacity `room` is at least that of a class that fits count samples, if there is such a class
+-- the capacity `room` is at least that of a class that fits `count` samples, if there is such a
+-- class
 abbrev pub FitsIn : ℕ → ℕ → Type 0
 FitsIn count room =
     count ≤ class_room 192 → (class : ℕ) × (class < class_count) × (count ≤ class_room class) × (class_room class ≤ room)

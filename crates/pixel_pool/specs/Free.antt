@@ -10,7 +10,7 @@ free_count free = sum_by (λ n. n) free
 abbrev pub HasFree : List ℕ → ℕ → Type 0
 HasFree free class = 0 < slice_index free class
 
--- there is a free block that fits count samples
+-- there is a free block that fits `count` samples
 abbrev pub HasRoom : List ℕ → ℕ → Type 0
 HasRoom free count = (class : ℕ) × HasFree free class × (count ≤ class_room class)
 
@@ -22,7 +22,7 @@ without_one free class = slice_set free class (slice_index free class - 1)
 abbrev pub with_one : List ℕ → ℕ → List ℕ
 with_one free class = slice_set free class (slice_index free class + 1)
 
--- a free block of the smallest class that fits count samples was taken
+-- a free block of the smallest class that fits `count` samples was taken
 pub record UsesSmallest (count : ℕ) (old new : List ℕ) : Type 0 where
   pub class : ℕ
   pub free : HasFree old class

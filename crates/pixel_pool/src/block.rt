@@ -6,7 +6,7 @@ use std::marker::Model;
 use vx_base::{Format, Samples};
 
 /// A block that a pool has lent, with its samples. Only a pool makes one, and it can't be copied,
-/// so it has one owner, who gives it back to the pool that lent it.
+/// so it has one owner. The owner gives it back to the pool that lent it.
 #[derive(Drop)]
 pub struct Block {
     samples: Samples,

@@ -7,7 +7,7 @@ use Rattle.vx_base.specs.Statistics.{chosen, count_of, first_of}
 use Rattle.stat_kernels.specs.declared.located.Located.{Located}
 use Rattle.stat_kernels.specs.declared.located.Found.{Found}
 
--- choose takes the sample that is beyond the other, by the strict order `beyond`
+-- `choose` takes the sample that is beyond the other one, by the strict order `beyond`
 pub record IsDirection (choose : ℤ → ℤ → ℤ) (beyond : ℤ → ℤ → Bool) : Type 0 where
   pub takes : (v z : ℤ) → beyond z v ≡ true → choose v z ≡ z
   pub keeps : (v z : ℤ) → beyond z v ≡ false → choose v z ≡ v
@@ -16,7 +16,7 @@ pub record IsDirection (choose : ℤ → ℤ → ℤ) (beyond : ℤ → ℤ → 
   pub associative : (v z w : ℤ) → choose (choose v z) w ≡ choose v (choose z w)
   pub transitive : (w z v : ℤ) → beyond w z ≡ true → beyond z v ≡ true → beyond w v ≡ true
 
--- the extreme of f over these pixels by choose, the number of pixels that have it, and the first of them
+-- the sample of f that `choose` takes among these pixels, the number of pixels that have it, and the first of them
 abbrev pub located : (ℤ → ℤ → ℤ) → (ℕ → ℕ → ℤ) → List (ℕ × ℕ) → Located
 located choose f ps =
     let zs = map (λ p. f p.0 p.1) ps in

@@ -19,7 +19,7 @@ impl Located {
     ghost use Rattle.stat_kernels.specs.Located.{located, IsDirection};
 
     /// Merges a row, whose pixels come later, into this extreme. `sample` is the row's own extreme.
-    /// `is_beyond` tells whether it is beyond this one: below the least, or above the greatest.
+    /// `is_beyond` is true if that is beyond this one: below the least, or above the greatest.
     fn joined<T: Compared>(self, is_beyond: bool, sample: T, x: u16, y: u16, row: &[T]) -> Located
         requires among { 0 < count_of (T.value sample) (map T.value row.now) }
         requires columns { x + length row.now < 2 ^ 16 }
@@ -54,8 +54,8 @@ impl Located {
 impl Located {
     ghost use Rattle.stat_kernels.specs.Located.{joined, lowered};
 
-    /// Merges the extreme of later pixels into this one. `is_beyond` tells whether the other is
-    /// beyond this one: below the least, or above the greatest.
+    /// Merges the extreme of later pixels into this one. `is_beyond` is true if the other is beyond
+    /// this one: below the least, or above the greatest.
     fn beside(self, is_beyond: bool, other: Located) -> Located
         requires { self.count + other.count < 2 ^ 32 }
         ensures { (beyond : ℤ → ℤ → Bool) → is_beyond ≡ beyond other.value self.value →

@@ -7,8 +7,8 @@ use crate::desc::{Desc, GREATEST_SIDE};
 use crate::format::Format;
 use std::marker::Model;
 
-/// A partial description: an image's width, height, 1 to 8192 each, and format, any of which may be
-/// open.
+/// A partial description: an image's width, height and format, any of which may be open. A given
+/// width or height is 1 to 8192.
 #[derive(Clone, Copy, PartialEq, Eq, Debug)]
 pub struct Outline {
     width: Option<u16>,
