@@ -10,7 +10,7 @@
 //!
 //! - two writers of an object
 //! - a cycle
-//! - a virtual image that is read but not written
+//! - a virtual image that is read but not written, or accumulated into
 //! - the fault of the earliest added node that has one
 //! - virtual images that take more bytes than the limit
 //!

@@ -50,7 +50,7 @@ impl Block {
     }
 
     /// Takes the samples out of the block, so that they can be written while other blocks are read;
-    /// `put` returns them. Allocates nothing.
+    /// `put` puts them back. Allocates nothing.
     pub fn lift(&mut self) -> Samples
         ensures format { samples_format result ≡ samples_format self.old }
         ensures value { values result ≡ values self.old }

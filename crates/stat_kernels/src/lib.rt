@@ -2,7 +2,7 @@
 //!
 //! - `histogram` counts the samples in bins.
 //! - `min_max` finds the least and the greatest sample, and the first pixel of each.
-//! - `integral` sums the samples above and to the left of each pixel.
+//! - `integral` gives each pixel the sum of the samples up to its column and row.
 //!
 //! All process the valid rows from top to bottom, and each row only adds to the result of those
 //! above it. Therefore `add_histogram`, `add_min_max` and `integral_on` can process an image band

@@ -5,8 +5,8 @@ ghost use Rattle.image_core.specs.Bands.{IsInRows};
 
 use image_core::{Band, Image};
 
-/// The valid rectangle of an image: `count` columns from `x` on, and the rows from `top` to `bottom
-/// - 1`.
+/// The valid rectangle of an image: `count` columns from `x` on, and the rows from `top` up to, but
+/// not including, `bottom`.
 #[derive(Clone, Copy)]
 pub struct Part {
     pub x: u16,
