@@ -3,7 +3,7 @@ ghost use Rattle.std.specs.Prelude.{◌≡◌};
 
 use std::marker::Model;
 
-/// The bytes of a text, which may stand for a picture or not.
+/// The bytes of a text, which may or may not encode a picture.
 #[derive(Debug, Drop)]
 pub struct Text {
     bytes: Vec<u8>,
