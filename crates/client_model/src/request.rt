@@ -15,7 +15,7 @@ pub enum Request {
     OpenContext,
     /// Releases the client's context with all of its objects.
     ReleaseContext,
-    /// Creates an image of zeros, the whole of which is valid.
+    /// Creates an image of zeros; the whole image is valid.
     CreateImage(Desc),
     /// Asks for the size, the format and the valid rectangle of an image.
     QueryImage(ObjRef),

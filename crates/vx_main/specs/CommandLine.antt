@@ -5,7 +5,7 @@ use Rattle.std.specs.Str.{all_ascii_digits}
 use Rattle.std.specs.Str.Parse.{digits_value}
 use Rattle.client_model.specs.Allowance.{Allowance, is_limit, allowance}
 
--- the number of bytes that a word spells, if it is digits alone and the number is a limit; no digits spell 0, which isn't one
+-- the number of bytes that a word spells, if it is digits alone and the number is a limit; a word without digits is 0, which isn't one
 abbrev pub bytes_told : List ℕ → Option ℕ
 bytes_told word = if all_ascii_digits word then (if is_limit (digits_value 10 word) then Some (digits_value 10 word) else None) else None
 
