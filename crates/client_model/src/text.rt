@@ -18,12 +18,14 @@ impl Model for Text {
 }
 
 impl Text {
+    /// Returns a text of these bytes.
     pub fn new(bytes: Vec<u8>) -> Text
         ensures { result ≡ bytes.items }
     {
         Text { bytes }
     }
 
+    /// Returns the bytes of the text.
     pub fn bytes(&self) -> &[u8]
         ensures { result.now ≡ self.now }
     {

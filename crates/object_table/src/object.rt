@@ -62,6 +62,7 @@ impl Model for Object {
 }
 
 impl Object {
+    /// Returns an object of this content.
     pub fn new(content: Content) -> Object
         ensures { result ≡ value_of content }
     {
@@ -81,12 +82,14 @@ impl Object {
         }
     }
 
+    /// Returns the content of the object.
     pub fn content(&self) -> &Content
         ensures { value_of result.now ≡ self.now }
     {
         &self.content
     }
 
+    /// Returns the kind of the object.
     pub fn kind(&self) -> Kind
         ensures { result ≡ object_kind self.now }
     {

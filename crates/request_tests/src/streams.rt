@@ -18,6 +18,7 @@ pub const TURNS: &[u8] = b"\x00\x00\x00\x03\x00\x01\x01\
 \x00\x00\x00\x08\x00\x01\x07\x00\x00\x00\x01\xff\
 \x00\x00\x00\x08\x00\x02\x07\x00\x00\x00\x01\xff";
 
+/// The replies to `TURNS`.
 pub const REPLIES: &[u8] = b"\x00\x00\x00\x04\x00\x01\x01\x00\
 \x00\x00\x00\x04\x00\x02\x01\x00\
 \x00\x00\x00\x08\x00\x01\x03\x00\x00\x00\x00\x01\
@@ -48,6 +49,7 @@ pub struct Served {
     left: (usize, u64),
 }
 
+/// Serves a stream to a runtime, over devices that move it in pieces or fail.
 pub fn serve_bytes(
     alloc: Global,
     runtime: &mut Runtime,
@@ -81,6 +83,7 @@ fn serve_turns(alloc: Global, devices: Devices) -> Served {
     serve_bytes(alloc, &mut runtime, TURNS, devices)
 }
 
+/// Devices that move everything in one piece, and never fail.
 pub const ALL_AT_ONCE: Devices = Devices {
     source_piece: 1_000_000,
     good_reads: NEVER,
