@@ -18,9 +18,8 @@ use Rattle.client_model.specs.Graphs.{graph_named}
 abbrev pub at_begin : List Node → List Named → List Named
 at_begin nodes objects = map (begun (resolved (operand_held objects) nodes) nodes) objects
 
--- The run of a graph with these nodes. At its end, each reference that a node writes names the result of the node on the objects as they are
--- then; all others are unchanged. No other objects solve this. The nodes have an order in which each comes after those whose outputs it reads,
--- and running them one by one in any such order gives this end. After the run, virtual images have no samples again.
+-- The run of a graph with these nodes: its end is the only solution, and running the nodes one by one gives it, in every order that puts
+-- each node after those whose outputs it reads. After the run, virtual images have no samples again.
 pub record IsTheRun (nodes : List Node) (before later : List Named) : Type 0 where
   pub at_end : List Named
   pub solves : Solves nodes (at_begin nodes before) at_end

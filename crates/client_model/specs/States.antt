@@ -34,10 +34,8 @@ stands objects graph operand =
 abbrev pub NodesStand : List Named → Named → Type 0
 NodesStand objects o = All (λ n. All (λ operand. IsTrue (stands objects o.name operand)) (operands n)) (nodes_in o.object)
 
--- Each object is valid: an image has samples of its format, and 0 outside its valid rectangle. Names
--- are distinct and below the next one, which is at most 2^32. Each object has a live name or is used
--- by a node, and nodes still find their operands. At most 1,024 objects are held, and their charge is
--- at most the quota.
+-- The invariant of a context: valid objects, distinct names below the next one, each object held, nodes
+-- that find their operands, at most 1,024 objects, and a charge within the quota.
 pub record KeepsLimits (limits : Allowance) (c : Context) : Type 0 where
   pub objects : All (λ o. IsObject o.object) c.objects
   pub names : IsStrictlyIncreasing (map (λ o. o.name) c.objects)

@@ -80,9 +80,8 @@ kept entries = filter is_kept entries
 
 -- ---- the invariant of a table
 
--- Names are increasing and below the next one. There are at most 1,024 objects, and no object is charged more than 16 of the largest images.
--- No graph has more than 256 nodes. The charge is the sum over all objects, and each use count is the number of operands that have the name.
--- Each entry is held, and no node uses a name that was not given yet.
+-- The invariant of a table: distinct names below the next one, at most 1,024 objects of bounded size, the exact charge and use counts,
+-- each entry held, and no node that uses a name not given yet.
 pub record IsTable (next charge : ℕ) (entries : List (ℕ × Entry)) : Type 0 where
   pub names : IsStrictlyIncreasing (map (λ e. e.0) entries)
   pub below : All (λ e. e.0 < next) entries

@@ -43,8 +43,7 @@ const MOST_READS: u64 = 1_099_511_627_776;
 /// - `WriteFailed`: a write or a flush failed
 /// - `ReaderWouldNotEnd`: 2^40 reads were made
 ///
-/// However it ends, each frame that was read whole has taken effect on the runtime, and nothing
-/// else has.
+/// However it ends, the runtime is in the state that the frames read whole have left.
 pub fn serve<S: Source, K: Sink>(
     alloc: Global,
     source: &mut S,
