@@ -9,9 +9,9 @@ A client of the vision server Feqyldan.
         context.vxu.absdiff(before, after, changed)
         vx.write_png("changed.png", changed)
 
-`Server` starts the program, `connect` reaches one by a Unix socket; a `Context` makes objects, and
-runs functions in immediate mode by `vxu` and in a `Graph`. A refused request raises a subclass of
-`Refused`, one for each code.
+`Server` starts the program; `connect` reaches a running one by a Unix socket. A `Context` creates
+objects. It runs functions in immediate mode by `vxu`, and as nodes of a `Graph`. A refused request
+raises a subclass of `Refused`, one for each status code.
 """
 
 from typing import List
@@ -58,5 +58,5 @@ __all__ = [
 
 
 def __dir__() -> List[str]:
-    """The names for programs, without those of the modules."""
+    """Returns the public names, without those of the modules."""
     return [*__all__, "__version__"]

@@ -1,5 +1,5 @@
 """
-The command line: a graph of a file run on pictures, and drawn.
+The command line: runs the graph of a file on pictures, and draws it.
 
     python3 -m feqyldan run station.json --in 'parts/*.png' --out marks/ --csv found.csv
     python3 -m feqyldan draw station.json > station.svg
@@ -94,7 +94,7 @@ def run(told: argparse.Namespace) -> int:
 
 
 def result_of(path: str, results: Iterator[Tuple[Any, Tuple[Any, ...]]]) -> Tuple[Any, ...]:
-    """What the graph left of a picture. An error says of which file."""
+    """Returns the results of the graph for a picture. An error names the file."""
     try:
         return next(results)[1]
     except (FeqyldanError, OSError, ValueError, ImportError) as error:
@@ -106,7 +106,8 @@ def result_of(path: str, results: Iterator[Tuple[Any, Tuple[Any, ...]]]) -> Tupl
 
 
 def paths_of(patterns: Sequence[str]) -> List[str]:
-    """The files that patterns stand for, each pattern's in the natural order of their names."""
+    """Returns the files that match the patterns, those of each pattern in the natural order of
+    their names."""
     found: List[str] = []
     for pattern in patterns:
         if os.path.isdir(pattern):
@@ -121,7 +122,7 @@ def paths_of(patterns: Sequence[str]) -> List[str]:
 
 
 def natural(path: str) -> Tuple[List[Union[str, int]], str]:
-    """By which paths are sorted: numbers in them by their values, f2 before f10."""
+    """The sort key of paths: numbers in them sort by value, so f2 comes before f10."""
     parts = re.split("([0-9]+)", path)
     return [int(part) if at % 2 else part for at, part in enumerate(parts)], path
 
@@ -135,8 +136,7 @@ def the_input(graph: GraphFile, path: str) -> AnyImage:
 
 
 def progress(paths: List[str], is_quiet: bool) -> Iterator[str]:
-    """The paths, which are counted at a terminal while they are taken: by tqdm where that is
-    installed."""
+    """Yields the paths, with a progress bar at a terminal if tqdm is installed."""
     if is_quiet or not sys.stderr.isatty():
         return iter(paths)
     try:
@@ -156,8 +156,8 @@ def counted(paths: List[str]) -> Iterator[str]:
 
 
 class Report:
-    """Where the results go: pictures to a folder, numbers to a CSV file, or to standard output
-    where neither is named."""
+    """The destination of the results: pictures go to a folder, numbers to a CSV file, or to
+    standard output if neither is given."""
 
     def __init__(self, told: argparse.Namespace, paths: Sequence[str], station: GraphFile,
                  ends: ExitStack) -> None:
@@ -174,7 +174,7 @@ class Report:
             self._lines.writerow(["picture", *columns_of(station.outputs)])
 
     def _look_at_files(self, told: argparse.Namespace, paths: Sequence[str]) -> None:
-        """Refuses results that would be written over what is read, or over one another."""
+        """Refuses results that would overwrite an input, or one another."""
         read = {identity(path): path for path in (*paths, told.graph, *files_in(told.graph))}
         if told.csv is not None and identity(told.csv) in read:
             raise ValueError(f"--csv {told.csv} would be written over what is read: name another "
@@ -197,18 +197,18 @@ class Report:
                                  "folder of its own")
 
     def _files_of(self, paths: Sequence[str]) -> Iterator[Tuple[str, str]]:
-        """Each picture with each file that may be written of it."""
+        """Returns each picture with each file that may be written for it."""
         return ((path, stem + ending) for path in paths
                 for name, stem in self._stems_of(path).items()
                 for ending in ENDINGS[self._images[name].fmt])
 
     def _stems_of(self, path: str) -> Dict[str, str]:
-        """The files of a picture's images, without their endings."""
+        """Returns the files for a picture's images, without their endings."""
         stem = os.path.join(self._folder or "", os.path.splitext(os.path.basename(path))[0])
         return {name: f"{stem}.{name}" if len(self._images) > 1 else stem for name in self._images}
 
     def add(self, path: str, values: Dict[str, Any]) -> None:
-        """A picture's results."""
+        """Adds the results of a picture."""
         if self._folder is not None:
             for name, stem in self._stems_of(path).items():
                 write(stem, values[name])
@@ -218,19 +218,19 @@ class Report:
 
 
 def opened(path: str) -> TextIO:
-    """A file to write to, in a folder that is made where it isn't there."""
+    """Opens a file to write to, and creates its folder if it doesn't exist."""
     os.makedirs(os.path.dirname(path) or ".", exist_ok=True)
     return open(path, "w", newline="", encoding="utf-8")
 
 
 def files_in(path: str) -> List[str]:
-    """The pictures that the file of a graph names."""
+    """Returns the picture files that the file of a graph names."""
     return [os.path.join(os.path.dirname(path), described["file"])
             for described in told_by(path)["objects"].values() if "file" in described]
 
 
 def identity(path: str) -> Tuple[Any, ...]:
-    """What tells a file from all others, whatever it is called by."""
+    """Returns the identity of a file, whatever its path."""
     try:
         there = os.stat(path)
     except OSError:
@@ -243,7 +243,7 @@ ENDINGS = {Format.U8: (".png",), Format.S16: (".png", ".npy"), Format.U32: (".np
 
 
 def write(path: str, picture: Any) -> None:
-    """Writes a PNG file; where PNG hasn't the samples, negative ones and U32, one of NumPy's."""
+    """Writes a PNG file, or one of NumPy's if PNG can't have the samples: negative ones and U32."""
     try:
         write_png(f"{path}.png", picture)
     except ValueError:
@@ -251,7 +251,7 @@ def write(path: str, picture: Any) -> None:
 
 
 def columns_of(outputs: Dict[str, Any]) -> Iterator[str]:
-    """The heads of the numbers that outputs give."""
+    """Returns the column heads of the outputs' numbers."""
     for name, thing in outputs.items():
         if isinstance(thing, Distribution):
             yield from (f"{name}.{number}" for number in range(thing.bins))
@@ -263,8 +263,8 @@ def columns_of(outputs: Dict[str, Any]) -> Iterator[str]:
 
 
 def numbers_in(value: Any) -> Iterable[int]:
-    """The counts of a distribution, the numbers of extremes, or how many samples of a picture
-    aren't 0."""
+    """Returns the counts of a distribution, the numbers of extremes, or the number of samples of a
+    picture that aren't 0."""
     if isinstance(value, wire.Extremes):
         return [*value[:4], *value.min_at, *value.max_at]
     if isinstance(value, tuple):

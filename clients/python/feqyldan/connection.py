@@ -1,14 +1,15 @@
 """
-Request frames out and reply frames in, in order, over two file descriptors: those of a program's
-pipes, or one socket.
+Sends request frames and reads reply frames, in order, over two file descriptors: those of a
+program's pipes, or one socket.
 
-Requests may be sent ahead of their replies. Whatever is sent, replies are read meanwhile as they
-come, so that two full pipes never wait for each other.
+Requests may be sent ahead of their replies. While anything is sent, replies are read as they come,
+so that two full pipes never wait for each other.
 
-An exception may come at any bytecode, as KeyboardInterrupt does, and loses nothing. Three rules see
-to that. A system call's count is stored by the C function that makes the call, see `moved`. A
-request is taken, and a reply is given to its request, by one store. Everything else follows from
-the counts, the line of requests and their answers, and is worked out again by the next call.
+An exception, such as KeyboardInterrupt, may come at any bytecode, and loses nothing. Three rules
+ensure that. The count of a system call is stored by the C function that makes the call, see
+`moved`. A request is taken, and a reply is given to its request, by one store. Everything else
+follows from the counts, the queue of requests and their answers, and the next call computes it
+again.
 """
 
 from __future__ import annotations
@@ -69,7 +70,7 @@ Explain = Callable[[int], str]
 
 
 class Place(NamedTuple):
-    """Which call of a pipeline a request is, in words, and where it is called."""
+    """The call of a pipeline that made a request, in words, and where it was called."""
 
     number: int
     words: str
@@ -81,7 +82,7 @@ class Place(NamedTuple):
 
 
 class Body(NamedTuple):
-    """What the body of a success has: so many bytes, and these as the first of them."""
+    """The expected body of a success: its length in bytes, and its first bytes."""
 
     size: int
     begin: bytes = b""
@@ -93,9 +94,9 @@ BODIES: Dict[int, Body] = {op: Body(size) for op, size in BODY_BYTES.items()}
 
 class Request:
     """
-    A request that was sent or is about to be: itself in words, its place in its pipeline, and its
-    answer as soon as that is there: the reply's whole frame, and where it ends among all replies.
-    `body` is what a success has after its head.
+    A request that was sent or is about to be: its words, its place in its pipeline, and its answer
+    once that has come. The answer is the reply's whole frame, and the position where it ends among
+    all replies. `body` is the expected body of a success.
     """
 
     __slots__ = ("words", "client", "op", "answer", "on_refusal", "on_answer", "explain", "place",
@@ -123,12 +124,12 @@ class Request:
 
     @property
     def reply(self) -> Optional[memoryview]:
-        """The reply's whole frame, when it is there."""
+        """The reply's whole frame, once it has come."""
         return None if self.answer is None else self.answer[0]
 
     @property
     def error(self) -> Optional[Refused]:
-        """What the reply, which is there, refuses; None where it is a success."""
+        """The refusal in the reply, which has come; None for a success."""
         assert self.answer is not None
         code = self.answer[0][7]
         if code == 0:
@@ -140,7 +141,7 @@ class Request:
         return self._error.with_traceback(None)
 
     def look_at(self, length: int, client: int, op: int, code: int) -> None:
-        """Raises UnexpectedReply where a reply that begins so isn't one to this request."""
+        """Raises UnexpectedReply if a reply that begins like this can't be for this request."""
         if client != self.client or op != self.op:
             raise UnexpectedReply(f"{self.words}: the reply is to op {op} of client {client}")
         if code >= len(CODES):
@@ -151,7 +152,7 @@ class Request:
                                   f"{size} bytes, and not of {wanted}")
 
     def arrive(self, reply: memoryview, end: int) -> None:
-        """Takes its reply, which ends there among all replies."""
+        """Takes the reply to this request, and the position where it ends among all replies."""
         code, begin = reply[7], self.body.begin
         if begin and code == 0 and reply[HEAD.size : HEAD.size + len(begin)] != begin:
             raise UnexpectedReply(f"{self.words}: the reply is of another object")
@@ -162,15 +163,15 @@ class Request:
         self.answer = reply, end
 
     def take_reply(self) -> memoryview:
-        """Returns the reply, which is there and a success, once: the request lets go of it, so that
-        its memory is free when the caller does too."""
+        """Returns the reply, which has come and is a success. It can be taken once: the request
+        drops it, so that its memory is free when the caller drops it too."""
         assert self.answer is not None
         reply, end = self.answer
         self.answer = TAKEN, end
         return reply
 
     def own(self) -> None:
-        """Copies its frame, which isn't sent to the end: the caller may change the samples."""
+        """Copies its frame, which isn't completely sent yet: the caller may change the samples."""
         self.may_lend = False
         if not all(isinstance(part, bytes) for part in self.parts):
             self.parts = [bytes(part) for part in self.parts]
@@ -179,7 +180,8 @@ class Request:
 def moved(counts: List[int], call: Callable[[int, Any], int], descriptor: int,
           buffers: Sequence[Any]) -> None:
     """
-    Adds to the last of the counts, which is all that was moved, how many bytes a system call moves.
+    Appends to the counts, the last of which is the number of bytes moved in all, the sum with what
+    a system call moves.
 
     No bytecode runs between the call and the append, so no exception comes between them either: a
     signal's handler runs before the call moves anything, or after the count is stored.
@@ -189,7 +191,7 @@ def moved(counts: List[int], call: Callable[[int, Any], int], descriptor: int,
 
 
 def references(buffers: Sequence[bytearray]) -> List[int]:
-    """How many references there are to each of these, where Python counts them."""
+    """Returns how many references there are to each of these, if Python counts references."""
     return [sys.getrefcount(buffer) for buffer in buffers]
 
 
@@ -201,15 +203,15 @@ ALONE = (references([bytearray()])[0]
 
 class Buffers:
     """
-    Memory for long replies. A buffer whose picture nobody has any more is used again: new memory
-    costs as much time as what is read into it.
+    Memory for long replies. A buffer is used again once nobody has its picture any more: allocating
+    new memory takes as long as reading into it.
     """
 
     def __init__(self) -> None:
         self._kept: List[bytearray] = []
 
     def take(self, size: int) -> bytearray:
-        """Returns so many bytes, which may be of an older reply."""
+        """Returns a buffer of this many bytes, which may have the bytes of an older reply."""
         if size < CHUNK or ALONE is None:
             return bytearray(size)
         for at, count in enumerate(references(self._kept)):
@@ -222,10 +224,10 @@ class Buffers:
 
 class Replies:
     """
-    Splits what a file descriptor gives into reply frames, each in a buffer of its own.
+    Splits the bytes of a file descriptor into reply frames, each in a buffer of its own.
 
-    All positions count the bytes of the whole stream of replies. The bytes from `base` on stand in
-    the buffer that is read into: a chunk, or the buffer of one frame that isn't whole yet.
+    All positions count bytes of the whole stream of replies. The bytes from `base` on are in the
+    buffer that is read into: a chunk, or the buffer of one frame that isn't whole yet.
     """
 
     def __init__(self, descriptor: int) -> None:
@@ -237,8 +239,8 @@ class Replies:
         self._into: Tuple[memoryview, int, Optional[memoryview]] = self._chunk, 0, None
 
     def read(self, at: int) -> bool:
-        """Reads once, where all replies up to there were taken. Returns whether something came; it
-        is False at the end of the replies."""
+        """Reads once, given the position up to which all replies were taken. Returns whether bytes
+        came; False at the end of the replies."""
         received = self._counts[-1]
         if received == at:
             self._into = self._chunk, at, None
@@ -248,14 +250,14 @@ class Replies:
 
     @property
     def received(self) -> int:
-        """Where the bytes end that were read."""
+        """The position where the bytes that were read end."""
         return self._counts[-1]
 
     def frame_at(self, at: int, received: int,
                  request: Optional[Request]) -> Optional[Tuple[memoryview, int]]:
-        """Returns the whole frame that begins there, where the last one ended, and that answers the
-        request, of what was received up to there, and where it ends; None while it isn't whole, and
-        then there is room to read on."""
+        """Returns the whole frame that begins at this position, where the last one ended, and the
+        position where it ends; the frame must answer the request. Only bytes before `received` have
+        been read. None if the frame isn't whole yet; then there is memory to read on."""
         buffer, base, reply = self._into
         if reply is not None:
             end = base + len(buffer)
@@ -286,7 +288,7 @@ class Replies:
 
     def _place(self, into: memoryview, at: int,
                received: int) -> Optional[Tuple[memoryview, int]]:
-        """The same of a reply whose samples go to a place of their own."""
+        """The same for a reply whose samples go to a place of their own."""
         buffer, base, _ = self._into
         chunk = buffer[at - base : received - base]
         if len(chunk) < BEFORE_SAMPLES:
@@ -301,14 +303,14 @@ class Replies:
         return None
 
     def let_go(self, place: memoryview) -> None:
-        """What is still to come for a place goes elsewhere."""
+        """Redirects the bytes that are still to come for a place."""
         buffer, base, reply = self._into
         if buffer is place:
             self._into = memoryview(bytearray(len(place))), base, reply
 
     def _make_room(self, rest: memoryview, at: int) -> None:
-        """Has a new chunk begin with the rest, at most seven bytes of a frame whose head isn't
-        known yet."""
+        """Begins a new chunk with the rest, which is at most seven bytes of a frame whose head
+        isn't known yet."""
         if len(rest) >= 4 and not 4 <= int.from_bytes(rest[:4], "big") <= GREATEST_REPLY:
             raise UnexpectedReply(NO_LENGTH)
         if at > self._into[1]:
@@ -319,10 +321,9 @@ class Replies:
 
 class Connection:
     """
-    What is sent to a server and read from it. Several threads may use it: each call is done before
-    that of another thread begins. `ended` says how the server ended, when it has. Where a reply has
-    been waited for longer than the timeout, in seconds, `give_up` is called, and nothing more is
-    sent or read.
+    The connection to a server. Several threads may use it: each call is completed before that of
+    another thread begins. `ended` returns how the server ended, once it has. If a reply takes
+    longer than the timeout, in seconds, `give_up` is called, and nothing more is sent or read.
     """
 
     def __init__(self, writer: int, reader: int, ended: Callable[[bool], ServerEnded],
@@ -356,14 +357,14 @@ class Connection:
 
     @property
     def fault(self) -> Optional[FeqyldanError]:
-        """Why nothing more can be sent; None while it can."""
+        """Returns why nothing more can be sent; None while it can."""
         return self._fault
 
     def ask(self, request: Request, parts: List[Part]) -> None:
         """
         Sends a request and waits for its reply. The pages of a long part are lent to the server's
-        pipe, since it was read when the reply is there. After an interruption too what it was taken
-        from may change when this returns, unless that was interrupted once more.
+        pipe, because the server has read it when the reply comes. When this returns, also after one
+        interruption, the caller may change what was sent; after a second interruption it may not.
         """
         with self._lock:
             request.may_lend = self._is_pipe
@@ -382,10 +383,10 @@ class Connection:
 
     def send(self, request: Request, parts: List[Part], is_followed: bool = False) -> None:
         """
-        Takes the parts of a request's frame. Short frames are sent as far as the server takes them
-        now, and the rest with what follows; a long one has been sent when this returns. Either way
-        what it was taken from may change then, but where the request is followed by another: then
-        all is sent with that. After an interruption a frame was taken whole, or not at all.
+        Takes the parts of a request's frame. A short frame is sent as far as the server takes it
+        now, and the rest together with the next request. A long frame has been sent when this
+        returns. Either way the caller may change what was sent, unless another request follows:
+        then all is sent with that. After an interruption a frame was taken whole or not at all.
         """
         with self._lock:
             if self._fault is not None:
@@ -408,8 +409,9 @@ class Connection:
 
     def wait(self, request: Optional[Request] = None, limit: Optional[float] = None,
              wake: Optional[int] = None) -> bool:
-        """Waits until the reply to a request has come, or those to all, and returns whether it has:
-        at most so many seconds, or until the file descriptor `wake` is readable."""
+        """Waits until the reply to a request has come, or the replies to all, and returns whether
+        it has. Waits for at most this many seconds, or until the file descriptor `wake` is
+        readable."""
         until = None if limit is None else time.monotonic() + limit
         with self._lock:
             if request is not None and request.answer is not None:
@@ -431,7 +433,7 @@ class Connection:
         return True
 
     def own_unsent(self) -> None:
-        """Copies what was taken and isn't sent yet: it may be the caller's, who goes on and changes
+        """Copies what was taken and isn't sent yet: it may belong to the caller, who may change
         it."""
         with self._lock:
             self._mend()
@@ -439,7 +441,7 @@ class Connection:
                 request.own()
 
     def let_go(self, place: memoryview) -> None:
-        """After an interruption: the samples that are to come for a place go elsewhere."""
+        """After an interruption, redirects the samples that are still to come for a place."""
         with self._lock:
             for request in self._line:
                 if request.into is place:
@@ -447,9 +449,8 @@ class Connection:
             self._replies.let_go(place)
 
     def look(self) -> None:
-        """Takes in the replies that have come, and sends what the server takes now, without
-        waiting. Of a reply that is on its way, since the server waits for room, the rest comes
-        too."""
+        """Reads the replies that have come, and sends what the server takes now, without waiting.
+        If the server is waiting to send the rest of a reply, that is read too."""
         with self._lock:
             self._refuse_if_ended()
             self._mend()
@@ -461,13 +462,13 @@ class Connection:
                     break
 
     def close(self) -> None:
-        """Nothing more is sent or waited for."""
+        """Ends the connection: nothing more is sent or waited for."""
         with self._lock:
             self._fault = self._fault or Closed("the connection to the server was closed")
 
     def lose(self, why: str) -> None:
-        """In the child of a fork, where another thread may have had the lock: nothing more is sent
-        or waited for."""
+        """Ends the connection in the child of a fork, where another thread may have had the
+        lock."""
         self._lock = threading.RLock()
         self._fault = Closed(why)
 
@@ -478,7 +479,7 @@ class Connection:
     # ---- what is sent
 
     def _take(self, request: Request, parts: List[Part]) -> None:
-        """Puts a whole frame after what is to be sent."""
+        """Appends a whole frame to what is to be sent."""
         last = self._line[-1]
         if last.end > self._counts[-1]:
             self._mend()
@@ -488,8 +489,8 @@ class Connection:
         self._unsent.append(request)
 
     def _send_whole(self, request: Request, parts: List[Part]) -> bool:
-        """Takes and sends a short frame, before which all was sent. Returns whether it was taken;
-        then what the server hasn't taken of it is unsent."""
+        """Takes and sends a short frame, if everything before it was sent. Returns whether it was
+        taken; what the server hasn't read of it is then unsent."""
         start = self._line[-1].end
         end = start + sum(map(len, parts))
         if end - start > SMALL or self._counts[-1] != start:
@@ -508,7 +509,7 @@ class Connection:
         return True
 
     def _mend(self) -> None:
-        """Where an interruption came just after a request was taken, it has to be sent yet."""
+        """Sends a request that was taken just before an interruption."""
         last = self._line[-1]
         if last.end > self._counts[-1] and (not self._unsent or self._unsent[-1] is not last):
             self._unsent.append(last)
@@ -520,8 +521,7 @@ class Connection:
                 self._await(self._either, None)
 
     def _write(self) -> bool:
-        """Sends as much as the server takes without waiting, so that it needn't wait either.
-        Returns whether it took something."""
+        """Sends as much as the server takes, without waiting. Returns whether it took something."""
         sent = self._drop_sent()
         if not self._unsent:
             return False
@@ -541,12 +541,12 @@ class Connection:
         return True
 
     def _lends(self, request: Request, parts: Sequence[Part]) -> bool:
-        """Whether the last of the parts is to be lent, which are the request's that is unsent."""
+        """Returns whether the last part of the unsent request is to be lent."""
         return (request.may_lend and len(self._unsent) == 1 and len(parts[-1]) >= pages.LEAST
                 and pages.can_lend())
 
     def _lend(self, request: Request, parts: Sequence[Part]) -> None:
-        """Sends what stands before a request's long part, or lends that."""
+        """Sends what comes before a request's long part, or lends that part."""
         if len(parts) > 1:
             moved(self._counts, os.writev, self._writer, parts[:-1])
             return
@@ -560,14 +560,14 @@ class Connection:
             request.may_lend = False
 
     def _drop_sent(self) -> int:
-        """Forgets what was sent. Returns how many bytes were."""
+        """Drops what was sent. Returns how many bytes were."""
         sent, unsent = self._counts[-1], self._unsent
         while unsent and unsent[0].end <= sent:
             unsent.popleft().parts = ()
         return sent
 
     def _next_parts(self, sent: int) -> List[Part]:
-        """The bytes that come next, as far as one call takes them."""
+        """Returns the next bytes to send, as many as one call takes."""
         skipped = sent - self._unsent[0].start
         parts: List[Part] = []
         for request in islice(self._unsent, REQUESTS):
@@ -581,7 +581,7 @@ class Connection:
     # ---- what is read
 
     def _poll_with(self, wake: Optional[int]) -> select.poll:
-        """For what is awaited: a reply, room for what isn't sent yet, and `wake`."""
+        """Returns a poll object for what is awaited: a reply, the server reading on, and `wake`."""
         if wake is None:
             return self._either if self._unsent else self._readable
         poll = select.poll()
@@ -594,8 +594,8 @@ class Connection:
 
     def _await(self, poll: select.poll, limit: Optional[float]) -> List[Tuple[int, int]]:
         """
-        Only the time that is spent here counts towards the timeout: so replies that came while
-        nobody read them aren't late, and each request has its own time.
+        Waits. Only the time spent here counts towards the timeout: replies that came while nobody
+        read them aren't late, and each request has its own time.
         """
         if self._timeout is None:
             return poll.poll(None if limit is None else limit * 1000 + 1)
@@ -616,8 +616,8 @@ class Connection:
         raise self._fault
 
     def _read(self, blocks: bool = False) -> bool:
-        """Takes in replies that are there, and waits for one where it blocks. Returns whether some
-        bytes came."""
+        """Reads replies that have come; waits for one if reading blocks. Returns whether bytes
+        came."""
         at = self._answered
         if not self._is_delivered:
             self._deliver(at)
@@ -638,7 +638,7 @@ class Connection:
 
     @property
     def _answered(self) -> int:
-        """Where the replies end that are with their requests."""
+        """The position where the replies that were given to their requests end."""
         line = self._line
         while len(line) > 1 and line[1].answer is not None:
             line.popleft()
@@ -647,7 +647,8 @@ class Connection:
         return answer[1]
 
     def _deliver(self, at: int) -> None:
-        """Gives each frame that was read to its request, from the first that isn't with it."""
+        """Gives each frame that was read to its request, beginning with the first request without
+        one."""
         try:
             line, received = self._line, self._replies.received
             while at < received:
@@ -664,8 +665,7 @@ class Connection:
         self._is_delivered = True
 
     def _hear_out(self) -> None:
-        """Nobody reads any more what is sent: what was answered before is still to be read, up to
-        its end."""
+        """Reads the remaining answers, up to their end, after the server has stopped reading."""
         while True:
             if not self._read():
                 self._await(self._readable, None)

@@ -1,4 +1,4 @@
-"""A client's context on a server: it makes objects and runs functions, and has a client number of
+"""A client's context on a server: it creates objects and runs functions, and has a client number of
 its own."""
 
 from __future__ import annotations
@@ -38,7 +38,7 @@ Value = TypeVar("Value")
 
 
 class Vxu(Uncopied, Functions[None]):
-    """Immediate mode: each vision function is a method that runs it at once."""
+    """Immediate mode: each vision function is a method, and runs when it is called."""
 
     __slots__ = ("_context",)
     _inner = frozenset(("run",))
@@ -57,7 +57,7 @@ class Vxu(Uncopied, Functions[None]):
 
 
 def fault_of(call: Call, code: int) -> str:
-    """What of a call is at fault, by itself, for the code that it was refused with."""
+    """Returns the fault of a call by itself, given the code that it was refused with."""
     if code == wire.INVALID_FORMAT:
         one, other = (getattr(operand, "fmt", None) for operand in call.operands[:2])
         return (f"{call.name} takes {formats_in_words(call.name)}"
@@ -69,10 +69,10 @@ def fault_of(call: Call, code: int) -> str:
 
 class Death(weakref.ref):  # type: ignore[type-arg]
     """
-    Tells when Python forgets an object, whose name on the server it has.
+    Notes when Python frees an object that has a name on the server.
 
-    Its callback is a function in C. Within one in Python an exception may come, as
-    KeyboardInterrupt does, and would be lost there.
+    Its callback is a function in C. A callback in Python could be interrupted by an exception, such
+    as KeyboardInterrupt, which would be lost there.
     """
 
     __slots__ = ("name",)
@@ -81,11 +81,11 @@ class Death(weakref.ref):  # type: ignore[type-arg]
 
 class Context(Uncopied):
     """
-    A client's context, as Server.context() opens it. It ends with its `with`, by close(), or with
-    the server, and all of its objects end with it. One thread uses it at a time; several threads
-    may use contexts of one server.
+    A client's context, as Server.context() opens it. It ends at the end of its `with`, by close(),
+    or with the server, and all of its objects end with it. Only one thread may use it at a time;
+    several threads may use contexts of one server.
 
-    Each object may be given a name=, by which messages call it.
+    Each object can have a name=, which messages use.
     """
 
     __slots__ = ("_server", "_connection", "_number", "_vxu", "_pipeline", "_alive", "_dead",
@@ -125,7 +125,7 @@ class Context(Uncopied):
 
     @property
     def number(self) -> int:
-        """The number by which the server knows this client."""
+        """The client number on the server."""
         return self._number
 
     @property
@@ -141,8 +141,8 @@ class Context(Uncopied):
     # ---- objects
 
     def image(self, fmt: Format, width: int, height: int, *, name: str = "") -> Image:
-        """A new image of width by height samples, from 1 to 8192 each: 0 everywhere and wholly
-        valid."""
+        """Returns a new image of width by height samples, from 1 to 8192 each. All samples are 0,
+        and the whole image is valid."""
         made, (columns, rows) = format_of(fmt), sides_of_frame(width, height)
         words = f"create a {made} image of {columns} by {rows}"
         number = self.create(words, wire.create_image, made, columns, rows,
@@ -151,8 +151,8 @@ class Context(Uncopied):
 
     def image_like(self, exemplar: AnyImage, fmt: Optional[Format] = None, *,
                    name: str = "") -> Image:
-        """A new image of the size of this one, and of its format unless another is given. No sample
-        is copied."""
+        """Returns a new image with the size of this one, and with its format unless another is
+        given. No sample is copied."""
         self.look_at("image_like", exemplar)
         if not isinstance(exemplar, AnyImage):
             raise TypeError(f"image_like takes an image, and no {type(exemplar).__name__}: give "
@@ -162,9 +162,9 @@ class Context(Uncopied):
 
     def image_from(self, samples: Any, fmt: Optional[Format] = None, *, name: str = "") -> Image:
         """
-        An image of these samples: a NumPy array of shape (height, width) and dtype uint8, int16 or
-        uint32, another buffer of that shape, or rows of numbers, which are U8 where no format is
-        given. What is no such picture raises BadPicture.
+        Returns an image of these samples: a NumPy array of shape (height, width) and dtype uint8,
+        int16 or uint32, another buffer of that shape, or rows of numbers, which are U8 unless a
+        format is given. Raises BadPicture for anything else.
         """
         if fmt is None:
             return self._image_of(samples_of(samples), name)
@@ -174,8 +174,8 @@ class Context(Uncopied):
         return self._image_of(given, name)
 
     def image_from_pgm(self, text: bytes, *, name: str = "") -> Image:
-        """An image of the picture in a PGM text, P5 or P2: U8 for a maxval up to 255, S16 for one
-        up to 32767."""
+        """Returns an image of the picture in a PGM text, P5 or P2: U8 for a maxval up to 255, S16
+        for one up to 32767."""
         image = self.image(*size_of_pgm(text), name=name)
         try:
             image.write_pgm(text)
@@ -185,14 +185,14 @@ class Context(Uncopied):
         return image
 
     def read_pgm(self, path: Path, *, name: str = "") -> Image:
-        """An image of the picture in a PGM file."""
+        """Returns an image of the picture in a PGM file."""
         return self.image_from_pgm(read_bytes(path), name=name)
 
     def load(self, path: Path, *, name: str = "") -> Image:
         """
-        An image of the picture in a file: PGM; .npy, by NumPy; all others, as PNG and JPEG, by
-        OpenCV or PIL, where one of them is installed. Colours are made grey. Samples of 8 bits give
-        U8, wider ones S16 where all are below 32768.
+        Returns an image of the picture in a file. PGM is read by this package, .npy by NumPy, and
+        other formats, as PNG and JPEG, by OpenCV or PIL if one of them is installed. Colours are
+        converted to grey. Samples of 8 bits give U8, wider ones S16 if all are below 32768.
         """
         with open(path, "rb") as file:
             is_pgm = file.read(2) in (b"P2", b"P5")
@@ -200,8 +200,8 @@ class Context(Uncopied):
                 self.image_from(load(path), name=name))
 
     def lut(self, fmt: Format, entries: Numbers, *, name: str = "") -> Lut:
-        """A table of U8, which has 256 entries, or of S16, which has 65,536, the one for the least
-        sample first."""
+        """Returns a lookup table of U8 with 256 entries, or of S16 with 65,536. The first entry is
+        for the least sample."""
         made = format_of(fmt)
         content = entries_of(entries, made)
         wanted = {Format.U8: 256, Format.S16: 2 * 65536}.get(made)
@@ -216,10 +216,10 @@ class Context(Uncopied):
                   between: Optional[Tuple[int, int]] = None,
                   true_value: int = 255, false_value: int = 0, *, name: str = "") -> Threshold:
         """
-        A threshold of U8 or S16 samples. One passes that is greater than `above`
-        (VX_THRESHOLD_TYPE_BINARY), or that is `between` two limits, both included
-        (VX_THRESHOLD_TYPE_RANGE). The true and the false value, from 0 to 255, are those of the
-        output.
+        Returns a threshold of U8 or S16 samples. A sample passes if it is greater than `above`
+        (VX_THRESHOLD_TYPE_BINARY), or if it is `between` two limits, both included
+        (VX_THRESHOLD_TYPE_RANGE). The output has the true value, or else the false value, from 0 to
+        255.
         """
         if (above is None) == (between is None):
             raise TypeError("a threshold has either above=limit or between=(lower, upper)")
@@ -237,8 +237,9 @@ class Context(Uncopied):
 
     def convolution(self, coefficients: Rows, scale: int = 1, *, name: str = "") -> Convolution:
         """
-        Rows of coefficients from -32768 to 32767, in 3, 5, 7 or 9 rows and columns; they may be an
-        array of that shape. Their sum is divided by the scale, which is a power of 2 up to 2^31.
+        Returns a convolution. The coefficients are rows of numbers, or an array, from -32768 to
+        32767, in 3, 5, 7 or 9 rows and columns. Sums are divided by the scale, which is a power of
+        2 up to 2^31.
         """
         rows = rows_of_kernel(coefficients)
         divisor = whole(scale, "the scale of a convolution", "a whole number, a power of 2")
@@ -255,8 +256,8 @@ class Context(Uncopied):
 
     def distribution(self, bins: int, offset: int = 0, range: int = 256, *,
                      name: str = "") -> Distribution:
-        """From 1 to 256 bins of the same width, which begin at the offset, 0 to 255, and are
-        together range long."""
+        """Returns a distribution of 1 to 256 bins of the same width. They begin at the offset, from
+        0 to 255, and cover `range` values together."""
         sides = (within(bins, "a distribution's number of bins", UNSIGNED,
                         "a whole number from 1 to 256"),
                  within(offset, "a distribution's offset", UNSIGNED,
@@ -267,12 +268,12 @@ class Context(Uncopied):
         return Distribution(self, Made(number, name), sides)
 
     def min_max(self, *, name: str = "") -> MinMax:
-        """What vxu.min_max_loc writes into."""
+        """Returns an object for the results of vxu.min_max_loc."""
         return MinMax(self, Made(self.create("create extremes", wire.create_min_max), name))
 
     def delay(self, exemplar: AnyImage, slots: int, *, name: str = "") -> Delay:
-        """From 1 to 16 slots of new images, of the format and the size of this one, whose samples
-        aren't used."""
+        """Returns a delay of 1 to 16 slots with new images. They have the format and the size of
+        this image; its samples aren't used."""
         self.look_at("delay", exemplar)
         count = within(slots, "the number of a delay's slots", BYTE, "a whole number from 1 to 16")
         words = f"create a delay of {count} slots like {exemplar}"
@@ -281,24 +282,23 @@ class Context(Uncopied):
         return Delay(self, Made(number, name), exemplar, count)
 
     def graph(self, *, name: str = "") -> Graph:
-        """A graph without nodes."""
+        """Returns a graph without nodes."""
         graph = Graph(self, Made(self.create("create a graph", wire.create_graph), name))
         self._used.graphs.add(graph)
         return graph
 
     def load_graph(self, path: Path) -> GraphFile:
         """
-        The graph of a file that Graph.save() wrote or a program or a person did, with its objects:
-        `graph`, `inputs` and `outputs`, which have what the graph reads and leaves by their names,
-        and all `objects` by theirs.
+        Returns the graph of a JSON file, as Graph.save() writes it or a program or a person did.
+        The result has the `graph`, its `inputs` and `outputs` by name, and all `objects` by name.
         """
         return read_graph(self, path)
 
     def usage(self) -> Usage:
         """
-        How many objects of this context there are, and how many bytes its images take of the quota,
-        as this package counts them: those that Python forgot or closed are gone, except what the
-        nodes of a graph use.
+        Returns how many objects this context has, and how many bytes of the quota its images take.
+        The package counts them itself: an object is gone when Python frees it or it is closed,
+        unless a node of a graph uses it.
         """
         self._release_forgotten()
         return self._used.usage(self._server.quota)
@@ -312,11 +312,11 @@ class Context(Uncopied):
     # ---- requests
 
     def pipeline(self) -> Pipeline:
-        """For a `with`, in which requests are sent ahead."""
+        """Returns a pipeline, for a `with` in which requests are sent ahead."""
         return Pipeline(self)
 
     def enter_pipeline(self, pipeline: Pipeline) -> None:
-        """From here on calls that give nothing don't wait for their replies."""
+        """Opens a pipeline: calls without a result no longer wait for their replies."""
         self._look_at_thread("open a pipeline")
         if self._open_pipeline() is not None:
             raise ValueError("a pipeline of this context is open already")
@@ -326,7 +326,8 @@ class Context(Uncopied):
 
     @property
     def barred(self) -> Set[int]:
-        """The threads that may not use it, since a stream of it has them run its iterator."""
+        """The threads that may not use the context, because a stream of it runs its iterator in
+        them."""
         return self._barred
 
     def _look_at_thread(self, words: str) -> None:
@@ -339,7 +340,7 @@ class Context(Uncopied):
         return None if self._pipeline is None else self._pipeline()
 
     def leave_pipeline(self) -> None:
-        """From here on each call waits for its reply."""
+        """Closes a pipeline: each call waits for its reply again."""
         self._pipeline = None
 
     def send(self, words: str, make: Callable[..., bytes], *arguments: Any,
@@ -348,10 +349,10 @@ class Context(Uncopied):
              body: Optional[Body] = None, into: Optional[memoryview] = None,
              waits: bool = False) -> Request:
         """
-        Sends a request: what `make` gives of the client's number and these arguments, and the
-        content after it. In a pipeline its refusal is kept for the end; without one the reply is
-        there already where it `waits`. `explain` says what is at fault where it is refused. `body`
-        is what a success gives, where the op alone doesn't say that, and its samples go `into` a
+        Sends a request. `make` returns it for the client's number and these arguments; the content
+        follows it. In a pipeline a refusal is kept for the end; otherwise the reply has come on
+        return if `waits`. `explain` returns what is at fault if the request is refused. `body` is
+        the expected body of a success, if the op alone doesn't say it; its samples go `into` a
         place, if one is given.
         """
         why_closed = self._why_closed
@@ -378,16 +379,16 @@ class Context(Uncopied):
     def tell(self, words: str, make: Callable[..., bytes], *arguments: Any,
              content: Optional[Part] = None,
              explain: Optional[Explain] = None) -> None:
-        """Sends a request that gives nothing; waits for its reply unless a pipeline is open."""
+        """Sends a request without a result; waits for its reply unless a pipeline is open."""
         request = self.send(words, make, *arguments, content=content, explain=explain, waits=True)
         if self._pipeline is None or self._pipeline() is None:
             self._reply_to(request)
 
     def ask(self, words: str, make: Callable[..., bytes], decode: Callable[[memoryview], Value],
             body: Optional[Body] = None, into: Optional[memoryview] = None) -> Value:
-        """Sends a request, waits, and gives what its reply has. In a pipeline that may be of an
-        older picture, after a request that was refused: then that refusal is raised. After an
-        interruption nothing more goes `into` the place."""
+        """Sends a request, waits for its reply, and returns the result. In a pipeline, a result
+        that comes after a refused request may be of an older picture, so that refusal is raised
+        instead. After an interruption nothing more goes `into` the place."""
         try:
             request = self.send(words, make, body=body, into=into, waits=True)
             value = decode(self._reply_to(request))
@@ -401,30 +402,32 @@ class Context(Uncopied):
         return value
 
     def create(self, words: str, make: Callable[..., bytes], *arguments: Any, size: int = 0) -> int:
-        """Sends a request that makes an object, waits, and gives its name. The size is how many
-        bytes of the quota it takes."""
+        """Sends a request that creates an object, waits for the reply, and returns its name. The
+        size is the number of bytes of the quota that it takes."""
         thread = threading.get_ident()
         request = self.send(words, make, *arguments, explain=self._limit_for(size), waits=True,
                             on_answer=lambda reply: self._note_made(reply, size, thread))
         return int(wire.name_of(self._reply_to(request)))
 
     def _note_made(self, reply: memoryview, size: int, thread: int) -> None:
-        """For a thread, which may not be the one that reads the reply."""
+        """Called by the thread that reads the reply, which may be another one."""
         if reply[7] == wire.SUCCESS:
             name = wire.name_of(reply)
             self._used.add(name, size)
             self._unclaimed[name] = thread
 
     def claim(self, name: int, thing: Named) -> None:
-        """An object in Python has the name from here on. It is released when Python forgets it."""
+        """Gives the name to an object in Python. The name is released when Python frees that
+        object."""
         death = Death(thing, self._dead.append)  # type: ignore[arg-type]
         death.name = name
         self._alive[name] = death
         self._unclaimed.pop(name, None)
 
     def add_node(self, graph: Graph, call: Call, added: Callable[[int], None]) -> int:
-        """Sends a request that adds a node to a graph, waits, and gives its number, with which
-        `added` is called: after an interruption too, once the reply comes."""
+        """Sends a request that adds a node to a graph, waits for the reply, and returns the node's
+        number. `added` is called with the number, also after an interruption once the reply
+        comes."""
         request = self.send(f"add {call} to {graph}", wire.add_node, graph.name,
                             *call.fields(self.references_of(call)), waits=True,
                             explain=lambda code: fault_of(call, code), on_answer=lambda reply: (
@@ -432,19 +435,20 @@ class Context(Uncopied):
         return int(wire.node_of(self._reply_to(request)))
 
     def release(self, name: int, words: str) -> None:
-        """Releases an object, unless the program knows already that the server is gone."""
+        """Releases an object, unless the server is known to be gone."""
         self._used.release(name)
         self._alive.pop(name, None)
         if self._connection.fault is None:
             self.tell(f"release {words}", wire.release, name)
 
     def references_of(self, call: Call) -> List[Optional[bytes]]:
-        """By which a frame names the operands of a call, each None where it is absent."""
+        """Returns the references of a call's operands, as frames have them; None for an operand
+        that is absent."""
         self.look_at(call.name, *call.operands, words=call)
         return [None if operand is None else operand.reference for operand in call.operands]
 
     def look_at(self, what: str, *operands: Any, words: object = None) -> None:
-        """Refuses what is no object, and objects of another context."""
+        """Raises if something isn't an object of this context."""
         for operand in operands:
             if not isinstance(operand, (AnyImage, Named, type(None))):
                 raise TypeError(f"{what} takes images and other objects of its context, and no "
@@ -457,7 +461,7 @@ class Context(Uncopied):
                 raise InvalidScope(str(words or what), None, f"{operand} is of another context.")
 
     def _limit_for(self, size: int) -> Explain:
-        """Which limit an object of so many bytes doesn't keep."""
+        """Returns which limit an object of this many bytes would exceed."""
         return lambda code: ("" if code != wire.NO_RESOURCES
                              else self._used.fault(size, self._server.quota))
 
@@ -483,7 +487,8 @@ class Context(Uncopied):
         return request.take_reply()
 
     def _release_forgotten(self) -> None:
-        """An interruption in between has some released twice, and the second time is refused."""
+        """Releases the objects that Python has freed. After an interruption some may be released
+        twice; the second request is refused."""
         thread = threading.get_ident()
         for name in [name for name, maker in list(self._unclaimed.items()) if maker == thread]:
             self._release_unseen(name)
@@ -505,7 +510,7 @@ class Context(Uncopied):
 
     @property
     def closed(self) -> bool:
-        """Whether it was closed, or its server or its connection has ended."""
+        """Whether the context was closed, or its server or its connection has ended."""
         return self._why_closed is not None or self._connection.fault is not None
 
     @property
@@ -514,8 +519,8 @@ class Context(Uncopied):
 
     def close(self) -> None:
         """
-        Ends the context with all of its objects. Nothing happens where that was done before, or
-        where the program was told already that the server is gone.
+        Ends the context with all of its objects. It does nothing if the context is closed already,
+        or if the server is known to be gone.
         """
         if self._why_closed is None:
             self._pipeline, is_released = None, False
@@ -529,8 +534,8 @@ class Context(Uncopied):
 
     def close_within(self, thing: Any, error: Optional[BaseException]) -> None:
         """
-        Closes at the end of a `with`. Where that ended with an error, no other takes its place; and
-        after an interruption nothing is waited for, which may be what was interrupted.
+        Closes the context at the end of a `with`. An error of the `with` isn't replaced by another
+        one. After an interruption nothing is waited for, because that may be what was interrupted.
         """
         if error is not None and not isinstance(error, Exception):
             return
@@ -548,8 +553,8 @@ class Context(Uncopied):
         self.close_within(self, error)
 
     async def run(self, function: Callable[..., Value], *arguments: Any) -> Value:
-        """Calls a function that uses this context, in a thread, and waits for it in the event loop:
-        so others go on meanwhile. One task uses a context at a time."""
+        """Runs a function that uses this context in a thread, and waits for it in the event loop,
+        so that other tasks go on. Only one task may use a context at a time."""
         loop = asyncio.get_running_loop()
         return await loop.run_in_executor(None, lambda: function(*arguments))
 
@@ -568,7 +573,7 @@ _AN_OUTPUT = ("a threshold's true or false value", BYTE, "a whole number from 0 
 
 
 def rows_of_kernel(coefficients: Rows) -> Tuple[Tuple[int, ...], ...]:
-    """The coefficients of a convolution by rows."""
+    """Returns the coefficients of a convolution, row by row."""
     rows = tuple(tuple(coefficient_of(value) for value in row) for row in coefficients)
     if any(len(row) != len(rows[0]) for row in rows):
         raise ValueError("rows of coefficients are of one length")
@@ -576,7 +581,7 @@ def rows_of_kernel(coefficients: Rows) -> Tuple[Tuple[int, ...], ...]:
 
 
 def coefficient_of(value: Any) -> int:
-    """A coefficient of a convolution, as a frame has it."""
+    """Returns a coefficient of a convolution, as frames have it."""
     try:
         return within(value, "a coefficient of a convolution", SIGNED,
                       "a whole number from -32768 to 32767")

@@ -1,8 +1,8 @@
 """
-Pictures over a cluster of dask.distributed: each worker process has a server of its own.
+Runs graphs on a cluster of dask.distributed: each worker process has a server of its own.
 
 A server starts when the first picture reaches its worker. It ends with the worker, however that
-ends: its input, a pipe that the worker holds, has ended then.
+ends, because the worker's end closes the pipe that is the server's input.
 """
 
 from __future__ import annotations
@@ -33,9 +33,9 @@ def map_pictures(client: Client, graph: Build, pictures: Iterable[Any], *,
                  program: Optional[str] = None, quota: Optional[int] = None,
                  work: Optional[int] = None, retries: int = 0, **options: Any) -> List[Future]:
     """
-    Runs a graph on each picture somewhere on the cluster. Gives a future for each, in the order of
-    the pictures, as Client.map does: client.gather(futures) has the outputs,
-    distributed.as_completed(futures) each when it is there.
+    Runs a graph on each picture somewhere on the cluster. Returns a future for each, in the order
+    of the pictures, as Client.map does: client.gather(futures) has the outputs,
+    distributed.as_completed(futures) yields each when it has come.
 
         def edges(context, width, height):
             camera = context.image(vx.U8, width, height)
@@ -48,28 +48,28 @@ def map_pictures(client: Client, graph: Build, pictures: Iterable[Any], *,
 
         outputs = client.gather(map_pictures(client, edges, pictures, program="/usr/bin/vx_main"))
 
-    `graph` is a function, since an object of a context can't travel while functions do, as
-    everywhere in dask. Called as graph(context, width, height), in samples, it gives the graph, the
-    image that each picture is written to, and the image that is read after the run. A worker calls
-    it once for each size and each graph that it runs at a time, and may use what it made again: so
-    a graph that keeps something from one picture to the next, as by a delay, gives outputs that
-    depend on how dask spreads the pictures. What its nodes don't use is kept by nobody once it
-    returns.
+    `graph` is a function, because functions can be sent to workers and objects of a context can't.
+    It is called as graph(context, width, height), in samples, and returns the graph, the image that
+    each picture is written to, and the image that is read after the run. A worker calls it for each
+    size, and again for each further graph that has to run at the same time; it may reuse what the
+    function returned. So a graph that keeps something from one picture to the next, for example by
+    a delay, has outputs that depend on how dask distributes the pictures. Objects that no node uses
+    are dropped when the function returns.
 
-    `pictures` are NumPy arrays of shape (height, width), rows of numbers, or futures of them: a
-    future's picture never passes through the client. Others travel with their task and stay with
-    the scheduler until their future is dropped, so that they are there again where a worker ends.
-    An output is a NumPy array, or rows of numbers on a worker without NumPy.
+    `pictures` are NumPy arrays of shape (height, width), rows of numbers, or futures of them. The
+    picture of a future never passes through the client. Other pictures are sent with their task,
+    and the scheduler keeps them until their future is dropped, so that they can be used again if a
+    worker ends. An output is a NumPy array, or rows of numbers on a worker without NumPy.
 
-    `program` is the path of vx_main on the workers; where it isn't given each worker finds it as
-    Server does. `quota` and `work` are as those of Server, `options` are those of Client.map.
+    `program` is the path of vx_main on the workers; without it each worker finds the program as
+    Server does. `quota` and `work` are those of Server, `options` those of Client.map.
 
-    Where a worker ends before its outputs were gathered, dask runs their tasks elsewhere, up to the
+    If a worker ends before its outputs were gathered, dask runs their tasks elsewhere, up to the
     cluster's limit (distributed.scheduler.allowed-failures); a future is one output, however often
-    it ran. What goes wrong on a worker is the future's exception: a refusal, or ServerEnded, after
-    which the next picture gets a new server. `retries` is how often dask tries a picture again that
-    had any of these. One or two are right where servers may be killed: the pictures that were with
-    that server all had ServerEnded. A refusal is the same each time.
+    it ran. An error on a worker is the future's exception: a refusal, or ServerEnded, after which
+    the next picture gets a new server. `retries` is how often dask retries a picture after such an
+    error. One or two are right if servers may be killed: all pictures on that server fail with
+    ServerEnded. A refusal would be the same each time.
     """
     if not callable(graph):
         raise TypeError("the graph is a function of a context, a width and a height, not "
@@ -84,19 +84,20 @@ def map_pictures(client: Client, graph: Build, pictures: Iterable[Any], *,
 
 
 class Rows:
-    """Rows of numbers on their way: dask would look for futures among the numbers of a list."""
+    """Rows of numbers in a task: without this class dask would look for futures among the numbers
+    of a list."""
 
     def __init__(self, rows: Any) -> None:
         self.rows = rows
 
 
 def carried(picture: Any) -> Any:
-    """A picture as it travels."""
+    """Returns a picture as it is sent."""
     return Rows(picture) if isinstance(picture, (list, tuple)) else picture
 
 
 class Line(NamedTuple):
-    """A graph that was built, in a context of its own."""
+    """A graph that a job's function has built, in a context of its own."""
 
     context: Context
     graph: Graph
@@ -112,7 +113,7 @@ class Line(NamedTuple):
 
 
 def line_of(context: Context, built: Any) -> Line:
-    """What a job's function has built."""
+    """Builds the line of a job's function."""
     if not (isinstance(built, tuple) and len(built) == 3 and isinstance(built[0], Graph)):
         raise TypeError("the function that builds the graph gives a graph, the image that a "
                         f"picture is written to and the image that is read, and not {built!r}")
@@ -120,7 +121,7 @@ def line_of(context: Context, built: Any) -> Line:
 
 
 class Station:
-    """A worker's server, with the graphs that wait there for pictures."""
+    """The server of a worker, with the graphs that wait for pictures."""
 
     def __init__(self, server: Server) -> None:
         self.server = server
@@ -129,7 +130,8 @@ class Station:
         self._idle: OrderedDict[Line, Tuple[str, int, int]] = OrderedDict()
 
     def take(self, key: Tuple[str, int, int], build: Build) -> Line:
-        """A line for a job's pictures of this width and height, that nobody else uses."""
+        """Returns a line for a job's pictures of this width and height that nobody else is
+        using."""
         with self._lock:
             line = next((line for line, its_key in self._idle.items() if its_key == key), None)
             if line is not None:
@@ -151,7 +153,8 @@ class Station:
 
 
 class Job(NamedTuple):
-    """What a task has besides its picture. Its number tells its graph from those of other calls."""
+    """A task's data apart from its picture. Its number tells its graph from those of other
+    calls."""
 
     number: str
     build: Build
@@ -160,7 +163,7 @@ class Job(NamedTuple):
     work: Optional[int]
 
     def run(self, picture: Any) -> Any:
-        """The output for a picture. It runs on a worker, in one of its threads."""
+        """Returns the output for a picture. It runs on a worker, in one of its threads."""
         picture = picture.rows if isinstance(picture, Rows) else picture
         height, width = picture.shape if is_array(picture) else samples_of(picture)[2:0:-1]
         key = self.number, width, height
@@ -185,8 +188,8 @@ STATIONS_LOCK = threading.Lock()
 
 
 def station_of(job: Job) -> Station:
-    """The station of this process for a job, whose server is started where there is none. In a
-    process that was forked from one with a server that one is closed, and it starts its own."""
+    """Returns the station of this process for a job, and starts its server if there is none. A
+    process that was forked from one with a server closes that server, and starts its own."""
     with STATIONS_LOCK:
         key = job.program, job.quota, job.work
         station = STATIONS.get(key)
@@ -196,7 +199,8 @@ def station_of(job: Job) -> Station:
 
 
 def server_of(job: Job) -> Server:
-    """Starts a server. Who reads that it can't be started may sit at another machine."""
+    """Starts a server. Its error message names the machine, because it may be read on another
+    one."""
     try:
         return Server(job.program, quota=job.quota, work=job.work)
     except OSError as error:
@@ -208,8 +212,8 @@ def server_of(job: Job) -> Server:
 
 def drop(station: Station) -> None:
     """
-    A server has ended: the next picture starts another. It isn't closed here, so that other threads
-    that use it raise how it ended, and not that it was closed.
+    Drops a server that has ended: the next picture starts another. It isn't closed here, so that
+    other threads that use it get the reason why it ended.
     """
     with STATIONS_LOCK:
         for key in [key for key, other in STATIONS.items() if other is station]:
@@ -217,7 +221,7 @@ def drop(station: Station) -> None:
 
 
 def close(context: Context) -> None:
-    """Closes a context whose server may have ended."""
+    """Closes a context, even if its server has ended."""
     try:
         context.close()
     except FeqyldanError:

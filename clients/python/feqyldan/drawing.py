@@ -1,4 +1,4 @@
-"""Graphs drawn: in Graphviz's language, as SVG, and delays in a notebook."""
+"""Drawings of graphs, in Graphviz's language and as SVG, and of delays in a notebook."""
 
 from __future__ import annotations
 
@@ -19,7 +19,7 @@ _STYLES = {"virtual": 'shape=ellipse style=dashed', "object": 'shape=box style=f
 
 
 class Box(NamedTuple):
-    """A node or an object in a drawing: its words in two lines, and its kind."""
+    """A node or an object in a drawing: its words on two lines, and its kind."""
 
     key: str
     title: str
@@ -35,7 +35,7 @@ class Drawing(NamedTuple):
 
     @property
     def dot(self) -> str:
-        """It in Graphviz's language."""
+        """Returns the drawing in Graphviz's language."""
         lines = ["digraph {", "  rankdir=LR; node [fontname=sans fontsize=10]"]
         for box in self.boxes.values():
             words = "\\n".join(_quoted(line) for line in (box.title, box.about) if line)
@@ -45,7 +45,7 @@ class Drawing(NamedTuple):
 
     @property
     def svg(self) -> str:
-        """It as SVG: by Graphviz's dot where that is installed, else in columns."""
+        """Returns the drawing as SVG: by Graphviz's dot if it is installed, else in columns."""
         return _by_graphviz(self.dot) or _in_columns(self)
 
 
@@ -62,7 +62,7 @@ def drawing_of(members: Iterable[Member]) -> Drawing:
 
 
 def _key_of(drawing: Drawing, cell: Cell) -> str:
-    """The key of an object, whose box is drawn once."""
+    """Returns the key of an object, whose box is drawn once."""
     key = f"object{cell.reference.hex()}"
     title, _, about = cell.words.partition(" (")
     slot, _, delay = title.partition(" of ")
@@ -73,7 +73,7 @@ def _key_of(drawing: Drawing, cell: Cell) -> str:
 
 
 def _label_in(words: str) -> str:
-    """The label that the words of an object have; without one its kind and number."""
+    """Returns the label in the words of an object, or its kind and number without one."""
     return words.split('"')[1] if '"' in words else words
 
 
@@ -93,7 +93,7 @@ def _by_graphviz(text: str) -> Optional[str]:
 
 
 def _in_columns(drawing: Drawing) -> str:
-    """Each box in the column after the last of those that it comes from."""
+    """Returns the boxes in columns, each after the last of those with an arrow to it."""
     columns = _columns_of(drawing)
     places: Dict[str, Tuple[int, int]] = {}
     filled: Dict[int, int] = {}
@@ -110,7 +110,7 @@ def _in_columns(drawing: Drawing) -> str:
 
 
 def _columns_of(drawing: Drawing) -> Dict[str, int]:
-    """The column of each box, which a cycle doesn't move for ever."""
+    """Returns the column of each box. It ends even for a cycle."""
     columns = dict.fromkeys(drawing.boxes, 0)
     for _ in drawing.boxes:
         for source, target in drawing.arrows:
@@ -137,7 +137,7 @@ def _box(box: Box, x: int, y: int) -> str:
 
 
 def html_of(pictures: Iterable[Tuple[str, Optional[bytes]]]) -> str:
-    """Pictures, PNG, beside one another, each with its words below."""
+    """Returns HTML with PNG pictures side by side, each with its words below."""
     figures: List[Any] = []
     for words, png in pictures:
         data = base64.b64encode(png or b"").decode()

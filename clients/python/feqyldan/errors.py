@@ -1,4 +1,5 @@
-"""What goes wrong: a class for each code of the protocol, and what isn't the server's refusal."""
+"""Exceptions: a class for each status code of the protocol, and those that aren't refusals of the
+server."""
 
 from __future__ import annotations
 
@@ -8,7 +9,7 @@ from . import wire
 
 
 class FeqyldanError(Exception):
-    """Whatever this package raises of its own."""
+    """The base class of this package's exceptions."""
 
 
 class Closed(FeqyldanError, ValueError):
@@ -17,8 +18,8 @@ class Closed(FeqyldanError, ValueError):
 
 class ServerEnded(FeqyldanError):
     """
-    The server has ended, or closed its connection, and answers nothing more. `status` is its exit
-    status, None where nobody knows it; `said` is what it wrote to standard error.
+    The server has ended, or closed its connection, and won't answer any more. `status` is its exit
+    status, or None if it isn't known; `said` is what it wrote to standard error.
     """
 
     def __init__(self, words: str, status: Optional[int] = None, said: str = "") -> None:
@@ -27,47 +28,49 @@ class ServerEnded(FeqyldanError):
 
 
 class TimedOut(FeqyldanError, TimeoutError):
-    """The server didn't answer in the time that it was given. The connection is closed."""
+    """The server didn't answer within the timeout. The connection is closed."""
 
 
 class ProgramNotFound(FeqyldanError, FileNotFoundError):
-    """The server's program is in none of the places where it is looked for."""
+    """The server's program was not found in any of the places that are searched."""
 
 
 class OrderWarning(UserWarning):
-    """A graph's node writes what a node that was added before it reads, and runs before that."""
+    """A node of a graph writes what a node that was added earlier reads, and so it runs before that
+    node."""
 
 
 class NotYet(FeqyldanError, TimeoutError):
-    """A reply hasn't come in the time that Result.value() was given. It is still awaited."""
+    """A reply hasn't come within the timeout of Result.value(). It can still be awaited."""
 
 
 class BadPicture(FeqyldanError):
     """
-    What is to be written to an image is no picture of the image's format and size, or no picture at
-    all. It is one of NotAPicture, a TypeError; WrongPicture, a ValueError; and the server's
+    What should be written to an image isn't a picture of its format and size, or isn't a picture at
+    all. The subclasses are NotAPicture, a TypeError; WrongPicture, a ValueError; and the server's
     refusals WrongPictureSize, WrongPictureFormat and WrongPictureSample.
     """
 
 
 class NotAPicture(BadPicture, TypeError):
-    """It is of a type that isn't taken for a picture: an array of floats, a path, None."""
+    """The type of the value can't be a picture: an array of floats, a path, None."""
 
 
 class WrongPicture(BadPicture, ValueError):
-    """Its shape or a number in it is wrong: a colour picture, rows of several lengths, 256."""
+    """The shape of the picture or a number in it is wrong: a colour picture, rows of several
+    lengths, 256."""
 
 
 class UnexpectedReply(FeqyldanError):
-    """What was read is no reply to the request that was sent: the other end isn't the server."""
+    """The bytes that were read aren't a reply to the request: the other end isn't this server."""
 
 
 class Refused(FeqyldanError):
     """
-    The server refused a request, which has changed nothing. `code` is the number of the code,
-    `name` its name in docs/wire.md, `request` the request in words, `advice` what to do. `place` is
-    where the request stands in its pipeline, and `fault` what of a graph is at fault; both are
-    empty where there is nothing to say.
+    The server refused a request, which has changed nothing. `code` is the number of the status
+    code, `name` its name in docs/wire.md, `request` the request in words, `advice` what to do.
+    `place` is the call in its pipeline, and `fault` the fault of a graph; both are empty if there
+    is nothing to say.
     """
 
     code = -1
@@ -164,16 +167,16 @@ class NoResources(Refused):
 
 
 class BrokerFull(NoResources):
-    """The broker has as many connections as it allows. One may be free soon: connect(retry=)
-    waits for it."""
+    """The broker has as many connections as it allows. One may be free soon: connect(retry=) waits
+    for it."""
 
 
 class WrongPictureSize(InvalidDimension, BadPicture):
-    """A picture is of another size than the image that it is written to."""
+    """A picture has another size than the image that it is written to."""
 
 
 class WrongPictureFormat(InvalidFormat, BadPicture):
-    """A picture is of another format than the image that it is written to, or no PGM text."""
+    """A picture has another format than the image that it is written to, or a text isn't PGM."""
 
 
 class WrongPictureSample(InvalidValue, BadPicture):
@@ -260,5 +263,5 @@ ADVICE: Dict[Tuple[int, Optional[int]], str] = {
 
 def refusal(code: int, request: str, op: Optional[int], place: str = "",
             fault: str = "") -> Refused:
-    """What to raise for a reply with a code that isn't 0."""
+    """Returns the exception for a reply with a code that isn't 0."""
     return OWN_CLASSES.get((code, op), CLASSES[code])(request, op, place=place, fault=fault)

@@ -1,5 +1,5 @@
-"""Pictures from files and to files: PGM and PNG by this package, .npy by NumPy, all others by
-OpenCV or PIL, where one of them is installed."""
+"""Reads and writes picture files: PGM and PNG by this package, .npy by NumPy, and others by OpenCV
+or PIL, if one of them is installed."""
 
 from __future__ import annotations
 
@@ -14,9 +14,9 @@ from .samples import Format, Readable, needed_numpy, numpy_module
 
 def load(path: Path) -> Any:
     """
-    The picture in a file, as OpenCV, PIL or NumPy have it: a grey array of uint8 or int16; colours
-    are made grey. Raises OSError where the file can't be read, BadPicture where it has no picture,
-    ImportError where nothing that reads such files is installed.
+    Returns the picture in a file, as OpenCV, PIL or NumPy read it: a grey array of uint8 or int16.
+    Colours are converted to grey. Raises OSError if the file can't be read, BadPicture if it has no
+    picture, and ImportError if nothing is installed that reads such files.
     """
     path = os.fspath(path)
     # It says why a file can't be read; OpenCV doesn't.
@@ -34,7 +34,7 @@ def load(path: Path) -> Any:
 
 
 def pixels_of_pgm(text: bytes) -> memoryview:
-    """The samples of a PGM text of samples up to 255, of shape (height, width)."""
+    """Returns the samples of a PGM text with samples up to 255, in shape (height, width)."""
     fmt, width, height = size_of_pgm(text)
     header = HEADER.match(text)
     assert header is not None
@@ -47,7 +47,7 @@ def pixels_of_pgm(text: bytes) -> memoryview:
 
 
 def _module(name: str) -> Any:
-    """A module, if it is installed, and NumPy is, which it needs here."""
+    """Returns a module if it and NumPy, which it needs here, are installed."""
     try:
         return importlib.import_module(name) if numpy_module() is not None else None
     except ImportError:
@@ -80,7 +80,7 @@ ENDS = {b"\x89PNG\r\n\x1a\n": (b"IEND", "PNG"), b"\xff\xd8\xff": (b"\xff\xd9", "
 
 
 def unread(path: str, reader: str) -> WrongPicture:
-    """Why a file has no picture."""
+    """Returns why a file has no picture."""
     content = read_bytes(path)
     if not content:
         return WrongPicture(f"{path} is empty")
@@ -92,7 +92,7 @@ def unread(path: str, reader: str) -> WrongPicture:
 
 
 def _narrowed(path: str, pixels: Any) -> Any:
-    """Samples of 16 bits or more become int16 where they have room."""
+    """Converts samples of 16 bits or more to int16 if they fit."""
     numpy = numpy_module()
     if pixels.dtype.kind in "iu" and pixels.dtype.itemsize > 1:
         least, greatest = int(pixels.min()), int(pixels.max())
@@ -105,7 +105,7 @@ def _narrowed(path: str, pixels: Any) -> Any:
 
 
 def save(path: Path, picture: Any) -> None:
-    """Writes an image or an array to a file by the ending of its name."""
+    """Writes an image or an array to a file in the format of the name's ending."""
     path = os.fspath(path)
     pixels = picture.read() if isinstance(picture, Readable) else picture
     ending = os.path.splitext(path)[1].lower()

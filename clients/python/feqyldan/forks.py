@@ -1,7 +1,7 @@
 """
-What becomes of connections in a process that is forked, as multiprocessing may do: the child has a
-copy of each, whose replies are the parent's. There the copies are closed, so that each byte has one
-reader, and a server's input ends with the parent.
+Closes connections in the child of a fork, as multiprocessing may make it. The child has a copy of
+each connection, but the replies are the parent's. Closing the copies leaves one reader for each
+byte, and lets a server's input end with the parent.
 """
 
 from __future__ import annotations
@@ -15,12 +15,13 @@ FORKED = "its server was opened before this process was forked; open a server he
 
 
 class Forked:
-    """Something that is closed in a child."""
+    """The base class of things that are closed in the child of a fork."""
 
     __slots__ = ()
 
     def lose(self) -> None:
-        """Closes what is the parent's, without a word to the server. No other thread runs."""
+        """Closes what belongs to the parent, without sending anything to the server. No other
+        thread runs."""
         raise NotImplementedError
 
 

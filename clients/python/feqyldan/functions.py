@@ -1,11 +1,11 @@
 """
 The vision functions by their OpenVX names, with the standard's order of parameters. `Context.vxu`
-runs them at once, as vxuAbsDiff does; a `Graph` adds them as nodes, as vxAbsDiffNode does. Each is
-written here once, for both.
+runs them immediately, as vxuAbsDiff does; a `Graph` adds them as nodes, as vxAbsDiffNode does. Each
+is defined here once, for both.
 
-The valid pixels of an output are those that are valid in all input images, and of an output that is
-added to those among them that were valid in it; where it says so below, less of them. All other
-samples of an output become 0.
+The valid pixels of an output are those that are valid in all input images. An output that is added
+to is valid only where it was valid before, too. Some functions below make fewer pixels valid. All
+other samples of an output become 0.
 """
 
 from __future__ import annotations
@@ -35,8 +35,8 @@ Method = TypeVar("Method", bound=Callable[..., Any])
 
 
 class Policy(IntEnum):
-    """What becomes of a result that is no sample of the output: WRAP counts modulo 2^8 or 2^16,
-    SATURATE is nearest."""
+    """What happens to a result out of the output's range: WRAP counts modulo 2^8 or 2^16, SATURATE
+    takes the nearest sample."""
 
     WRAP = wire.WRAP
     SATURATE = wire.SATURATE
@@ -44,9 +44,9 @@ class Policy(IntEnum):
 
 class Border(NamedTuple):
     """
-    What a window sees beside its input's valid pixels. With UNDEFINED the output is valid only
-    where the whole window is; with REPLICATE it sees the nearest valid pixel; with constant(value)
-    that value, from 0 to 255.
+    The border mode: what a window sees outside the valid pixels of its input. With UNDEFINED the
+    output is valid only where the whole window is; with REPLICATE the window sees the nearest valid
+    pixel; with constant(value) it sees that value, from 0 to 255.
     """
 
     mode: int
@@ -61,14 +61,13 @@ POLICIES = Policy, wire.Policy
 
 
 def constant(value: int) -> Border:
-    """The border that is a value everywhere, from 0 to 255."""
+    """Returns the border of one value everywhere, from 0 to 255."""
     return Border(wire.CONSTANT,
                   within(value, "a border's value", BYTE, "a whole number from 0 to 255"))
 
 
 class Function(NamedTuple):
-    """A function: its number in frames, and the name that OpenVX's function has after vx and
-    vxu."""
+    """A function: its number in frames, and its name in OpenVX after vx and vxu."""
 
     number: int
     openvx: str
@@ -79,7 +78,7 @@ FUNCTIONS: Dict[str, Function] = {}
 
 
 def function(number: int, openvx: str) -> Callable[[Method], Method]:
-    """Enters a method into FUNCTIONS, and says in its docstring what OpenVX calls it."""
+    """Adds a method to FUNCTIONS, and its OpenVX names to its docstring."""
 
     def entered(method: Method) -> Method:
         FUNCTIONS[method.__name__] = Function(number, openvx)
@@ -91,8 +90,8 @@ def function(number: int, openvx: str) -> Callable[[Method], Method]:
 
 
 def telling_order(method: Method) -> Method:
-    """A method that has a policy: where its arguments are too few or too many, says what they are,
-    since the policy is the one that is forgotten."""
+    """Wraps a method that has a policy: if its arguments are too few or too many, the error lists
+    them, because the policy is the one that is often forgotten."""
 
     @functools.wraps(method)
     def called(*arguments: Any, **named: Any) -> Any:
@@ -111,7 +110,7 @@ def telling_order(method: Method) -> Method:
 
 
 def functions_for_names(before: str) -> Dict[str, str]:
-    """The functions by their names in OpenCV and in OpenVX, with words before each."""
+    """Returns the functions by their names in OpenCV and in OpenVX, with words before each."""
     names = {**OTHERS, **{other: name for name, function in FUNCTIONS.items()
                           for other in (function.openvx, f"vxu{function.openvx}",
                                         f"vx{function.openvx}Node")}}
@@ -119,20 +118,20 @@ def functions_for_names(before: str) -> Dict[str, str]:
 
 
 def order_of(name: str) -> str:
-    """A function with its parameters in their order."""
+    """Returns the words for a function with its parameters in order."""
     parameters = list(inspect.signature(getattr(Functions, name)).parameters)[1:]
     return f"{name}({', '.join(parameters)})"
 
 
 def place_of(name: str, parameter: str) -> str:
-    """Which argument of a function a parameter is."""
+    """Returns the position of a parameter among a function's arguments."""
     parameters = list(inspect.signature(getattr(Functions, name)).parameters)
     return f"it is argument {parameters.index(parameter)} of {order_of(name)}"
 
 
 class Call(NamedTuple):
-    """A use of a function. The operands are in1, in2, out1 and out2, each None where the function
-    hasn't it."""
+    """A call of a function. The operands are in1, in2, out1 and out2; those that the function
+    doesn't have are None."""
 
     name: str
     operands: Tuple[Optional[Union[Operand, Named]], ...]
@@ -145,7 +144,8 @@ class Call(NamedTuple):
         return f"{self.name}({', '.join(operands)})"
 
     def fields(self, references: Sequence[Optional[bytes]]) -> Tuple[Any, ...]:
-        """What a frame has of it, in the order of wire.immediate; a reference for each operand."""
+        """Returns the fields of the call in the order of wire.immediate; each operand is a
+        reference."""
         in1, in2, out1, out2 = references
         return FUNCTIONS[
             self.name].number, in1, in2, out1, self.policy, self.amount, *self.border, out2
@@ -160,7 +160,7 @@ BINARY = {**dict.fromkeys(("and_", "or_", "xor", "add", "subtract", "multiply", 
 def call_of(name: str, operands: Tuple[Optional[Union[Operand, Named]], ...], policy: Policy,
             amount: int,
             border: Border) -> Call:
-    """A call, if a frame can say it."""
+    """Returns a call, or raises if a frame can't express it."""
     for at, what in enumerate(("its input", BINARY.get(name, ""))):
         if what and operands[at] is None:
             raise InvalidParameters(name, None, f"{what[0].upper()}{what[1:]} is None.")
@@ -180,7 +180,7 @@ def call_of(name: str, operands: Tuple[Optional[Union[Operand, Named]], ...], po
 
 
 def not_a_policy(name: str, value: Any) -> Exception:
-    """What to raise for something else in the place of a policy: a number may be a shift."""
+    """Returns the exception for an argument that should be a policy: a number may be a shift."""
     words = f"a policy is vx.WRAP or vx.SATURATE, and not {value!r}; {place_of(name, 'policy')}"
     if isinstance(value, int):
         return InvalidParameters(name, None, f"{words[0].upper()}{words[1:]}.")
@@ -188,7 +188,8 @@ def not_a_policy(name: str, value: Any) -> Exception:
 
 
 class Functions(Generic[Given]):
-    """The methods that immediate mode and graphs share. All images of one call have one size."""
+    """The methods that immediate mode and graphs share. All images of one call have the same
+    size."""
 
     __slots__ = ()
 
@@ -201,7 +202,7 @@ class Functions(Generic[Given]):
 
     @classmethod
     def _others(cls) -> Dict[str, str]:
-        """What it has for the names of other libraries."""
+        """Returns what this class offers for the names of other libraries."""
         return functions_for_names("")
 
     def _do(self, name: str, in1: Operand, in2: Optional[Union[Operand, Named]],
@@ -211,17 +212,17 @@ class Functions(Generic[Given]):
 
     @function(wire.AND_BITS, "And")
     def and_(self, in1: Operand, in2: Operand, output: Operand) -> Given:
-        """The bits that are 1 in both. U8 and U8 to U8."""
+        """The bits that are 1 in both inputs. U8 and U8 to U8."""
         return self._do("and_", in1, in2, output)
 
     @function(wire.OR_BITS, "Or")
     def or_(self, in1: Operand, in2: Operand, output: Operand) -> Given:
-        """The bits that are 1 in either. U8 and U8 to U8."""
+        """The bits that are 1 in either input. U8 and U8 to U8."""
         return self._do("or_", in1, in2, output)
 
     @function(wire.XOR_BITS, "Xor")
     def xor(self, in1: Operand, in2: Operand, output: Operand) -> Given:
-        """The bits that differ. U8 and U8 to U8."""
+        """The bits that differ between the inputs. U8 and U8 to U8."""
         return self._do("xor", in1, in2, output)
 
     @function(wire.NOT_BITS, "Not")
@@ -232,8 +233,8 @@ class Functions(Generic[Given]):
     @function(wire.ADD, "Add")
     def add(self, in1: Operand, in2: Operand, policy: Policy, output: Operand) -> Given:
         """
-        a + b by the policy, WRAP or SATURATE. Each of the inputs U8 or S16, to S16; or U8 and U8 to
-        U8. A virtual output of open format is S16.
+        a + b by the policy, WRAP or SATURATE. U8 and U8 to U8; or each input U8 or S16, to S16. A
+        virtual output of open format becomes S16.
         """
         return self._do("add", in1, in2, output, policy=policy)
 
@@ -246,17 +247,18 @@ class Functions(Generic[Given]):
     def multiply(self, in1: Operand, in2: Operand, shift: int, policy: Policy,
                  output: Operand) -> Given:
         """
-        a * b / 2^shift by the policy, the quotient rounded to zero. Formats as for add.
+        a * b / 2^shift by the policy; the quotient is rounded toward zero. Formats as for add.
 
-        The shift, from 0 to 15, stands for the standard's scale 1 / 2^shift: scale 1 is shift 0,
-        1/256 is shift 8. The scale 1/255 is left out, as is the rounding policy:
-        VX_ROUND_POLICY_TO_ZERO is the only one.
+        The shift, from 0 to 15, is the standard's scale 1 / 2^shift: scale 1 is shift 0, 1/256 is
+        shift 8. The scale 1/255 is not supported. VX_ROUND_POLICY_TO_ZERO is the only rounding
+        policy.
         """
         return self._do("multiply", in1, in2, output, policy=policy, amount=shift)
 
     @function(wire.ABSOLUTE_DIFFERENCE, "AbsDiff")
     def absdiff(self, in1: Operand, in2: Operand, output: Operand) -> Given:
-        """The distance of a and b, at most 32767. U8 and U8 to U8; S16 and S16 to S16."""
+        """The absolute difference of a and b, at most 32767. U8 and U8 to U8; S16 and S16 to
+        S16."""
         return self._do("absdiff", in1, in2, output)
 
     @function(wire.MIN_PIXEL, "Min")
@@ -271,8 +273,8 @@ class Functions(Generic[Given]):
 
     @function(wire.THRESHOLD, "Threshold")
     def threshold(self, input: Operand, threshold: Threshold, output: Operand) -> Given:
-        """The threshold's true value where a sample passes, else its false value. Of the
-        threshold's format, to U8."""
+        """The threshold's true value if a sample passes, else its false value. The threshold's
+        format to U8."""
         return self._do("threshold", input, threshold, output)
 
     @function(wire.TABLE_LOOKUP, "TableLookup")

@@ -47,11 +47,12 @@ SLOT = re.compile(r"(.+)\[(0|-[0-9]+)\]")
 
 
 class GraphFileError(FeqyldanError, ValueError):
-    """A file isn't that of a graph. It says in which object or node, and what is wrong."""
+    """A file doesn't describe a graph. The message says in which object or node, and what is
+    wrong."""
 
 
 class GraphFile(NamedTuple):
-    """A graph that a file had, the images that get a picture before each run, what a run leaves
+    """The graph of a file, the images that get a picture before each run, the outputs of a run
     (images, distributions and extremes), and all objects, each by its name in the file."""
 
     graph: Graph
@@ -63,7 +64,7 @@ class GraphFile(NamedTuple):
 # ---- writing
 
 def write_graph(graph: Graph, path: Path, inputs: Optional[Sequence[AnyImage]]) -> None:
-    """Writes a graph with its objects, as Graph.save() says."""
+    """Writes a graph and its objects, as Graph.save() says."""
     written = {operand.reference for call in graph.calls.values() for operand in call.operands[2:]
                if operand is not None}
     names = Names(graph)
@@ -91,7 +92,7 @@ def _inputs_of(graph: Graph, written: Any,
 
 
 def _checked_inputs(graph: Graph, inputs: Any) -> Sequence[AnyImage]:
-    """The images themselves, if a run reads each of them as it is."""
+    """Returns the input images, after checking that a run reads each of them unchanged."""
     if isinstance(inputs, str) or not hasattr(inputs, "__iter__"):
         raise TypeError("inputs is a list of images, as in save(path, inputs=[camera]), and not "
                         f"{inputs}")
@@ -104,7 +105,8 @@ def _checked_inputs(graph: Graph, inputs: Any) -> Sequence[AnyImage]:
 
 
 def fault_of_input(graph: Graph, image: Any) -> str:
-    """Why this is no image that gets a picture before each run; empty where it is one."""
+    """Returns why an object can't be an image that gets a picture before each run; empty if it
+    can."""
     if isinstance(image, Slot):
         return ("a slot of a delay gets its picture from a node: let graph.max(camera, camera, "
                 "slot) copy it from an image, which is the input")
@@ -117,7 +119,7 @@ def fault_of_input(graph: Graph, image: Any) -> str:
 
 
 class Names:
-    """The objects that a graph's nodes use, by names of their own: their labels, or their kind and
+    """Distinct names of the objects that a graph's nodes use: their labels, or their kind and
     number."""
 
     def __init__(self, graph: Graph) -> None:
@@ -162,8 +164,8 @@ def _description(thing: Any, graph: Graph, written: Any, inputs: Any) -> Dict[st
 
 
 def _content(image: Image, graph: Graph, is_written: bool) -> Dict[str, Any]:
-    """What an image holds before a run, as far as the run depends on it: samples that no node
-    writes, and the valid rectangle of these and of sums, where that isn't the whole image."""
+    """Returns the parts of an image that a run depends on: samples that no node writes, and the
+    valid rectangle of these and of sums, if it isn't the whole image."""
     is_sum = any(call.name in ADDING and call.operands[2] is image for call in graph.calls.values())
     content: Dict[str, Any] = {}
     if not is_written:
@@ -211,14 +213,14 @@ def _node(call: Call, names: Names) -> Dict[str, Any]:
 
 
 def parameters_of(function: str) -> List[str]:
-    """What the parameters of a function are called."""
+    """Returns the names of a function's parameters."""
     return [*inspect.signature(getattr(Functions, function)).parameters][1:]
 
 
 # ---- drawing
 
 def drawing_of_file(path: Path) -> Drawing:
-    """The graph of a file, drawn without a server."""
+    """Returns the drawing of the graph of a file, without a server."""
     told = told_by(path)
     drawing = Drawing({}, [])
     for number, node in enumerate(told["nodes"], 1):
@@ -235,7 +237,7 @@ def drawing_of_file(path: Path) -> Drawing:
 
 
 def _entered(drawing: Drawing, name: str, objects: Dict[str, Any]) -> str:
-    """The key of an object's box."""
+    """Adds an object's box, and returns its key."""
     slot = SLOT.fullmatch(name)
     described = objects.get(slot[1] if slot else name, {})
     fields = [str(described[field]) for field in ("format", "width", "height", "above", "bins")
@@ -250,7 +252,7 @@ def _entered(drawing: Drawing, name: str, objects: Dict[str, Any]) -> str:
 # ---- reading
 
 def told_by(path: Path) -> Dict[str, Any]:
-    """What a file says, which has objects and nodes."""
+    """Returns the contents of a file, which has objects and nodes."""
     with open(path, "rb") as file:
         text = file.read()
     try:
@@ -265,7 +267,7 @@ def told_by(path: Path) -> Dict[str, Any]:
 
 
 def read_graph(context: Context, path: Path) -> GraphFile:
-    """Makes the graph of a file, as Context.load_graph() says."""
+    """Creates the graph of a file, as Context.load_graph() says."""
     return Reader(context, os.fspath(path)).read(told_by(path))
 
 
@@ -280,7 +282,7 @@ FIELDS: Dict[str, Tuple[str, ...]] = {
 
 
 class Reader:
-    """Makes what a file says, and says where it can't."""
+    """Creates the objects and nodes of a file; its errors say where it failed."""
 
     def __init__(self, context: Context, path: str) -> None:
         self._context, self._path = context, path
@@ -288,7 +290,7 @@ class Reader:
         self._things: Dict[str, Any] = {}
 
     def read(self, told: Dict[str, Any]) -> GraphFile:
-        """The whole of it."""
+        """Reads the whole file."""
         objects = told["objects"]
         for name, described in objects.items():
             self._at(f'object "{name}"', self._make, name, described)
@@ -314,7 +316,7 @@ class Reader:
         return GraphFileError(f"{self._path}: {words}")
 
     def _at(self, place: str, call: Any, *arguments: Any) -> None:
-        """Calls it, and says at which place it failed."""
+        """Calls a function; an error names the place in the file."""
         try:
             call(*arguments)
         except KeyError as error:
@@ -427,7 +429,7 @@ def format_named(name: Any) -> Format:
 
 
 def one_of(kind: Any, name: Any, what: str) -> Any:
-    """The member of an enumeration of that name."""
+    """Returns the member of an enumeration with this name."""
     try:
         return kind[name]
     except KeyError:
@@ -436,7 +438,7 @@ def one_of(kind: Any, name: Any, what: str) -> Any:
 
 
 def border_named(value: Any) -> Border:
-    """UNDEFINED, REPLICATE, or the value that is everywhere."""
+    """Returns the border UNDEFINED, REPLICATE, or of one value."""
     if value is None or value == "UNDEFINED":
         return UNDEFINED
     if value == "REPLICATE":

@@ -1,4 +1,4 @@
-"""Graphs: nodes that are linked by the images which they read and write, and run together."""
+"""Graphs: nodes that are linked by the images that they read and write, and run together."""
 
 from __future__ import annotations
 
@@ -31,9 +31,8 @@ Frame = TypeVar("Frame")
 
 class VirtualImage(Named, Readable):
     """
-    An image of one graph between two of its nodes, which has samples only while the graph runs.
-    `fmt`, `width` and `height` are what was declared of it; what is None is taken from the node
-    that writes it.
+    An image between nodes of one graph, which has samples only while the graph runs. `fmt`, `width`
+    and `height` are as declared; those that are None are resolved from the node that writes it.
     """
 
     __slots__ = ("_declared",)
@@ -57,11 +56,11 @@ class VirtualImage(Named, Readable):
         return self._declared.height
 
     def read(self) -> NoReturn:
-        """Raises OptimizedAway: only the nodes of its graph see its samples."""
+        """Raises OptimizedAway: only the nodes of its graph can access its samples."""
         raise OptimizedAway(f"read {self}")
 
     def reading(self) -> NoReturn:
-        """As read() does, for a pipeline."""
+        """Raises OptimizedAway, as read() does."""
         raise OptimizedAway(f"read {self}")
 
     def write(self, samples: Any) -> NoReturn:
@@ -72,17 +71,18 @@ class VirtualImage(Named, Readable):
         raise OptimizedAway(f"read {self}")
 
     def query(self) -> Description:
-        """What was declared: None for what is open, and the empty valid rectangle."""
+        """Returns the declared description: None for what is open, and an empty valid rectangle."""
         return self._context.ask(*self.querying())
 
     def querying(self) -> Asked[Description]:
-        """What query() asks, for a pipeline that asks it ahead."""
+        """Returns the request of query(), for a pipeline."""
         return (f"query {self}", lambda client: wire.query_image(client, self.reference),
                 description_of, None)
 
 
 class Node(Uncopied):
-    """A function in a graph. `number` is its number there, `function` its name."""
+    """A node of a graph. `number` is its number in the graph, `function` the name of its
+    function."""
 
     __slots__ = ("_graph", "_number", "_call", "__weakref__")
 
@@ -102,7 +102,7 @@ class Node(Uncopied):
         return self._call.name
 
     def remove(self) -> None:
-        """Takes the node out of its graph. Nothing happens where that was done before, or the graph
+        """Removes the node from its graph. It does nothing if that was done before, or the graph
         was closed."""
         if self._is_there and not self._graph.closed:
             self._graph.remove(self)
@@ -120,11 +120,12 @@ class Node(Uncopied):
 
 class Graph(Named, Functions[Node]):
     """
-    Nodes, which process() runs. Each vision function is a method that adds one: at most 256.
+    A graph of at most 256 nodes, which process() runs. Each vision function is a method that adds a
+    node.
 
-    A node reads what others write by naming the same image, slot or virtual image. A node that
-    writes an image runs before all nodes that read it, in whatever order they were added. So no
-    graph reads an image and then writes it: that takes two graphs.
+    Nodes are linked by the images, slots and virtual images that they name. A node that writes an
+    image runs before all nodes that read it, in whatever order they were added. So a graph can't
+    read an image first and then write it: that takes two graphs.
     """
 
     __slots__ = ("_virtual_images", "_calls", "_aging")
@@ -145,7 +146,7 @@ class Graph(Named, Functions[Node]):
 
     @property
     def calls(self) -> Dict[int, Call]:
-        """What each node does, by its number."""
+        """The call of each node, by its number."""
         return self._calls
 
     @property
@@ -160,21 +161,22 @@ class Graph(Named, Functions[Node]):
 
     @property
     def reads(self) -> Set[int]:
-        """The names of the objects that nodes read; those of delays, of whose slots they do."""
+        """The names of the objects that nodes read; for a slot, that of its delay."""
         return {name_of(operand) for call in self._calls.values()
                 for operand in call.operands[: 3 if call.name in ADDING else 2]
                 if operand is not None}
 
     @property
     def writes(self) -> Set[int]:
-        """The names of the objects that nodes write; those of delays, of whose slots they do."""
+        """The names of the objects that nodes write; for a slot, that of its delay."""
         return {name_of(operand) for call in self._calls.values() for operand in call.operands[2:]
                 if operand is not None}
 
     def virtual_image(self, fmt: Optional[Format] = None, width: Optional[int] = None,
                       height: Optional[int] = None, *, name: str = "") -> VirtualImage:
-        """What one node gives to others. What isn't declared is taken from the node that writes
-        it: the format is S16 then for add, subtract, multiply, sobel3x3 and convolve."""
+        """Returns a virtual image of this graph, which passes one node's output to others. Whatever
+        isn't declared is resolved from the node that writes it: for add, subtract, multiply,
+        sobel3x3 and convolve the format is then S16."""
         allowed = f"a whole number from 1 to {wire.GREATEST_SIDE}, or None where it is open"
         columns, rows = (None if side is None else within(side, f"a virtual image's {what}",
                                                           UNSIGNED, allowed)
@@ -190,19 +192,19 @@ class Graph(Named, Functions[Node]):
 
     def verify(self, warn: bool = True) -> None:
         """
-        Raises why the graph, as it is now, can't run, and what is at fault; process() looks at that
-        too.
+        Checks whether the graph can run as it is now, and raises the refusal with what is at fault
+        if it can't. process() checks it too.
 
-        Where a node writes what a node that was added before it reads, the one that writes runs
-        first all the same. That may be a surprise, so it gives a Python warning, OrderWarning,
-        unless `warn` is False.
+        If a node writes what a node that was added earlier reads, the writer still runs first.
+        Because this may be a surprise, it gives a Python warning, OrderWarning, unless `warn` is
+        False.
         """
         self._judge("verify", wire.verify_graph)
         for words in overwritten(self.members) if warn else ():
             warnings.warn(words, OrderWarning, stacklevel=2)
 
     def process(self) -> None:
-        """Runs each node once, after those whose outputs it reads. Where one is refused, nothing
+        """Runs each node once, after those whose outputs it reads. If the graph is refused, nothing
         has run."""
         self._judge("process", wire.process_graph)
 
@@ -230,57 +232,57 @@ class Graph(Named, Functions[Node]):
     def stream(self, frames: Iterable[Frame], camera: AnyImage, out: Any,
                ahead: int = 2) -> Iterator[Tuple[Frame, Any]]:
         """
-        Writes each frame to the image `camera`, runs the graph, and yields the frame with what
-        out.read() gives, in the order of the frames; `out` may be several images, distributions and
-        extremes, whose values come as a tuple.
+        Writes each frame to the image `camera`, runs the graph, and yields the frame with the
+        result of out.read(), in the order of the frames. `out` may be several images, distributions
+        and extremes; their values come as a tuple.
 
-        Up to `ahead` further frames are sent before a result is there, and a result is yielded as
-        soon as it is. Raises at the frame that failed, after the results of those before it: a
-        refusal of one of its requests, BadPicture, or what `frames` raises.
+        Up to `ahead` further frames are sent before a result has come, and each result is yielded
+        as soon as it has. An error is raised at the frame that failed, after the results of those
+        before it: a refusal of one of its requests, BadPicture, or what `frames` raises.
 
         Lists, tuples and arrays of frames are used as they are. Any other iterator runs in a thread
-        of its own, which asks for each frame before the last one was sent. So each has to be an
-        array of its own, and the iterator can't use this context. When the stream is left it gives
-        the frame that it was asked for, and no further one.
+        of its own, which takes each frame before the last one was sent. So each frame has to be an
+        array of its own, and the iterator can't use this context. When the stream is left, the
+        iterator yields the frame that was asked for, and no further one.
         """
         from .streams import Station, stream
         return stream(frames, [Station(self, camera, out)], ahead)
 
     def profile(self, rounds: int = 5) -> Profile:
         """
-        Runs each node by itself in immediate mode, and returns how long each took, the least of so
-        many rounds; printed it is a table. It works on images of its own, so nothing that the graph
-        writes changes, and they take of the quota.
+        Runs each node by itself in immediate mode, and returns its time: the least of `rounds`
+        runs. Printed, the result is a table. It works on images of its own, so the graph's outputs
+        don't change; these images count towards the quota.
         """
         from .profiles import profile
         return profile(self, rounds)
 
     def save(self, path: Path, inputs: Optional[Sequence[AnyImage]] = None) -> None:
         """
-        Writes the graph to a JSON file, with its objects, for Context.load_graph() and the command
-        line. `inputs` are the images that get a picture before each run; the file has the samples
-        and the valid rectangles of all others that nodes read and none writes. Without `inputs`
-        there may be one such image.
+        Writes the graph and its objects to a JSON file, for Context.load_graph() and the command
+        line. `inputs` are the images that get a picture before each run. The file includes the
+        samples and the valid rectangles of all other images that nodes read and none writes.
+        Without `inputs` there may be only one such image.
         """
         from .graph_files import write_graph
         write_graph(self, path, inputs)
 
     def to_dot(self) -> str:
-        """The graph in Graphviz's language: nodes, images and other objects."""
+        """Returns the graph in Graphviz's language: nodes, images and other objects."""
         from .drawing import drawing_of
         return drawing_of(self.members).dot
 
     def _repr_svg_(self) -> str:
-        """The graph drawn, in a notebook: by Graphviz where it is installed, else by a small layout
-        of this package."""
+        """Returns a drawing of the graph for a notebook: by Graphviz if it is installed, else by a
+        small layout of this package."""
         from .drawing import drawing_of
         return drawing_of(self.members).svg
 
     def register_auto_aging(self, delay: Delay) -> None:
         """
-        From then on each process() that succeeds ages the delay once, after the run; registered
-        again it is still aged once. A delay may be registered with several graphs, each of which
-        ages it. A delay that was closed goes on ageing as long as a node uses it.
+        Registers a delay: each process() that succeeds then ages it once, after the run.
+        Registering it again changes nothing. A delay may be registered with several graphs, each of
+        which ages it. A delay that is closed still ages as long as a node uses it.
         """
         if not isinstance(delay, Delay):
             raise TypeError(f"register_auto_aging takes a delay, and no {type(delay).__name__}")
@@ -290,7 +292,7 @@ class Graph(Named, Functions[Node]):
         self._aging.add(delay.name)
 
     def remove(self, node: Node) -> None:
-        """Takes a node out, as Node.remove() does."""
+        """Removes a node, as Node.remove() does."""
         words = f"remove {node}"
         self._calls.pop(node.number, None)
         self._context.tell(words, wire.remove_node, self.name, node.number)
@@ -312,7 +314,7 @@ class Graph(Named, Functions[Node]):
 
     @property
     def members(self) -> Tuple[Member, ...]:
-        """What the nodes are, to say what is at fault."""
+        """The nodes as values, to find out what is at fault."""
         return tuple(member_of(number, call) for number, call in self._calls.items())
 
     def _judge(self, verb: str, make: Callable[..., bytes]) -> None:
@@ -329,6 +331,6 @@ class Graph(Named, Functions[Node]):
 
 
 def name_of(operand: Any) -> int:
-    """The name of an object, or of the delay that a slot is of."""
+    """Returns the name of an object; for a slot, that of its delay."""
     delay = getattr(operand, "delay", None)
     return int(operand.name if delay is None else delay.name)

@@ -1,4 +1,4 @@
-"""Hints for names that aren't here: those of OpenCV and OpenVX, and misspelled ones."""
+"""Hints for names that don't exist here: those of OpenCV and OpenVX, and misspelled ones."""
 
 from __future__ import annotations
 
@@ -20,11 +20,10 @@ OF_CONTEXTS = {"imread": "load(path)", "imwrite": "image.save(path)", "array": "
 
 def attribute_of(thing: Any, name: str, others: Dict[str, str]) -> Any:
     """
-    For a __getattr__: raises AttributeError with a hint at the name that was meant. `others` has
-    what the thing has for names of other libraries.
+    Raises AttributeError with a hint at the name that was meant, for a __getattr__. `others`
+    returns hints for the names of other libraries.
 
-    Where the class has the name an AttributeError was raised within a property, and is raised
-    again.
+    If the class has the name, an AttributeError was raised within a property, and is raised again.
     """
     if hasattr(type(thing), name):
         return object.__getattribute__(thing, name)

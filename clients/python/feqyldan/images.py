@@ -1,4 +1,4 @@
-"""Images: by themselves, and in the slots of a delay."""
+"""Images, and delays with images in their slots."""
 
 from __future__ import annotations
 
@@ -26,8 +26,8 @@ if TYPE_CHECKING:
 
 class AnyImage(Readable):
     """
-    An image of `width` by `height` samples of the format `fmt`, by itself or in a slot of a delay.
-    Its samples outside its valid rectangle are 0.
+    An image of `width` by `height` samples of the format `fmt`, or such an image in a slot of a
+    delay. Its samples outside its valid rectangle are 0.
     """
 
     __slots__ = ()
@@ -55,17 +55,17 @@ class AnyImage(Readable):
 
     @property
     def reference(self) -> bytes:
-        """By which a frame names the image."""
+        """The reference to the image, as frames have it."""
         raise NotImplementedError
 
     @property
     def shape(self) -> Tuple[int, int]:
-        """Height and width in samples, as NumPy has them."""
+        """(height, width) in samples, as NumPy has it."""
         return self.height, self.width
 
     @property
     def dtype(self) -> Any:
-        """NumPy's type of the samples: uint8, int16 or uint32. Without NumPy its name."""
+        """NumPy's type of the samples: uint8, int16 or uint32; its name without NumPy."""
         return dtype_of(self.fmt)
 
     @property
@@ -75,16 +75,16 @@ class AnyImage(Readable):
 
     @property
     def size(self) -> int:
-        """How many samples there are, as NumPy has it."""
+        """The number of samples, as NumPy has it."""
         return self.width * self.height
 
     def write(self, samples: Any) -> None:
         """
-        Replaces all samples, after which the image is wholly valid.
+        Replaces all samples; the whole image is then valid.
 
-        `samples` is a NumPy array of shape (height, width) and dtype uint8, int16 or uint32 by the
-        image's format; or bytes or another buffer of as many samples by rows, in this machine's
-        byte order; or rows of numbers. What is no such picture raises BadPicture.
+        `samples` is a NumPy array of shape (height, width) and of the dtype of the image's format:
+        uint8, int16 or uint32. It may also be bytes or another buffer of that many samples, row by
+        row in this machine's byte order, or rows of numbers. Raises BadPicture for anything else.
         """
         described = self._described
         fmt, width, height, content = samples_of(samples, described)
@@ -99,7 +99,7 @@ class AnyImage(Readable):
                               f"{self.shape}."))
 
     def fill(self, value: int) -> None:
-        """Writes one value to all samples, after which the image is wholly valid."""
+        """Writes one value to all samples; the whole image is then valid."""
         row = [whole(value, f"a sample of {self.fmt}")] * self.width
         line = samples_of([row], Size(self.fmt, self.width, 1)).content
         self.context.tell(f"fill {self} with {value}", wire.write_image_head, self.reference,
@@ -107,9 +107,10 @@ class AnyImage(Readable):
 
     def read(self, out: Optional[numpy.ndarray[Any, Any]] = None) -> Picture:
         """
-        All samples: a NumPy array of shape (height, width) and dtype uint8, int16 or uint32;
-        without NumPy a memoryview of that shape. It is the caller's own, and may be changed. With
-        `out`, an array of that shape and dtype, they are read into that, which is returned.
+        Returns all samples as a NumPy array of shape (height, width) and dtype uint8, int16 or
+        uint32; without NumPy as a memoryview of that shape. It belongs to the caller, and may be
+        changed. With `out`, an array of that shape and dtype, they are read into that array, which
+        is returned.
         """
         if out is None:
             return self.context.ask(*self.reading())
@@ -121,14 +122,14 @@ class AnyImage(Readable):
         return self.context.ask(words, make, lambda _: turned(pixels), body, place)
 
     def reading(self) -> Asked[Picture]:
-        """What read() asks, for a pipeline that asks it ahead."""
+        """Returns the request of read(), for a pipeline."""
         fmt, width, height = self._described
         described = struct.pack(">BHH", fmt, width, height)
         return (f"read {self}", lambda client: wire.read_image(client, self.reference), picture_of,
                 Body(len(described) + width * height * fmt.sample_bytes, described))
 
     def copy(self) -> Image:
-        """A new image with these samples and this valid rectangle."""
+        """Returns a new image with the same samples and valid rectangle."""
         image = self.context.image_from(self)
         valid = self.valid
         if valid != (0, 0, *self.shape[::-1]):
@@ -137,14 +138,14 @@ class AnyImage(Readable):
 
     def save(self, path: Path) -> None:
         """
-        Writes the picture to a file by the ending of its name: .pgm, .png and NumPy's .npy by this
-        package, any other by OpenCV or PIL, where one of them is installed.
+        Writes the picture to a file in the format of the name's ending: .pgm, .png and NumPy's .npy
+        by this package, any other by OpenCV or PIL if one of them is installed.
         """
         save(path, self)
 
     def __array__(self, dtype: Any = None, copy: Optional[bool] = None) -> numpy.ndarray[Any, Any]:
-        """The samples, as numpy.asarray(image) asks for them. They come from the server, so they
-        are a copy."""
+        """Returns the samples for numpy.asarray(image). They come from the server, so they are a
+        copy."""
         if copy is False:
             raise ValueError(f"the samples of {self} come from its server, so they can't be there "
                              "without a copy")
@@ -154,9 +155,9 @@ class AnyImage(Readable):
 
     def _repr_png_(self) -> Optional[bytes]:
         """
-        The picture in a notebook, the valid rectangle framed where it isn't the whole image. S16
-        and U32 are scaled, so that the least sample is black and the greatest white. None where it
-        can't be read any more.
+        Returns the picture for a notebook, with a frame around the valid rectangle if that isn't
+        the whole image. S16 and U32 samples are scaled so that the least is black and the greatest
+        white. None if the image can't be read any more.
         """
         try:
             return shown(self.read(), self.valid)
@@ -164,43 +165,44 @@ class AnyImage(Readable):
             return None
 
     def read_bytes(self) -> bytes:
-        """All samples by rows, in this machine's byte order."""
+        """Returns all samples, row by row, in this machine's byte order."""
         return bytes(self.read().tobytes())
 
     def write_pgm(self, text: bytes) -> None:
-        """Replaces all samples by those of a PGM text, P5 or P2, of a picture of the image's format
-        and size."""
+        """Replaces all samples by those of a PGM text, P5 or P2, whose picture has the image's
+        format and size."""
         content = memoryview(text).cast("B")
         self.context.tell(
             "write a PGM text to "
             f"{self}", wire.write_image_pgm_head, self.reference, len(content), content=content)
 
     def read_pgm(self) -> bytes:
-        """The picture of a U8 image as a PGM text (P5)."""
+        """Returns the picture of a U8 image as a PGM text (P5)."""
         return self.context.ask(*self.reading_pgm())
 
     def reading_pgm(self) -> Asked[bytes]:
-        """What read_pgm() asks, for a pipeline that asks it ahead."""
+        """Returns the request of read_pgm(), for a pipeline."""
         head = f"P5\n{self.width} {self.height}\n255\n".encode()
         return ("read a PGM text of "
                 f"{self}", lambda client: wire.read_image_pgm(client, self.reference),
                 lambda reply: bytes(wire.text_of(reply)), Body(len(head) + self.size, head))
 
     def query(self) -> Description:
-        """The format, the sides and the valid rectangle, as the server has them."""
+        """Returns the format, the width, the height and the valid rectangle, as the server has
+        them."""
         return self.context.ask(*self.querying())
 
     def querying(self) -> Asked[Description]:
-        """What query() asks, for a pipeline that asks it ahead."""
+        """Returns the request of query(), for a pipeline."""
         return (f"query {self}", lambda client: wire.query_image(client, self.reference),
                 description_of, None)
 
     @property
     def valid(self) -> Rectangle:
         """
-        The rectangle x0, y0, x1, y1 in which the samples mean something: it has its start and not
-        its end. Setting it makes each sample outside 0 for good: a greater rectangle that is set
-        later doesn't bring them back. A rectangle without pixels is 0, 0, 0, 0.
+        The valid rectangle x0, y0, x1, y1: the columns x0 to x1 - 1 of the rows y0 to y1 - 1.
+        Setting it makes each sample outside it 0 for good: setting a larger rectangle later doesn't
+        restore them. A rectangle without pixels is 0, 0, 0, 0.
         """
         return self.query().valid
 
@@ -216,7 +218,7 @@ class AnyImage(Readable):
 
 
 class Image(Named, AnyImage):
-    """An image that stands by itself."""
+    """An image that isn't in a slot of a delay."""
 
     __slots__ = ("_size",)
     kind = "image"
@@ -231,8 +233,7 @@ class Image(Named, AnyImage):
 
 
 class Slot(Uncopied, AnyImage):
-    """The image that is in a slot of a delay when it is used: after the delay ages that is another
-    one."""
+    """The image in a slot of a delay. After the delay ages, the slot has another image."""
 
     __slots__ = ("_delay", "_number", "_reference", "__weakref__")
     _inner = Named._inner
@@ -303,18 +304,18 @@ class Delay(Named):
         return Slot(self, number)
 
     def __iter__(self) -> Iterator[Slot]:
-        """The newest first."""
+        """Iterates over the slots, the newest first."""
         return (Slot(self, -k) for k in range(self._slots))
 
     def _values(self) -> str:
         return f", {self._slots} slots"
 
     def _repr_html_(self) -> str:
-        """The pictures of all slots in a notebook, the newest first."""
+        """Returns the pictures of all slots for a notebook, the newest first."""
         from .drawing import html_of
         return html_of((f"slot {slot.number}", slot._repr_png_()) for slot in self)
 
     def age(self) -> None:
-        """Moves each image on by one slot: slot 0 to -1, and so on, and the last one to 0.
-        Graph.register_auto_aging() has that done after each run of a graph."""
+        """Moves each image on by one slot: slot 0 to -1, and so on, and the last one to 0. After
+        Graph.register_auto_aging() each run of the graph does it."""
         self._context.tell(f"age {self}", wire.age_delay, self.name)

@@ -1,4 +1,4 @@
-"""What a context holds: the parameters and the results of functions. `Context` makes them."""
+"""Objects of a context: parameters and results of functions. `Context` creates them."""
 
 from __future__ import annotations
 
@@ -34,8 +34,8 @@ class Rectangle(NamedTuple):
 
 
 class Description(NamedTuple):
-    """Of an image: its format, its sides and its valid rectangle. Of a virtual image None for what
-    is left open."""
+    """The description of an image: its format, its width and height, and its valid rectangle. For a
+    virtual image, None is what was left open."""
 
     fmt: Optional[Format]
     width: Optional[int]
@@ -47,15 +47,15 @@ Extremes = wire.Extremes
 
 
 def in_words(fmt: Optional[Format], width: Optional[int], height: Optional[int]) -> str:
-    """The format and the sides of an image; of a virtual one they may be open."""
+    """The format and the size of an image in words; those of a virtual one may be open."""
     if fmt is None and width is None and height is None:
         return "(open)"
     return f"({fmt or 'open'}, {width or 'open'} by {height or 'open'})"
 
 
 class Made(NamedTuple):
-    """An object that the server made: its name there, and the label that the program gave it, which
-    is empty where it gave none."""
+    """An object that the server created: its name there, and the label that the program gave it, or
+    an empty one."""
 
     name: int
     label: str = ""
@@ -63,9 +63,9 @@ class Made(NamedTuple):
 
 class Named(Uncopied):
     """
-    An object in a context. `name` is the number that the server gave it, `label` what the program
-    calls it in messages. It is released by close(), at the end of a `with` of it, when Python
-    forgets it, or with its context; what a node of a graph uses stays there for the graph.
+    An object in a context. `name` is its number on the server, `label` its name in messages. It is
+    released by close(), at the end of its `with`, when Python frees it, or with its context. On the
+    server it lives on as long as a node of a graph uses it.
     """
 
     __slots__ = ("_context", "_made", "_is_closed", "_words", "_reference", "__weakref__")
@@ -99,7 +99,7 @@ class Named(Uncopied):
         return self._is_closed or self._context.closed
 
     def close(self) -> None:
-        """Releases the object. Nothing happens where that was done before, or its context or its
+        """Releases the object. It does nothing if that was done before, or its context or its
         server has ended."""
         if not self.closed:
             self._is_closed = True
@@ -119,19 +119,19 @@ class Named(Uncopied):
         return f"<{self._words}{self._values()}{', closed' if self.closed else ''}>"
 
     def _values(self) -> str:
-        """What repr() adds to the words."""
+        """The part of repr() after the words."""
         return ""
 
     @property
     def reference(self) -> bytes:
-        """By which a frame names the object."""
+        """The reference to the object, as frames have it."""
         return self._reference
 
 
 class Threshold(Named):
     """
-    By which Context.vxu.threshold tells samples of its format apart. `above` is the limit of a
-    binary threshold, `between` the two of a range; the other one is None.
+    A threshold for Context.vxu.threshold and samples of its format. `above` is the limit of a
+    binary threshold, `between` the two limits of a range; the other one is None.
     """
 
     __slots__ = ("_fmt", "_limits", "_outputs")
@@ -169,7 +169,8 @@ class Threshold(Named):
 
 
 class Lut(Named):
-    """A table with an entry for each sample of its format, the one for the least sample first."""
+    """A lookup table with an entry for each sample of its format, the one for the least sample
+    first."""
 
     __slots__ = ("_fmt", "_entries")
     kind = "lookup table"
@@ -192,7 +193,7 @@ class Lut(Named):
 
 
 class Convolution(Named):
-    """The coefficients of Context.vxu.convolve, by rows, and the scale by which their sum is
+    """The coefficients of Context.vxu.convolve, row by row, and the scale by which their sum is
     divided."""
 
     __slots__ = ("_coefficients", "_scale")
@@ -218,8 +219,8 @@ class Convolution(Named):
 
 
 class Distribution(Named):
-    """How many samples a histogram found in each of its bins. They are of the same width, begin at
-    the offset, and are together `range` long."""
+    """The counts of a histogram, one for each bin. The bins have the same width, begin at the
+    offset, and cover `range` values together."""
 
     __slots__ = ("_sides",)
     kind = "distribution"
@@ -244,7 +245,7 @@ class Distribution(Named):
         return f", from {self.offset} on, {self.range} long"
 
     def read(self) -> Tuple[int, ...]:
-        """The count of each bin, the one at the offset first."""
+        """Returns the count of each bin, the one at the offset first."""
         return self._context.ask(*self.reading())
 
     def reading(self) -> Asked[Tuple[int, ...]]:
@@ -254,16 +255,17 @@ class Distribution(Named):
 
 
 class MinMax(Named):
-    """What min_max_loc found: the least and the greatest sample, how many there are of each, and
-    the first places."""
+    """The results of min_max_loc: the least and the greatest sample, how many pixels have each, and
+    the first of them."""
 
     __slots__ = ()
     kind = "extremes"
 
     def read(self) -> Extremes:
         """
-        `min` and `max`, `min_count` and `max_count` in pixels, and `min_at` and `max_at`, the (x,
-        y) of the first of each by rows from the top. All are 0 where no pixel was valid.
+        Returns `min` and `max`, `min_count` and `max_count` in pixels, and `min_at` and `max_at`,
+        the (x, y) of the first pixel of each, row by row from the top. All are 0 if no pixel was
+        valid.
         """
         return self._context.ask(*self.reading())
 
@@ -274,7 +276,7 @@ class MinMax(Named):
 
 
 def sides_of_frame(width: Any, height: Any) -> Tuple[int, int]:
-    """The sides of an image, if a frame can say them."""
+    """Returns the width and the height of an image, if a frame can express them."""
     allowed = f"a whole number from 1 to {wire.GREATEST_SIDE}"
     return within(width, "an image's width", UNSIGNED, allowed), within(height, "an image's height",
                                                                         UNSIGNED, allowed)

@@ -1,6 +1,5 @@
 """
-Lends memory to a pipe by vmsplice(2): a server reads a picture from the pages in which it stands,
-and no copy is made.
+Lends memory to a pipe by vmsplice(2): a server reads a picture from its own pages, without a copy.
 """
 
 from __future__ import annotations
@@ -23,7 +22,7 @@ NONBLOCK = 2
 
 @lru_cache(maxsize=None)
 def vmsplice() -> Any:
-    """The C function; None where there is none."""
+    """Returns the C function; None if there is none."""
     import ctypes
     try:
         function = ctypes.CDLL(None, use_errno=True).vmsplice
@@ -35,15 +34,16 @@ def vmsplice() -> Any:
 
 
 def can_lend() -> bool:
-    """Whether NumPy is in use, which tells where memory is, and the system can do it."""
+    """Returns whether NumPy is in use, which gives addresses of memory, and the system supports
+    lending."""
     return "numpy" in sys.modules and vmsplice() is not None
 
 
 def lend(counts: List[int], pipe: int, part: Any) -> None:
     """
-    Adds to the last of the counts, as connection.moved() does, how many bytes of a part the pipe
-    has taken. They mustn't change until they were read from it. Raises OSError where it takes none:
-    BlockingIOError where it is full, another one where memory of this kind can't be lent.
+    Lends a part to a pipe, and appends to the counts, as connection.moved() does, how many bytes
+    the pipe has taken. They must not change until they were read. Raises BlockingIOError if the
+    pipe is full, and another OSError if memory of this kind can't be lent.
     """
     import ctypes
     import numpy
@@ -60,7 +60,7 @@ def lend(counts: List[int], pipe: int, part: Any) -> None:
 
 
 def is_read(pipe: int) -> bool:
-    """Whether all that a pipe has taken was read from it, or nobody will read it any more."""
+    """Returns whether everything in a pipe was read, or nobody will read it any more."""
     unread: int = struct.unpack("i", fcntl.ioctl(pipe, termios.FIONREAD, bytes(4)))[0]
     if unread == 0:
         return True

@@ -23,8 +23,7 @@ _NO_COLOURS = "a coloured picture has rows of one length, of three numbers a pix
 
 
 class Raster(NamedTuple):
-    """Rows of bytes for PNG: of one or two bytes a pixel where they are grey, of three where they
-    are coloured."""
+    """Rows of bytes for PNG: one or two bytes a pixel for grey, three for colour."""
 
     width: int
     height: int
@@ -39,8 +38,8 @@ def read_bytes(path: Path) -> bytes:
 
 def size_of_pgm(text: bytes) -> Size:
     """
-    The format and the sides of the picture in a PGM text. Only the header is looked at: whether the
-    rest is a picture is for the server to say.
+    Returns the format and the size of the picture in a PGM text. Only the header is read: the
+    server checks the rest.
     """
     header = HEADER.match(text)
     if not header:
@@ -51,7 +50,7 @@ def size_of_pgm(text: bytes) -> Size:
 
 
 def _hint_at(begin: bytes) -> str:
-    """What a file is that begins so, and isn't PGM."""
+    """Returns what kind of file begins like this, if it isn't PGM."""
     kinds = ((b"\xff\xd8", "a JPEG"), (b"\x89PNG", "a PNG"), (b"P6", "a colour picture, PPM"),
              (b"P3", "a colour picture, PPM"), (b"P4", "a bitmap, PBM"), (b"BM", "a BMP"))
     for start, kind in kinds:
@@ -61,8 +60,7 @@ def _hint_at(begin: bytes) -> str:
 
 
 def write_pgm(path: Path, picture: Any) -> None:
-    """Writes a PGM file (P5) of an image, an array of shape (height, width) or rows of numbers, of
-    U8."""
+    """Writes a PGM file (P5) of a U8 image, array of shape (height, width) or rows of numbers."""
     samples = _samples(picture)
     if samples.fmt != Format.U8:
         raise ValueError(f"PGM files are written of U8 samples, and not of {samples.fmt}")
@@ -72,8 +70,8 @@ def write_pgm(path: Path, picture: Any) -> None:
 
 
 def write_npy(path: Path, picture: Any) -> None:
-    """Writes a file of NumPy's of an image, an array of shape (height, width) or rows of numbers,
-    also where NumPy isn't installed."""
+    """Writes an .npy file of an image, an array of shape (height, width) or rows of numbers, even
+    if NumPy isn't installed."""
     fmt, width, height, content = _samples(picture)
     kind = {Format.U8: "|u1", Format.S16: ">i2", Format.U32: ">u4"}[fmt]
     about = f"{{'descr': '{kind}', 'fortran_order': False, 'shape': ({height}, {width}), }}"
@@ -86,9 +84,9 @@ def write_npy(path: Path, picture: Any) -> None:
 
 def write_png(path: Path, picture: Any) -> None:
     """
-    Writes a PNG file of an image, an array or rows: grey of shape (height, width), U8 or S16
-    without negative samples; coloured of shape (height, width, 3), red, green and blue from 0 to
-    255.
+    Writes a PNG file of an image, an array or rows of numbers. Grey has shape (height, width), and
+    is U8 or S16 without negative samples; colour has shape (height, width, 3), with red, green and
+    blue from 0 to 255.
     """
     content = png(picture)
     with open(path, "wb") as file:
@@ -96,7 +94,7 @@ def write_png(path: Path, picture: Any) -> None:
 
 
 def png(picture: Any) -> bytes:
-    """The bytes of a PNG file, as write_png writes them."""
+    """Returns the bytes of a PNG file, as write_png writes them."""
     return _file_of(_raster(picture))
 
 
@@ -113,8 +111,8 @@ def _file_of(raster: Raster) -> bytes:
 
 
 def shown(picture: Picture, valid: Tuple[int, int, int, int]) -> bytes:
-    """The bytes of a PNG file that shows a grey picture: its samples scaled where they aren't U8,
-    and a red frame within the valid rectangle where that isn't all of it."""
+    """Returns the bytes of a PNG file that shows a grey picture. Samples that aren't U8 are scaled,
+    and a valid rectangle that isn't the whole image gets a red frame."""
     samples = samples_of(picture)
     grey = _scaled(samples, valid)
     width, height = samples.width, samples.height
@@ -129,7 +127,7 @@ def shown(picture: Picture, valid: Tuple[int, int, int, int]) -> bytes:
 
 
 def _frame_of(valid: Tuple[int, int, int, int]) -> List[Tuple[int, int]]:
-    """The outermost pixels of a rectangle."""
+    """Returns the outermost pixels of a rectangle."""
     x0, y0, x1, y1 = valid
     if x0 == x1:
         return []
@@ -138,8 +136,8 @@ def _frame_of(valid: Tuple[int, int, int, int]) -> List[Tuple[int, int]]:
 
 
 def _scaled(samples: Samples, valid: Tuple[int, int, int, int]) -> bytes:
-    """Samples from 0 to 255: the least of the valid ones becomes 0, the greatest 255; those of U8
-    stay."""
+    """Returns samples from 0 to 255: the least valid one becomes 0, the greatest 255. U8 samples
+    don't change."""
     if samples.fmt == Format.U8:
         return bytes(samples.content)
     x0, y0, x1, y1 = valid
@@ -179,7 +177,7 @@ def _raster(picture: Any) -> Raster:
 
 
 def _is_coloured(picture: Any) -> bool:
-    """Whether it has several numbers for a pixel."""
+    """Returns whether a picture has several numbers for each pixel."""
     if isinstance(picture, Readable):
         return False
     shape = getattr(picture, "shape", None)

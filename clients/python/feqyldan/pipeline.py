@@ -1,4 +1,4 @@
-"""Requests that are sent ahead, and awaited together."""
+"""Pipelines: requests that are sent ahead of their replies."""
 
 from __future__ import annotations
 
@@ -23,7 +23,7 @@ Value = TypeVar("Value")
 
 class Stretch:
     """The requests of a pipeline up to a wait(): those that were refused, in order, and whether the
-    program was told of the first."""
+    program got the first refusal."""
 
     __slots__ = ("refused", "is_told")
 
@@ -32,7 +32,7 @@ class Stretch:
         self.is_told = False
 
     def note(self, request: Request) -> None:
-        """Keeps a request that was refused. An interruption may have it noted twice."""
+        """Notes a refused request. After an interruption it may be noted twice."""
         if self.refused[-1:] != [request]:
             self.refused.append(request)
 
@@ -48,14 +48,14 @@ class Stretch:
             raise error
 
     def raise_before(self, request: Request) -> None:
-        """Raises the first refusal if that request was sent before this one, whose reply is
-        there."""
+        """Raises the first refusal, if its request was sent before this one. The reply to this one
+        has come."""
         if self.refused and number_of(self.refused[0]) < number_of(request):
             self.raise_first()
 
 
 class Result(Uncopied, Generic[Value]):
-    """What a request that was sent ahead gives."""
+    """The result of a request that was sent ahead."""
 
     _inner = frozenset(("wait",))
     __slots__ = ("_connection", "_request", "_decode", "_stretch", "_decoded", "__weakref__")
@@ -69,8 +69,8 @@ class Result(Uncopied, Generic[Value]):
 
     @property
     def is_there(self) -> bool:
-        """Whether value() needn't wait. Takes in what has come from the server, so a program may
-        poll it."""
+        """Whether value() won't wait. It reads what has come from the server, so a program may poll
+        it."""
         if self._request.answer is None:
             try:
                 self._connection.look()
@@ -85,11 +85,11 @@ class Result(Uncopied, Generic[Value]):
 
     def value(self, timeout: Optional[float] = None) -> Value:
         """
-        Waits for the reply and returns what it has.
+        Waits for the reply, and returns its result.
 
-        Raises the request's own refusal, or the first refusal of a request that the pipeline sent
-        before this one, since what is read may be of an older picture then. Waits for at most
-        `timeout` seconds, if given, and raises NotYet after that: value() may be called again.
+        Raises the request's own refusal, or the first refusal of an earlier request of the
+        pipeline, because the result may be of an older picture then. Waits for at most `timeout`
+        seconds, if given, and then raises NotYet; value() may be called again.
         """
         self._await(timeout)
         if self._stretch.refused[:1] == [self._request]:
@@ -100,8 +100,8 @@ class Result(Uncopied, Generic[Value]):
         return value
 
     def raw(self) -> Value:
-        """Waits for the reply and returns what it has, also after a refusal of an earlier request:
-        then it may be of an older picture. Raises the request's own refusal."""
+        """Waits for the reply, and returns its result even after a refusal of an earlier request:
+        it may then be of an older picture. Raises the request's own refusal."""
         if not self._decoded:
             self._await(None)
             error = self._request.error
@@ -120,7 +120,7 @@ class Result(Uncopied, Generic[Value]):
 
 class Pipeline(Uncopied):
     """
-    While it is open, as in
+    While a pipeline is open, as in
 
         with context.pipeline() as ahead:
             for picture in pictures:
@@ -129,14 +129,13 @@ class Pipeline(Uncopied):
                 results.append(ahead.read(out))
         shown = [result.value() for result in results]
 
-    calls of the context that give nothing, such as write() and process(), don't wait for their
-    replies. The pipeline's own read(), read_pgm() and query() give a Result, whose value comes
-    later. All other calls wait as ever, and the server answers everything in the order of the
-    calls.
+    calls of the context without a result, such as write() and process(), don't wait for their
+    replies. The pipeline's own read(), read_pgm() and query() return a Result, whose value comes
+    later. All other calls wait as always. The server answers everything in the order of the calls.
 
-    The server tries what was sent after a refused request like any other. So whatever is read after
-    one, by value() or by a call that waits, raises that first refusal. At the end all replies are
-    awaited, and the first refusal is raised, unless it was raised before; `refusals` has all of
+    The server handles requests after a refused one like any others. So whatever is read after a
+    refusal, by value() or by a call that waits, raises that first refusal. At the end all replies
+    are awaited, and the first refusal is raised unless it was raised before. `refusals` has all of
     them, and each says which call it was.
     """
 
@@ -152,7 +151,7 @@ class Pipeline(Uncopied):
 
     @property
     def refusals(self) -> List[Refused]:
-        """The refusals that have come, since the last wait() if there was one."""
+        """The refusals that have come since the last wait(), or since the pipeline was opened."""
         return self._stretch.errors
 
     @overload
@@ -168,21 +167,21 @@ class Pipeline(Uncopied):
         ...
 
     def read(self, thing: Union[AnyImage, Distribution, MinMax]) -> Result[Any]:
-        """Asks for what thing.read() gives: a picture, counts or extremes."""
+        """Sends the request of thing.read(), for a picture, counts or extremes."""
         return self._ask(*thing.reading())
 
     def read_pgm(self, image: AnyImage) -> Result[bytes]:
-        """Asks for what image.read_pgm() gives."""
+        """Sends the request of image.read_pgm()."""
         return self._ask(*image.reading_pgm())
 
     def query(self, image: Union[AnyImage, VirtualImage]) -> Result[Description]:
-        """Asks for what image.query() gives."""
+        """Sends the request of image.query()."""
         return self._ask(*image.querying())
 
     def wait(self) -> None:
         """
         Waits for all replies so far, and raises the first refusal of them unless it was raised
-        before. What is read from here on isn't held up by it any more.
+        before. Earlier refusals no longer affect what is read after this.
         """
         self._context.connection.wait()
         stretch, self._stretch = self._stretch, Stretch()
@@ -190,7 +189,7 @@ class Pipeline(Uncopied):
             stretch.raise_first()
 
     def take(self, request: Request) -> None:
-        """A call that is made within it."""
+        """Takes a call that is made within the pipeline."""
         self._calls += 1
         frame = calling_frame()
         request.place = Place(self._calls, self._words(), frame.f_code.co_filename, frame.f_lineno)
@@ -223,12 +222,12 @@ class Pipeline(Uncopied):
 
 
 def number_of(request: Request) -> int:
-    """Which call of its pipeline it is; one without a place comes after all others."""
+    """The number of the call in its pipeline; one without a number comes after all others."""
     return sys.maxsize if request.place is None else request.place.number
 
 
 def calling_frame() -> FrameType:
-    """Where this package was called from."""
+    """Returns the frame from which this package was called."""
     frame = sys._getframe(1)
     while frame.f_back is not None and frame.f_globals.get("__package__") == __package__:
         frame = frame.f_back

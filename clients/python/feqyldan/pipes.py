@@ -8,6 +8,7 @@ PIPE_BYTES = 1 << 20
 
 
 def enlarge(pipe: int) -> None:
-    """Has a pipe hold more, if it can: both of its ends are then woken up less often."""
+    """Enlarges the buffer of a pipe, if possible, so that both of its ends are woken up less
+    often."""
     with contextlib.suppress(OSError):
         fcntl.fcntl(pipe, getattr(fcntl, "F_SETPIPE_SZ", 1031), PIPE_BYTES)

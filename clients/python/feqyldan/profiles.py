@@ -1,4 +1,4 @@
-"""How long the nodes of a graph take, each by itself."""
+"""Profiles: the time of each node of a graph by itself."""
 
 from __future__ import annotations
 
@@ -15,14 +15,15 @@ if TYPE_CHECKING:
 
 
 class Timing(NamedTuple):
-    """A node, and how many seconds it takes, a request and its reply among them."""
+    """A node, and the seconds that it takes, including a request and its reply."""
 
     node: Node
     seconds: float
 
 
 class Profile(Tuple[Timing, ...]):
-    """The times of nodes, in the order in which they run; printed a table, the slowest first."""
+    """The times of nodes, in the order in which they run. Printed, it is a table with the slowest
+    first."""
 
     __slots__ = ()
 
@@ -59,7 +60,7 @@ def _seconds(graph: Graph, call: Call) -> float:
 
 
 class Doubles:
-    """Objects of the same kind for all that a graph writes, so that nothing of it changes."""
+    """Substitutes for all objects that a graph writes, so that the originals don't change."""
 
     def __init__(self, graph: Graph) -> None:
         self._context = graph.context

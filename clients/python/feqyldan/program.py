@@ -1,4 +1,4 @@
-"""Where the server's program is, for those who don't say."""
+"""Finds the server's program if no path is given."""
 
 from __future__ import annotations
 
@@ -24,8 +24,8 @@ PLAIN = "vx_main-default"
 
 
 def find() -> str:
-    """The path of the program: what FEQYLDAN_PROGRAM says, else on PATH, else inside this package,
-    else as built in this checkout."""
+    """Returns the path of the program: what FEQYLDAN_PROGRAM says, else the one on PATH, else the
+    one inside this package, else the one that was built in this checkout."""
     told = os.environ.get(VARIABLE)
     if told:
         if not os.path.isfile(told):
@@ -46,24 +46,25 @@ def find() -> str:
 
 
 def inside() -> List[str]:
-    """Where this package itself has the program; nowhere where it was installed without one."""
+    """Returns the paths of the program inside this package; none if it was installed without
+    one."""
     return in_folder(INSIDE) if os.path.isdir(INSIDE) else []
 
 
 def built() -> List[str]:
-    """Where builds are that this machine's processor runs, the fastest first; nowhere outside a
-    checkout."""
+    """Returns the paths of builds that this machine's processor can run, the fastest first; none
+    outside a checkout."""
     return in_folder(os.path.join(CRATE, "out")) if os.path.isdir(CRATE) else []
 
 
 def in_folder(folder: str) -> List[str]:
-    """The paths in a folder that this machine's processor runs, the fastest first."""
+    """Returns the paths in a folder that this machine's processor can run, the fastest first."""
     names = [FASTER, PLAIN] if FASTER_FLAGS <= _flags() else [PLAIN]
     return [os.path.join(folder, name) for name in names]
 
 
 def _flags() -> Set[str]:
-    """What every processor of the machine has."""
+    """Returns the flags that every processor of the machine has."""
     try:
         with open("/proc/cpuinfo", encoding="utf-8") as text:
             found = [set(line.split(":", 1)[1].split())

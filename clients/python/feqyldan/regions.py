@@ -1,4 +1,4 @@
-"""Regions of pixels that are marked, by OpenCV or SciPy, where one of them is installed."""
+"""Finds regions of marked pixels, by OpenCV or SciPy if one of them is installed."""
 
 from __future__ import annotations
 
@@ -10,8 +10,8 @@ from .samples import Readable, needed_numpy, of_two_sides, refuse_none_and_paths
 
 
 class Region(NamedTuple):
-    """Pixels that touch, by sides or corners: how many, the least rectangle around them, and their
-    middle (x, y)."""
+    """A region of pixels that touch by sides or corners: their number, their bounding rectangle,
+    and their centre (x, y)."""
 
     pixels: int
     around: Rectangle
@@ -20,8 +20,8 @@ class Region(NamedTuple):
 
 def regions(marks: Any, least: int = 1) -> List[Region]:
     """
-    The regions of samples that aren't 0 in an image or an array of shape (height, width), those of
-    `least` pixels or more, the largest first. What is no such picture raises BadPicture. Needs
+    Returns the regions of samples that aren't 0 in an image or an array of shape (height, width):
+    those of at least `least` pixels, the largest first. Raises BadPicture for anything else. Needs
     NumPy, and OpenCV or SciPy.
     """
     numpy = needed_numpy("regions()")
@@ -37,7 +37,7 @@ def regions(marks: Any, least: int = 1) -> List[Region]:
 
 
 def _pixels_of(numpy: Any, marks: Any) -> Any:
-    """The samples of a picture, of any type of numbers, as an array of two sides."""
+    """Returns the samples of a picture as an array of two dimensions, of any type of numbers."""
     if isinstance(marks, Readable):
         return numpy.asarray(marks.read())
     refuse_none_and_paths(marks)

@@ -1,12 +1,12 @@
 """
-Samples of pictures on their way to the server and back. In a frame they stand by rows from the top,
-each big-endian.
+Conversion of samples to what the server takes and back. Frames have samples row by row from the
+top, each big-endian.
 
-To the server go NumPy arrays of shape (height, width) and whatever NumPy takes for one; objects
-with a buffer, as bytes or array.array; and rows of numbers. U8 samples are sent from where they
-stand; of S16 and U32 a copy is made on most machines, whose byte order is the other one. From the
-server comes a NumPy array where NumPy is installed, else a memoryview of the same shape: samples
-are [y, x] in both, and tolist() gives their rows.
+Pictures for the server are NumPy arrays of shape (height, width) and whatever NumPy can convert to
+one; objects with a buffer, as bytes or array.array; and rows of numbers. U8 samples are sent
+without a copy. S16 and U32 samples are copied on machines with the other byte order, which are
+most. A picture from the server is a NumPy array if NumPy is installed, else a memoryview of the
+same shape: samples are [y, x] in both, and tolist() returns their rows.
 """
 
 from __future__ import annotations
@@ -38,7 +38,7 @@ else:
 
 
 class Format(IntEnum):
-    """Of the samples of an image: U8 from 0 to 255, S16 from -32768 to 32767, U32 from 0 to
+    """The format of an image's samples: U8 from 0 to 255, S16 from -32768 to 32767, U32 from 0 to
     4294967295."""
 
     U8 = wire.U8
@@ -56,7 +56,7 @@ class Format(IntEnum):
 
 
 def format_of(value: Any) -> Format:
-    """The format that a number of wire stands for."""
+    """Returns the format with a number of `wire`."""
     try:
         return Format(whole(value, "a format"))
     except (TypeError, ValueError) as error:
@@ -74,7 +74,7 @@ TILE = 128
 
 
 class Samples(NamedTuple):
-    """A picture as a frame has it: the content is its samples, big-endian and by rows."""
+    """A picture as frames have it: the content is its samples, big-endian, row by row."""
 
     fmt: Format
     width: int
@@ -83,7 +83,7 @@ class Samples(NamedTuple):
 
 
 class Size(NamedTuple):
-    """What is known of a picture whose samples don't tell it."""
+    """The size and format that a picture's samples don't say themselves."""
 
     fmt: Format
     width: int
@@ -91,7 +91,7 @@ class Size(NamedTuple):
 
 
 class Readable:
-    """Something on a server with samples, which read() gives."""
+    """Something on a server with samples, which read() returns."""
 
     __slots__ = ()
 
@@ -101,7 +101,7 @@ class Readable:
 
 @lru_cache(maxsize=None)
 def numpy_module() -> Any:
-    """NumPy, which is imported when it is first of use; None where it isn't installed."""
+    """Returns NumPy, imported when it is first needed; None if it isn't installed."""
     try:
         import numpy
     except ImportError:
@@ -110,7 +110,7 @@ def numpy_module() -> Any:
 
 
 def needed_numpy(what: str) -> Any:
-    """NumPy, without which there is no such thing."""
+    """Returns NumPy, or raises if it isn't installed."""
     there = numpy_module()
     if there is None:
         raise ImportError(f"{what} needs NumPy, which isn't installed")
@@ -118,19 +118,19 @@ def needed_numpy(what: str) -> Any:
 
 
 def dtype_of(fmt: Format) -> Any:
-    """NumPy's type of a format's samples; its name where NumPy isn't installed."""
+    """Returns NumPy's type of a format's samples, or its name if NumPy isn't installed."""
     name = {Format.U8: "uint8", Format.S16: "int16", Format.U32: "uint32"}[fmt]
     there = numpy_module()
     return name if there is None else there.dtype(name)
 
 
 def numbers_of(content: bytes, fmt: Format) -> Tuple[int, ...]:
-    """The numbers of a format that big-endian bytes are."""
+    """Returns the numbers of a format that big-endian bytes encode."""
     return struct.unpack(f">{len(content) // fmt.sample_bytes}{LETTERS[fmt]}", content)
 
 
 def is_array(value: Any) -> bool:
-    """Whether NumPy takes it for an array, and NumPy is there."""
+    """Returns whether NumPy is installed and can convert the value to an array."""
     # For an array the second takes time.
     has_interface = hasattr(value, "__array__") or hasattr(value, "__array_interface__")
     return has_interface and numpy_module() is not None
@@ -138,9 +138,9 @@ def is_array(value: Any) -> bool:
 
 def samples_of(value: Any, size: Optional[Size] = None) -> Samples:
     """
-    A picture's samples, of shape (height, width) or (height, width, 1). Those in one line, as bytes
-    have them, are of the size that is given, and stand in this machine's byte order; so are rows of
-    numbers of its format, which is U8 where none is given.
+    Returns a picture's samples, which have shape (height, width) or (height, width, 1). Samples in
+    one line, such as bytes, have the size that is given and this machine's byte order. Rows of
+    numbers have the format that is given, or U8.
     """
     if isinstance(value, Readable):
         value = value.read()
@@ -154,7 +154,7 @@ def samples_of(value: Any, size: Optional[Size] = None) -> Samples:
 
 
 def _unmasked(value: Any) -> Any:
-    """The value as an array. A mask would be lost."""
+    """Returns the value as an array. Refuses masked samples, because the mask would be lost."""
     numpy = numpy_module()
     if type(value) is numpy.ndarray:
         return value
@@ -165,8 +165,8 @@ def _unmasked(value: Any) -> Any:
 
 
 def entries_of(value: Any, fmt: Format) -> bytes:
-    """The bytes of numbers in one line, big-endian; an array may have them in one row or column
-    too."""
+    """Returns the big-endian bytes of numbers in one line; an array may have them in one row or
+    column too."""
     if is_array(value):
         value = numpy_module().asarray(value).reshape(-1).tolist()
     return _ordered(_packed(list(value), fmt, "an entry")).tobytes()
@@ -187,10 +187,10 @@ def _of_array(pixels: Any, size: Optional[Size]) -> Samples:
 
 def _in_rows(pixels: Any, numpy: Any) -> Any:
     """
-    The array with its rows in memory one after the other.
+    Returns the array with its rows one after the other in memory.
 
-    One that stands by columns is copied in squares that fit into the cache: NumPy, which goes along
-    the rows of what it writes, takes ten times as long.
+    An array in column order is copied in squares that fit in the cache: NumPy goes along the rows
+    of its output, and takes ten times as long.
     """
     if pixels.flags.c_contiguous or abs(pixels.strides[1]) <= abs(pixels.strides[0]):
         return pixels
@@ -204,7 +204,7 @@ def _in_rows(pixels: Any, numpy: Any) -> Any:
 
 
 def _bytes_of(pixels: Any, numpy: Any) -> memoryview:
-    """The bytes of an array by rows, big-endian; a copy where it isn't so."""
+    """Returns the big-endian bytes of an array, row by row; a copy unless it has them already."""
     if pixels.itemsize == 1 and pixels.flags.c_contiguous:
         return memoryview(pixels).cast("B")
     ordered = numpy.ascontiguousarray(pixels, pixels.dtype.newbyteorder(">"))
@@ -212,7 +212,7 @@ def _bytes_of(pixels: Any, numpy: Any) -> memoryview:
 
 
 def _hint_at(shape: Tuple[int, ...]) -> str:
-    """What to do with an array of a shape that isn't that of a picture."""
+    """Returns a hint for an array whose shape isn't that of a picture."""
     if len(shape) == 3 and shape[0] == 1:
         return ": that is a batch of one picture, which is array[0]"
     if shape[2:] in ((3,), (4,)):
@@ -221,7 +221,7 @@ def _hint_at(shape: Tuple[int, ...]) -> str:
 
 
 def _conversion_of(dtype: Any) -> str:
-    """How to make samples of an array of this type."""
+    """Returns a hint on how to convert an array of this type to samples."""
     if dtype.kind == "f":
         return ("scale and round them first, as (255 * array).round().astype(numpy.uint8) does "
                 "with numbers from 0 to 1")
@@ -276,7 +276,7 @@ def _of_rows(value: Any, size: Optional[Size]) -> Samples:
 
 
 def refuse_none_and_paths(value: Any) -> None:
-    """Raises BadPicture where it is None or a path, which are often taken for a picture."""
+    """Raises BadPicture for None and for a path, which are often passed by mistake."""
     if value is None:
         raise NotAPicture("None is no picture: cv2.imread() gives it where it can't read a file")
     if isinstance(value, (str, os.PathLike)):
@@ -285,7 +285,7 @@ def refuse_none_and_paths(value: Any) -> None:
 
 
 def of_two_sides(pixels: Any) -> Any:
-    """An array of shape (height, width), or (height, width, 1), as one of two sides."""
+    """Returns an array of shape (height, width) or (height, width, 1) in two dimensions."""
     if pixels.ndim == 3 and pixels.shape[2] == 1:
         pixels = pixels.reshape(pixels.shape[:2])
     if pixels.ndim != 2 or pixels.size == 0:
@@ -295,7 +295,7 @@ def of_two_sides(pixels: Any) -> Any:
 
 
 def _rows_in(value: Any) -> Sequence[Sequence[int]]:
-    """Rows of numbers, if it is such."""
+    """Returns the rows of numbers, if the value has them."""
     refuse_none_and_paths(value)
     try:
         return [list(row) for row in value]
@@ -309,7 +309,7 @@ RANGES = {Format.U8: (0, 255), Format.S16: (-32768, 32767), Format.U32: (0, 2**3
 
 
 def first_outside(numbers: Sequence[int], fmt: Format) -> int:
-    """Where the first number stands that is no sample of a format."""
+    """Returns the position of the first number that isn't a sample of a format."""
     least, greatest = RANGES[fmt]
     return next(at for at, number in enumerate(numbers) if not least <= number <= greatest)
 
@@ -329,21 +329,20 @@ def _packed(numbers: Sequence[int], fmt: Format, what: str) -> Any:
 
 
 def _line_of(view: memoryview) -> memoryview:
-    """Its bytes, one after the other."""
+    """Returns the bytes of a buffer, one after the other."""
     return view.cast("B") if view.c_contiguous else memoryview(view.tobytes())
 
 
 def _ordered(numbers: Any) -> memoryview:
-    """The bytes of an array.array whose numbers stand in this machine's order, in that of frames;
-    it is changed."""
+    """Returns the bytes of an array.array, in the byte order of frames. The array is changed."""
     if IS_SWAPPED:
         numbers.byteswap()
     return memoryview(numbers).cast("B")
 
 
 def _reordered(content: memoryview, fmt: Format) -> memoryview:
-    """The bytes of samples from this machine's order to that of frames, or back: a copy where the
-    two differ."""
+    """Converts the bytes of samples from this machine's byte order to that of frames, or back.
+    Returns a copy if the two differ."""
     if fmt == Format.U8 or not IS_SWAPPED:
         return content
     numbers = array.array(LETTERS[fmt])
@@ -352,15 +351,15 @@ def _reordered(content: memoryview, fmt: Format) -> memoryview:
 
 
 def picture_of(reply: memoryview) -> Picture:
-    """The samples of an image that was read, in a buffer of their own that the caller may write
-    to."""
+    """Returns the samples of an image that was read, in a buffer of their own that the caller may
+    write to."""
     fmt, width, height = wire.size_of(reply)
     return _array_of(reply[13:], Format(fmt), (height, width))
 
 
 def place_in(out: Any, described: Size) -> Optional[memoryview]:
-    """The bytes of an array that samples are to be read into, which has to be one of their shape
-    and type; None where it doesn't stand by rows without gaps."""
+    """Returns the bytes of an array that samples are to be read into. It must have their shape and
+    type. None if it doesn't have its rows one after the other without gaps."""
     fmt, width, height = described
     numpy = needed_numpy("an array to read into")
     if not isinstance(out, numpy.ndarray):
@@ -374,7 +373,8 @@ def place_in(out: Any, described: Size) -> Optional[memoryview]:
 
 
 def turned(pixels: Picture) -> Picture:
-    """An array whose samples stand in the order of frames: they are turned to this machine's."""
+    """Returns an array whose samples come in the byte order of frames, after converting them to
+    this machine's."""
     if IS_SWAPPED and pixels.itemsize > 1:
         pixels.byteswap(inplace=True)
     return pixels

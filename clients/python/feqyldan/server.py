@@ -1,4 +1,4 @@
-"""Servers: a program that this one starts, or one that is reached by a Unix socket."""
+"""Servers: a program that this one starts, or a running one that is reached by a Unix socket."""
 
 from __future__ import annotations
 
@@ -38,19 +38,20 @@ RETRY_PAUSE = 0.1
 
 class Server(Forked, Uncopied):
     """
-    A server that this program starts, and that ends with its `with`, or where this program ends.
+    A server that this program starts. It ends at the end of its `with`, or with this program.
 
-    `program` is the path of vx_main, or the words of a command that ends with it. Where it isn't
-    given, it is what the environment variable FEQYLDAN_PROGRAM says, else `feqyldan` or `vx_main`
-    on PATH, else the program inside this package, if its wheel has one, else what tools/build has
-    built in this checkout. The quota is how many bytes of
-    samples the images of each context may take, the work bytes how many the virtual images of each
-    graph may; both are 2^28 unless told. A request that isn't answered within the timeout, in
-    seconds, raises TimedOut and ends the server. Several threads may use one server, each with a
-    context of its own.
+    `program` is the path of vx_main, or the words of a command that ends with it. Without it, the
+    program is the first of these: the environment variable FEQYLDAN_PROGRAM; `feqyldan` or
+    `vx_main` on PATH; the program inside this package, if its wheel has one; the one that
+    tools/build has built in this checkout.
 
-    The server is in a session of its own, so that Ctrl-C interrupts this program alone. In a
-    process that is forked from this one it is closed.
+    `quota` is how many bytes of samples the images of each context may have, `work` how many the
+    virtual images of each graph may have; both are 2^28 by default. A request that isn't answered
+    within `timeout` seconds raises TimedOut and ends the server. Several threads may use one
+    server, each with a context of its own.
+
+    The server has a session of its own, so that Ctrl-C interrupts this program alone. In a process
+    that is forked from this one it is closed.
     """
 
     __slots__ = ("_lock", "_next_number", "_free_numbers", "_ended_by", "_quota", "_work",
@@ -99,22 +100,23 @@ class Server(Forked, Uncopied):
 
     @property
     def closed(self) -> bool:
-        """Whether it was closed, or has ended."""
+        """Whether the server was closed, or has ended."""
         return self._ended_by is not None or self._connection.fault is not None
 
     @property
     def why_closed(self) -> Optional[str]:
-        """Why it can't be used any more; None while it wasn't closed."""
+        """Why the server can't be used any more; None while it isn't closed."""
         return self._ended_by
 
     @property
     def quota(self) -> Optional[int]:
-        """How many bytes the images of each context may take; None where it isn't known."""
+        """How many bytes of samples the images of each context may have; None if it isn't known."""
         return self._quota
 
     @property
     def work(self) -> Optional[int]:
-        """How many bytes the virtual images of each graph may take; None where it isn't known."""
+        """How many bytes of samples the virtual images of each graph may have; None if it isn't
+        known."""
         return self._work
 
     def context(self) -> Context:
@@ -129,15 +131,16 @@ class Server(Forked, Uncopied):
             raise
 
     def give_back(self, context: Context, is_released: bool) -> None:
-        """A context has ended. Where the server has released it, its number is free again."""
+        """Takes back the number of a context that has ended. It is free again if the server has
+        released the context."""
         if is_released:
             self._free_numbers.append(context.number)
 
     def close(self) -> None:
         """
-        Ends the server with all contexts: it answers what was sent, its input ends, and it is
-        waited for. Raises ServerEnded where it ends otherwise than it should. Nothing happens where
-        that was done before.
+        Ends the server and all its contexts: it answers what was sent, its input is closed, and it
+        is waited for. Raises ServerEnded if it doesn't end normally. It does nothing if that was
+        done before.
         """
         if self._ended_by is not None:
             return
@@ -152,7 +155,7 @@ class Server(Forked, Uncopied):
             raise ended
 
     def lose(self) -> None:
-        """In the child of a fork: its pipes are closed here, and the server is the parent's."""
+        """Closes the pipes in the child of a fork; the server belongs to the parent."""
         if self._ended_by is None:
             self._ended_by = FORKED
             self._connection.lose(FORKED)
@@ -188,7 +191,8 @@ class Server(Forked, Uncopied):
             return self._next_number - 1
 
     def _end(self) -> ServerEnded:
-        """Ends the server's input, and the server if that doesn't. Gives how it ended."""
+        """Closes the server's input, and terminates or kills the server if it doesn't end then.
+        Returns how it ended."""
         self._connection.close()
         self._input.close()
         self._output.close()
@@ -202,7 +206,7 @@ class Server(Forked, Uncopied):
         return ended
 
     def _has_ended(self) -> bool:
-        """Waits with patience."""
+        """Waits for the server to end, and returns whether it has."""
         try:
             self._process.wait(PATIENCE)
         except subprocess.TimeoutExpired:
@@ -210,7 +214,7 @@ class Server(Forked, Uncopied):
         return True
 
     def _ended(self, is_within_frame: bool) -> ServerEnded:
-        """How the server ended, which has closed its output."""
+        """Returns how the server ended, after it has closed its output."""
         if not self._has_ended():
             return ServerEnded("the server closed its output, and runs on")
         status = self._process.returncode
@@ -224,8 +228,8 @@ class Server(Forked, Uncopied):
 class SocketServer(Server):
     """
     A server that is reached by a Unix socket, as feqyldan.broker gives it to several programs. Each
-    context has a connection of its own; the server goes on when this is closed. Where nobody
-    listens, or the broker is full, it is tried again for `retry` seconds, also when a context is
+    context has a connection of its own, and the server goes on when this is closed. If nobody
+    listens or the broker is full, connecting is retried for `retry` seconds, also when a context is
     opened later.
     """
 
@@ -249,12 +253,12 @@ class SocketServer(Server):
 
     @property
     def closed(self) -> bool:
-        """Whether it was closed."""
+        """Whether this was closed."""
         return self._ended_by is not None
 
     def context(self) -> Context:
-        """Opens a context on a connection of its own. Raises BrokerFull where a broker has as many
-        as it allows, and none was free within the `retry` seconds."""
+        """Opens a context on a connection of its own. Raises BrokerFull if a broker has no free
+        connection within the `retry` seconds."""
         until = time.monotonic() + self._retry
         while True:
             try:
@@ -281,7 +285,7 @@ class SocketServer(Server):
         return context
 
     def give_back(self, context: Context, is_released: bool) -> None:
-        """A context has ended, and its connection does too."""
+        """Closes the connection of a context that has ended."""
         context.connection.close()
         stream = self._sockets.pop(context, None)
         if stream is not None:
@@ -297,8 +301,7 @@ class SocketServer(Server):
             self._next = None
 
     def lose(self) -> None:
-        """In the child of a fork: its sockets are closed here, and the connections are the
-        parent's."""
+        """Closes the sockets in the child of a fork; the connections belong to the parent."""
         self._ended_by = self._ended_by or FORKED
         for context in self._sockets:
             context.connection.lose(FORKED)
@@ -323,7 +326,7 @@ class SocketServer(Server):
             time.sleep(RETRY_PAUSE)
 
     def _reached(self) -> socket.socket:
-        """A connection to the socket at the path, if somebody listens there now."""
+        """Returns a connection to the socket at the path, if somebody listens there now."""
         with OPENING:
             stream = socket.socket(socket.AF_UNIX, socket.SOCK_STREAM)
             self._streams.add(stream)
@@ -347,7 +350,7 @@ class SocketServer(Server):
         return stream
 
     def _look_who_listens(self, stream: socket.socket) -> None:
-        """Raises PermissionError where that is another user than the owner that was given."""
+        """Raises PermissionError if the listener isn't the owner that was given."""
         if self._owner is None:
             return
         credentials = stream.getsockopt(socket.SOL_SOCKET, socket.SO_PEERCRED, 12)
@@ -364,22 +367,23 @@ class SocketServer(Server):
 def connect(path: Path, *, timeout: Optional[float] = None, retry: float = 0.0,
             owner: Union[int, str, None] = None) -> SocketServer:
     """
-    The server that listens at a Unix socket. Where nobody does, as while it starts, or where a
-    broker is full, waits up to `retry` seconds. A request that isn't answered within the timeout,
-    in seconds, raises TimedOut and closes the connection of its context. Where an owner is given, a
-    user's number or name, and another user listens, raises PermissionError before anything is sent;
-    for a socket that systemd holds, the owner is root.
+    Returns the server that listens at a Unix socket. If nobody listens yet, or a broker is full,
+    waits up to `retry` seconds. A request that isn't answered within `timeout` seconds raises
+    TimedOut and closes the connection of its context. `owner` is a user's number or name: if
+    another user listens, PermissionError is raised before anything is sent. For a socket that
+    systemd holds, the owner is root.
     """
     return SocketServer(path, timeout=timeout, retry=retry, owner=owner)
 
 
 def user_number(user: Union[int, str]) -> int:
-    """A user's number, who may be given by name. Raises KeyError where there is no such user."""
+    """Returns the number of a user, who may be given by name. Raises KeyError if there is no such
+    user."""
     return user if isinstance(user, int) else pwd.getpwnam(user).pw_uid
 
 
 def status(path: Path, *, timeout: float = 10.0) -> Dict[str, Any]:
-    """The state of a broker, as its status socket (--status) tells it at this path."""
+    """Returns the state of a broker, from its status socket (--status) at this path."""
     with socket.socket(socket.AF_UNIX, socket.SOCK_STREAM) as stream:
         stream.settimeout(timeout)
         stream.connect(os.fspath(path))
@@ -390,14 +394,14 @@ def status(path: Path, *, timeout: float = 10.0) -> Dict[str, Any]:
 
 
 def seconds_of(timeout: Optional[float]) -> Optional[float]:
-    """A timeout that is one; None for none."""
+    """Returns a timeout in seconds after checking it; None for no timeout."""
     if timeout is not None and not 0 < timeout <= 1e6:
         raise ValueError(f"a timeout is a number of seconds above 0, or None, and not {timeout}")
     return None if timeout is None else float(timeout)
 
 
 def shut(stream: socket.socket) -> None:
-    """Ends a connection for both sides, also for who reads from it now."""
+    """Ends a connection for both sides, also for a thread that is reading from it."""
     try:
         stream.shutdown(socket.SHUT_RDWR)
     except OSError:
@@ -405,8 +409,8 @@ def shut(stream: socket.socket) -> None:
 
 
 def socket_ended(is_within_frame: bool) -> ServerEnded:
-    """What is known at this end. A broker knows more, as that a connection asked nothing for long,
-    and says it to its operator."""
+    """Returns why a connection ended, as far as this end knows. A broker knows more, for example
+    that a connection was idle for too long, and tells its operator."""
     where = " in the middle of a reply" if is_within_frame else ""
     return ServerEnded(f"the server closed the connection{where}; where that was a broker, its "
                        "standard error says why")
@@ -414,7 +418,7 @@ def socket_ended(is_within_frame: bool) -> ServerEnded:
 
 def command(program: Union[Path, Sequence[str]], quota: Optional[int],
             work: Optional[int]) -> List[str]:
-    """The words that start a server."""
+    """Returns the words of the command that starts a server."""
     words = [os.fspath(program)] if isinstance(program, (str, os.PathLike)) else list(program)
     words.append("serve")
     for name, limit in (("quota", quota), ("work", work)):

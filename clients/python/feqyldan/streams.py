@@ -1,5 +1,4 @@
-"""Streams of pictures through graphs: each is written, the graph runs, and what it leaves is
-read."""
+"""Streams of pictures through graphs: for each picture the graph runs, and its outputs are read."""
 
 from __future__ import annotations
 
@@ -36,8 +35,8 @@ PRINTED = 16
 
 
 class Station(NamedTuple):
-    """A graph, the image that gets the frames, and what is read after each run: an image, a
-    distribution, extremes, or several of them."""
+    """A graph, the image that gets the frames, and the objects that are read after each run: an
+    image, a distribution, extremes, or several of them."""
 
     graph: Graph
     camera: AnyImage
@@ -47,8 +46,8 @@ class Station(NamedTuple):
 def stream(frames: Iterable[Frame], stations: Sequence[Station],
            ahead: int = 2) -> Iterator[Tuple[Frame, Any]]:
     """
-    Yields each frame with what a graph left of it, as Graph.stream() does, in the order of the
-    frames. The stations take turns: with a server for each, as many frames are computed at the same
+    Yields each frame with the results of a graph, as Graph.stream() does, in the order of the
+    frames. The stations take turns: with one server each, as many frames are computed at the same
     time. Up to `ahead` further frames are sent.
     """
     if ahead < 0:
@@ -61,7 +60,7 @@ def stream(frames: Iterable[Frame], stations: Sequence[Station],
 
 
 def look_at_frames(frames: Any, camera: AnyImage) -> None:
-    """Refuses one picture, whose rows would be taken for frames."""
+    """Refuses a single picture, whose rows would be used as frames."""
     shape: Tuple[int, ...] = getattr(frames, "shape", ()) if is_array(frames) else ()
     if len(shape) == 2 and shape[1] != camera.size:
         raise WrongPicture("the frames of a stream are several pictures, and this is one array of "
@@ -104,7 +103,7 @@ def _wait(sent: Sequence[Sent], wake: Optional[int]) -> None:
 
 
 class Sent(NamedTuple):
-    """A frame that was sent, and what was asked."""
+    """A frame that was sent, and its requests."""
 
     frame: Any
     results: Tuple[Result[Any], ...]
@@ -120,7 +119,7 @@ class Sent(NamedTuple):
 
 
 class FramePipeline(Pipeline):
-    """The requests of one frame: a refusal is raised by its results, and not by those of others."""
+    """The requests of one frame: a refusal is raised by the results of that frame alone."""
 
     __slots__ = ("_number",)
 
@@ -179,12 +178,12 @@ class Turn:
 
 
 def is_object(out: Any) -> bool:
-    """Whether it is one thing to read, or what somebody may take for one."""
+    """Returns whether a value is one object to read, or could be mistaken for one."""
     return out is None or isinstance(out, (AnyImage, Named))
 
 
 def several(out: Any) -> Tuple[Any, ...]:
-    """What a sequence of things to read has."""
+    """Returns the objects of a sequence of objects to read."""
     try:
         things = tuple(out)
     except TypeError:
@@ -195,7 +194,7 @@ def several(out: Any) -> Tuple[Any, ...]:
 
 
 def look_at_camera(camera: Any) -> None:
-    """Raises why frames can't be written to it."""
+    """Raises if frames can't be written to the camera."""
     if isinstance(camera, VirtualImage):
         camera.write(None)
     if not isinstance(camera, AnyImage):
@@ -204,7 +203,7 @@ def look_at_camera(camera: Any) -> None:
 
 
 def look_at_output(thing: Any) -> None:
-    """Raises why it can't be read after each run."""
+    """Raises if an output can't be read after each run."""
     if isinstance(thing, VirtualImage):
         thing.read()
     if not isinstance(thing, (AnyImage, Distribution, MinMax)):
@@ -212,7 +211,8 @@ def look_at_output(thing: Any) -> None:
 
 
 def look_at_nodes(graph: Graph, camera: AnyImage, out: Sequence[Any]) -> None:
-    """Raises what a graph's nodes don't use: the stream's results would have no meaning."""
+    """Raises if a graph's nodes don't use an object of the stream, whose results would have no
+    meaning."""
     read, written = graph.reads | graph.aging, graph.writes
     if name_of(camera) not in read:
         raise ValueError(f"the frames of a stream go to {camera}, which no node of {graph} reads: "
@@ -227,8 +227,8 @@ _READ = "a stream reads images, distributions and extremes"
 
 
 class Source:
-    """Frames: whether one is there, and that one. `descriptor` becomes readable when one comes, or
-    the end."""
+    """A source of frames: says whether one has come, and returns it. `descriptor` becomes readable
+    when one comes, or at the end."""
 
     descriptor = -1
     error: Optional[BaseException] = None
@@ -251,15 +251,16 @@ class Source:
         raise NotImplementedError
 
     def let_go(self, frame: Any) -> None:
-        """The result of a frame is there. Raises BadPicture if frames changed before that."""
+        """Notes that the result of a frame has come. Raises BadPicture if frames changed before
+        that."""
 
     def close(self) -> None:
-        """No more frames are taken."""
+        """Stops taking frames."""
         raise NotImplementedError
 
 
 class Listed(Source):
-    """Frames that are all there."""
+    """Frames that exist already."""
 
     def __init__(self, frames: Sequence[Any]) -> None:
         self._frames, self._at = frames, 0
@@ -281,7 +282,7 @@ class Listed(Source):
 
 
 class Taker(threading.Thread):
-    """The thread that runs an iterator. `leave` has it take no more frames."""
+    """The thread that runs an iterator. After `leave` it takes no more frames."""
 
     def __init__(self, take_all: Callable[[Iterator[Any]], None], frames: Iterator[Any],
                  leave: Callable[[], None]) -> None:
@@ -291,10 +292,10 @@ class Taker(threading.Thread):
 
 def leave_all() -> None:
     """
-    Has all iterators that still run end with the frame that they are asked for, and waits for them.
+    Ends all iterators that still run, after the frame that they were asked for, and waits for them.
 
-    A program that ends while one of its threads is in C++, as OpenCV's, is aborted: Python ends the
-    thread by an exception there.
+    A program that ends while one of its threads is in C++, for example in OpenCV, is aborted:
+    Python ends the thread by an exception there.
     """
     takers = [thread for thread in threading.enumerate() if isinstance(thread, Taker)]
     for taker in takers:
@@ -309,8 +310,8 @@ atexit.register(leave_all)
 
 class Prints:
     """
-    The arrays that are frames without a result, by where their samples begin in memory: a print of
-    some rows of each. So an array that is filled again too early is found out.
+    The arrays of frames that have no result yet, by the address of their samples. A fingerprint of
+    some rows of each shows when an array is reused too early.
     """
 
     def __init__(self) -> None:
@@ -318,7 +319,7 @@ class Prints:
         self._fault: Optional[str] = None
 
     def take(self, frame: Any) -> None:
-        """A frame that the iterator gave just now."""
+        """Notes a frame that the iterator has just yielded."""
         if is_pixels(frame):
             start, found = start_of(frame), print_of(frame)
             if self._prints.get(start, found) != found:
@@ -328,7 +329,7 @@ class Prints:
             self._prints[start] = found
 
     def let_go(self, frame: Any) -> None:
-        """Its result is there."""
+        """Notes that the result of a frame has come."""
         if self._fault is not None:
             raise WrongPicture(self._fault)
         if is_pixels(frame):
@@ -336,7 +337,7 @@ class Prints:
 
 
 def is_pixels(frame: Any) -> bool:
-    """Whether it is an array of NumPy's with rows."""
+    """Returns whether a value is a NumPy array with rows."""
     numpy = sys.modules.get("numpy")
     return numpy is not None and isinstance(frame, numpy.ndarray) and frame.ndim > 1
 
@@ -346,13 +347,14 @@ def start_of(pixels: Any) -> int:
 
 
 def print_of(pixels: Any) -> int:
-    """What changes, as good as always, where another frame is written to an array."""
+    """Returns a fingerprint that almost always changes when another frame is written to the
+    array."""
     return zlib.crc32(pixels[:: max(1, len(pixels) // PRINTED)].tobytes())
 
 
 class Threaded(Source):
-    """Frames that a thread takes from an iterator, one before it is wanted, so that results can be
-    yielded while a camera is waited for. The thread may not use the contexts of the stream."""
+    """Frames that a thread takes from an iterator, one ahead, so that results can be yielded while
+    a camera is waited for. The thread must not use the contexts of the stream."""
 
     def __init__(self, frames: Iterable[Any], contexts: Sequence[Context]) -> None:
         self._contexts = contexts

@@ -1,4 +1,4 @@
-"""What stands for something on a server, of which a copy in Python would be none."""
+"""Objects that represent something on a server, of which a copy in Python would not be one."""
 
 from __future__ import annotations
 
@@ -16,7 +16,7 @@ class Uncopied:
     _inner: FrozenSet[str] = frozenset()
 
     def __dir__(self) -> List[str]:
-        """The names for programs."""
+        """Returns the public names."""
         return [name for name in super().__dir__()
                 if name not in self._inner and (name[:1] != "_" or name[:2] == "__")]
 

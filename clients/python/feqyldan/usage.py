@@ -1,5 +1,5 @@
-"""How much of its limits a context uses, as the package counts it: the server has no request for
-that."""
+"""How much of its limits a context uses. The package counts it itself, because the server has no
+request for it."""
 
 from __future__ import annotations
 
@@ -16,8 +16,8 @@ SPARE = 64
 
 
 class Usage(NamedTuple):
-    """How many objects there are, of how many that may be, and how many bytes of the quota images
-    take. The quota is None where it isn't known, as behind a socket."""
+    """The number of objects and its limit, and the bytes of the quota that images take. The quota
+    is None if it isn't known, as behind a socket."""
 
     objects: int
     most_objects: int
@@ -50,7 +50,7 @@ class Used:
         return Usage(len(self._sizes), MOST_OBJECTS, sum(self._sizes.values()), quota)
 
     def fault(self, size: int, quota: Optional[int]) -> str:
-        """Which limit one more object of so many bytes doesn't keep."""
+        """Returns which limit one more object of this many bytes would exceed."""
         used = self.usage(quota)
         if used.objects >= MOST_OBJECTS:
             return f"The client has {used.objects:,} objects, which is the most."
@@ -59,7 +59,7 @@ class Used:
         return f"It wants {size:,} bytes of the quota, and {of_quota}."
 
     def _drop(self) -> None:
-        """Forgets what was released and no graph uses."""
+        """Drops the objects that were released and that no graph uses."""
         in_graphs = {name for graph in self.graphs if not graph.closed for name in graph.uses}
         for name in self._released - in_graphs:
             self._sizes.pop(name, None)
@@ -67,5 +67,5 @@ class Used:
 
 
 def wanted_bytes(image: AnyImage) -> int:
-    """How many bytes of the quota an image takes."""
+    """Returns how many bytes of the quota an image takes."""
     return image.width * image.height * image.fmt.sample_bytes

@@ -1,7 +1,7 @@
 """
-What of a graph is at fault. The server says why a graph can't run by a code alone; here the same is
-worked out from what the nodes name, as docs/wire.md has it under "Verdicts". Where that gives
-another code, or none, nothing is said.
+Finds the fault of a graph. The server only returns a status code for a graph that can't run. Here
+the fault is found again from the operands of the nodes, as docs/wire.md says under "Verdicts". If
+that gives another code, or none, nothing is reported.
 """
 
 from __future__ import annotations
@@ -50,7 +50,7 @@ OPENED = {
 
 
 def formats_in_words(function: str) -> str:
-    """Which formats a function takes together."""
+    """Returns the combinations of formats that a function takes, in words."""
     outputs = sorted({formats[2] for formats in TAKEN[function]}, key=lambda fmt: fmt or 0)
     words = "; ".join(f"{_inputs_in_words(function, output)}{f' to {output}' if output else ''}"
                       for output in outputs)
@@ -60,7 +60,7 @@ def formats_in_words(function: str) -> str:
 
 
 def _inputs_in_words(function: str, output: Optional[Format]) -> str:
-    """Which formats of inputs go with a format of the output."""
+    """Returns the input formats for a format of the output, in words."""
     pairs = sorted((one or 0, 0 if other is None or function in _PARAMETERS else other)
                    for one, other, out in TAKEN[function] if out == output)
     if len(pairs) == 4:
@@ -69,8 +69,8 @@ def _inputs_in_words(function: str, output: Optional[Format]) -> str:
 
 
 def parameter_for(function: str, fmt: Optional[Format], other: Optional[Format]) -> str:
-    """How to make the threshold or the table for an input of a format, where the one that is given
-    is of another; empty where that isn't so."""
+    """Returns how to create the threshold or the table for an input of a format, if the given one
+    has another format; else an empty text."""
     if function not in _PARAMETERS or fmt == other or fmt not in (U8, S16):
         return ""
     makes = {"threshold": "threshold", "table_lookup": "lut"}[function]
@@ -79,9 +79,8 @@ def parameter_for(function: str, fmt: Optional[Format], other: Optional[Format])
 
 class Cell(NamedTuple):
     """
-    What a node names: an object, or the image in a slot of a delay. The reference tells it from all
-    others; the format and the sides are None where it hasn't any, or where a virtual image leaves
-    them open.
+    An operand of a node: an object, or the image in a slot of a delay. Its reference identifies it.
+    The format and the size are None if it has none, or if a virtual image leaves them open.
     """
 
     reference: bytes
@@ -94,7 +93,7 @@ class Cell(NamedTuple):
 
 
 class Member(NamedTuple):
-    """A node of a graph by what it names; None for an operand that it hasn't."""
+    """A node of a graph with its operands; None for an operand that it doesn't have."""
 
     number: int
     function: str
@@ -132,8 +131,8 @@ def _cell_of(operand: Any) -> Cell:
 
 
 def explained(code: int, members: Sequence[Member], work: Optional[int]) -> str:
-    """What is at fault in a graph of these nodes, which the server refused with a code; empty where
-    it isn't known. The work bytes are None where they aren't known."""
+    """Returns the fault of a graph of these nodes, which the server refused with a code; empty if
+    it isn't known. The work bytes are None if they aren't known."""
     verdict = verdict_on(members, code, work)
     return verdict.fault if verdict is not None and verdict.code == code else ""
 
@@ -141,9 +140,8 @@ def explained(code: int, members: Sequence[Member], work: Optional[int]) -> str:
 def verdict_on(members: Sequence[Member], refused_with: int = wire.SUCCESS,
                work: Optional[int] = None) -> Optional[Verdict]:
     """
-    The first fault of a graph; None where there is none. That it has too many bytes is the server's
-    to say, which knows how many it may have: so this is a fault where the server refused it with
-    that.
+    Returns the first fault of a graph, or None. Only the server knows whether a graph has too many
+    bytes, so that is a fault exactly if the server refused it with that code.
     """
     fault = _two_writers(members)
     if fault:
@@ -167,17 +165,17 @@ def verdict_on(members: Sequence[Member], refused_with: int = wire.SUCCESS,
 
 
 def in_order(members: Sequence[Member]) -> List[Member]:
-    """The nodes of a graph without faults, each after those whose outputs it reads."""
+    """Returns the nodes of a graph without faults, each after those whose outputs it reads."""
     return _ordered(members)[0]
 
 
 def resolved(members: Sequence[Member]) -> Dict[bytes, Cell]:
-    """What each cell of a graph without faults is, with nothing open."""
+    """Returns the description of each operand of a graph without faults, with nothing open."""
     return _descriptions(in_order(members))
 
 
 def _two_writers(members: Sequence[Member]) -> str:
-    """Which nodes write one object; empty where none do."""
+    """Returns which two nodes write the same object, in words; empty if none do."""
     writers: Dict[bytes, Member] = {}
     for member, cell in ((member, cell) for member in members for cell in member.outputs):
         other = writers.setdefault(cell.reference, member)
@@ -189,8 +187,8 @@ def _two_writers(members: Sequence[Member]) -> str:
 
 
 def _ordered(members: Sequence[Member]) -> Tuple[List[Member], List[Member]]:
-    """The nodes, each after those whose outputs it reads; or, where they have none, a cycle of
-    them."""
+    """Returns the nodes, each after those whose outputs it reads; or a cycle of nodes, if they have
+    one."""
     writers = {cell.reference: member for member in members for cell in member.outputs}
     ordered: List[Member] = []
     done: Set[int] = set()
@@ -208,7 +206,7 @@ def _ordered(members: Sequence[Member]) -> Tuple[List[Member], List[Member]]:
 
 
 def _cycle_among(left: Sequence[Member], writers: Dict[bytes, Member]) -> List[Member]:
-    """A cycle of nodes, each of which reads what another of them writes, in the order of
+    """Returns a cycle of nodes, each of which reads what another one writes, in the order of
     writing."""
     numbers = {member.number for member in left}
     path = [left[0]]
@@ -220,7 +218,8 @@ def _cycle_among(left: Sequence[Member], writers: Dict[bytes, Member]) -> List[M
 
 
 def _loose_end(members: Sequence[Member]) -> str:
-    """Which virtual image is read and not written, or is added to; empty where none is."""
+    """Returns which virtual image is read but not written, or is added to, in words; empty if none
+    is."""
     written = {cell.reference for member in members for cell in member.outputs}
     unwritten = (f"{cell.words} is read by {member}, and written by none."
                  for member in members for cell in member.inputs
@@ -232,7 +231,8 @@ def _loose_end(members: Sequence[Member]) -> str:
 
 
 def _descriptions(ordered: Sequence[Member]) -> Dict[bytes, Cell]:
-    """What each cell is, with what virtual images take from their writers."""
+    """Returns the description of each operand, with those of virtual images resolved from their
+    writers."""
     known: Dict[bytes, Cell] = {}
     for member in ordered:
         in1 = known.setdefault(member.in1.reference, member.in1)
@@ -244,7 +244,7 @@ def _descriptions(ordered: Sequence[Member]) -> Dict[bytes, Cell]:
 
 
 def _closed(cell: Cell, function: str, in1: Cell) -> Cell:
-    """A virtual image that a function writes, with nothing open."""
+    """Returns a virtual image that a function writes, with nothing open."""
     opened = OPENED.get(function, in1.fmt)
     if function == "convert_depth":
         opened = U8 if in1.fmt == S16 else S16
@@ -254,7 +254,7 @@ def _closed(cell: Cell, function: str, in1: Cell) -> Cell:
 
 def _fault_of(member: Member, known: Dict[bytes, Cell],
               members: Sequence[Member]) -> Optional[Verdict]:
-    """The fault of a node by itself."""
+    """Returns the fault of a node by itself."""
     in1, *others = (known[cell.reference] for cell in (*member.inputs, *member.outputs))
     in2 = None if member.in2 is None else known[member.in2.reference]
     node = f"{str(member)[0].upper()}{str(member)[1:]}"
@@ -272,7 +272,7 @@ def _fault_of(member: Member, known: Dict[bytes, Cell],
 
 
 def _found(member: Member, known: Dict[bytes, Cell], members: Sequence[Member]) -> str:
-    """What virtual images of a node have that was open in them, and why."""
+    """Returns how the virtual images of a node were resolved, and why, in words."""
     writers = {cell.reference: other for other in members for cell in other.outputs}
     cells = {cell.reference: cell for cell in (*member.inputs, *member.outputs)
              if cell != known[cell.reference]}
@@ -280,8 +280,8 @@ def _found(member: Member, known: Dict[bytes, Cell], members: Sequence[Member]) 
 
 
 def _closing(cell: Cell, writer: Member, known: Dict[bytes, Cell]) -> str:
-    """What a virtual image has from its writer, and how to give it another format, if the writer
-    can."""
+    """Returns what a virtual image gets from its writer, and how to give it another format, if that
+    is possible."""
     now = known[cell.reference]
     words = f" {cell.words[0].upper()}{cell.words[1:]} is {in_words(*now[4:])[1:-1]}, because "
     words += f"node {writer.number}, {writer.function}, writes it"
@@ -295,8 +295,8 @@ def _closing(cell: Cell, writer: Member, known: Dict[bytes, Cell]) -> str:
 
 
 def overwritten(members: Sequence[Member]) -> List[str]:
-    """Where nodes write what others read that were added before them, which then read the new
-    samples. Virtual images hold none before."""
+    """Returns where nodes write what nodes that were added earlier read, which then read the new
+    samples. Virtual images have no old samples."""
     return [f"{reader}, reads {cell.words}, which {writer}, writes. The node that writes runs "
             "first, though it was added later. To read the old samples take two graphs, or "
             "immediate mode; verify(warn=False) is silent"
@@ -306,6 +306,6 @@ def overwritten(members: Sequence[Member]) -> List[str]:
 
 
 def _virtual_bytes(known: Dict[bytes, Cell]) -> int:
-    """How many bytes of samples the virtual images have together."""
+    """Returns how many bytes of samples the virtual images have together."""
     return sum(cell.fmt.sample_bytes * cell.width * cell.height for cell in known.values()
                if cell.is_virtual and cell.fmt and cell.width and cell.height)

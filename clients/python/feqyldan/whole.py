@@ -1,4 +1,5 @@
-"""Whole numbers on their way into frames. What isn't one is refused: nothing is cut off unseen."""
+"""Checks whole numbers before they go into frames: other values are refused, and nothing is cut off
+silently."""
 
 from __future__ import annotations
 
@@ -7,7 +8,7 @@ from typing import Any, Iterable, NamedTuple
 
 
 class Field(NamedTuple):
-    """The least and the greatest number that a field of a frame can say."""
+    """The least and the greatest number of a field of a frame."""
 
     least: int
     greatest: int
@@ -17,7 +18,7 @@ BYTE, UNSIGNED, SIGNED = Field(0, 255), Field(0, 65535), Field(-32768, 32767)
 
 
 def whole(value: Any, what: str, allowed: str = "a whole number") -> int:
-    """The number itself. Neither 0.5 nor 2.0 is a whole number here."""
+    """Returns the number itself, if it is whole. Neither 0.5 nor 2.0 is a whole number here."""
     try:
         return operator.index(value)
     except TypeError:
@@ -25,8 +26,8 @@ def whole(value: Any, what: str, allowed: str = "a whole number") -> int:
 
 
 def within(value: Any, what: str, field: Field, allowed: str) -> int:
-    """A whole number that the field can say. Whether it is one of those that are allowed is for the
-    server to tell."""
+    """Returns a whole number, if the field can express it. Whether it is allowed is for the server
+    to check."""
     number: int = value if value.__class__ is int else whole(value, what, allowed)
     if not field.least <= number <= field.greatest:
         raise ValueError(f"{what} is {allowed}, and not {number}")
@@ -34,7 +35,7 @@ def within(value: Any, what: str, field: Field, allowed: str) -> int:
 
 
 def first_that_is_none(values: Iterable[Any]) -> Any:
-    """The first value that isn't a whole number."""
+    """Returns the first value that isn't a whole number."""
     for value in values:
         try:
             operator.index(value)

@@ -1,8 +1,9 @@
-"""Request frames and reply frames, in bytes and in words.
+"""
+Request frames and reply frames, in bytes and in words.
 
-The numbers of ops, functions, codes and so on are members of enumerations, and names of this module
-too: `wire.ADD_NODE` is `wire.Op.ADD_NODE`, which is 20. Where one of them is asked for any number
-will do, also one that stands for nothing, which the server refuses.
+The numbers of ops, functions, codes and so on are members of enumerations, and also names of this
+module: `wire.ADD_NODE` is `wire.Op.ADD_NODE`, which is 20. Wherever one of them is expected, any
+number is accepted; the server refuses numbers without a meaning.
 """
 
 from __future__ import annotations
@@ -18,7 +19,7 @@ Reference = Union[int, bytes]
 
 
 class Op(IntEnum):
-    """What a request asks for."""
+    """The kind of a request."""
 
     OPEN_CONTEXT = 1
     RELEASE_CONTEXT = 2
@@ -80,7 +81,7 @@ class Function(IntEnum):
 
 
 class Code(IntEnum):
-    """How a request ended."""
+    """The status code of a reply."""
 
     SUCCESS = 0
     NO_MEMORY = 1
@@ -99,7 +100,7 @@ class Code(IntEnum):
 
 
 class Format(IntEnum):
-    """What a sample is."""
+    """The format of samples."""
 
     U8 = 1
     S16 = 2
@@ -107,14 +108,14 @@ class Format(IntEnum):
 
 
 class Policy(IntEnum):
-    """What becomes of a value that the output's format doesn't have."""
+    """The policy for a value out of the range of the output's format."""
 
     WRAP = 0
     SATURATE = 1
 
 
 class Border(IntEnum):
-    """What a window sees beside the valid samples."""
+    """The border mode: what a window sees outside the valid samples."""
 
     UNDEFINED = 0
     CONSTANT = 1
@@ -122,7 +123,7 @@ class Border(IntEnum):
 
 
 class Kind(IntEnum):
-    """What a threshold compares with: one limit or two."""
+    """The kind of a threshold: one limit or two."""
 
     BINARY = 0
     RANGE = 1
@@ -228,12 +229,12 @@ CODES = [code.name for code in Code]
 
 
 def letter_of(fmt: int) -> str:
-    """How the module struct calls a sample of a format."""
+    """Returns the letter of the module struct for a sample of a format."""
     return SAMPLE_LETTERS[Format(fmt)]
 
 
 def sample_bytes(fmt: int) -> int:
-    """How many bytes a sample of a format takes in a frame."""
+    """Returns how many bytes a sample of a format takes in a frame."""
     return struct.calcsize(">" + letter_of(fmt))
 
 
@@ -242,7 +243,7 @@ def frame(client: int, op: int, body: bytes = b"") -> bytes:
 
 
 def frame_head(client: int, op: int, length: int) -> bytes:
-    """What stands before a request's body of so many bytes."""
+    """Returns the bytes before a request's body of this many bytes."""
     return struct.pack(">IHB", length + 3, client, op)
 
 
@@ -251,12 +252,14 @@ def reply_frame(client: int, op: int, code: int = Code.SUCCESS, body: bytes = b"
 
 
 def reference(name: int, slot: int = 255) -> bytes:
-    """An object, or what is in a slot of a delay: k for slot -k, so that 0 is the newest."""
+    """Returns the reference to an object, or to a slot of a delay: k for slot -k, so that 0 is the
+    newest."""
     return struct.pack(">IB", name, slot)
 
 
 def operand(named: Optional[Reference]) -> bytes:
-    """A name, the bytes of a reference, or None where a node's operand is absent."""
+    """Returns the bytes of an operand: from a name, the bytes of a reference, or None for an absent
+    operand."""
     if named is None:
         return ABSENT
     return named if isinstance(named, bytes) else reference(named)
@@ -286,20 +289,20 @@ def write_image(
 
 @lru_cache(KEPT)
 def write_image_head(client: int, named: Reference, fmt: int, width: int, height: int) -> bytes:
-    """The frame of WriteImage as far as its samples, which are to follow: width times height of
-    them, by rows."""
+    """Returns the frame of WriteImage up to its samples, which follow: width times height of them,
+    row by row."""
     described = operand(named) + struct.pack(">BHH", fmt, width, height)
     length = len(described) + width * height * sample_bytes(fmt)
     return frame_head(client, WRITE_IMAGE, length) + described
 
 
 def write_image_pgm_head(client: int, named: Reference, length: int) -> bytes:
-    """The frame of WriteImagePgm as far as its text of so many bytes, which is to follow."""
+    """Returns the frame of WriteImagePgm up to its text of this many bytes, which follows."""
     return frame_head(client, WRITE_IMAGE_PGM, 5 + length) + operand(named)
 
 
 def write_image_pgm(client: int, named: Reference, text: bytes) -> bytes:
-    """The bytes of a PGM text, P5 or P2, whose picture has the image's format and size."""
+    """Writes a PGM text, P5 or P2, whose picture has the image's format and size."""
     return frame(client, WRITE_IMAGE_PGM, operand(named) + text)
 
 
@@ -309,13 +312,13 @@ def read_image(client: int, named: Reference) -> bytes:
 
 
 def read_image_pgm(client: int, named: Reference) -> bytes:
-    """Of a U8 image."""
+    """Reads a U8 image as a PGM text."""
     return frame(client, READ_IMAGE_PGM, operand(named))
 
 
 def set_valid(client: int, named: Reference, rectangle: Sequence[int]) -> bytes:
-    """The rectangle is x0, y0, x1, y1: its start belongs to it, its end doesn't; four zeros are the
-    empty one."""
+    """Sets the valid rectangle x0, y0, x1, y1: it includes its start and not its end. Four zeros
+    are the empty rectangle."""
     return frame(client, SET_VALID, operand(named) + struct.pack(">4H", *rectangle))
 
 
@@ -329,14 +332,14 @@ def create_lut(client: int, fmt: int, entries: Sequence[int]) -> bytes:
 
 
 def create_lut_of(client: int, fmt: int, entries: bytes) -> bytes:
-    """The bytes of all entries, each of them big-endian."""
+    """Creates a lookup table from the bytes of all entries, each big-endian."""
     return frame(client, CREATE_LUT, bytes([fmt]) + entries)
 
 
 def create_threshold(
         client: int, fmt: int, limits: Sequence[int], true_value: int = 255,
         false_value: int = 0) -> bytes:
-    """BINARY with one limit, RANGE with two."""
+    """Creates a threshold: BINARY with one limit, RANGE with two."""
     kind = RANGE if len(limits) == 2 else BINARY
     body = struct.pack(f">BB{len(limits)}hBB", kind, fmt, *limits, true_value, false_value)
     return frame(client, CREATE_THRESHOLD, body)
@@ -344,13 +347,14 @@ def create_threshold(
 
 def create_convolution(
         client: int, columns: int, rows: int, exponent: int, coefficients: Sequence[int]) -> bytes:
-    """The coefficients by rows from the top; what they give is divided by 2 to the exponent."""
+    """Creates a convolution from its coefficients, row by row from the top. Sums are divided by 2
+    to the exponent."""
     body = struct.pack(f">BBB{len(coefficients)}h", columns, rows, exponent, *coefficients)
     return frame(client, CREATE_CONVOLUTION, body)
 
 
 def create_distribution(client: int, bins: int, offset: int, range: int) -> bytes:
-    """So many bins for the samples from the offset on, as far as the range goes."""
+    """Creates a distribution: this many bins for the samples from the offset on, over the range."""
     return frame(client, CREATE_DISTRIBUTION, struct.pack(">HHH", bins, offset, range))
 
 
@@ -372,7 +376,8 @@ def create_graph(client: int) -> bytes:
 
 def create_virtual_image(
         client: int, graph: int, fmt: int = OPEN, width: int = OPEN, height: int = OPEN) -> bytes:
-    """Of a graph; what is left open is taken from the node that writes the image."""
+    """Creates a virtual image of a graph. What is left open is resolved from the node that writes
+    the image."""
     return frame(client, CREATE_VIRTUAL_IMAGE, struct.pack(">IBHH", graph, fmt, width, height))
 
 
@@ -385,7 +390,7 @@ def age_delay(client: int, name: int) -> bytes:
 
 
 def register_auto_aging(client: int, graph: int, delay: int) -> bytes:
-    """From then on each successful run of the graph ages the delay."""
+    """Registers a delay: each successful run of the graph then ages it."""
     return frame(client, REGISTER_AUTO_AGING, struct.pack(">II", graph, delay))
 
 
@@ -393,8 +398,8 @@ def node(
         function: int, in1: Optional[Reference], in2: Optional[Reference],
         out1: Optional[Reference], policy: int = WRAP, amount: int = 0, border: int = UNDEFINED,
         constant: int = 0, out2: Optional[Reference] = None) -> bytes:
-    """The bytes of a node; an operand is None where the function hasn't it, and one of Sobel's
-    outputs may be."""
+    """Returns the bytes of a node. An operand is None if the function doesn't have it; one of
+    Sobel's outputs may be None too."""
     fields = bytes([function, border, constant, policy, amount])
     return fields + b"".join(operand(named) for named in (in1, in2, out1, out2))
 
@@ -403,7 +408,7 @@ def immediate(
         client: int, function: int, in1: Optional[Reference], in2: Optional[Reference],
         out1: Optional[Reference], policy: int = WRAP, amount: int = 0, border: int = UNDEFINED,
         constant: int = 0, out2: Optional[Reference] = None) -> bytes:
-    """One node run at once."""
+    """Runs one node by itself."""
     run = node(function, in1, in2, out1, policy, amount, border, constant, out2)
     return frame(client, IMMEDIATE, run)
 
@@ -412,13 +417,13 @@ def add_node(
         client: int, graph: int, function: int, in1: Optional[Reference], in2: Optional[Reference],
         out1: Optional[Reference], policy: int = WRAP, amount: int = 0, border: int = UNDEFINED,
         constant: int = 0, out2: Optional[Reference] = None) -> bytes:
-    """One node more in a graph."""
+    """Adds a node to a graph."""
     added = node(function, in1, in2, out1, policy, amount, border, constant, out2)
     return frame(client, ADD_NODE, struct.pack(">I", graph) + added)
 
 
 def remove_node(client: int, graph: int, number: int) -> bytes:
-    """The number is the one that AddNode gave."""
+    """Removes a node by the number that AddNode returned."""
     return frame(client, REMOVE_NODE, struct.pack(">II", graph, number))
 
 
@@ -428,7 +433,7 @@ def verify_graph(client: int, graph: int) -> bytes:
 
 @lru_cache(KEPT)
 def process_graph(client: int, graph: int) -> bytes:
-    """Runs all nodes of a graph, which is verified first."""
+    """Verifies a graph, and runs all its nodes."""
     return frame(client, PROCESS_GRAPH, struct.pack(">I", graph))
 
 
@@ -437,7 +442,7 @@ def bitwise_not(client: int, source: Reference, target: Reference) -> bytes:
 
 
 def split(stream: bytes, head: int) -> list[bytes]:
-    """The frames of a stream: `head` is how many bytes of a frame stand before its body."""
+    """Returns the frames of a stream. `head` is the number of bytes before the body of a frame."""
     frames: list[bytes] = []
     at = 0
     while at < len(stream):
@@ -457,51 +462,52 @@ def code_of(reply: bytes) -> int:
 
 
 def size_of(reply: bytes) -> tuple[int, int, int]:
-    """Of an image that was read or asked for: its format, its width and its height."""
+    """Returns the format, the width and the height of an image that was read or queried."""
     fmt, width, height = struct.unpack_from(">BHH", reply, 8)
     return fmt, width, height
 
 
 def rows_of(reply: bytes) -> list[tuple[int, ...]]:
-    """The samples of an image that was read, row by row."""
+    """Returns the samples of an image that was read, row by row."""
     fmt, width, height = size_of(reply)
     samples = struct.unpack(f">{width * height}{letter_of(fmt)}", reply[13:])
     return [samples[y * width : (y + 1) * width] for y in range(height)]
 
 
 def description_of(reply: bytes) -> tuple[int, int, int, tuple[int, ...]]:
-    """Of an image that was asked for: its format, its width and its height, and its valid rectangle
-    as x0, y0, x1, y1. Of a virtual image what was declared, and four zeros."""
+    """Returns the format, the width, the height and the valid rectangle, as x0, y0, x1, y1, of an
+    image that was queried. For a virtual image they are as declared, with four zeros for the
+    rectangle."""
     fmt, width, height, *valid = struct.unpack(">BHH4H", reply[8:])
     return fmt, width, height, tuple(valid)
 
 
 def name_of(reply: bytes) -> int:
-    """The name of an object that was made."""
+    """Returns the name of an object that was created."""
     name: int = struct.unpack(">I", reply[8:])[0]
     return name
 
 
 def node_of(reply: bytes) -> int:
-    """The number of a node that was added."""
+    """Returns the number of a node that was added."""
     number: int = struct.unpack(">I", reply[8:])[0]
     return number
 
 
 def text_of(reply: bytes) -> bytes:
-    """The PGM text of an image that was read as one."""
+    """Returns the PGM text of an image that was read as one."""
     return reply[8:]
 
 
 def counts_of(reply: bytes) -> tuple[int, ...]:
-    """How many samples a distribution that was read has in each of its bins."""
+    """Returns the counts of a distribution that was read, one for each bin."""
     (bins,) = struct.unpack_from(">H", reply, 8)
     return struct.unpack(f">{bins}I", reply[10:])
 
 
 class Extremes(NamedTuple):
-    """The least and the greatest valid sample, how many places hold each, and the first x, y of
-    each by rows from the top."""
+    """The least and the greatest valid sample, how many pixels have each, and the x, y of the first
+    of each, row by row from the top."""
 
     min: int
     max: int
@@ -512,7 +518,8 @@ class Extremes(NamedTuple):
 
 
 def extremes_of(reply: bytes) -> Extremes:
-    """All numbers are 0 where no place was valid, and where nothing was found yet."""
+    """Returns the extremes that were read. All numbers are 0 if no pixel was valid, or nothing was
+    found yet."""
     least, greatest, least_count, greatest_count, *places = struct.unpack(">hhII4H", reply[8:])
     return Extremes(
         least, greatest, least_count, greatest_count, tuple(places[:2]), tuple(places[2:]))
@@ -523,14 +530,14 @@ def say_found(words: str, sample: int, count: int, at: Sequence[int]) -> str:
 
 
 def say(reply: bytes) -> str:
-    """A reply in a line of words."""
+    """Returns a reply as a line of words."""
     client, op, code = struct.unpack_from(">HBB", reply, 4)
     line = f"client {client}, op {op}: {CODES[code]}"
     return line + say_body(op, reply) if code == SUCCESS else line
 
 
 def say_body(op: int, reply: bytes) -> str:
-    """What the reply to a success brings, in words."""
+    """Returns the result in a successful reply, in words."""
     if op in CREATES:
         return f", name {name_of(reply)}"
     if op == QUERY_IMAGE:

@@ -15,25 +15,25 @@ use Rattle.client_model.specs.Refusal.{refused_or}
 use Rattle.client_model.specs.Graphs.{add_to}
 use Rattle.client_model.specs.Immediate.{node_refusal}
 
--- ---- what is done is no refusal
+-- ---- a request that succeeds has no refusal as its reply
 
--- where an outcome is a reply and a state, the reply is no refusal
+-- the reply of a successful outcome is no refusal
 abbrev pub IsTold : Outcome → Type 0
 IsTold outcome = IfOk outcome (λ done. (code : Code) → done.0 ≢ Refused code)
 
--- a write of the picture of a text tells nothing
+-- nor is that of writing the picture of a text
 write_text_told : (image : Result ImageValue Refusal) (c : Context) (cell : Cell) (picture : Result PictureValue PgmFault) → IsTold (write_text_to image c cell picture)
 write_text_told image c cell picture = grind arith
 
--- nor is what is done unless it is refused a refusal
+-- nor is that of `unless`
 unless_told : (refusal : Option Refusal) (c : Context) → IsTold (unless refusal Empty c)
 unless_told refusal c = grind arith
 
--- so is what is done otherwise
+-- nor is that of `refused_or`
 refused_or_told : (refusal : Option Refusal) (outcome : Outcome) → IsTold outcome → IsTold (refused_or refusal outcome)
 refused_or_told refusal outcome h = grind arith
 
--- each request that is done is answered by no refusal
+-- nor is that of any request
 pub outcome_told : (limits : Allowance) (c : Context) (request : Request) → IsTold (outcome_of limits c request)
 outcome_told limits c (WriteImagePgm cell text) = write_text_told (image_of c.objects cell) c cell (reading text)
 outcome_told limits c (AddNode graph n) =

@@ -29,7 +29,7 @@ use Rattle.client_laws.proofs.StayLaws.{graph_held}
 image_there : (operand : Operand) (known : Outline) (f : Format) → is_image operand ≡ true → operand_format (as_known operand known) ≡ Some f → operand_kind (as_known operand known) ≡ kind.Image
 image_there operand known f is e = grind arith
 
--- what is held is of the kind of its operand
+-- an object has the kind of its operand
 kind_of_operand : (found : Option ObjectValue) (operand : Operand) (k : Kind) → option_map operand_of found ≡ Some operand → operand_kind operand ≡ k → option_map object_kind found ≡ Some k
 kind_of_operand found operand k e is = grind (arith, kind-operand)
 
@@ -110,7 +110,7 @@ module _ (nodes : List Node) (before later : List Named) (run : IsTheRun nodes b
   labels : map label_of before ≡ map label_of run.at_end
   labels = sym (run.solves.labels ∙ labels-begun found_to_be nodes before)
 
-  -- what stands in the cell of what is under its name
+  -- the object that the reference names, given the object of its name
   abbrev in_cell : Option ObjectValue → Option ObjectValue
   in_cell = option_and_then (in_slot cell.slot)
 

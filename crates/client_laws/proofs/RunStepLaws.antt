@@ -120,7 +120,7 @@ module _ (objects : List Named) (nodes : List Node) (are : All (λ o. IsObject o
     taken : Taken (found_to_be cell) operand
     kind : stands_for (operand_kind operand) wanted ≡ true
 
-  -- a cell that stands, and that a node writes if it holds a virtual image
+  -- a valid reference, which a node writes if it names a virtual image
   sees : (graph : ℕ) (cell : Cell) (wanted : Kind) → is_taken wanted ≡ true → IsTrue (stands objects graph (cell, wanted)) → (is_virtual_operand (is cell) ≡ true → is_written nodes cell ≡ true) → Sees cell wanted
   sees graph cell wanted taken stood written =
       let parts = stands_parts objects graph (cell, wanted) stood in
@@ -145,7 +145,7 @@ module _ (objects : List Named) (nodes : List Node) (are : All (λ o. IsObject o
     stood : IsTrue (stands objects graph operand)
     taken : is_taken operand.1 ≡ true
 
-  -- a node that stands, has no fault and reads no loose end can give to its outputs as the run begins
+  -- a node with valid operands, no fault and no unwritten virtual input can run as the run begins
   node_can : (graph : ℕ) (n : Node) → IsNode n → OperandsStand objects graph n → node_fault n.function (operands_of found_to_be n) ≡ None → list_any (is_loose is nodes) (inputs n) ≡ false
       → ((cell : Cell) → writes n cell ≡ true → is_written nodes cell ≡ true) → CanRunOn (operand_in begin) n
   node_can graph n node stood faultless read written =

@@ -32,9 +32,9 @@ module _ (P : Cell × Kind → Type 0) (n : Node) (c : Cell) (h : OfOperands P n
   pub named_is : names_cell n c ≡ true → (k : Kind) × P (c, k)
   named_is t = elim (or_cases (reads n c) (writes n c) t) [ inl r ↦ read_is r | inr w ↦ ((parameters n.function).output, written_is w) ]
 
--- ---- cells that stand
+-- ---- operands that are valid
 
--- an object that stands for a kind does so as an operand
+-- an object that is accepted as a kind is so as an operand
 operand_stands : (object : ObjectValue) (wanted : Kind) → is_taken wanted ≡ true → stands_for (object_kind object) wanted ≡ true → StandsFor (operand_of object) wanted
 operand_stands object wanted taken h = grind (arith, is_taken, kind-operand, stands_for_equal)
 
@@ -46,7 +46,7 @@ module _ (objects : List Named) (cell : Cell) where
       → is_kind wanted (kind_held objects cell) ≡ true → StandsFor (unwrap_or (option_map operand_of found) Delay) wanted
   stands_as found wanted there is taken of_kind = grind (arith, operand_stands)
 
--- an operand of a node that stands, of a kind that a node can name
+-- a valid operand, of a kind that a node can name
 abbrev Stands : List Named → ℕ → Cell × Kind → Type 0
 Stands objects graph operand = IsTrue (stands objects graph operand) × (is_taken operand.1 ≡ true)
 
@@ -64,7 +64,7 @@ cells_stand objects graph nodes stood =
     each : (n : Node) → In n nodes → OfOperands (Stands objects graph) n
     each n i = of_operands (Stands objects graph) n (λ k d below. (In-from_All (OperandsStand objects graph) nodes stood n i k d below, kinds_taken n k d below))
 
--- and it stands for the kind that the function has there
+-- and it is accepted as the kind that the function expects there
 pub operands_stand : (objects : List Named) (graph : ℕ) (n : Node) → OperandsStand objects graph n → All (λ operand. StandsFor (operand_held objects operand.0) operand.1) (operands n)
 operands_stand objects graph n stood k d below =
     let operand : Cell × Kind = get_or (operands n) k d in

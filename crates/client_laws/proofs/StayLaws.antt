@@ -58,7 +58,7 @@ after_one limits c later request h is e =
     let gone : ◌≡◌ {A = State} None (Some later) = ap (λ r. (answer_to limits (Some c) r).1) (sym release) ∙ e in cc in
     record { keeps = h; are = All-replicate IsRequest 1 request is; unreleased = All-replicate (λ r. r ≢ ReleaseContext) 1 request stays; state = e }
 
--- what is told of an operand stays with the skeleton
+-- an operand is the same as long as the skeleton is
 pub operand_stays : (before after : List Named) (cell : Cell) → Stays skeleton before after cell.name → IsSome (object_held after cell.name)
     → option_map operand_of (held after cell) ≡ option_map operand_of (held before cell)
 operand_stays before after cell stays there =
@@ -71,7 +71,7 @@ later_keeps limits c later requests is = subst (λ (state : State). IfSome state
 
 -- ---- verdicts
 
--- what holds of a part of what is there holds of it where it is told
+-- a property of a part of an optional value holds for that part once the value is known
 of_some : {X Y : Type 0} (part : X → Y) (P : Y → Type 0) (o : Option X) (y : Y) → option_map part o ≡ Some y → IfSome o (λ x. P (part x)) → P y
 of_some part P None y e h = absurd (cc)
 of_some part P (Some x) y e h = let same : part x ≡ y = cc in subst P same h

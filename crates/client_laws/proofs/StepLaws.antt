@@ -1,4 +1,4 @@
--- What each request does with the limits and with what is held, and the states after requests.
+-- The effect of each request on the limits and the objects held, and the states after requests.
 use Rattle.std.proofs.Common.{◌≢◌, ℕ, Bool, List, [], ◌∷◌, Some, None, refl, All, MatchOption, arith}
 use Rattle.client_laws.proofs.Common.{All-head, All-tail, GraphObject, Request, ReleaseContext, WriteImagePgm, AddNode, VerifyGraph, ProcessGraph, Immediate, Allowance, Context, State, IsRequest, Outcome, outcome_of, answered, answer_to, KeepsLimits, state_after, changes_nodes, Leaves}
 use Rattle.vx_base.specs.Image.{new_image}

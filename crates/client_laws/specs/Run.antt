@@ -1,4 +1,4 @@
--- What ProcessGraph leaves, said of the graph and not of how it runs. OpenVX 1.3, "Graphs", vxProcessGraph.
+-- The result of ProcessGraph, defined by the graph and not by how it runs. OpenVX 1.3, "Graphs", vxProcessGraph.
 use Rattle.std.specs.Prelude.{ℕ, ◌≡◌, List, map, Ok}
 use Rattle.vx_base.specs.declared.node.Node.{Node}
 use Rattle.vx_base.specs.Graph.{GraphValue, nodes_of}
@@ -13,14 +13,13 @@ use Rattle.graph_run.specs.Operands.{operand_held}
 use Rattle.graph_run.specs.Solution.{Solves}
 use Rattle.client_model.specs.Graphs.{graph_named}
 
--- what is held as a run begins: of each virtual image that the nodes write an image of the size and format that it was found to have, 0
--- everywhere, and all else as it is
+-- the objects as a run begins: a virtual image that the nodes write is an image of zeros with its resolved size and format; other objects
+-- are unchanged
 abbrev pub at_begin : List Node → List Named → List Named
 at_begin nodes objects = map (begun (resolved (operand_held objects) nodes) nodes) objects
 
--- the run of a graph with these nodes: at its end each cell that a node writes holds what the node gives of what the cells hold then,
--- and every other cell what it held as the run began. Nothing else is so. The nodes have an order, each once and after those whose outputs
--- it reads, and one after the other they leave this in every such order. Then virtual images are virtual again
+-- The run of a graph with these nodes: its end is the only solution, and running the nodes one by one gives it, in every order that puts
+-- each node after those whose outputs it reads. After the run, virtual images have no samples again.
 pub record IsTheRun (nodes : List Node) (before later : List Named) : Type 0 where
   pub at_end : List Named
   pub solves : Solves nodes (at_begin nodes before) at_end
@@ -29,8 +28,7 @@ pub record IsTheRun (nodes : List Node) (before later : List Named) : Type 0 whe
   pub in_order : (steps : List Node) → IsOrder feeds nodes steps → one_by_one steps (at_begin nodes before) ≡ at_end
   pub left : later ≡ forgotten before at_end
 
--- what the run of the graph of this name leaves of a context, in which then each delay is aged that ages with the graph; no name is
--- given by it
+-- the context after a run of the graph of this name: the objects after the run, with each registered delay aged; no name is given
 pub record IsRunOf (name : ℕ) (c later : Context) : Type 0 where
   pub graph : GraphValue
   pub named : graph_named c.objects name ≡ Ok graph

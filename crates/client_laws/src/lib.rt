@@ -1,7 +1,8 @@
-//! What the definitions of `client_model` mean: laws of every state that requests reach.
+//! Laws about the definitions of `client_model`, for every state that requests can reach.
 //!
-//! - `states`: states keep the limits, refusals leave them, and what is held keeps its skeleton
-//! - `runs`: what a graph leaves that runs is its only solution, in whatever order its nodes were
+//! - `states`: states keep the limits, refusals change nothing, and an object keeps its skeleton
+//!   while it is held
+//! - `runs`: the result of a graph's run is its only solution, in whatever order its nodes were
 //!   added
 #![tactic(auto)]
 

@@ -22,29 +22,32 @@ ghost use Rattle.client_model.specs.Graphs.{graph_named, process_found};
 ghost use Rattle.client_model.specs.States.{KeepsLimits};
 ghost use Rattle.client_laws.specs.Run.{IsRunOf};
 
-/// ProcessGraph is answered what VerifyGraph is.
+/// ProcessGraph gets the reply that VerifyGraph would get.
 pub fn what_verifies_runs()
     ensures { (limits : Allowance) (state : State) (name : ℕ) →
         (answer_to limits state (ProcessGraph name)).0
         ≡ (answer_to limits state (VerifyGraph name)).0 }
 {}
 
-/// Where ProcessGraph succeeds, what it leaves is the only solution of the graph: at the end of the
-/// run each image, distribution and extremes that a node writes, virtual images among them, is what
-/// the node's function gives of its inputs as they are then, and everything else is as it was.
-/// Virtual images are then virtual again, and the delays that are registered with the graph are
-/// aged.
+/// A successful ProcessGraph leaves the only solution of the graph. At the end of the run, each
+/// image, distribution and extremes that a node writes is the result of the node's function on its
+/// inputs as they are then. This includes virtual images. Everything else is unchanged. After the
+/// run, virtual images have no samples again, and the delays that are registered with the graph
+/// age.
 pub fn a_run_is_the_only_solution()
     ensures { (limits : Allowance) (c later : Context) (name : ℕ) → KeepsLimits limits c →
         answer_to limits (Some c) (ProcessGraph name) ≡ (Empty, Some later) →
         IsRunOf name c later }
 {}
 
-/// What is then left of each cell. Each node that names no virtual image, and no delay that ages
-/// with the graph, finds in its outputs what it gives of what its cells hold, and of what its
-/// outputs held before, where its function adds to that. A cell that no node
-/// writes holds what it held, and so does one that holds a virtual image; a delay's images are in
-/// its slots, and move where it ages with the graph.
+/// What each reference names after a successful ProcessGraph:
+///
+/// - `written`: the outputs of a node are the results of its function. It applies to the node's
+///   inputs after the run and, where the function adds to an output, to that output before the run.
+///   The law covers nodes that name no virtual image and no delay that ages with the graph.
+/// - `others`: an object that no node writes is unchanged. The law covers slots of delays that
+///   don't age with the graph; a delay as a whole changes when one of its slots is written.
+/// - `virtual_images`: a virtual image is unchanged.
 pub fn what_a_run_leaves()
     ensures written { (limits : Allowance) (c later : Context) (name : ℕ) (graph : GraphValue)
         (n : Node) → KeepsLimits limits c →
@@ -68,8 +71,8 @@ pub fn what_a_run_leaves()
         held later.objects cell ≡ held c.objects cell }
 {}
 
-/// Had the nodes of a graph been added in any other order, it would run too, and leave the same. So
-/// do two graphs that have the same nodes, and with which the same delays age.
+/// A graph whose nodes were added in another order would run too, with the same result. Two graphs
+/// with the same nodes and the same registered delays also have the same result.
 pub fn nodes_in_any_order()
     ensures had { (limits : Allowance) (c later : Context) (name : ℕ) (graph other : GraphValue) →
         KeepsLimits limits c → graph_named c.objects name ≡ Ok graph →

@@ -24,22 +24,26 @@ ghost use Rattle.client_model.specs.Graphs.{graph_named, graph_verdict};
 ghost use Rattle.client_model.specs.States.{KeepsLimits, state_after};
 ghost use Rattle.client_model.specs.States.{IsLater, Stays, changes_nodes};
 
-/// Whatever a client without a context asks for, its objects are then objects: each image has
-/// samples of its format and is 0 outside its valid rectangle; their names are distinct and below
-/// the next, which is at most 2^32; each has a live name or is used by a node, and nodes find what
-/// they name; at most 1,024 are held, and their charge is at most the quota.
+/// The invariant of every context that a client reaches by requests, beginning without a context.
+///
+/// - Each object is valid: an image has samples of its format, and 0 outside its valid rectangle.
+/// - Names are distinct and below the next one, which is at most 2^32.
+/// - Each object has a live name or is used by a node, and nodes still find their operands.
+/// - At most 1,024 objects are held, and their charge is at most the quota.
 pub fn limits_are_kept()
     ensures { (limits : Allowance) (requests : List Request) → All IsRequest requests →
         IfSome (state_after limits None requests) (KeepsLimits limits) }
 {}
 
-/// What is held under a name keeps its skeleton until it is gone, whatever its client asks for but
-/// ReleaseContext: its kind, its sizes, formats, slots and bins, and all of a table, a threshold, a
-/// matrix or a declared outline. A graph keeps its nodes until one is added to it or removed from
-/// it. So each cell is the same operand as long as something is held under its name, and the
-/// verdict on a graph stays what it was, SUCCESS or not, until a node is added to it or removed
-/// from it. A graph that was verified can run still, in the order and with the descriptions that
-/// were found, until a node is added to it or removed from it or it is gone.
+/// An object keeps its skeleton as long as it is held, whatever requests its client makes, except
+/// ReleaseContext. The skeleton is its kind, sizes, formats, slots and bins, and the whole of a
+/// table, a threshold, a matrix or a virtual image's description. A graph keeps its nodes until one
+/// is added or removed. It follows that:
+///
+/// - a reference is the same operand as long as an object is held under its name
+/// - the verdict on a graph is the same until a node is added to it or removed from it
+/// - a graph that was verified can still run, in the order and with the descriptions that were
+///   resolved, under the same condition and until the graph is dropped
 pub fn what_is_held_stays()
     ensures after_one { (limits : Allowance) (c later : Context) (request : Request) (name : ℕ) →
         KeepsLimits limits c → IsRequest request →
@@ -70,7 +74,7 @@ pub fn what_is_held_stays()
         IsReady c.objects nodes v → IsReady later.objects nodes v }
 {}
 
-/// A reply that is a refusal leaves the state, and its code is neither SUCCESS nor NO_MEMORY.
+/// A refusal leaves the state unchanged, and its code is neither SUCCESS nor NO_MEMORY.
 pub fn refusals()
     ensures state { (limits : Allowance) (state : State) (request : Request) (code : Code) →
         (answer_to limits state request).0 ≡ Refused code →

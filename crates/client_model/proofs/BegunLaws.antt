@@ -56,11 +56,11 @@ begun_is_object (VirtualObject image) known true is small = of_closed (closed kn
     of_closed (Some d) sides = new_image_is d.width d.height d.format sides.0 sides.1
 begun_is_object other known written is small = grind arith
 
--- what stands in a slot of it stays
+-- the object in a slot of it does not change
 pub slot_as_begun : (k : ℕ) (object : ObjectValue) (written : Bool) (operand : Operand) → in_slot (Some k) (begun_if written object operand) ≡ in_slot (Some k) object
 slot_as_begun k object written operand = grind arith
 
--- and so does the image that stands there
+-- nor does the image in the slot
 pub image_as_begun : (k : ℕ) (object : ObjectValue) (written : Bool) (operand : Operand) → option_map (λ x. begun_if written x operand) (in_slot (Some k) object) ≡ in_slot (Some k) object
 image_as_begun k object written operand = grind arith
 
@@ -74,7 +74,7 @@ pub taken_as_begun : (object : ObjectValue) (known : Outline) (written : Bool) �
     → Taken (as_known (operand_of object) known) (operand_of (begun_if written object (as_known (operand_of object) known)))
 taken_as_begun object known written h = grind arith
 
--- an object that stands for a kind still does
+-- an object that is accepted as a kind still is
 pub kind_as_begun : (object : ObjectValue) (written : Bool) (operand : Operand) (wanted : Kind) → is_taken wanted ≡ true → stands_for (object_kind object) wanted ≡ true
     → stands_for (operand_kind (operand_of (begun_if written object operand))) wanted ≡ true
 kind_as_begun object written operand wanted taken h = grind (arith, is_taken, kind-operand)

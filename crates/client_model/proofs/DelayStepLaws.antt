@@ -1,4 +1,4 @@
--- A new delay, one whose images come one step later, and one that ages with a graph, keep the limits, and what is held.
+-- A new delay, a delay that ages, and one that is registered with a graph keep the limits and the objects held.
 use Rattle.std.proofs.Common.{◌≡◌, ℕ, false, IfOk, IsTrue, List, [], ◌∷◌, length, map, get_or, replicate, refl, sym, ap, ◌∙◌, arith, Option, Some, None, IfSome, Result, Ok, Err, rules, All, length-take, length-drop, length-append}
 use Rattle.client_model.proofs.Common.{option_map, option_and_then, length-map, All-tail, All-cons, All-append, Cell, cell_of, Description, ImageValue, IsImage, description_of, ObjectValue, GraphObject, IsObject, in_slot, Named, object_held, Context, object_named, with_objects, with_graph, Refusal, Allowance, image_of, KeepsLimits, lasting, lasting_named, Lasts, object_held_has, cond_both, GraphValue, IsGraph}
 use Rattle.vx_base.specs.declared.format.Format.TheVariants.{U8}

@@ -61,7 +61,7 @@ module _ (limits : Allowance) (c : Context) (name : ℕ) (h : KeepsLimits limits
       live_has c.objects name (λ object. All (OperandsStand c.objects name) (nodes_in object)) h.names
       (named_has (λ of object. All (OperandsStand c.objects of) (nodes_in object)) c.objects name h.nodes)
 
-  -- what holds of each refusal, and of each graph that is held, of which each operand stands, holds of the graph of a live name
+  -- a property that holds for every refusal, and for every graph that is held with valid operands, holds for the graph of a live name
   pub of_graph : (P : Result GraphValue Refusal → Type 0) → ((refusal : Refusal) → P (Err refusal))
       → ((graph : GraphValue) → object_held c.objects name ≡ Some (GraphObject graph) → IsGraph graph → All (OperandsStand c.objects name) (nodes_of graph) → P (Ok graph))
       → P (graph_named c.objects name)
@@ -86,11 +86,11 @@ module _ (limits : Allowance) (c : Context) (name : ℕ) (graph new : GraphValue
   graph_told : map told after ≡ map told c.objects
   graph_told = map-with_object told c.objects (cell_of name) (GraphObject new) (λ k d below e. grind (arith, alone k d below e))
 
-  -- under another name stands what stood there
+  -- the nodes under another name don't change
   beside : (other : ℕ) → (name == other) ≡ false → option_map nodes_in (object_held after other) ≡ option_map nodes_in (object_held c.objects other)
   beside other apart = grind (arith, object_held-with_object c.objects (cell_of name) (GraphObject new) other, eqb-true)
 
-  -- they are objects, of which each operand stands, if that is so of the graph
+  -- the objects are valid if the new graph is
   graph_are : IsGraph new → All (λ o. IsObject o.object) after
   graph_are is =
       All-with_object (λ o. IsObject o.object) (λ _. Unit {0}) c.objects (cell_of name) (GraphObject new) (λ o any was e. is) (λ k d below. tt) h.objects
@@ -102,14 +102,14 @@ module _ (limits : Allowance) (c : Context) (name : ℕ) (graph new : GraphValue
 
 -- ---- a graph with one more node
 
--- what a graph's nodes use is used where it has more
+-- names that are used stay used when a graph gets more nodes
 used-with_object : (objects : List Named) (cell : Cell) (object : ObjectValue) (name : ℕ) → All (λ o. o.name ≡ cell.name → uses o.object name ≡ true → uses (with_slot cell.slot object o.object) name ≡ true) objects
     → is_used objects name ≡ true → is_used (with_object objects cell object) name ≡ true
 used-with_object [] cell object name more used = used
 used-with_object (o ∷ objects) cell object name more used =
     grind (arith, used-with_object objects cell object name (λ k d below. more (suc k) d (omega arith)), more 0 o (omega arith), eqb-true)
 
--- a graph with one more node, each of whose operands stands
+-- a graph with one more node, all of whose operands are valid
 with_node_leaves : (limits : Allowance) (c : Context) (name : ℕ) (n : Node) (graph : GraphValue) → KeepsLimits limits c → IsNode n → OperandsStand c.objects name n
     → object_held c.objects name ≡ Some (GraphObject graph) → IsGraph graph → All (OperandsStand c.objects name) (nodes_of graph) → IsTrue (can_add graph)
     → Leaves limits (λ other. name == other) c (with_objects c (with_graph c.objects name (with_node graph n)))

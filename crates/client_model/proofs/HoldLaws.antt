@@ -1,4 +1,4 @@
--- What is held: what nodes of graphs use, and what they still find once the rest is gone.
+-- The objects that are held: those that nodes of graphs use, and that nodes still find once others are dropped.
 use Rattle.std.proofs.Common.{◌≡◌, ◌⊎◌, inl, inr, ℕ, arith, Bool, true, false, IsTrue, List, [], ◌∷◌, ◌++◌, get_or, Option, Some, refl, sym, ap, subst, ◌∙◌, rules, All, is_none, ◌==◌, ◌&&◌, not, find, filter, unwrap_or, eq-eqb, eqb-true}
 use Rattle.client_model.proofs.Common.{IsStrictlyIncreasing, option_map, option_and_then, and_parts, or_cases, All-nil, All-cons, All-append, All-filter, All-map, All-tail, All-weaker, find-append, Function, Kind, Node, Numbered, Cell, parameters, operands, ObjectValue, GraphObject, object_kind, in_slot, Named, object_held, held, skeleton, names_it, uses, is_used, is_held, still_held, nodes_in, is_kind, holds_nothing, kind_held, stands, NodesStand, names_of, All-from_map, held_by_name}
 use Rattle.std.specs.List.{list_any}
@@ -31,7 +31,7 @@ each_fails p (x ∷ xs) h = let parts = or_parts (p x) (list_any p xs) h in All-
 
 -- ---- kinds of operands
 
--- whether a node can name an object of this kind as it is; a virtual image stands for an image
+-- whether a node can name an object of this kind itself; a virtual image is accepted as an image
 abbrev pub is_taken : Kind → Bool
 is_taken kind.Graph = false
 is_taken kind.VirtualImage = false
@@ -45,9 +45,9 @@ parameters_taken other = (refl, refl)
 pub kinds_taken : (n : Node) → All (λ operand. is_taken operand.1 ≡ true) (operands n)
 kinds_taken n = grind (arith, All-cons, All-append, parameters_taken n.function, All-nil)
 
--- ---- operands that stand
+-- ---- operands that are valid
 
--- what a cell that stands is
+-- the parts of a valid operand: its kind, its scope and its slot
 pub record StandsFor (objects : List Named) (graph : ℕ) (operand : Cell × Kind) : Type 0 where
   pub kind : is_kind operand.1 (kind_held objects operand.0) ≡ true
   pub scope : is_of_other_graph graph (held objects operand.0) ≡ false
@@ -59,7 +59,7 @@ stands_parts objects graph operand h = grind (arith, and_parts)
 pub stands_from : (objects : List Named) (graph : ℕ) (operand : Cell × Kind) → StandsFor objects graph operand → IsTrue (stands objects graph operand)
 stands_from objects graph operand h = grind (arith, and_from, not_from_false)
 
--- whether a cell stands, by the object of its name
+-- whether an operand is valid, given the object of its name
 abbrev stands_on : ℕ → Cell × Kind → Option ObjectValue → Bool
 stands_on graph operand found =
     is_kind operand.1 (option_and_then (slot_kind operand.0.slot) found)
@@ -68,22 +68,22 @@ stands_on graph operand found =
 stands_by_skeleton : (graph : ℕ) (operand : Cell × Kind) (found : Option ObjectValue) → stands_on graph operand (option_map skeleton found) ≡ stands_on graph operand found
 stands_by_skeleton graph operand found = grind (arith, slot_kind-skeleton, in_slot-skeleton)
 
--- a cell stands among other objects, where that of its name has the same skeleton
+-- an operand is equally valid among other objects, if the object of its name has the same skeleton
 pub stands-alike : (objects others : List Named) (graph : ℕ) (operand : Cell × Kind)
     → option_map skeleton (object_held objects operand.0.name) ≡ option_map skeleton (object_held others operand.0.name) → stands objects graph operand ≡ stands others graph operand
 stands-alike objects others graph operand same =
     sym (stands_by_skeleton graph operand (object_held objects operand.0.name)) ∙ ap (stands_on graph operand) same ∙ stands_by_skeleton graph operand (object_held others operand.0.name)
 
--- each operand of a node stands
+-- each operand of a node is valid
 abbrev pub OperandsStand : List Named → ℕ → Node → Type 0
 OperandsStand objects graph n = All (λ operand. IsTrue (stands objects graph operand)) (operands n)
 
--- where each operand that stands among some objects stands among others, nodes stand there
+-- if each operand that is valid among some objects is valid among others, so are the operands of nodes
 pub nodes_stand : (objects others : List Named) (graph : ℕ) (nodes : List Node) → ((operand : Cell × Kind) → IsTrue (stands objects graph operand) → IsTrue (stands others graph operand))
     → All (OperandsStand objects graph) nodes → All (OperandsStand others graph) nodes
 nodes_stand objects others graph nodes still h = search (rules)
 
--- an operand stands among others, where these have the same object of its name
+-- an operand is valid among other objects that have the same object of its name
 pub stands_still : (objects others : List Named) (graph : ℕ) (operand : Cell × Kind) → object_held others operand.0.name ≡ object_held objects operand.0.name
     → IsTrue (stands objects graph operand) → IsTrue (stands others graph operand)
 stands_still objects others graph operand same h = stands-alike others objects graph operand (ap (option_map skeleton) same) ∙ h
@@ -97,7 +97,7 @@ stands_more objects new graph operand h =
 -- ---- graphs, which no node uses
 
 module _ (objects : List Named) (name : ℕ) (object : ObjectValue) (found : object_held objects name ≡ Some object) (is : object_kind object ≡ kind.Graph) where
-  -- no operand that stands has its name
+  -- no valid operand has its name
   of_other_name : (graph : ℕ) (operand : Cell × Kind) → IsTrue (stands objects graph operand) → is_taken operand.1 ≡ true → (operand.0.name == name) ≡ false
   of_other_name graph operand h taken = grind (arith, stands_parts objects graph operand h)
 
@@ -143,7 +143,7 @@ used_by_live objects k d below live =
     (λ operand used. list_any_at (λ p. p.live && uses p.object operand.0.name) objects k d below (and_from o.live (uses o.object operand.0.name) live used)) (operands n) each)
     (nodes_in o.object) (uses_its_own o.object)
 
--- ---- what is held still
+-- ---- the objects that are still held
 
 module _ (objects : List Named) where
   -- what is used stays used, and what is held stays held

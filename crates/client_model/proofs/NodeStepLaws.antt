@@ -1,5 +1,4 @@
--- A node that runs at once keeps the limits, and what is held: each output becomes an object of the kind, the size and the format that it
--- had.
+-- A node by itself keeps the limits and the objects held: each output keeps its kind, size and format.
 use Rattle.std.proofs.Common.{◌≡◌, ℕ, Bool, true, false, IsTrue, List, get_or, [], map, Option, Some, None, IfSome, if◌then◌else◌, refl, sym, ap, subst, ◌∙◌, arith, All, is_some, is_none}
 use Rattle.client_model.proofs.Common.{option_map, option_and_then, not-false, and_parts, IfSome_then, All-nil, All-cons, All-append, Function, Kind, Node, Cell, Description, parameters, IsImage, description_of, IsNode, operands, second_kind, ObjectValue, ImageObject, ExtremesObject, IsObject, object_kind, Named, held, skeleton, Context, with_objects, Operand, Image, operand_of, operand_format, operand_kind, Empty, Allowance, holds_nothing, is_kind, kind_of, stands_for, operands_refusal, KeepsLimits, kind_held, held_is, lasting, lasting_named, IsReplacement, images-last, Suits, passed, kind-operand}
 use Rattle.std.specs.Option.{option_or}
@@ -58,7 +57,7 @@ pub record CanRunOn (look : Cell → Option Operand) (n : Node) : Type 0 where
   pub out1 : CanGiveTo n.function (look n.in1) (option_and_then look n.in2) (option_and_then look n.out1)
   pub out2 : CanGiveTo n.function (look n.in1) (option_and_then look n.in2) (option_and_then look n.out2)
 
--- an output that suits beside a second input of the right kind can be given to
+-- a node whose output suits its inputs can write it, if the second input has the right kind
 pub suits_give : (function : Function) (first out : Operand) (second : Option Operand) → Suits function first (option_and_then operand_format second) out
     → IfSome second (λ o. (parameters function).second_input ≡ Some (operand_kind o)) → CanGive function first second out
 suits_give function first out second suits right = grind (arith, Suits)
@@ -160,7 +159,7 @@ operands_pass scope objects all h k d below =
 pub second_there : (n : Node) → IsTrue (is_node n) → IsTrue (if is_some (parameters n.function).second_input then is_some n.in2 else is_none n.in2)
 second_there n shape = (and_parts _ _ (and_parts _ _ (and_parts _ _ shape).1).0).0
 
--- an object that stands for a kind is of that kind, if it is no virtual image
+-- an object that is accepted as a kind is of that kind, unless it is a virtual image
 pub stands_for_equal : (a wanted : Kind) → stands_for a wanted ≡ true → (a ≡ kind.VirtualImage → ⊥) → wanted ≡ a
 stands_for_equal kind.VirtualImage wanted h not_virtual = absurd (not_virtual refl)
 stands_for_equal a wanted h not_virtual = same_kind_equal wanted a h
@@ -207,7 +206,7 @@ not_refused limits c n h node allowed =
     let give = both_give n.function (held objects n.in1) (operand_if objects n.in2) (operand_if objects n.out1) (operand_if objects n.out2) right suit in
     record { node = node; out1 = give.0; out2 = give.1 }
 
--- a node that runs at once keeps the limits, and what is held
+-- a node by itself keeps the limits and the objects held
 pub immediate_keeps : (limits : Allowance) (c : Context) (n : Node) → KeepsLimits limits c → IsNode n → Keeps limits c (immediate c n)
 immediate_keeps limits c n h is =
     let written = written_by n (held c.objects) in

@@ -26,15 +26,15 @@ new_context_keeps limits = grind arith
 
 -- ---- an object more
 
--- what room for an object means
+-- the meaning of `has_room`: a name is left, fewer than 1,024 objects are held, and the quota allows the bytes
 has_room_means : (limits : Allowance) (c : Context) (bytes : ℕ) → IsTrue (has_room limits c bytes) → (c.next < 4294967296) × ((length c.objects < 1024) × (charge_of c.objects + bytes ≤ limits.quota))
 has_room_means limits c bytes h = grind (arith, and_parts (can_insert c) (nat_le (charge_of c.objects + bytes) limits.quota) h)
 
--- what is held stays so with one object more
+-- an object that is held stays held with one more object
 held_more : (objects : List Named) (new : Named) (o : Named) → IsTrue (is_held objects o) → IsTrue (is_held (objects ++ new ∷ []) o)
 held_more objects new o h = grind (arith, or_cases o.live (is_used objects o.name) h, list_any-append (λ p. p.live && uses p.object o.name) objects (new ∷ []))
 
--- where there is room for an object, the limits are kept with it; a new graph has no nodes
+-- a new object within the limits keeps them; a new graph has no nodes
 pub with_new_keeps : (limits : Allowance) (c : Context) (object : ObjectValue) → KeepsLimits limits c → IsObject object → nodes_in object ≡ [] → IsTrue (has_room limits c (object_bytes object)) → KeepsLimits limits (with_new c object)
 with_new_keeps limits c object h is none room =
     let o : Named = record { name = c.next; live = true; object = object } in
@@ -100,7 +100,7 @@ still_held_stays part before objects name names same =
     (All-filter (is_held objects) (λ o. object_held objects o.name ≡ Some o.object) objects (held_by_name objects names)))
     (λ object found. sym same ∙ ap (option_map part) found)
 
--- ---- objects in the places of others
+-- ---- objects that replace others
 
 -- what holds of each element and depends on its image alone
 pub All-alike : {X Y : Type 0} (f : X → Y) (P : Y → Type 0) (xs ys : List X) → map f ys ≡ map f xs → All (λ x. P (f x)) xs → All (λ y. P (f y)) ys

@@ -1,18 +1,18 @@
--- What a client may hold.
+-- Limits of bytes.
 use Rattle.std.specs.Prelude.{ℕ, Bool, ◌&&◌, nat_le, if◌then◌else◌, Option, Some, None}
 
--- the sample bytes of a client's images, and those of a graph's virtual images
+-- the most sample bytes of a client's images, and of a graph's virtual images
 pub record Allowance : Type 0 where
   pub quota : ℕ
   pub work : ℕ
 
--- 1 to 2^40
+-- whether a number of bytes is 1 to 2^40
 abbrev pub is_limit : ℕ → Bool
 is_limit n = nat_le 1 n && nat_le n 1099511627776
 
 abbrev pub allowance : ℕ → ℕ → Option Allowance
 allowance quota work = if is_limit quota && is_limit work then Some (record { quota = quota; work = work }) else None
 
--- what a program that is told no other allows: 2^28 bytes each
+-- the default limits: 2^28 bytes each
 abbrev pub default_allowance : Allowance
 default_allowance = record { quota = 268435456; work = 268435456 }

@@ -1,4 +1,4 @@
--- What one client is answered, and its new state: the whole meaning of the requests.
+-- The reply to one client, and the client's new state: the whole meaning of the requests.
 use Rattle.std.specs.Prelude.{Some, None, Ok, Err}
 use Rattle.vx_base.specs.declared.code.Code.TheVariants as code
 use Rattle.vx_base.specs.Object.{LutObject, ThresholdObject, ConvolutionObject, DistributionObject, ExtremesObject, GraphObject, new_distribution, no_extremes}
@@ -19,7 +19,7 @@ use Rattle.client_model.specs.Graphs.{create_virtual_image, add_node, remove_nod
 use Rattle.client_model.specs.Immediate.{immediate}
 use Rattle.client_model.specs.Delays.{create_delay, age_delay, register_auto_aging}
 
--- what a request comes to in the client's context
+-- the outcome of a request in the client's context
 abbrev pub outcome_of : Allowance → Context → Request → Outcome
 outcome_of limits c OpenContext = Err InvalidValue
 outcome_of limits c ReleaseContext = Ok (Empty, None)
@@ -54,7 +54,7 @@ abbrev pub answered : Context → Outcome → Reply × State
 answered c (Ok done) = done
 answered c (Err refusal) = (Refused (refusal_code refusal), Some c)
 
--- a client without a context
+-- the reply to a client without a context, and its new state
 abbrev pub answer_without : Request → Reply × State
 answer_without OpenContext = (Empty, Some new_context)
 answer_without other = (Refused code.InvalidReference, None)

@@ -15,7 +15,7 @@ use Rattle.client_model.specs.Refusal.{Outcome}
 use Rattle.client_model.specs.Operands.{image_of}
 use Rattle.client_model.specs.Images.{create}
 
--- CreateDelay: so many new images of the size and format of an image
+-- CreateDelay: a delay of `slots` new images with the size and format of an image
 abbrev pub create_like : Allowance → Context → Result ImageValue Refusal → ℕ → Outcome
 create_like limits c (Err refusal) slots = Err refusal
 create_like limits c (Ok image) slots = create limits c (DelayObject (new_delay (description_of image) slots))
@@ -23,7 +23,7 @@ create_like limits c (Ok image) slots = create limits c (DelayObject (new_delay 
 abbrev pub create_delay : Allowance → Context → Cell → ℕ → Outcome
 create_delay limits c cell slots = create_like limits c (image_of c.objects cell) slots
 
--- AgeDelay: each image comes to the slot behind its own, the last to slot 0
+-- AgeDelay: each image moves to the next slot, the last one to slot 0
 abbrev pub age_named : Context → ℕ → Option ObjectValue → Outcome
 age_named c name None = Err InvalidReference
 age_named c name (Some (DelayObject images)) = Ok (Empty, Some (with_objects c (with_object c.objects (record { name = name; slot = None }) (DelayObject (aged images)))))
@@ -32,7 +32,7 @@ age_named c name (Some other) = Err InvalidType
 abbrev pub age_delay : Context → ℕ → Outcome
 age_delay c name = age_named c name (object_named c.objects name)
 
--- RegisterAutoAging: after each run of the graph the delay is aged; both names are live before their kinds count
+-- RegisterAutoAging: the delay ages after each run of the graph; a name that isn't live is reported before an object of another kind
 abbrev pub register_named : Context → ℕ → ℕ → Option ObjectValue → Option ObjectValue → Outcome
 register_named c graph delay (Some (GraphObject found)) (Some (DelayObject images)) = Ok (Empty, Some (with_objects c (registered c.objects graph found delay)))
 register_named c graph delay (Some first) (Some second) = Err InvalidType

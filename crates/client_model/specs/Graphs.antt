@@ -28,7 +28,7 @@ use Rattle.client_model.specs.Images.{create}
 use Rattle.client_model.specs.Operands.{operands_refusal}
 use Rattle.client_model.specs.Refusal.{Outcome, refused_or, unless}
 
--- the graph whose live name this is, or why there is none
+-- the graph of a live name, or why there is none
 abbrev pub as_graph : Option ObjectValue → Result GraphValue Refusal
 as_graph None = Err InvalidReference
 as_graph (Some (GraphObject graph)) = Ok graph
@@ -37,7 +37,7 @@ as_graph (Some other) = Err InvalidType
 abbrev pub graph_named : List Named → ℕ → Result GraphValue Refusal
 graph_named objects name = as_graph (object_named objects name)
 
--- CreateVirtualImage: an image of this graph alone
+-- CreateVirtualImage: a virtual image, which only nodes of this graph may use
 abbrev pub create_virtual_in : Result GraphValue Refusal → Allowance → Context → ℕ → Outline → Outcome
 create_virtual_in (Err refusal) limits c name declared = Err refusal
 create_virtual_in (Ok graph) limits c name declared = create limits c (VirtualObject (record { graph = name; declared = declared }))
@@ -45,7 +45,7 @@ create_virtual_in (Ok graph) limits c name declared = create limits c (VirtualOb
 abbrev pub create_virtual_image : Allowance → Context → ℕ → Outline → Outcome
 create_virtual_image limits c name declared = create_virtual_in (graph_named c.objects name) limits c name declared
 
--- AddNode: the node comes after the others, under the graph's next number
+-- AddNode: the node is appended, under the graph's next number
 abbrev pub add_to : Result GraphValue Refusal → Context → ℕ → Node → Outcome
 add_to (Err refusal) c name n = Err refusal
 add_to (Ok graph) c name n =
@@ -55,7 +55,7 @@ abbrev pub add_node : Context → ℕ → Node → Outcome
 add_node c name n =
     refused_or (operands_refusal (Some name) c.objects ((cell_of name, kind.Graph) ∷ operands n)) (add_to (graph_named c.objects name) c name n)
 
--- RemoveNode: the node is gone, and so is what is then no longer held
+-- RemoveNode: the node is removed, and objects that are then no longer held are dropped
 abbrev pub remove_from : Result GraphValue Refusal → Context → ℕ → ℕ → Outcome
 remove_from (Err refusal) c name number = Err refusal
 remove_from (Ok graph) c name number =
@@ -65,7 +65,7 @@ remove_from (Ok graph) c name number =
 abbrev pub remove_node : Context → ℕ → ℕ → Outcome
 remove_node c name number = remove_from (graph_named c.objects name) c name number
 
--- VerifyGraph: the verdict
+-- VerifyGraph: the verdict on the graph
 abbrev pub graph_verdict : Allowance → List Named → GraphValue → Option Verdict
 graph_verdict limits objects graph = verdict limits.work (operand_held objects) (nodes_of graph)
 
@@ -76,7 +76,7 @@ verify_found (Ok graph) limits c = unless (option_map Rejected (graph_verdict li
 abbrev pub verify_graph : Allowance → Context → ℕ → Outcome
 verify_graph limits c name = verify_found (graph_named c.objects name) limits c
 
--- ProcessGraph: the verdict, and where the graph can run a run; then each delay that ages with the graph is aged
+-- ProcessGraph: the verdict on the graph; if it is valid, the graph runs, and then the delays that are registered with it age
 abbrev pub process_found : Result GraphValue Refusal → Allowance → Context → Outcome
 process_found (Err refusal) limits c = Err refusal
 process_found (Ok graph) limits c =

@@ -1,4 +1,4 @@
--- Requests that make objects, and those on the samples of images.
+-- Requests that create objects, and requests on the samples of images.
 use Rattle.std.specs.Prelude.{ℕ, List, not, nat_le, ◌&&◌, unwrap_or, Option, Some, None, Result, Ok, Err, if◌then◌else◌}
 use Rattle.vx_base.specs.declared.format.Format.TheVariants.{U8}
 use Rattle.vx_base.specs.Cell.{Cell}
@@ -26,11 +26,11 @@ use Rattle.object_table.specs.Context.{Context, with_new, with_objects}
 use Rattle.client_model.specs.Refusal.{Outcome, unless}
 use Rattle.client_model.specs.Operands.{is_unknown, is_of_other_kind, image_of}
 
--- a create: the next name, for this object
+-- a create: the object gets the next name
 abbrev pub create : Allowance → Context → ObjectValue → Outcome
 create limits c object = if has_room limits c (object_bytes object) then Ok (Name c.next, Some (with_new c object)) else Err NoResources
 
--- CreateImage: an image that is 0 everywhere
+-- CreateImage: an image of zeros
 abbrev pub create_image : Allowance → Context → Description → Outcome
 create_image limits c d = create limits c (ImageObject (new_image d.width d.height d.format))
 
@@ -38,7 +38,7 @@ create_image limits c d = create limits c (ImageObject (new_image d.width d.heig
 abbrev pub described : ImageValue → Described
 described image = record { format = Some image.format; width = image.width; height = image.height; valid = image.valid }
 
--- of a virtual image what was declared, 0 where that is open, and no place
+-- the description of a virtual image as it was declared, with 0 for an open side and an empty valid rectangle
 abbrev pub described_virtual : Outline → Described
 described_virtual declared = record { format = declared.format; width = unwrap_or declared.width 0; height = unwrap_or declared.height 0; valid = empty }
 
@@ -59,13 +59,13 @@ query_of (Ok found) c = Ok (reply.Described found, Some c)
 abbrev pub query_image : Context → Cell → Outcome
 query_image c cell = query_of (described_in c.objects cell) c
 
--- why a picture can't be written to an image: another format, or another size
+-- why a picture can't be written to an image: another format, or else another size
 abbrev pub picture_refusal : Description → Description → Option Refusal
 picture_refusal image picture =
     if not (same_format image.format picture.format) then Some InvalidFormat
     else (if same_size image picture then None else Some InvalidDimension)
 
--- WriteImage: the picture's samples, all of them valid
+-- WriteImage: the picture's samples; the whole image is valid
 abbrev pub write_to : Result ImageValue Refusal → Context → Cell → PictureValue → Outcome
 write_to (Err refusal) c cell p = Err refusal
 write_to (Ok image) c cell p =
@@ -74,7 +74,7 @@ write_to (Ok image) c cell p =
 abbrev pub write_image : Context → Cell → PictureValue → Outcome
 write_image c cell p = write_to (image_of c.objects cell) c cell p
 
--- WriteImagePgm: the picture for which a text stands
+-- WriteImagePgm: the refusal for a fault of the text
 abbrev pub fault_refusal : PgmFault → Refusal
 fault_refusal fault.InvalidDimension = InvalidDimension
 fault_refusal fault.InvalidValue = InvalidValue
@@ -88,7 +88,7 @@ write_text_to (Ok image) c cell (Ok p) = write_to (Ok image) c cell p
 abbrev pub write_text : Context → Cell → List ℕ → Outcome
 write_text c cell text = write_text_to (image_of c.objects cell) c cell (reading text)
 
--- ReadImage: the samples of all places
+-- ReadImage: the samples of all pixels
 abbrev pub read_from : Result ImageValue Refusal → Context → Outcome
 read_from (Err refusal) c = Err refusal
 read_from (Ok image) c = Ok (Picture (picture_of image), Some c)
@@ -96,7 +96,7 @@ read_from (Ok image) c = Ok (Picture (picture_of image), Some c)
 abbrev pub read_image : Context → Cell → Outcome
 read_image c cell = read_from (image_of c.objects cell) c
 
--- ReadImagePgm: the same of a U8 image as a PGM text
+-- ReadImagePgm: the samples of a U8 image as a PGM text
 abbrev pub read_text_from : Result ImageValue Refusal → Context → Outcome
 read_text_from (Err refusal) c = Err refusal
 read_text_from (Ok image) c = unless (if same_format image.format U8 then None else Some InvalidFormat) (Text (pgm_text (picture_of image))) c
@@ -104,11 +104,11 @@ read_text_from (Ok image) c = unless (if same_format image.format U8 then None e
 abbrev pub read_text : Context → Cell → Outcome
 read_text c cell = read_text_from (image_of c.objects cell) c
 
--- why a rectangle can't be an image's valid one: it has places beyond the image
+-- why a rectangle can't be the valid rectangle of an image: it goes beyond the image
 abbrev pub valid_refusal : Description → Rectangle → Option Refusal
 valid_refusal image valid = if nat_le valid.x1 image.width && nat_le valid.y1 image.height then None else Some InvalidValue
 
--- SetValid: the image with this valid rectangle, 0 outside it
+-- SetValid: the image with this valid rectangle, and 0 outside it
 abbrev pub set_valid_of : Result ImageValue Refusal → Context → Cell → Rectangle → Outcome
 set_valid_of (Err refusal) c cell valid = Err refusal
 set_valid_of (Ok image) c cell valid =

@@ -1,4 +1,4 @@
--- A node that runs by itself, at once. OpenVX 1.3, "Graphs", immediate mode.
+-- A node that runs by itself. OpenVX 1.3, "Graphs", immediate mode.
 use Rattle.std.specs.Prelude.{Bool, false, if◌then◌else◌, List, Option, Some, None}
 use Rattle.std.specs.List.{list_any}
 use Rattle.std.specs.Option.{option_map, option_and_then, option_or}
@@ -20,14 +20,14 @@ use Rattle.object_table.specs.Context.{Context, with_objects}
 use Rattle.client_model.specs.Refusal.{Outcome, unless}
 use Rattle.client_model.specs.Operands.{operands_refusal}
 
--- what a cell of a node holds, as an operand
+-- the object that a reference of a node names, as an operand
 abbrev pub operand_in : List Named → Cell → Option Operand
 operand_in objects cell = option_map operand_of (held objects cell)
 
 abbrev pub operand_if : List Named → Option Cell → Option Operand
 operand_if objects cell = option_and_then (operand_in objects) cell
 
--- the operands of a node whose first input there is
+-- the operands of a node, if its first input exists
 abbrev pub operands_in : List Named → Node → Option Operands
 operands_in objects n =
     option_map (λ in1. record { in1 = in1; in2 = operand_if objects n.in2; out1 = operand_if objects n.out1; out2 = operand_if objects n.out2 }) (operand_in objects n.in1)
@@ -37,18 +37,18 @@ abbrev pub is_some_virtual : Option ObjectValue → Bool
 is_some_virtual (Some object) = is_virtual_object object
 is_some_virtual None = false
 
--- a node by itself takes no virtual image
+-- the refusal of a node that names a virtual image: a node by itself can't have one
 abbrev pub away_refusal : List Named → Node → Option Refusal
 away_refusal objects n =
     if list_any (λ operand. is_some_virtual (held objects operand.0)) (operands n) then Some OptimizedAway else None
 
--- the first refusal of its operands, then that of virtual images, and then the verdict on the graph of this node alone
+-- the refusal of a node by itself: first of its operands, then of virtual images, then the verdict on the graph of this node alone
 abbrev pub node_refusal : List Named → Node → Option Refusal
 node_refusal objects n =
     option_or (operands_refusal None objects (operands n))
     (option_or (away_refusal objects n)
     (option_map Rejected (option_and_then (verdict_on n) (operands_in objects n))))
 
--- Immediate: each output becomes what the node gives
+-- Immediate: the node's outputs are written
 abbrev pub immediate : Context → Node → Outcome
 immediate c n = unless (node_refusal c.objects n) Empty (with_objects c (with_written c.objects (written_by n (held c.objects))))

@@ -6,6 +6,6 @@ use Rattle.object_table.specs.Context.{Context, object_named, with_objects}
 use Rattle.object_table.specs.Holds.{still_held, unnamed}
 use Rattle.client_model.specs.Refusal.{Outcome}
 
--- Release: the name is gone, and no other object takes it; so is what is then no longer held
+-- Release: the name is no longer live and never given again; objects that are then no longer held are dropped
 abbrev pub release : Context → ℕ → Outcome
 release c name = if is_none (object_named c.objects name) then Err InvalidReference else Ok (Empty, Some (with_objects c (still_held (unnamed c.objects name))))

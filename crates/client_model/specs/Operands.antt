@@ -1,4 +1,4 @@
--- What references and the operands of nodes name.
+-- The objects that references and the operands of nodes name.
 use Rattle.std.specs.Prelude.{ℕ, ◌==◌, Bool, true, false, not, List, Option, Some, None, is_none, Result, Ok, Err, if◌then◌else◌}
 use Rattle.std.specs.List.{list_any}
 use Rattle.std.specs.Option.{option_and_then}
@@ -13,15 +13,15 @@ use Rattle.object_table.specs.Context.{object_named}
 use Rattle.client_model.specs.declared.refusal.Refusal.{Refusal}
 use Rattle.client_model.specs.declared.refusal.Refusal.TheVariants.{InvalidReference, InvalidType, InvalidScope, InvalidValue, OptimizedAway}
 
--- whether the cell's name isn't live
+-- whether a reference's name isn't live
 abbrev pub is_unknown : List Named → Cell → Bool
 is_unknown objects cell = is_none (object_named objects cell.name)
 
--- the kind of what a cell is for: an object's, or an image's where it is a slot of a delay
+-- the kind that a reference has: that of its object, or an image for a slot of a delay
 abbrev pub kind_of : List Named → Cell → Option Kind
 kind_of objects cell = option_and_then (slot_kind cell.slot) (object_named objects cell.name)
 
--- whether an object of one kind can stand where another is wanted: a virtual image stands for an image
+-- whether an object of one kind is accepted where another is expected: a virtual image is accepted as an image
 abbrev pub stands_for : Kind → Kind → Bool
 stands_for kind.VirtualImage kind.Image = true
 stands_for kind wanted = same_kind wanted kind
@@ -30,26 +30,26 @@ abbrev pub is_kind : Kind → Option Kind → Bool
 is_kind wanted None = false
 is_kind wanted (Some kind) = stands_for kind wanted
 
--- whether a cell is for no object of the kind that is wanted there
+-- whether a reference has another kind than the one that is expected there
 abbrev pub is_of_other_kind : List Named → Cell × Kind → Bool
 is_of_other_kind objects operand = not (is_kind operand.1 (kind_of objects operand.0))
 
--- whether a cell holds nothing: its name is nobody's, or its slot isn't there
+-- whether a reference names nothing: no object has the name, or the slot doesn't exist
 abbrev pub holds_nothing : List Named → Cell → Bool
 holds_nothing objects cell = is_none (held objects cell)
 
--- whether an object is a virtual image of another graph than this
+-- whether an object is a virtual image of another graph
 abbrev pub is_of_other_graph : ℕ → Option ObjectValue → Bool
 is_of_other_graph graph (Some (VirtualObject image)) = not (image.graph == graph)
 is_of_other_graph graph other = false
 
--- whether a cell that a node of this graph names is beyond it; a node of no graph has no scope
+-- whether a reference in a node of this graph is out of the graph's scope; a node by itself has no scope
 abbrev pub is_beyond : Option ℕ → List Named → Cell → Bool
 is_beyond None objects cell = false
 is_beyond (Some graph) objects cell = is_of_other_graph graph (held objects cell)
 
--- the first refusal of cells, each with the kind that is wanted there: all names come before all kinds, these before all scopes, and
--- these before all slots
+-- the first refusal of references, each with the kind that is expected there: first names, then kinds, then scopes, then slots, each over
+-- all references
 abbrev pub operands_refusal : Option ℕ → List Named → List (Cell × Kind) → Option Refusal
 operands_refusal scope objects operands =
     if list_any (λ operand. is_unknown objects operand.0) operands then Some InvalidReference
@@ -57,7 +57,7 @@ operands_refusal scope objects operands =
     else (if list_any (λ operand. is_beyond scope objects operand.0) operands then Some InvalidScope
     else (if list_any (λ operand. holds_nothing objects operand.0) operands then Some InvalidValue else None)))
 
--- an image, or the refusal of a slot that isn't there, or of a virtual image
+-- the image that an object is, or the refusal of a slot that doesn't exist or of a virtual image
 abbrev pub as_image : Option ObjectValue → Result ImageValue Refusal
 as_image (Some (ImageObject image)) = Ok image
 as_image (Some (VirtualObject image)) = Err OptimizedAway

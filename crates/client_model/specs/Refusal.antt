@@ -1,4 +1,4 @@
--- Why a request is refused: it changes nothing then.
+-- Why a request is refused. A refused request changes nothing.
 use Rattle.std.specs.Prelude.{Option, Some, None, Result, Ok, Err}
 use Rattle.vx_base.specs.declared.code.Code.{Code}
 use Rattle.vx_base.specs.declared.code.Code.TheVariants as code
@@ -9,7 +9,7 @@ use Rattle.client_model.specs.declared.reply.Reply.{Reply}
 use Rattle.object_table.specs.Context.{Context}
 use Rattle.client_model.specs.Context.{State}
 
--- the code that says so
+-- the status code of a refusal
 abbrev pub refusal_code : Refusal → Code
 refusal_code InvalidReference = code.InvalidReference
 refusal_code InvalidType = code.InvalidType
@@ -21,16 +21,16 @@ refusal_code OptimizedAway = code.OptimizedAway
 refusal_code NoResources = code.NoResources
 refusal_code (Rejected verdict) = verdict_code verdict
 
--- what a request comes to in a client's context: a reply and the client's new state, or a refusal
+-- the outcome of a request in a client's context: a reply and the client's new state, or a refusal
 abbrev pub Outcome : Type 0
 Outcome = Result (Reply × State) Refusal
 
--- what it comes to, unless it is refused before
+-- the outcome, unless the request was refused before
 abbrev pub refused_or : Option Refusal → Outcome → Outcome
 refused_or None outcome = outcome
 refused_or (Some refusal) outcome = Err refusal
 
--- it is done and leaves this context, unless it is refused
+-- the reply and this new context, unless the request is refused
 abbrev pub unless : Option Refusal → Reply → Context → Outcome
 unless None reply c = Ok (reply, Some c)
 unless (Some refusal) reply c = Err refusal

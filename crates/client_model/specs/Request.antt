@@ -1,4 +1,4 @@
--- What a client asks for.
+-- Clients' requests.
 use Rattle.std.specs.Prelude.{⊤, IsTrue, ◌<◌, ◌^◌, All}
 use Rattle.vx_base.specs.Cell.{IsCell}
 use Rattle.vx_base.specs.Description.{IsDescription}
@@ -14,7 +14,7 @@ use Rattle.vx_base.specs.Slots.{is_slot_count}
 use Rattle.client_model.specs.declared.request.Request.{Request}
 use Rattle.client_model.specs.declared.request.Request.TheVariants.{OpenContext, ReleaseContext, CreateImage, QueryImage, WriteImage, WriteImagePgm, ReadImage, ReadImagePgm, SetValid, Release, CreateLut, CreateThreshold, CreateConvolution, CreateDistribution, ReadDistribution, CreateMinMax, ReadMinMax, CreateGraph, CreateVirtualImage, AddNode, RemoveNode, VerifyGraph, ProcessGraph, Immediate, CreateDelay, AgeDelay, RegisterAutoAging}
 
--- a request of values that their types allow
+-- the fields of a request are in the ranges of their types
 abbrev pub IsRequest : Request → Type 0
 IsRequest OpenContext = ⊤
 IsRequest ReleaseContext = ⊤
@@ -44,7 +44,7 @@ IsRequest (CreateDelay cell slots) = IsCell cell × IsTrue (is_slot_count slots)
 IsRequest (AgeDelay name) = name < 2 ^ 32
 IsRequest (RegisterAutoAging graph delay) = (graph < 2 ^ 32) × (delay < 2 ^ 32)
 
--- the requests that may take memory, and may find none
+-- the request may allocate memory, and so may fail with NoMemory
 abbrev pub TakesMemory : Request → Type 0
 TakesMemory OpenContext = ⊤
 TakesMemory ReleaseContext = ⊥

@@ -20,24 +20,22 @@ use Rattle.client_model.specs.Request.{IsRequest}
 use Rattle.client_model.specs.Answer.{answer_to}
 use Rattle.object_table.specs.declared.table.TheConstants.{GREATEST_OBJECTS}
 
--- the kind of what a cell that a node names is for
+-- the kind of a reference in a node, whether its name is still live or not
 abbrev pub kind_held : List Named → Cell → Option Kind
 kind_held objects cell = option_and_then (slot_kind cell.slot) (object_held objects cell.name)
 
--- whether a cell that a node of this graph names holds what its function has there
+-- whether a reference in a node of this graph still names an operand that the node's function accepts there
 abbrev pub stands : List Named → ℕ → Cell × Kind → Bool
 stands objects graph operand =
     is_kind operand.1 (kind_held objects operand.0)
     && (not (is_of_other_graph graph (object_in_cell objects operand.0)) && not (holds_nothing objects operand.0))
 
--- each cell that a node of a graph names holds what its function has there
+-- each reference in a graph's nodes still names an operand that the node's function accepts there
 abbrev pub NodesStand : List Named → Named → Type 0
 NodesStand objects o = All (λ n. All (λ operand. IsTrue (stands objects o.name operand)) (operands n)) (nodes_in o.object)
 
--- each object is one, so that each image has samples of its format and 0 outside its rectangle;
--- names are distinct and below the next, which is at most 2^32; what is held is named or used by a
--- graph, whose nodes find what they name; at most 1,024 objects are held, and their charge is at
--- most the quota
+-- The invariant of a context: valid objects, distinct names below the next one, each object held, nodes
+-- that find their operands, at most 1,024 objects, and a charge within the quota.
 pub record KeepsLimits (limits : Allowance) (c : Context) : Type 0 where
   pub objects : All (λ o. IsObject o.object) c.objects
   pub names : IsStrictlyIncreasing (map (λ o. o.name) c.objects)
@@ -53,7 +51,7 @@ abbrev pub state_after : Allowance → State → List Request → State
 state_after limits state [] = state
 state_after limits state (request ∷ requests) = state_after limits (answer_to limits state request).1 requests
 
--- ---- what stays as requests are answered
+-- ---- what requests don't change
 
 -- a client's context after these requests of its own, none of which releases it
 pub record IsLater (limits : Allowance) (c : Context) (requests : List Request) (later : Context) : Type 0 where
@@ -62,11 +60,11 @@ pub record IsLater (limits : Allowance) (c : Context) (requests : List Request) 
   pub unreleased : All (λ request. request ≢ ReleaseContext) requests
   pub state : state_after limits (Some c) requests ≡ Some later
 
--- the object that is held under a name was held under it before, and this part of it is as it was
+-- the object that is now held under a name was held under it before, and this part of it has not changed
 abbrev pub Stays : {X : Type 0} → (ObjectValue → X) → List Named → List Named → ℕ → Type 0
 Stays part before after name = IfSome (object_held after name) (λ object. option_map part (object_held before name) ≡ Some (part object))
 
--- whether a request changes the nodes of the graph of this name, if it is done
+-- whether a request changes the nodes of the graph of this name, unless it is refused
 abbrev pub changes_nodes : Request → ℕ → Bool
 changes_nodes (AddNode graph node) name = graph == name
 changes_nodes (RemoveNode graph number) name = graph == name

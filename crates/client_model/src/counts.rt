@@ -18,12 +18,14 @@ impl Model for Counts {
 }
 
 impl Counts {
+    /// Returns these counts, one for each bin.
     pub fn new(counts: Vec<u32>) -> Counts
         ensures { result ≡ counts.items }
     {
         Counts { counts }
     }
 
+    /// Returns the counts, one for each bin.
     pub fn counts(&self) -> &[u32]
         ensures { result.now ≡ self.now }
     {

@@ -1,12 +1,13 @@
 //! Requests and replies, and what they mean.
 //!
-//! A client names its objects by 1, 2, .. in the order in which it made them. `specs/Answer.antt`
-//! says what a client in any state is answered, and what its state is then; everything above is
-//! proved against that. Nothing here knows how objects are kept.
+//! A client's objects are named 1, 2, .. in the order in which it creates them. `specs/Answer.antt`
+//! defines the reply to a request in any state of the client, and the client's new state. The
+//! crates above are proved against it. Nothing here depends on how objects are stored.
 //!
-//! - `request`, `reply`, `text`, `counts`: what a client asks for, and what it is answered
+//! - `request`: what a client can ask for
+//! - `reply`, `text`, `counts`: replies and their parts
 //! - `refusal`: why a request is refused
-//! - `limits`: what a client may hold
+//! - `limits`: quotas of bytes
 #![tactic(auto)]
 
 mod counts;

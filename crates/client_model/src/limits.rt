@@ -1,17 +1,17 @@
-//! What a client may hold.
+//! Quotas of bytes.
 ghost use Rattle.std.specs.Prelude.{◌≡◌, ◌≤◌};
 ghost use Rattle.client_model.specs.Allowance.{allowance};
 
 use std::marker::Model;
 
-/// The greatest number of bytes that a quota or a graph's work may be set to: 2^40.
+/// The greatest value of each limit in bytes: 2^40.
 pub const GREATEST_LIMIT: u64 = 1_099_511_627_776;
 
-/// The quota and the work of a program that is told no other: 2^28 bytes.
+/// The default of each limit in bytes: 2^28.
 pub const DEFAULT_LIMIT: u64 = 268_435_456;
 
-/// How many sample bytes a client's images may have (`quota`), and how many the virtual images
-/// of one graph (`work`): 1 to 2^40 each.
+/// The most sample bytes of a client's images (`quota`), and of the virtual images of one graph
+/// (`work`): 1 to 2^40 each.
 #[derive(Clone, Copy, PartialEq, Eq, Debug)]
 pub struct Limits {
     quota: u64,
@@ -32,7 +32,7 @@ impl Model for Limits {
 }
 
 impl Limits {
-    /// Limits of these numbers of bytes. `None` unless both are 1 to 2^40.
+    /// Returns limits of these numbers of bytes. `None`: one of them isn't 1 to 2^40.
     pub fn new(quota: u64, work: u64) -> Option<Limits>
         ensures { result ≡ allowance quota work }
     {
@@ -44,7 +44,7 @@ impl Limits {
         }
     }
 
-    /// The sample bytes that a client may hold.
+    /// Returns the most sample bytes of a client's images.
     pub fn quota(self) -> u64
         ensures value { result ≡ self.quota }
         ensures limit { result ≤ 1099511627776 }
@@ -52,7 +52,7 @@ impl Limits {
         self.quota
     }
 
-    /// The sample bytes that a graph's virtual images may have.
+    /// Returns the most sample bytes of a graph's virtual images.
     pub fn work(self) -> u64
         ensures { result ≡ self.work }
     {

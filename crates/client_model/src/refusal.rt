@@ -4,36 +4,37 @@ ghost use Rattle.std.specs.Prelude.{◌≡◌};
 use graph_verify::Verdict;
 use vx_base::Code;
 
-/// Why a request is refused. It has changed nothing then.
+/// Why a request is refused. A refused request changes nothing.
 #[derive(Clone, Copy, PartialEq, Eq, Debug)]
 pub enum Refusal {
-    /// No object has a name that is used, or no node a number.
+    /// A name isn't live, or the graph has no node of this number.
     InvalidReference,
-    /// An object is not of the kind that is wanted there; a delay's slots are images, and no other
-    /// object has slots.
+    /// An object is of another kind than the request needs. Slots of a delay are images; other
+    /// objects have no slots.
     InvalidType,
-    /// The client has a context already, a delay has no such slot, a rectangle goes beyond an
-    /// image, or a text has a sample above its maxval.
+    /// The client has a context already, the delay has no such slot, a rectangle goes beyond the
+    /// image, or a PGM text has a sample above its maxval.
     InvalidValue,
-    /// A picture is of another format than the image, an image isn't U8, or a text is no PGM text.
+    /// A picture has another format than the image, the image isn't U8, or the text isn't a PGM
+    /// text.
     InvalidFormat,
-    /// A picture is of another size than the image, or a text's sides aren't allowed.
+    /// A picture has another size than the image, or a side that a PGM text states isn't 1 to 8192.
     InvalidDimension,
     /// A node names a virtual image of another graph.
     InvalidScope,
-    /// A virtual image has no samples.
+    /// A virtual image has no samples that a client can access.
     OptimizedAway,
-    /// The names are used up, 1,024 objects are held, the quota doesn't allow another,
-    /// or a graph has all the nodes that it can have.
+    /// No name is left, 1,024 objects are held, the object would exceed the quota, or the graph
+    /// can't take another node.
     NoResources,
-    /// The verdict on a graph.
+    /// The graph is invalid; the verdict says why.
     Rejected(Verdict),
 }
 
 impl Refusal {
     ghost use Rattle.client_model.specs.Refusal.{refusal_code};
 
-    /// The code that says so.
+    /// Returns the status code of the refusal.
     pub fn code(self) -> Code
         ensures { result ≡ refusal_code self }
     {

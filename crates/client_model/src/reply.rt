@@ -3,28 +3,29 @@ use crate::counts::Counts;
 use crate::text::Text;
 use vx_base::{Code, Extremes, Format, Picture, Rect};
 
-/// What is told of an image: its format, its width and height, and its valid rectangle.
+/// The description of an image: its format, its width and height in pixels, and its valid
+/// rectangle.
 #[derive(Clone, Copy, PartialEq, Eq, Debug)]
 pub struct Described {
-    /// `None` where it is open, as only a virtual image's can be. An open width or height is 0.
+    /// `None` where the format of a virtual image is open. An open width or height is 0.
     pub format: Option<Format>,
     pub width: u16,
     pub height: u16,
     pub valid: Rect,
 }
 
-/// What a client is answered.
+/// The reply to a request.
 #[derive(Debug, Drop)]
 pub enum Reply {
     /// The request has changed nothing; the code says why.
     Refused(Code),
-    /// It was done, and there is nothing to tell.
+    /// The request succeeded, and has no result.
     Empty,
-    /// The name of what was made.
+    /// The name of the object that was created.
     Name(u32),
-    /// The number of a node that was added to a graph.
+    /// The number of the node that was added.
     Node(u32),
-    /// What an image is like.
+    /// The size, the format and the valid rectangle of an image.
     Described(Described),
     /// The samples of an image.
     Picture(Picture),

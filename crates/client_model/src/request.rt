@@ -8,46 +8,47 @@ use vx_base::{
     ThresholdRule,
 };
 
-/// What a client asks for.
+/// A client's request.
 #[derive(Debug, Drop)]
 pub enum Request {
     /// Opens the client's context.
     OpenContext,
-    /// Drops the client's context with all of its objects.
+    /// Releases the client's context with all of its objects.
     ReleaseContext,
-    /// Makes an image that is 0 everywhere and wholly valid.
+    /// Creates an image of zeros; the whole image is valid.
     CreateImage(Desc),
     /// Asks for the size, the format and the valid rectangle of an image.
     QueryImage(ObjRef),
-    /// Writes all samples of an image, which becomes wholly valid.
+    /// Writes all samples of an image; the whole image is then valid.
     WriteImage(ObjRef, Picture),
-    /// Writes the picture for which a PGM text stands, which is carried unread.
+    /// Writes the picture that a PGM text encodes. The request carries the text unparsed.
     WriteImagePgm(ObjRef, Text),
     /// Asks for all samples of an image.
     ReadImage(ObjRef),
     /// Asks for all samples of a U8 image, as a PGM text.
     ReadImagePgm(ObjRef),
-    /// Makes this the valid rectangle of an image, whose samples outside it become 0.
+    /// Sets the valid rectangle of an image, and the samples outside it to 0.
     SetValid(ObjRef, Rect),
-    /// Ends this name. Its object is dropped once no node uses it.
+    /// Releases a name. Its object is dropped once no node uses it.
     Release(u32),
-    /// Makes a lookup table.
+    /// Creates a lookup table.
     CreateLut(Lut),
-    /// Makes a threshold.
+    /// Creates a threshold.
     CreateThreshold(ThresholdRule),
-    /// Makes a matrix by which images are convolved.
+    /// Creates a convolution matrix.
     CreateConvolution(Convolution),
-    /// Makes a distribution of these bins, which has counted nothing.
+    /// Creates a distribution of these bins with each count 0.
     CreateDistribution(Bins),
     /// Asks for the counts of the distribution with this name.
     ReadDistribution(u32),
-    /// Makes extremes that were found nowhere.
+    /// Creates extremes, which are empty until a node or an immediate request writes them.
     CreateMinMax,
     /// Asks for the extremes with this name.
     ReadMinMax(u32),
-    /// Makes a graph without nodes.
+    /// Creates a graph without nodes.
     CreateGraph,
-    /// Makes a virtual image of the graph with this name, of this outline.
+    /// Creates a virtual image of the graph with this name. Its width, height and format may be
+    /// open.
     CreateVirtualImage(u32, Outline),
     /// Adds a node to the graph with this name.
     AddNode(u32, NodeSpec),
@@ -55,21 +56,24 @@ pub enum Request {
     RemoveNode(u32, u32),
     /// Asks for the verdict on the graph with this name.
     VerifyGraph(u32),
-    /// Runs the graph with this name, if its verdict allows it.
+    /// Runs the graph with this name, if it is valid.
     ProcessGraph(u32),
-    /// Runs one node at once.
+    /// Runs one node by itself (immediate mode).
     Immediate(NodeSpec),
-    /// Makes a delay of new images of the size and format of an image, so many.
+    /// Creates a delay with this number of slots. Its images are new, and have the size and format
+    /// of an image.
     CreateDelay(ObjRef, SlotCount),
-    /// Ages the delay with this name: each image comes to the next slot, the last to the first.
+    /// Ages the delay with this name: each image moves to the next slot, the last one to slot 0.
     AgeDelay(u32),
-    /// Registers with the graph with this name a delay, which ages after each of its runs.
+    /// Registers the delay of the second name with the graph of the first: it ages after each run
+    /// of the graph.
     RegisterAutoAging(u32, u32),
 }
 
 impl Request {
-    /// The request is one that the laws of requests speak of. Nothing is done when this runs: the
-    /// prover learns what a type keeps where a part is read.
+    /// States for the prover that the request's fields are in range, as the laws of requests
+    /// require. It does nothing: the prover learns a type's invariant by reading a field of that
+    /// type.
     pub fn is_request(&self)
         ensures { IsRequest self.now }
     {

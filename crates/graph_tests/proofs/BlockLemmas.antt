@@ -1,4 +1,4 @@
--- In how many blocks what is held has its samples, once a graph has changed.
+-- How many blocks the objects occupy after a graph has changed.
 use Rattle.std.proofs.Common.{◌≡◌, ℕ, ◌==◌, ◌≤◌, Bool, true, false, if◌then◌else◌, List, [], ◌∷◌, Result, Ok, Err, sym, subst, arith, OnOk, OnErr}
 use Rattle.std.proofs.lemmas.List.Sums.{sum_by-cons}
 use Rattle.vx_base.specs.declared.format.Format.{Format}
@@ -18,7 +18,7 @@ module _ (format : Format) where
   one o graph true = omega arith
   one o graph false = omega arith
 
-  -- what is held has its samples in no more blocks, once a graph has come under a name
+  -- replacing an object by a graph does not raise the number of blocks that the objects occupy
   pub with_graph-blocks : (objects : List Named) (name : ℕ) (graph : GraphValue) → blocks_in (with_graph objects name graph) format ≤ blocks_in objects format
   with_graph-blocks [] name graph = omega arith
   with_graph-blocks (o ∷ objects) name graph =

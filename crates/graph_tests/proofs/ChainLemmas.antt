@@ -43,7 +43,7 @@ added a b d g n k next is before = is ∙ ap (λ (c : Context). with_objects c (
 
 -- ---- what it holds are objects
 
--- these are nodes, for which a graph has room
+-- each link is a valid node, and the graph can take it
 abbrev HasRoom : GraphValue → List (ℕ × ℕ) → Type 0
 HasRoom g [] = Unit {0}
 HasRoom g (l ∷ links) = (can_add g ≡ true) × IsNode (box_to l.0 l.1) × HasRoom (with_node g (box_to l.0 l.1)) links

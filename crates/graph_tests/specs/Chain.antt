@@ -1,4 +1,4 @@
--- A graph of six nodes in a row, and what a table holds that has it.
+-- A graph that is a chain of six nodes, and the objects of a table with it.
 use Rattle.std.specs.Prelude.{ℕ, List, [], ◌∷◌, true, None}
 use Rattle.vx_base.specs.declared.function.Function.TheVariants.{Box}
 use Rattle.vx_base.specs.declared.node.Node.{Node}
@@ -11,16 +11,16 @@ use Rattle.object_table.specs.Named.{Named}
 use Rattle.graph_verify.specs.Examples.{node_to}
 use Rattle.graph_run.specs.Lasting.{Lasts}
 
--- Box of the image of one name, to that of another
+-- the node Box, from the image of one name to that of another
 abbrev pub box_to : ℕ → ℕ → Node
 box_to input output = node_to Box Wrap input None output
 
--- a graph with more of these nodes
+-- a graph with more nodes Box, each between a pair of names
 abbrev pub with_boxes : GraphValue → List (ℕ × ℕ) → GraphValue
 with_boxes g [] = g
 with_boxes g (l ∷ links) = with_boxes (with_node g (box_to l.0 l.1)) links
 
--- from image 1 to image 2, through the virtual images 4 to 8
+-- six nodes Box from image 1 to image 2, through the virtual images 4 to 8
 abbrev pub six_boxes : GraphValue
 six_boxes = with_boxes new_graph ((1, 4) ∷ (4, 5) ∷ (5, 6) ∷ (6, 7) ∷ (7, 8) ∷ (8, 2) ∷ [])
 
@@ -32,11 +32,11 @@ live name object = record { name = name; live = true; object = object }
 abbrev pub through : Outline → ObjectValue
 through declared = VirtualObject (record { graph = 3; declared = declared })
 
--- two images, a graph, and five virtual images
+-- the objects of a table: two images, a graph, and five virtual images
 abbrev pub linked_by : GraphValue → ImageValue → ImageValue → Outline → List Named
 linked_by graph a b declared = live 1 (ImageObject a) ∷ live 2 (ImageObject b) ∷ live 3 (GraphObject graph) ∷ live 4 (through declared)
     ∷ live 5 (through declared) ∷ live 6 (through declared) ∷ live 7 (through declared) ∷ live 8 (through declared) ∷ []
 
--- objects of which as much lasts as of these, with the six nodes
+-- the objects are those of a chain, except for what requests may change
 abbrev pub IsChain : List Named → Type 0
 IsChain objects = (a : ImageValue) × (b : ImageValue) × (declared : Outline) × Lasts (linked_by six_boxes a b declared) objects

@@ -30,7 +30,7 @@ fn register(table: &mut Table, graph: u32, delay: u32) -> Result<(), Fail> {
     Ok(table.register(graph, delay).or(Err("no memory"))?)
 }
 
-/// Ages what is registered with the graph of a name.
+/// Ages the delays that are registered with the graph of a name.
 fn age(table: &mut Table, graph: u32) -> Result<(), Fail> {
     if !is_graph(table, graph) {
         return Err("no graph".into());
@@ -39,7 +39,7 @@ fn age(table: &mut Table, graph: u32) -> Result<(), Fail> {
     Ok(())
 }
 
-/// Whether these are the samples in a slot of the delay of a name.
+/// Returns whether these are the samples in a slot of the delay of a name.
 fn slot_holds(table: &Table, name: u32, slot: u8, wanted: [u8; 2]) -> bool {
     match table.get_held(name) {
         Some(object) => match object.content() {
@@ -53,7 +53,7 @@ fn slot_holds(table: &Table, name: u32, slot: u8, wanted: [u8; 2]) -> bool {
     }
 }
 
-/// Holds in a new table a delay of three, named 1, whose newest image is written.
+/// Inserts a delay of three images into a new table, under name 1, and writes its newest image.
 fn hold_written(table: &mut Table, delay: Delay, picture: &Picture) -> Result<(), Fail>
     requires table { table.old ≡ new_context }
     requires delay { IsDelay delay }

@@ -1,4 +1,4 @@
-//! What cells of a table hold: images, and slots of delays.
+//! References into a table: images, and slots of delays.
 ghost use Rattle.std.specs.Prelude.{◌≡◌, true, IfOk};
 ghost use Rattle.vx_base.specs.declared.format.Format.TheVariants.{U8};
 ghost use Rattle.vx_base.specs.Cell.{cell_of};
@@ -16,14 +16,14 @@ use std::alloc::Global;
 use std::test::Fail;
 use vx_base::{Desc, Format, Kind, ObjRef, Picture, Rect, Samples, SlotCount};
 
-/// Two columns of samples of U8, and one row.
+/// Returns the description of two columns and one row of U8 samples.
 pub fn small() -> Result<Desc, Fail>
     ensures { IfOk result (λ d. d ≡ record { width = 2; height = 1; format = U8 }) }
 {
     Ok(Desc::new(2, 1, Format::U8).ok_or("within the limits")?)
 }
 
-/// A picture of these samples.
+/// Returns a picture of these samples.
 pub fn picture(alloc: Global, samples: [u8; 2]) -> Result<Picture, Fail>
     ensures { IfOk result (λ p.
         p.description ≡ record { width = 2; height = 1; format = U8 }) }
@@ -32,7 +32,7 @@ pub fn picture(alloc: Global, samples: [u8; 2]) -> Result<Picture, Fail>
     Ok(Picture::new(small()?, Samples::U8(samples)))
 }
 
-/// Whether these are the samples.
+/// Returns whether these are the samples.
 pub fn are(samples: &Samples, wanted: [u8; 2]) -> bool {
     match samples {
         Samples::U8(samples) => samples.as_slice() == wanted.as_slice(),
@@ -47,7 +47,7 @@ fn a_new_image_is_0_everywhere(rt: HostRuntime) -> Result<(), Fail> {
     Ok(())
 }
 
-/// Whether an image is held under a name.
+/// Returns whether an image is held under a name.
 fn is_image(table: &Table, name: u32) -> bool
     ensures { result ≡ true → HoldsImage table.now.objects (cell_of name) }
 {
@@ -57,7 +57,8 @@ fn is_image(table: &Table, name: u32) -> bool
     }
 }
 
-/// Whether these are the samples of the image under a name: they are taken out, and put back.
+/// Returns whether these are the samples of the image under a name, by taking them out and putting
+/// them back.
 pub fn holds(table: &mut Table, name: u32, wanted: [u8; 2]) -> bool {
     if !is_image(table, name) {
         return false;
@@ -70,7 +71,8 @@ pub fn holds(table: &mut Table, name: u32, wanted: [u8; 2]) -> bool {
     holds
 }
 
-/// Writes a picture to an image of a new table, named 1, and makes a part of that valid.
+/// Inserts an image into a new table, under name 1, writes a picture to it, and sets its valid
+/// rectangle.
 fn write(table: &mut Table, image: Stored, picture: &Picture, part: Rect) -> Result<(), Fail>
     requires table { table.old ≡ new_context }
     requires image { IsImage image }
@@ -99,8 +101,8 @@ fn an_image_is_written_and_valid_in_a_part(rt: HostRuntime) -> Result<(), Fail> 
     Ok(())
 }
 
-/// The samples of a delay of three in a new table, whose newest image was written, once it has
-/// aged.
+/// Writes the newest image of a delay of three in a new table, ages the delay, and returns its
+/// samples.
 fn aged(
     table: &mut Table,
     delay: Delay,

@@ -1,4 +1,4 @@
-//! Graphs and the numbers of their nodes, and outlines of images that aren't there.
+//! Graphs, the numbers of their nodes, and partial descriptions.
 ghost use Rattle.std.specs.Prelude.{◌≡◌, IfOk, IsTrue, is_some, true};
 ghost use Rattle.vx_base.specs.declared.kind.Kind.TheVariants as kind;
 ghost use Rattle.graph_verify.specs.Examples.{not_to};
@@ -14,7 +14,7 @@ use vx_base::{
     Border, Desc, Format, Function, Kind, Node, NodeSpec, ObjRef, Outline, Policy, VirtualImage,
 };
 
-/// Not of the image of one name to that of another.
+/// Returns the node Not, from the image of one name to that of another.
 pub fn not(input: u32, output: u32) -> Result<NodeSpec, Fail>
     ensures { IfOk result (λ n. n ≡ not_to input output) }
 {
@@ -80,7 +80,7 @@ fn open_parts_are_filled(rt: HostRuntime) -> Result<(), Fail> {
     Ok(())
 }
 
-/// A node of one input and one output, beside what these are.
+/// Returns a node of one input and one output, with these operands.
 fn linked(node: NodeSpec, in1: Operand, out1: Operand) -> Linked
     ensures { result.operands.in1 ≡ in1 }
 {
@@ -113,7 +113,7 @@ fn a_verified_graph_has_an_order_and_descriptions(rt: HostRuntime) -> Result<(),
     Ok(())
 }
 
-/// Images of four samples named 1 and 2, and a graph named 3.
+/// Returns a table of images 1 and 2, of four samples each, and graph 3.
 fn images_and_a_graph(alloc: Global) -> Result<Holdings, Fail> {
     let desc = Desc::new(2, 2, Format::U8).ok_or("within the limits")?;
     let mut holdings = Holdings::new(alloc);
@@ -124,7 +124,7 @@ fn images_and_a_graph(alloc: Global) -> Result<Holdings, Fail> {
     Ok(holdings)
 }
 
-/// Whether the name is a graph's.
+/// Returns whether the name is that of a graph.
 pub fn is_graph(table: &Table, name: u32) -> bool
     ensures kind { result ≡ true → IsUnder table.now.objects kind.Graph name }
     ensures live { result ≡ true → IsTrue (is_some (object_named table.now.objects name)) }
@@ -159,7 +159,7 @@ fn remove_node(holdings: &mut Holdings, graph: u32, number: u32) -> Result<(), F
     Ok(removed.or(Err("no such node"))?)
 }
 
-/// How many nodes the graph of a name has.
+/// Returns how many nodes the graph of a name has.
 fn count_of_nodes(table: &Table, name: u32) -> usize {
     if is_graph(table, name) {
         table.graph(name).nodes().len()
@@ -168,7 +168,8 @@ fn count_of_nodes(table: &Table, name: u32) -> usize {
     }
 }
 
-/// How many objects are held, what they are charged, and how many blocks of U8 are lent.
+/// Returns how many objects are held, the bytes that they are charged, and how many blocks of U8
+/// are lent.
 fn figures(holdings: &Holdings) -> (usize, u64, usize) {
     let table = &holdings.table;
     (

@@ -1,4 +1,4 @@
-//! A table beside the pool in whose blocks its images have their samples.
+//! A table, together with the pool of its images' blocks.
 ghost use Rattle.object_table.specs.Blocks.{blocks_in, LendsAtLeast};
 
 use object_table::{Content, InsertFault, Object, Stored, Table, TableFault};
@@ -7,7 +7,7 @@ use std::alloc::Global;
 use std::test::Fail;
 use vx_base::Desc;
 
-/// A table, of whose images each has its samples in a block that the pool lends.
+/// A table, and a pool that lends a block for each of its images.
 #[derive(Drop)]
 pub struct Holdings {
     pub table: Table,
@@ -16,7 +16,7 @@ pub struct Holdings {
 }
 
 impl Holdings {
-    /// Nothing is held.
+    /// Returns an empty table and its pool.
     pub fn new(alloc: Global) -> Holdings {
         Holdings {
             table: Table::new(alloc),
@@ -24,18 +24,18 @@ impl Holdings {
         }
     }
 
-    /// Holds one more image of a description, under this name, or hands it back.
+    /// Inserts a new image of a description, and returns its name; a fault hands the image back.
     pub fn offer(&mut self, desc: Desc) -> Result<Result<u32, InsertFault>, Fail> {
         let image = Stored::new(&mut self.pool, desc)?;
         Ok(self.table.insert(Object::new(Content::Image(image))))
     }
 
-    /// Holds one more image of a description, under this name.
+    /// Inserts a new image of a description, and returns its name.
     pub fn insert(&mut self, desc: Desc) -> Result<u32, Fail> {
         Ok(self.offer(desc)?.ok().ok_or("not held")?)
     }
 
-    /// Ends a name.
+    /// Releases a name.
     pub fn release(&mut self, name: u32) -> Result<(), TableFault> {
         self.table.release(name, &mut self.pool)
     }

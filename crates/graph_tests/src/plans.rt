@@ -1,5 +1,5 @@
 //! Plans of slots for the virtual images of graphs. Names below 10 are U8 images of 2 by 2 samples,
-//! below 20 of 3 by 3, and the others are virtual images of which nothing is declared.
+//! names from 10 to 19 are of 3 by 3, and the others are virtual images with everything open.
 ghost use Rattle.std.specs.Prelude.{IsTrue};
 ghost use Rattle.graph_verify.specs.Operand.{is_image};
 
@@ -8,12 +8,12 @@ use graph_verify::{Linked, Operand, Operands, verify};
 use std::test::Fail;
 use vx_base::{Border, Desc, Format, Function, Node, ObjRef, Outline, Policy};
 
-/// The cell of that name.
+/// Returns the reference to the object of this name.
 fn cell(name: u32) -> ObjRef {
     ObjRef::new(name, None)
 }
 
-/// What the object of that name is.
+/// Returns the object of this name, as an operand.
 fn operand(name: u32) -> Operand
     ensures { IsTrue (is_image result) }
 {
@@ -26,12 +26,12 @@ fn operand(name: u32) -> Operand
     }
 }
 
-/// Nothing is declared.
+/// Returns a partial description with everything open.
 fn open() -> Outline {
     Outline::new(None, None, None).unwrap()
 }
 
-/// A node of a function that has no policy and no amount.
+/// Returns a node of a function that has no policy and no amount.
 fn node(function: Function, in1: u32, in2: Option<u32>, out1: u32, out2: Option<u32>) -> Linked
     ensures { IsTrue (is_image result.operands.in1) }
 {
@@ -55,21 +55,21 @@ fn node(function: Function, in1: u32, in2: Option<u32>, out1: u32, out2: Option<
     }
 }
 
-/// Not of one image to another.
+/// Returns the node Not, from one image to another.
 fn not(in1: u32, out1: u32) -> Linked
     ensures { IsTrue (is_image result.operands.in1) }
 {
     node(Function::NotBits, in1, None, out1, None)
 }
 
-/// The mean of the nine samples around each place.
+/// Returns the node Box, from one image to another.
 fn mean(in1: u32, out1: u32) -> Linked
     ensures { IsTrue (is_image result.operands.in1) }
 {
     node(Function::Box, in1, None, out1, None)
 }
 
-/// The slots of a format, and the first step that needs so many.
+/// Returns the number of slots of a format, and the first step that needs all of them.
 fn slots(plan: &Plan, format: Format) -> (usize, Option<usize>) {
     (plan.slot_count(format), plan.peak_step(format))
 }

@@ -24,7 +24,7 @@ use vx_base::{
     Samples, SlotCount, VirtualImage,
 };
 
-/// An image of two samples of U8.
+/// Returns an image of two samples of U8.
 fn image(alloc: Global, pool: &mut Pool, samples: [u8; 2]) -> Result<Stored, Fail>
     ensures image { IfOk result IsImage }
     ensures desc { IfOk result (λ i.
@@ -54,7 +54,7 @@ fn objects_are_operands(rt: HostRuntime) -> Result<(), Fail> {
     Ok(())
 }
 
-/// What a node of Not writes of two samples.
+/// Returns the result of a node Not on two samples.
 fn not_of(alloc: Global, samples: [u8; 2]) -> Result<[u8; 2], Fail> {
     let node = not(1, 2)?.node();
     let desc = Desc::new(2, 1, Format::U8).ok_or("within the limits")?;
@@ -77,7 +77,7 @@ fn a_node_writes_its_output(rt: HostRuntime) -> Result<(), Fail> {
     Ok(())
 }
 
-/// Runs Not from one image to another, which a new table holds under 1 and 2.
+/// Runs Not from one image to another, which are images 1 and 2 of a new table.
 fn run_not(table: &mut Table, input: Stored, output: Stored) -> Result<(), Fail>
     requires table { table.old ≡ new_context }
     requires input { IsImage input }
@@ -104,8 +104,8 @@ fn a_node_runs_by_itself(rt: HostRuntime) -> Result<(), Fail> {
     Ok(())
 }
 
-/// Runs a graph named 3 of a new table, which holds two images under 1 and 2: Not from the first to
-/// a virtual image, and Not from that to the second, which is added first.
+/// Runs graph 3 of a new table, from image 1 to image 2, through a virtual image. Both nodes are
+/// Not, and the second one is added first.
 fn run_two(
     alloc: Global,
     table: &mut Table,
@@ -144,12 +144,12 @@ fn a_graph_runs_through_a_virtual_image(rt: HostRuntime) -> Result<(), Fail> {
     assert!(rt; holds(&mut table, 2, [10, 255]));
     assert!(rt; (table.held(), table.charged_bytes()) == (4, 4));
 
-    // The block in which the virtual image stood is free again.
+    // The block of the virtual image is free again.
     assert!(rt; (pool.blocks(Format::U8), pool.free(Format::U8)) == (3, 1));
     Ok(())
 }
 
-/// Declares a virtual image of the graph of name 3.
+/// Creates a virtual image of graph 3.
 fn hold_through(table: &mut Table, declared: Outline) -> Result<(), Fail>
     ensures { OnOk result (table.new ≡ with_new table.old (through declared)) }
 {
@@ -157,7 +157,7 @@ fn hold_through(table: &mut Table, declared: Outline) -> Result<(), Fail>
     Ok(())
 }
 
-/// Box of the image of one name to that of another.
+/// Returns the node Box, from the image of one name to that of another.
 fn mean(input: u32, output: u32) -> Result<NodeSpec, Fail>
     ensures { IfOk result (λ n. n ≡ box_to input output) }
 {
@@ -174,7 +174,7 @@ fn mean(input: u32, output: u32) -> Result<NodeSpec, Fail>
     Ok(NodeSpec::new(node).ok_or("it has what its function has")?)
 }
 
-/// Adds Box, from the image of one name to that of another, to the graph of name 3.
+/// Adds the node Box, from the image of one name to that of another, to graph 3.
 fn add_box(table: &mut Table, input: u32, output: u32) -> Result<(), Fail>
     ensures { OnOk result (table.new ≡ with_objects table.old (with_graph table.old.objects 3
         (with_node (graph_under table.old.objects 3) (box_to input output)))) }
@@ -187,8 +187,8 @@ fn add_box(table: &mut Table, input: u32, output: u32) -> Result<(), Fail>
     Ok(())
 }
 
-/// A table with two images, a graph and five virtual images, through which six nodes of Box lead
-/// from the first image to the second.
+/// Returns a table with two images, a graph and five virtual images. The graph is a chain of six
+/// nodes Box from the first image through the virtual ones to the second.
 fn chain(alloc: Global, input: Stored, output: Stored, declared: Outline) -> Result<Table, Fail>
     requires input { IsImage input }
     requires output { IsImage output }
@@ -213,7 +213,7 @@ fn chain(alloc: Global, input: Stored, output: Stored, declared: Outline) -> Res
     Ok(table)
 }
 
-/// Runs the graph of a chain, and returns how many blocks of U8 the pool has then.
+/// Runs the graph of a chain, and returns how many blocks of U8 the pool has after that.
 fn run_chain(alloc: Global, table: &mut Table, pool: &mut Pool) -> Result<usize, Fail>
     requires { IsChain table.old.objects }
     ensures { OnOk result (IsChain table.new.objects) }
@@ -229,7 +229,7 @@ fn six_nodes_in_a_row_run_in_two_blocks(rt: HostRuntime) -> Result<(), Fail> {
     let alloc = rt.alloc();
     let open = Outline::new(None, None, None).ok_or("nothing is declared")?;
 
-    // The two images have their blocks of another pool.
+    // The blocks of the two images are from another pool.
     let (mut pool, mut others) = (Pool::new(alloc), Pool::new(alloc));
     let input = image(alloc, &mut others, [10, 255])?;
     let output = image(alloc, &mut others, [1, 2])?;

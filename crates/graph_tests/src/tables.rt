@@ -10,7 +10,7 @@ use pixel_pool::Pool;
 use std::test::Fail;
 use vx_base::{Bins, Convolution, Desc, Extremes, Format, Kind, SlotCount};
 
-/// 2 by 2 samples of U8.
+/// Returns the description of 2 by 2 samples of U8.
 fn small() -> Result<Desc, Fail> {
     Ok(Desc::new(2, 2, Format::U8).ok_or("within the limits")?)
 }
@@ -74,7 +74,7 @@ fn a_delay_has_its_slots(rt: HostRuntime) -> Result<(), Fail> {
     Ok(())
 }
 
-/// Holds these contents, which are no graph with nodes, under this name.
+/// Inserts an object, which isn't a graph with nodes, and returns its name.
 pub fn hold(table: &mut Table, content: Content) -> Result<u32, Fail>
     requires { nodes_in (value_of content) ≡ [] }
     ensures { OnOk result (table.new ≡ with_new table.old (value_of content)) }
@@ -83,7 +83,7 @@ pub fn hold(table: &mut Table, content: Content) -> Result<u32, Fail>
     Ok(table.insert(object).ok().ok_or("no memory")?)
 }
 
-/// The kind of the object of this name, and what it is charged.
+/// Returns the kind of the object of this name, and the bytes that it is charged.
 fn kind_of(table: &Table, name: u32) -> Option<(Kind, usize)> {
     let object = table.get(name).ok()?;
     Some((object.kind(), object.bytes()))
@@ -107,7 +107,7 @@ fn a_convolution_is_held(rt: HostRuntime) -> Result<(), Fail> {
     Ok(())
 }
 
-/// The counts of the distribution of this name.
+/// Returns the counts of the distribution of this name.
 fn counts_of(table: &Table, name: u32) -> Option<&[u32]> {
     match table.get(name).ok()?.content() {
         Content::Distribution(distribution) => Some(distribution.counts()),
@@ -115,7 +115,8 @@ fn counts_of(table: &Table, name: u32) -> Option<&[u32]> {
     }
 }
 
-/// Gives the distribution of this name these counts, if it is one of so many bins.
+/// Sets the counts of the distribution of this name, if there is one with as many bins. Returns
+/// whether it did.
 fn set_counts(table: &mut Table, name: u32, counts: &[u32]) -> bool {
     match table.get_held(name).map(|object| object.content()) {
         Some(Content::Distribution(held)) if held.counts().len() == counts.len() => {}
@@ -148,7 +149,7 @@ fn a_distribution_has_the_last_counts(rt: HostRuntime) -> Result<(), Fail> {
     Ok(())
 }
 
-/// The extremes of this name.
+/// Returns the extremes of this name.
 fn extremes_of(table: &Table, name: u32) -> Option<Extremes> {
     match table.get(name).ok()?.content() {
         Content::Extremes(extremes) => Some(*extremes),
@@ -156,7 +157,7 @@ fn extremes_of(table: &Table, name: u32) -> Option<Extremes> {
     }
 }
 
-/// Makes these the extremes of this name, if it has some.
+/// Sets the extremes of this name, if there are any. Returns whether it did.
 fn set_extremes(table: &mut Table, name: u32, extremes: Extremes) -> bool {
     match table.get_held(name) {
         Some(object) if object.kind() == Kind::Extremes => {}

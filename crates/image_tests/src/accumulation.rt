@@ -1,4 +1,4 @@
-//! Samples that are added to what the output holds.
+//! Functions that add to their output.
 ghost use Rattle.std.specs.Prelude.{◌≤◌};
 ghost use Rattle.vx_base.specs.Rectangle.{IsWithin};
 
@@ -8,8 +8,8 @@ use pixel_kernels::{accumulate, accumulate_square};
 use std::test::Fail;
 use vx_base::{Desc, Format, Rect};
 
-/// The sums of a 4 by 1 image once samples were added to them, each valid in its rectangle; and
-/// where they are valid then.
+/// Returns the sums of a 4 by 1 image after samples were added, and their valid rectangle. Samples
+/// and sums are each valid in their own rectangle.
 fn add(
     mut samples: [u8; 4],
     valid: Rect,
@@ -59,7 +59,7 @@ fn sums_where_both_are_valid(rt: HostRuntime) -> Result<(), Fail> {
     Ok(())
 }
 
-/// Sums once the squares of samples over 2^amount were added to them, all valid.
+/// Returns sums after the squares of samples over 2^amount were added; all of them are valid.
 fn add_squares(amount: u8, mut sums: [i16; 4]) -> Option<[i16; 4]>
     requires { amount ≤ 15 }
 {

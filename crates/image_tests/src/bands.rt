@@ -1,4 +1,5 @@
-//! Bands of rows: what is written to one is those rows of the image, in any order.
+//! Bands of rows: each function writes the same rows to a band as to the whole image, whatever the
+//! order of the bands.
 ghost use Rattle.std.specs.Prelude.{◌+◌, ◌^◌, ◌<◌, ◌≤◌};
 
 use crate::images::lend;
@@ -11,7 +12,7 @@ use window_kernels::{convolve, median3, sobel3};
 /// The samples of a 3 by 3 image.
 const SAMPLES: [u8; 9] = [1, 2, 9, 3, 4, 8, 5, 6, 7];
 
-/// Two rows of the medians, of the shares of a matrix and of the sums above and to the left.
+/// Returns two rows of the median, of a convolution and of the integral image.
 fn two_rows(start: u16) -> Option<([u8; 6], [i16; 6], [u32; 6])>
     requires { start + 2 ≤ 3 }
 {
@@ -38,7 +39,8 @@ fn rows_of_windows_and_sums(rt: HostRuntime) {
     assert!(rt; two_rows(1) == Some((below, [-1, 0, 5, -3, -2, 0], [4, 10, 27, 9, 21, 45])));
 }
 
-/// The second row of the sums of two rows of 255, which are longer than the lanes.
+/// Returns the second row of the integral image of two rows of 255, which are longer than the
+/// lanes.
 fn second_sums() -> Option<[u32; 11]> {
     let desc = Desc::new(11, 2, Format::U8)?;
     let mut samples = [255; 22];
@@ -58,7 +60,7 @@ fn sums_above_a_band(rt: HostRuntime) {
     assert!(rt; second_sums() == Some(sums));
 }
 
-/// The two lower rows of the sums, from the row above them.
+/// Returns the two lower rows of the integral image, given the row above them.
 fn sums_below(first: &[u32; 3]) -> Option<[u32; 6]> {
     let mut samples = SAMPLES;
     let desc = Desc::new(3, 3, Format::U8)?;
@@ -74,8 +76,8 @@ fn sums_go_on(rt: HostRuntime) {
     assert!(rt; sums_below(&[1, 3, 12]) == Some([4, 10, 27, 9, 21, 45]));
 }
 
-/// What the two lower rows add to counts in three bins, and, as rows that are four further down, to
-/// these extremes.
+/// Returns counts in three bins after the two lower rows were added, and these extremes merged with
+/// those of the two rows, which lie four rows further down.
 fn beside_others(above: Extremes) -> Option<([u32; 3], Extremes)>
     requires least { above.min_count < 2 ^ 16 }
     requires greatest { above.max_count < 2 ^ 16 }
@@ -108,7 +110,7 @@ fn counts_and_extremes_of_bands(rt: HostRuntime) {
     assert!(rt; beside_others(above) == Some(([7, 3, 4], joined)));
 }
 
-/// A row of the changes from left to right, and one of those from above to below.
+/// Returns a row of the horizontal gradient, and a row of the vertical one.
 fn changes(right: u16, down: u16) -> Option<([i16; 3], [i16; 3])>
     requires right { right + 1 ≤ 3 }
     requires down { down + 1 ≤ 3 }

@@ -1,4 +1,5 @@
-//! Images that are valid in a part: what is cleared, and what a function of two images writes.
+//! Images that are only partly valid: clearing outside the valid rectangle, and functions of two
+//! such images.
 ghost use Rattle.std.specs.Prelude.{◌≡◌, ◌<◌, ℕ, map, pos, length, get_or};
 ghost use Rattle.vx_base.specs.declared.format.Format.TheVariants.{U8};
 ghost use Rattle.vx_base.specs.Description.{sample_count};
@@ -13,7 +14,7 @@ use pixel_kernels::{bit_and, bit_xor};
 use std::test::Fail;
 use vx_base::{Desc, Format, Rect};
 
-/// Makes samples outside the rectangle 0.
+/// Sets the samples outside the rectangle to 0.
 fn clear(desc: Desc, valid: Rect, samples: &mut [u8])
     requires format { desc.format ≡ U8 }
     requires size { length samples.old ≡ sample_count desc }
@@ -26,7 +27,7 @@ fn clear(desc: Desc, valid: Rect, samples: &mut [u8])
     clear_to(&mut image, valid);
 }
 
-/// Makes this the valid rectangle of an image, and its samples outside 0.
+/// Sets the valid rectangle of an image, and the samples outside it to 0.
 fn clear_to(image: &mut ImageMut<'_>, valid: Rect)
     requires target { IsTarget image.old }
     requires rows { image.old.rows ≡ all_rows image.old.desc.height }
@@ -40,12 +41,12 @@ fn clear_to(image: &mut ImageMut<'_>, valid: Rect)
     image.clear_outside();
 }
 
-/// Each sample is a byte, which the prover knows where they are read.
+/// States for the prover that each sample is a byte.
 fn are_bytes(samples: &[u8])
     ensures { (k : ℕ) → get_or samples.now k 0 < 256 }
 {}
 
-/// The image of these samples, which are 0 outside the rectangle from here on.
+/// Returns the image of these samples, after setting those outside the rectangle to 0.
 pub fn lend(desc: Desc, valid: Rect, samples: &mut [u8]) -> Image<'_>
     requires format { desc.format ≡ U8 }
     requires size { length samples.old ≡ sample_count desc }
@@ -60,8 +61,8 @@ pub fn lend(desc: Desc, valid: Rect, samples: &mut [u8]) -> Image<'_>
     Image::new(desc, valid, samples)
 }
 
-/// Exclusive or of the samples 1, 2 and on of a 3 by 2 image with 16 everywhere, each valid in its
-/// rectangle; and where the result is valid.
+/// Returns the exclusive or of a 3 by 2 image of samples 1, 2, .. and one of 16 everywhere, and its
+/// valid rectangle. Each input is valid in its own rectangle.
 fn xor(left: Rect, right: Rect) -> ([u8; 6], Rect)
     requires left { IsWithin left 3 2 }
     requires right { IsWithin right 3 2 }
@@ -99,7 +100,8 @@ fn valid_where_both_are(rt: HostRuntime) -> Result<(), Fail> {
     Ok(())
 }
 
-/// And of two 4 by 1 images of 255, each valid in its half; and where the result is valid.
+/// Returns the And of two 4 by 1 images of 255, each valid in its own half, and its valid
+/// rectangle.
 fn and_of_halves() -> Option<([u8; 4], Rect)> {
     let desc = Desc::new(4, 1, Format::U8)?;
     let (mut first, mut second, mut output) = ([255; 4], [255; 4], [77; 4]);

@@ -14,7 +14,7 @@ use window_kernels::{box3, convolve, dilate3, erode3, gaussian3, median3, sobel3
 /// The samples of a 3 by 3 image.
 const SAMPLES: [u8; 9] = [1, 2, 9, 3, 4, 8, 5, 6, 7];
 
-/// The medians and the means of this image where it is valid in a part; and where they are valid.
+/// Returns the medians and the means of the image with this valid rectangle, and theirs.
 fn smoothed(valid: Rect, border: Border) -> ([u8; 9], [u8; 9], Rect)
     requires { IsWithin valid 3 3 }
 {
@@ -54,7 +54,7 @@ fn nine_samples(rt: HostRuntime) -> Result<(), Fail> {
     Ok(())
 }
 
-/// The weighted means, the least and the greatest of the nine samples around each place.
+/// Returns the weighted means, the minima and the maxima of the nine samples around each pixel.
 fn filtered(border: Border) -> Option<[[u8; 9]; 3]> {
     let desc = Desc::new(3, 3, Format::U8)?;
     let mut samples = SAMPLES;
@@ -82,7 +82,7 @@ fn weighted_least_greatest(rt: HostRuntime) {
     assert!(rt; filtered(Border::Replicate) == Some(moved));
 }
 
-/// The changes around each place, from left to right and from above to below.
+/// Returns the horizontal and the vertical gradient at each pixel.
 fn gradients(border: Border) -> Option<[[i16; 9]; 2]> {
     let desc = Desc::new(3, 3, Format::S16)?;
     let mut samples = SAMPLES;
@@ -111,7 +111,8 @@ fn both_gradients(rt: HostRuntime) {
     assert!(rt; gradients(Border::Replicate) == Some(moved));
 }
 
-/// What a matrix of 5 columns and 3 rows gives, as U8 and as S16, and where the latter is valid.
+/// Returns the convolution with a matrix of 5 columns and 3 rows, as U8 and as S16, and the valid
+/// rectangle of the latter.
 fn convolved(exponent: u8, border: Border) -> Option<([u8; 9], [i16; 9], Rect)> {
     let desc = Desc::new(3, 3, Format::U8)?;
     let mut samples = SAMPLES;
@@ -149,8 +150,8 @@ fn matrix_of_five_by_three(rt: HostRuntime) -> Result<(), Fail> {
     Ok(())
 }
 
-/// What the least coefficients of the largest matrix give of 255 everywhere, as U8 and as S16, and
-/// where it is valid.
+/// Returns the convolution of 255 everywhere with the largest matrix of least coefficients, as U8
+/// and as S16, and its valid rectangle.
 fn greatest_sum(exponent: u8) -> Option<([u8; 81], [i16; 81], Rect)> {
     let desc = Desc::new(9, 9, Format::U8)?;
     let mut samples = [255; 81];
@@ -176,7 +177,7 @@ fn greatest_sums(rt: HostRuntime) -> Result<(), Fail> {
     Ok(())
 }
 
-/// What a window of two samples to either side sees in row y, before it is loaded and after.
+/// Returns the row of a window of radius 2, before row y is loaded into it and after.
 fn seen(alloc: Global, y: i32, border: Border) -> Result<[Vec<u8>; 2], Fail> {
     let desc = Desc::new(3, 3, Format::U8).ok_or("a description")?;
     let whole = Rect::new(0, 0, 3, 3).ok_or("a rectangle")?;
@@ -215,8 +216,8 @@ fn text_of_an_image(rt: HostRuntime) -> Result<(), Fail> {
     Ok(())
 }
 
-/// What the valid samples of a 6 by 1 image come to: counts in 4 bins from 10 to 19, the integral,
-/// and the extremes.
+/// Returns the statistics of the valid samples of a 6 by 1 image: counts in 4 bins from 10 to 19,
+/// the integral image, and the extremes.
 fn counted(valid: Rect) -> Option<([u32; 4], [u32; 6], Extremes)>
     requires { IsWithin valid 6 1 }
 {

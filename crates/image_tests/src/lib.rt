@@ -1,15 +1,15 @@
-//! Tests of the public calls on images, of what no stream of bytes through the program shows:
-//! images that are valid in a part, bands of rows, and kernels at lengths around that of a block.
-//! `tools/check_functions` shows the rest on the program.
+//! Tests of the public functions on images, for cases that no stream of requests reaches: images
+//! that are only partly valid, bands of rows, and kernels at lengths around that of a block.
+//! `tools/check_functions` tests the rest on the program.
 //!
 //! - `values`: rectangles, codes and tables
-//! - `images`: images that are valid in a part
-//! - `accumulation`: samples that are added to what the output holds
-//! - `bands`: a few rows of an image alone
+//! - `images`: images that are only partly valid
+//! - `accumulation`: functions that add to their output
+//! - `bands`: bands of rows
 //! - `rows`: the kernels of lane_rows, at lengths around that of a block
-//! - `kernels`, `texts`: windows, statistics and PGM texts, by the calls of their crates
+//! - `kernels`, `texts`: windows, statistics and PGM texts, by the functions of their crates
 //! - `statistics`: extremes, counts and running sums of rows, at such lengths
-//! - `wide`: windows of rows that convolution computes in pieces
+//! - `wide`: rows that are wider than the pieces in which convolution computes them
 //! - `windows`: kernels of windows, at lengths and sizes around that of a block
 #![tactic(auto)]
 

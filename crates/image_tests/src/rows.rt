@@ -1,5 +1,5 @@
 //! The kernels of lane_rows, at lengths around that of a block: each item that is written is the
-//! formula of the items at its place, and no other is touched.
+//! formula of the items at its index, and no other item changes.
 ghost use Rattle.std.specs.Prelude.{◌≤◌};
 ghost use Rattle.vx_base.specs.Pixelwise.{not_bits};
 
@@ -14,15 +14,15 @@ use vx_base::{Format, Policy, ThresholdKind, ThresholdRule};
 
 const LENGTHS: [usize; 9] = [0, 1, 15, 16, 17, 31, 33, 64, 65];
 
-/// The ends of U8 and numbers between them; of S16.
+/// The extremes of U8 and numbers between them; the same for S16.
 const BYTES: [u8; 8] = [0, 255, 1, 254, 128, 127, 3, 77];
 
 const SHORTS: [i16; 8] = [0, 32_767, -32_768, -1, 1, 255, -3, 100];
 
-/// The ends of 32 bits and numbers between them.
+/// The extremes of 32 bits and numbers between them.
 const NUMBERS: [i32; 8] = [0, -1, 7, -9, 2_040, -300_000, i32::MAX, i32::MIN];
 
-/// Each of eight numbers in turn.
+/// Returns eight numbers over and over, in turn.
 fn in_turn<T: Copy>(numbers: &[T; 8]) -> [T; 65] {
     let mut items = [numbers[0]; 65];
     for (i, item) in items.iter_mut().enumerate() {
@@ -31,7 +31,7 @@ fn in_turn<T: Copy>(numbers: &[T; 8]) -> [T; 65] {
     items
 }
 
-/// Each of eight numbers eight times: beside `in_turn`, each with each.
+/// Returns each of eight numbers eight times: paired with `in_turn`, every pair occurs.
 fn in_runs<T: Copy>(numbers: &[T; 8]) -> [T; 65] {
     let mut items = [numbers[0]; 65];
     for (i, item) in items.iter_mut().enumerate() {
@@ -89,7 +89,7 @@ macro_rules! assert_pairs {
 }
 
 /// Adds a row of bytes to sums at each length, and compares each sum with the formula of the byte
-/// at its place and of what stood there.
+/// and the old sum at its index.
 macro_rules! assert_sums {
     ($rt:expr;
         |$row:ident, $sums:ident| $call:expr;
@@ -113,8 +113,8 @@ macro_rules! assert_sums {
     };
 }
 
-/// Calls a kernel of two rows that narrows the formula, under each policy at each length: `wrapped`
-/// and `nearest` say what a number becomes.
+/// Calls a kernel of two rows that narrows the formula, under each policy at each length. `wrapped`
+/// and `nearest` give the narrowed number.
 macro_rules! assert_narrowed {
     ($rt:expr, $numbers:expr, $blank:expr, $wrapped:ident, $nearest:ident;
         |$first:ident, $second:ident, $policy:ident, $out:ident| $call:expr;
@@ -130,7 +130,7 @@ macro_rules! assert_narrowed {
     }};
 }
 
-/// `assert_narrowed!` of a kernel to U8, and of one to S16.
+/// `assert_narrowed!` for a kernel to U8, and for one to S16.
 macro_rules! assert_bytes {
     ($rt:expr; $($kernel:tt)*) => {
         assert_narrowed!($rt, &BYTES, 77u8, wrapped_byte, nearest_byte; $($kernel)*)
@@ -143,7 +143,7 @@ macro_rules! assert_shorts {
     };
 }
 
-/// The number of 16 bits that agrees with this one modulo 65,536.
+/// Returns the 16-bit number that is congruent modulo 65,536.
 fn wrapped(number: i32) -> i16 {
     let rest = number.rem_euclid(65_536);
     if rest < 32_768 {
@@ -153,17 +153,17 @@ fn wrapped(number: i32) -> i16 {
     }
 }
 
-/// The nearest number of 16 bits.
+/// Returns the nearest 16-bit number.
 fn nearest(number: i32) -> i16 {
     number.max(-32_768).min(32_767) as i16
 }
 
-/// What is left of a number in eight bits.
+/// Returns the low eight bits of a number.
 fn wrapped_byte(number: i32) -> u8 {
     number.rem_euclid(256) as u8
 }
 
-/// The nearest number of eight bits.
+/// Returns the nearest eight-bit number.
 fn nearest_byte(number: i32) -> u8 {
     number.max(0).min(255) as u8
 }
@@ -298,7 +298,7 @@ fn accumulated(rt: HostRuntime) {
         |x, sum| nearest(sum + x * x / 32_768));
 }
 
-/// A number over a power of two, rounded toward zero.
+/// Returns a number divided by a power of two, rounded toward zero.
 fn over(number: i32, exponent: u32) -> i32
     requires { exponent ≤ 31 }
 {

@@ -1,4 +1,4 @@
-//! PGM texts: pictures, and texts that stand for none.
+//! PGM texts: pictures, and texts that encode none.
 use pgm_images::{PgmFault, read};
 use std::test::Fail;
 use vx_base::{Desc, Format, Samples};
@@ -18,7 +18,7 @@ fn pictures(rt: HostRuntime) -> Result<(), Fail> {
     Ok(())
 }
 
-/// Why a text stands for no picture.
+/// Returns the fault of a text, or `None` if it encodes a picture.
 fn fault(rt: HostRuntime, text: &[u8]) -> Option<PgmFault> {
     read(rt.alloc(), text).err()
 }

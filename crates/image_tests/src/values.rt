@@ -1,4 +1,4 @@
-//! Rectangles, codes and tables: values of the field that no request shows.
+//! Rectangles, codes and tables: cases that no request reaches.
 use std::test::Fail;
 use vx_base::{Code, Format, Lut, Rect, Samples};
 

@@ -1,12 +1,12 @@
-//! Rows that are wider than the pieces in which convolution computes them, of 1,024 columns.
+//! Rows that are wider than the pieces of 1,024 columns in which convolution computes them.
 
 use crate::images::lend;
 use image_core::ImageMut;
 use vx_base::{Border, Convolution, Desc, Format, Rect};
 use window_kernels::{box3, convolve, median3, sobel3};
 
-/// The means and the medians in columns 1021 to 1027 of a row of 1,030 samples, all 0 but for 90
-/// and 180 on either side of where its pieces meet.
+/// Returns the means and the medians in columns 1021 to 1027 of a row of 1,030 samples. All samples
+/// are 0 but for 90 and 180 on either side of the boundary between the pieces.
 fn smoothed() -> Option<([u8; 7], [u8; 7])> {
     let desc = Desc::new(1030, 1, Format::U8)?;
     let mut samples = [0; 1030];
@@ -37,8 +37,8 @@ fn pieces_meet_in_a_row(rt: HostRuntime) {
     assert!(rt; smoothed() == Some((means, medians)));
 }
 
-/// The changes there, by the first gradient and by a matrix of the samples to the right less those
-/// to the left.
+/// Returns the horizontal gradient there, by Sobel and by a matrix of the right neighbours minus
+/// the left ones.
 fn changes() -> Option<([i16; 7], [i16; 7])> {
     let desc = Desc::new(1030, 1, Format::U8)?;
     let wide = Desc::new(1030, 1, Format::S16)?;

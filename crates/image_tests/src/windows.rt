@@ -1,5 +1,5 @@
-//! Kernels of windows: nine rows of lane_rows at lengths around that of a block, and whole images
-//! under each border, of sizes around it.
+//! Kernels of windows: kernels of nine rows in lane_rows at lengths around that of a block, and
+//! whole images of sizes around it under each border.
 ghost use Rattle.std.specs.Prelude.{◌≡◌, ◌<◌, ◌≤◌, length};
 ghost use Rattle.vx_base.specs.declared.format.Format.TheVariants.{U8, S16};
 ghost use Rattle.lane_rows.specs.Windows.{places};
@@ -13,12 +13,12 @@ use window_kernels::{box3, dilate3, erode3, gaussian3, median3, sobel3};
 
 const LENGTHS: [usize; 9] = [0, 1, 15, 16, 17, 31, 33, 64, 65];
 
-/// The greatest of the lengths and of the widths.
+/// The greatest length and width.
 const LONGEST: usize = 65;
 
 const WIDTHS: [u16; 7] = [1, 2, 15, 16, 17, 33, 65];
 
-/// The samples of the largest image: 65 by 4.
+/// The number of samples of the largest image: 65 by 4.
 const SAMPLES: usize = 260;
 
 const BORDERS: [Border; 3] = [Border::Undefined, Border::Constant(9), Border::Replicate];
@@ -35,7 +35,7 @@ enum Function {
     SobelY,
 }
 
-/// A byte that looks like any other.
+/// Returns a pseudorandom byte.
 fn noise(i: usize) -> u8 {
     let [_, _, _, high] = ((i % 65_536) as u32)
         .wrapping_mul(2_654_435_761)
@@ -43,7 +43,7 @@ fn noise(i: usize) -> u8 {
     high
 }
 
-/// The sum of nine samples, each times its weight.
+/// Returns the weighted sum of nine samples.
 fn weighted(nine: &[u8; 9], weights: [i32; 9]) -> i32 {
     let mut sum = 0i32;
     for i in 0..9 {
@@ -52,7 +52,7 @@ fn weighted(nine: &[u8; 9], weights: [i32; 9]) -> i32 {
     sum
 }
 
-/// The one of the nine that at most four are below and at most four above.
+/// Returns the median: at most four of the nine samples are below it, and at most four above.
 fn median_of(nine: &[u8; 9]) -> u8 {
     for i in 0..9 {
         let middle = nine[i];
@@ -65,7 +65,7 @@ fn median_of(nine: &[u8; 9]) -> u8 {
     0
 }
 
-/// What the function gives of nine samples, by rows from above to below.
+/// Returns the function of nine samples, which are given row by row from the top.
 fn formula(function: Function, nine: &[u8; 9]) -> i32 {
     match function {
         Function::Box => weighted(nine, [1; 9]).wrapping_div(9),
@@ -78,7 +78,7 @@ fn formula(function: Function, nine: &[u8; 9]) -> i32 {
     }
 }
 
-/// Nine rows of bytes.
+/// Returns nine rows of bytes.
 fn nine_rows() -> [[u8; LONGEST]; 9] {
     let mut rows = [[0; LONGEST]; 9];
     for l in 0..9 {
@@ -89,7 +89,7 @@ fn nine_rows() -> [[u8; LONGEST]; 9] {
     rows
 }
 
-/// Their bytes at one place.
+/// Returns their bytes at one index.
 fn nine_at(rows: &[[u8; LONGEST]; 9], i: usize) -> [u8; 9]
     requires { i < 65 }
 {
@@ -100,7 +100,7 @@ fn nine_at(rows: &[[u8; LONGEST]; 9], i: usize) -> [u8; 9]
     nine
 }
 
-/// The first bytes of three rows.
+/// Returns the first `count` bytes of three rows.
 fn three_of<'a>(
     left: &'a [u8; LONGEST],
     middle: &'a [u8; LONGEST],
@@ -117,7 +117,7 @@ fn three_of<'a>(
     }
 }
 
-/// The windows at the first places of nine rows.
+/// Returns the first `count` windows of nine rows.
 fn windows(rows: &[[u8; LONGEST]; 9], count: usize) -> Nine<'_>
     requires { count ≤ 65 }
     ensures { places result ≡ count }
@@ -129,7 +129,8 @@ fn windows(rows: &[[u8; LONGEST]; 9], count: usize) -> Nine<'_>
     }
 }
 
-/// Whether the first `count` numbers are what the function gives of nine rows, and the others 77.
+/// Returns whether the first `count` numbers are the function of nine rows, and the others still
+/// 77.
 fn are_of_nine<T: Copy + Into<i32>>(
     function: Function,
     rows: &[[u8; LONGEST]; 9],
@@ -150,7 +151,7 @@ fn are_of_nine<T: Copy + Into<i32>>(
     true
 }
 
-/// Whether a kernel of nine rows gives what its function does, and writes no more.
+/// Returns whether a kernel of nine rows agrees with its function, and writes nothing more.
 fn bytes_of_nine(function: Function, count: usize) -> bool
     requires { count ≤ 65 }
 {
@@ -188,7 +189,7 @@ fn nine_rows_at_each_length(rt: HostRuntime) {
     }
 }
 
-/// An image of noise that is valid from a column on, and a border.
+/// An image of noise that is valid from some column on, and a border.
 #[derive(Clone, Copy)]
 struct Case {
     width: u16,
@@ -197,7 +198,7 @@ struct Case {
     border: Border,
 }
 
-/// What is seen at a place of the case's image.
+/// Returns the sample at a pixel of the case's image, under its border.
 fn seen(case: &Case, x: i32, y: i32) -> u8 {
     let (first, last) = (i32::from(case.first), i32::from(case.width) - 1);
     let (column, row) = (
@@ -213,7 +214,7 @@ fn seen(case: &Case, x: i32, y: i32) -> u8 {
     }
 }
 
-/// The nine samples around a place.
+/// Returns the nine samples around a pixel.
 fn nine_around(case: &Case, x: u16, y: u16) -> [u8; 9] {
     let mut nine = [0; 9];
     let (x, y) = (i32::from(x), i32::from(y));
@@ -226,7 +227,7 @@ fn nine_around(case: &Case, x: u16, y: u16) -> [u8; 9] {
     nine
 }
 
-/// Writes what a function gives U8 samples of.
+/// Writes a function whose results are U8.
 fn write_bytes(function: Function, image: &Image<'_>, output: &mut ImageMut<'_>, border: Border)
     requires { WindowFits U8 image.now output.old }
 {
@@ -239,7 +240,7 @@ fn write_bytes(function: Function, image: &Image<'_>, output: &mut ImageMut<'_>,
     }
 }
 
-/// Writes what a function gives S16 samples of.
+/// Writes a function whose results are S16.
 fn write_shorts(function: Function, image: &Image<'_>, output: &mut ImageMut<'_>, border: Border)
     requires { WindowFits S16 image.now output.old }
 {
@@ -249,7 +250,7 @@ fn write_shorts(function: Function, image: &Image<'_>, output: &mut ImageMut<'_>
     }
 }
 
-/// The samples of the case's image, and more.
+/// Returns the samples of the case's image; smaller images use the first of them.
 fn samples() -> [u8; SAMPLES] {
     let mut samples = [0; SAMPLES];
     for (i, sample) in samples.iter_mut().enumerate() {
@@ -258,7 +259,7 @@ fn samples() -> [u8; SAMPLES] {
     samples
 }
 
-/// Writes what a function gives of the case's image, and returns where that is valid.
+/// Writes the function of the case's image, and returns the valid rectangle of the result.
 fn bytes_of(case: &Case, function: Function, to: &mut [u8]) -> Option<Rect> {
     let desc = Desc::new(case.width, case.height, Format::U8)?;
     let valid = Rect::new(case.first, 0, case.width, case.height)?;
@@ -280,8 +281,7 @@ fn shorts_of(case: &Case, function: Function, to: &mut [i16]) -> Option<Rect> {
     Some(target.valid())
 }
 
-/// Whether these are the samples of a row that the function gives where they are valid, and 0 where
-/// they aren't.
+/// Returns whether a row has the function's samples inside the valid rectangle, and 0 outside it.
 fn are_of_row<T: Copy + Into<i32>>(
     case: &Case,
     function: Function,
@@ -305,7 +305,7 @@ fn are_of_row<T: Copy + Into<i32>>(
     true
 }
 
-/// Whether these are the samples of the image that the function gives, and where they are valid.
+/// Returns whether an image has the function's samples, and the right valid rectangle.
 fn are_of_image<T: Copy + Into<i32>>(
     case: &Case,
     function: Function,
@@ -330,7 +330,7 @@ fn are_of_image<T: Copy + Into<i32>>(
     true
 }
 
-/// Whether a function gives what it should of an image.
+/// Returns whether a function is right on the case's image.
 fn agrees(case: &Case, function: Function) -> bool {
     match function {
         Function::SobelX | Function::SobelY => {
@@ -346,8 +346,8 @@ fn agrees(case: &Case, function: Function) -> bool {
     }
 }
 
-/// Whether it does under each border, of whole images and of images that are valid from column 1
-/// on.
+/// Returns whether it is right under each border, on whole images and on images that are valid from
+/// column 1 on.
 fn agrees_at(width: u16, height: u16, function: Function) -> bool {
     for border in BORDERS {
         for first in 0..width.min(2) {
@@ -365,7 +365,7 @@ fn agrees_at(width: u16, height: u16, function: Function) -> bool {
     true
 }
 
-/// Whether it does at each width and height.
+/// Returns whether it is right at each width and height.
 fn agrees_at_all(function: Function) -> bool {
     for width in WIDTHS {
         for height in 1..5 {

@@ -37,7 +37,7 @@ module _ (t : Context) (next : ℕ) (entries : List (ℕ × Entry)) (view : ◌�
 
 -- ---- several names, one after the other
 
--- a name that stands nowhere among those before
+-- one more name, which does not occur among those before
 pub aged_more : (names : List ℕ) (k d : ℕ) (objects : List Named) → AllPairs (λ a b. a ≢ b) names → k < length names → aged_under (get_or names k d ∷ []) (aged_under (take k names) objects) ≡ aged_under (take (k + 1) names) objects
 aged_more names k d [] apart there = refl
 aged_more names k d (o ∷ objects) apart there =
@@ -62,7 +62,7 @@ aged_more names k d (o ∷ objects) apart there =
 pub aged_none : (objects : List Named) → aged_under [] objects ≡ objects
 aged_none objects = map-id objects
 
--- ---- what is held then
+-- ---- the objects held after aging
 
 pub held_aged : (names : List ℕ) (objects : List Named) (name : ℕ)
     → object_held (aged_under names objects) name ≡ option_map (λ object. if list_any (λ n. n == name) names then aged_object object else object) (object_held objects name)

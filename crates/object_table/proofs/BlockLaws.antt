@@ -1,4 +1,4 @@
--- In how many blocks objects have their samples is told by their skeletons.
+-- The skeletons of objects determine how many blocks they occupy.
 use Rattle.std.proofs.Common.{◌≡◌, ℕ, ◌+◌, List, [], ◌∷◌, ◌++◌, map, refl, sym, ap, ◌∙◌, sum}
 use Rattle.object_table.proofs.Common.{sum_by_push, Format, ImageValue, ObjectValue, DelayObject, image_blocks, object_blocks, blocks_in, Named, image_skeleton, skeleton, sum_map}
 use Rattle.std.proofs.lemmas.List.Sums.{sum-map}

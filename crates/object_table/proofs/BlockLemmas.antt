@@ -1,4 +1,4 @@
--- Blocks that are given back one by one: how many are lent, beside the sum over what has them still.
+-- Blocks that are given back one by one: how many are still lent, given those that the remaining objects occupy.
 use Rattle.std.proofs.Common.{◌≡◌, ℕ, ◌+◌, ◌≤◌, List, [], ◌∷◌, length, ap, arith, sum_by}
 use Rattle.object_table.proofs.Common.{sum_by-cons}
 

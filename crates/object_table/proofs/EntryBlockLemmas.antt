@@ -33,7 +33,7 @@ blocks-removed entries name old found format =
 
 -- ---- what is lent as the entries change
 
--- what is left of them has no more than are lent
+-- the objects that are left occupy no more blocks than are lent
 pub owns_after : (pool changed : Pool) (before after : List Named) → LendsAtLeast pool (blocks_in before) → Balances pool changed before after → LendsAtLeast changed (blocks_in after)
 owns_after pool changed before after owns balances format = omega (arith, owns format, balances format)
 
@@ -52,7 +52,7 @@ module _ (entries : List (ℕ × Entry)) (name : ℕ) (old new : Entry) (found :
   pub Balances-written : (pool : Pool) → Balances pool pool (map named entries) (map named written)
   Balances-written pool format = omega (arith, as_many format)
 
-  -- and what comes after it
+  -- and a change after it
   pub Balances-written_then : (pool changed : Pool) (after : List (ℕ × Entry)) → Balances pool changed (map named written) (map named after) → Balances pool changed (map named entries) (map named after)
   Balances-written_then pool changed after balances format = omega (arith, as_many format, balances format)
 
@@ -77,6 +77,6 @@ Balances-all pool changed before entries none balances format = omega (arith, ba
 no_blocks : (object : ObjectValue) → object_kind object ≡ kind.Graph → (format : Format) → object_blocks object format ≡ 0
 no_blocks object is format = grind arith
 
--- so a graph in a graph's place has as many
+-- so another graph under the same name occupies as many
 pub graph_blocks : (old new : ObjectValue) (graph : GraphValue) → object_kind old ≡ kind.Graph → new ≡ GraphObject graph → (format : Format) → object_blocks new format ≡ object_blocks old format
 graph_blocks old new graph of_graph is format = ap (λ o. object_blocks o format) is ∙ sym (no_blocks old of_graph format)

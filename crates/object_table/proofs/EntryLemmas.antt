@@ -16,7 +16,7 @@ use Rattle.object_table.specs.Table.{object_under, cell_object, image_held, Hold
 
 -- ---- keys
 
--- a key is found where it is the name
+-- a key is found exactly if it is the name
 pub same_name : (name other : ℕ) → is_at (nat_cmp name) other ≡ (other == name)
 same_name name other = grind (arith, cases_lt name other)
 
@@ -62,7 +62,7 @@ pub written : (entries : List (ℕ × Entry)) (cell : Cell) (old new : Entry) (o
 written [] cell old new object order found live is = cc
 written (e ∷ entries) cell old new object order found live is = grind (arith, written entries cell old new object (sorted_tail nat_cmp e.0 (keys_of entries) order), none_written entries cell object, past_head e entries cell.name order, same_name cell.name e.0)
 
--- what holds of the others, and of the new one where it did of the old one
+-- a property of all entries, which holds of the new entry if it held of the old one
 pub All-written : (P : ℕ × Entry → Type 0) (entries : List (ℕ × Entry)) (name : ℕ) (old new : Entry) → lookup (is_at (nat_cmp name)) entries ≡ Some old → ((k : ℕ) → P (k, old) → P (k, new)) → All P entries
     → All P (set_value (is_at (nat_cmp name)) entries new)
 All-written P [] name old new found still h = cc
@@ -95,7 +95,7 @@ pub insert_last : (entries : List (ℕ × Entry)) (name : ℕ) (new : Entry) →
 insert_last [] name new h = refl
 insert_last (e ∷ entries) name new h = grind (arith, insert_last entries name new (All-tail (λ e. e.0 < name) e entries h), All-tail, All-head)
 
--- a name stands nowhere among smaller ones
+-- a name does not occur among smaller ones
 pub times_none : (name : ℕ) (names : List ℕ) → All (λ other. other < name) names → 0 ≡ times name names
 times_none name [] h = refl
 times_none name (other ∷ names) h = grind (arith, times_none name names (All-tail (λ other. other < name) other names h), All-tail, sum_by-cons, All-head)
@@ -110,7 +110,7 @@ module _ (next charge : ℕ) (entries : List (ℕ × Entry)) (t : IsTable next c
   bytes_found : object_bytes old.object ≤ GREATEST_SLOTS * GREATEST_BYTES
   bytes_found = rw found at (All-lookup (λ (e : Entry). object_bytes e.object ≤ GREATEST_SLOTS * GREATEST_BYTES) (is_at (nat_cmp name)) entries t.each)
 
-  -- an object in its place, with the same nodes, leaves a table, whose charge is the new object's
+  -- replacing the object by one with the same nodes leaves a table; the charge changes to that of the new object
   pub IsTable-exchanged : (charged : ℕ) (new : Entry) → new.live ≡ old.live → new.uses ≡ old.uses → nodes_in new.object ≡ nodes_in old.object
       → object_bytes new.object ≤ GREATEST_SLOTS * GREATEST_BYTES → charged + object_bytes old.object ≡ charge + object_bytes new.object → IsTable next charged (set_value (is_at (nat_cmp name)) entries new)
   IsTable-exchanged charged new live uses nodes limit balance =

@@ -1,4 +1,4 @@
--- Nodes that come and go, the names that they use, and what is held then.
+-- Nodes that are added and removed, the names that they use, and the objects held after that.
 use Rattle.std.proofs.Common.{inl, inr, ◌≡◌, ℕ, ◌+◌, ◌-◌, ◌*◌, ◌<◌, ◌≤◌, zero, suc, Bool, true, false, cond, List, [], ◌∷◌, ◌++◌, Some, None, length, map, get_or, IsTrue, refl, sym, ap, subst, ◌∙◌, arith, rules, ◌==◌, ◌||◌, nat_lt, find, sum_by, is_some, eqb-true, ne_eqb, length-append, All, ◌&&◌, not, filter, ltb-true, take_at, drop_at}
 use Rattle.object_table.proofs.Common.{map-map, keys_of, lookup, set_value, list_any, flat_map, AllPairs, IsStrictlyIncreasing, is_at, nat_cmp, cases_Bool, and_parts, map-append, length-map, All-nil, All-cons, All-head, All-tail, All-map, All-weaker, All-filter, filter_passes, AllPairs-from_increasing, sum_by-cons, sum_by-le, count_by-le-length, keys-set_value, length-set_value, Kind, Node, Numbered, Cell, GraphValue, can_add, with_node, without_node, given, ObjectValue, GraphObject, object_bytes, object_kind, Entry, Context, charge_of, object_named, still_held, unnamed, Named, object_held, graph_value, named, used_more, used_less, is_kept, kept, IsTable, used_names, nodes_in, names_used_by, names_used, times, GREATEST_SLOTS, GREATEST_BYTES, nat_tests}
 use Rattle.std.proofs.lemmas.Bool.{false≢true}
@@ -20,12 +20,12 @@ use Rattle.object_table.proofs.SlotLemmas.{graph_of_kind}
 use Rattle.object_table.proofs.UseLemmas.{times-append}
 use Rattle.object_table.proofs.EntryLemmas.{none_named, InOrder, in_order, named_is, if_live, All-written, sum-written, charge_is}
 
--- ---- how often a name stands in a list
+-- ---- how often a name occurs in a list
 
 times-cons : (name other : ℕ) (names : List ℕ) → times name (other ∷ names) ≡ cond (name == other) 1 0 + times name names
 times-cons name other names = sum_by-cons (λ other. cond (name == other) 1 0) other names
 
--- whether a name stands there
+-- whether a name occurs in a list
 any_times : (name : ℕ) (names : List ℕ) → nat_lt 0 (times name names) ≡ list_any (λ other. name == other) names
 any_times name [] = refl
 any_times name (other ∷ names) = grind (arith, any_times name names, times-cons name other names)
@@ -261,13 +261,13 @@ module _ (f : ℕ → ℕ → ℕ) where
       → All (λ e. e.1.uses ≡ times e.0 (names_used (map named (recounted entries)))) (recounted entries)
   uses-recounted entries h = search (rules, named-recounted, All-map)
 
--- more uses keep what is held
+-- entries that are held stay held with more uses
 held-more : (names : List ℕ) (entries : List (ℕ × Entry)) → All (λ e. IsTrue (is_kept e)) entries → All (λ e. IsTrue (is_kept e)) (used_more names entries)
 held-more names entries h =
     All-map {X = ℕ × Entry} (λ e. IsTrue (is_kept e)) {Y = ℕ × Entry} (λ e. let n : Entry = e.1 in (e.0, record n { uses = n.uses + times e.0 names })) entries
     (All-weaker (λ e. IsTrue (is_kept e)) (λ e. (e.1.live || nat_lt 0 (e.1.uses + times e.0 names)) ≡ true) (λ e is. grind (arith, nat_tests, cases_Bool e.1.live)) entries h)
 
--- ---- what is held still
+-- ---- the objects that are still held
 
 -- keys in their order stay so where some go
 increasing-kept : (p : ℕ × Entry → Bool) (entries : List (ℕ × Entry)) → IsStrictlyIncreasing (map (λ (e : ℕ × Entry). e.0) entries) → IsStrictlyIncreasing (map (λ (e : ℕ × Entry). e.0) (filter p entries))
@@ -280,7 +280,7 @@ increasing-kept p (e ∷ entries) h =
     let all = increasing_from_pairs (e.0 ∷ keys) (AllPairs-cons (λ x y. x < y) e.0 keys first (AllPairs-from_increasing keys rest)) in
     elim (cases_Bool (p e)) [ inl k ↦ rw k all | inr k ↦ rw k rest ]
 
--- what goes isn't live, and so uses nothing
+-- an entry that is dropped isn't live, and so uses nothing
 used-kept : (entries : List (ℕ × Entry)) → flat_map used_by (kept entries) ≡ flat_map used_by entries
 used-kept [] = refl
 used-kept (e ∷ entries) = grind (arith, used-kept entries)
@@ -289,7 +289,7 @@ named-kept : (p : Named → Bool) (entries : List (ℕ × Entry)) → All (λ e.
 named-kept p [] h = refl
 named-kept p (e ∷ entries) h = grind (arith, named-kept p entries (All-tail (λ e. is_kept e ≡ p (named e)) e entries h), All-tail, All-head)
 
--- the entries that are kept show what is held still
+-- the view of the entries that are kept is the objects that are still held
 shown-kept : (entries : List (ℕ × Entry)) → All (λ e. e.1.uses ≡ times e.0 (names_used (map named entries))) entries → map named (kept entries) ≡ still_held (map named entries)
 shown-kept entries uses = grind (arith, named-kept, All-weaker, is_used_there)
 
@@ -376,9 +376,9 @@ module _ (next charge : ℕ) (entries : List (ℕ × Entry)) (h : IsTable next c
   entries-released : AreEntries next (set_value (is_at (nat_cmp name)) entries (record old { live = false }))
   entries-released = entries-after next charge entries h name old (record old { live = false }) found refl (λ few. few) refl (λ k given. All-nil (λ n. n < next))
 
--- ---- what is held once names are used less
+-- ---- the objects that are held after uses end
 
--- entries that were changed and counted anew, and what is left when those not held are gone
+-- entries with new use counts, and those that are left when entries no longer held are dropped
 pub record AreLeft (next : ℕ) (changed less : List (ℕ × Entry)) : Type 0 where
   pub table : IsTable next (charge_of (map named (kept less))) (kept less)
   pub shown : map named (kept less) ≡ still_held (map named changed)
@@ -404,7 +404,7 @@ module _ (next charge : ℕ) (entries : List (ℕ × Entry)) (h : IsTable next c
       (All-weaker (λ e. e.1.uses ≡ times e.0 (names_used (map named entries))) (λ e. e.1.uses - times e.0 gone ≡ times e.0 (names_used (map named then)))
       (λ e uses. omega (arith, uses, fewer e.0)) then (uses-after next charge entries h name old new found same)))
 
-  -- what is left
+  -- the entries that are left
   pub are-left : AreLeft next then less
   are-left =
       record {

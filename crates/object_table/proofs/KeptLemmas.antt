@@ -1,4 +1,4 @@
--- Entries that are held, and what is left of them when uses and names end.
+-- Entries that are held, and those that are left when uses and names end.
 use Rattle.std.proofs.Common.{◌≡◌, ℕ, ◌+◌, ◌-◌, true, false, cond, List, [], ◌∷◌, ◌++◌, length, map, IsTrue, Option, Some, None, refl, sym, ap, ◌∙◌, arith, ◌==◌, nat_lt, ◌||◌, unwrap_or, All}
 use Rattle.object_table.proofs.Common.{keys_of, lookup, set_value, remove_entry, is_at, nat_cmp, option_map, cases_Bool, length-map, All-head, All-tail, filter_passes, sorted_tail, Numbered, object_bytes, object_kind, Entry, charge_of, unnamed, named, is_kept, kept, nodes_at, used_less, ended, nodes_in, times, nat_tests}
 use Rattle.std.proofs.lemmas.Bool.{or_left}
@@ -6,7 +6,7 @@ use Rattle.std.proofs.lemmas.Bool.{or_parts}
 use Rattle.object_table.proofs.EntryLemmas.{InOrder, same_name, past_head, charge_is, All-written, sum-written, sum-removed}
 use Rattle.object_table.proofs.UseLemmas.{with_uses, less, less_is, used-append, used-nil, shown-used}
 
--- ---- what is kept
+-- ---- the entries that are kept
 
 pub all_kept : (entries : List (ℕ × Entry)) → All (λ e. IsTrue (is_kept e)) entries → kept entries ≡ entries
 all_kept [] h = refl
@@ -53,7 +53,7 @@ charge-removed entries name old found =
 
 -- ---- uses that end
 
--- the entries, once so many uses end
+-- the entries after one use of each of these names ends
 abbrev pub left_of : List ℕ → List (ℕ × Entry) → List (ℕ × Entry)
 left_of names entries = kept (used_less names entries)
 
@@ -79,7 +79,7 @@ module _ (graph : ℕ) (names : List ℕ) (old now : List (ℕ × Entry)) (then 
       ap (lookup (is_at (nat_cmp graph))) then
       ∙ kept-live (used_less names old) graph (shown-used less less_is (λ live object. live) graph names old ∙ live)
 
-  -- what is held under the name stays of its kind
+  -- the object that is held under the name keeps its kind
   pub kind_kept : option_map (λ e. object_kind e.object) (lookup (is_at (nat_cmp graph)) now) ≡ option_map (λ e. object_kind e.object) (lookup (is_at (nat_cmp graph)) old)
   kind_kept = ap (option_map (λ (e : Entry). object_kind e.object)) found-left ∙ shown-used less less_is (λ live object. object_kind object) graph names old
 
@@ -122,7 +122,7 @@ ended-less : (name : ℕ) (names : List ℕ) (entries : List (ℕ × Entry)) →
 ended-less name names [] = refl
 ended-less name names (e ∷ entries) = grind (arith, ended-less name names entries, cases_Bool (e.0 == name))
 
--- uses that end and then the name, as at once
+-- ending uses and then a name gives the same as ending both together
 pub left-ended : (entries now next : List (ℕ × Entry)) (names : List ℕ) (name : ℕ) (old : Entry) → InOrder entries → lookup (is_at (nat_cmp name)) entries ≡ Some old
     → now ≡ left_of names entries → next ≡ kept (ended name now) → next ≡ left_of names (set_value (is_at (nat_cmp name)) entries (record old { live = false }))
 left-ended entries now next names name old order found so_far then =

@@ -1,4 +1,4 @@
--- What the skeleton of an object tells, and writes that keep it.
+-- What the skeleton of an object determines, and writes that keep it.
 use Rattle.std.proofs.Common.{◌≡◌, ℕ, List, map, get_or, set, Option, Some, None, arith, refl, sym, ap, ◌∙◌, slice_get}
 use Rattle.object_table.proofs.Common.{option_map, get_or_from_slice_get, map-map, ImageValue, description_of, ObjectValue, ImageObject, DelayObject, IsObject, object_kind, object_bytes, image_bytes, in_slot, with_slot, image_skeleton, skeleton, sum_map}
 use Rattle.std.specs.Option.{option_and_then}
@@ -8,10 +8,10 @@ use Rattle.std.proofs.Math.Path.{fun_ext}
 use Rattle.object_table.specs.Delay.{slot_kind}
 use Rattle.object_table.proofs.SlotLemmas.{IsDelay-set}
 
--- ---- what is told by something else
+-- ---- functions that are determined by another
 
 module _ {X Y Z : Type 0} (f : X → Y) (g : X → Z) (h : Y → Z) (told : (x : X) → h (f x) ≡ g x) where
-  -- what is told of each element is the same of lists of which that is the same
+  -- lists that agree under f agree under g, if f determines g
   pub map-told : (xs ys : List X) → map f xs ≡ map f ys → map g xs ≡ map g ys
   map-told xs ys same = sym (through xs) ∙ ap (map h) same ∙ through ys
     where
@@ -22,7 +22,7 @@ module _ {X Y Z : Type 0} (f : X → Y) (g : X → Z) (h : Y → Z) (told : (x :
   pub option_map-told : (one other : Option X) → option_map f one ≡ option_map f other → option_map g one ≡ option_map g other
   option_map-told one other same = grind (arith, told)
 
--- ---- what the skeleton tells
+-- ---- what the skeleton determines
 
 pub kind-skeleton : (object : ObjectValue) → object_kind (skeleton object) ≡ object_kind object
 kind-skeleton object = grind arith
@@ -34,7 +34,7 @@ pub bytes-skeleton : (object : ObjectValue) → object_bytes (skeleton object) �
 bytes-skeleton (DelayObject images) = sym (sum_map image_bytes image_skeleton images)
 bytes-skeleton other = refl
 
--- what stands in a slot has the skeleton that stands there
+-- the skeleton of the object in a slot is in that slot of the skeleton
 pub in_slot-skeleton : (slot : Option ℕ) (object : ObjectValue) → in_slot slot (skeleton object) ≡ option_map skeleton (in_slot slot object)
 in_slot-skeleton slot object = grind (arith, slice_get-map image_skeleton)
 
@@ -54,7 +54,7 @@ skeletons-set images k image same = map-set_same image_skeleton images k image i
     as_there None e is = absurd (cc)
     as_there (Some old) e is = grind (arith, get_or_from_slice_get images k old image e)
 
--- so does any object in the place of one of its skeleton
+-- replacing an object in a slot by one of its skeleton keeps the skeleton
 pub skeleton-with_slot : (slot : Option ℕ) (new object : ObjectValue) → option_map skeleton (in_slot slot object) ≡ Some (skeleton new)
     → skeleton (with_slot slot new object) ≡ skeleton object
 skeleton-with_slot slot new object same = grind (arith, skeletons-set)

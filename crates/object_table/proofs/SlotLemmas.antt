@@ -1,17 +1,17 @@
--- What stands in slots, and what is written there.
+-- Objects in slots, and writes to slots.
 use Rattle.std.proofs.Common.{◌≡◌, ◌≢◌, ℕ, IsTrue, List, length, map, set, Option, Some, None, IfSome, refl, sym, subst, arith, is_some, slice_get, length-set, set-set, get_or-set_same, get_or-set_other}
 use Rattle.object_table.proofs.Common.{option_map, AllPairs, cases_lt, get_or_from_slice_get, Description, ImageValue, IsImage, description_of, ObjectValue, ImageObject, GraphObject, DelayObject, IsObject, IsDelay, object_kind, in_slot, object_in, with_slot, HasImage, graph_value, image_value}
 use Rattle.std.proofs.lemmas.List.Elements.{All-set}
 use Rattle.std.proofs.lemmas.Option.{slice_get_past, slice_get_within, slice_get-get_or}
 use Rattle.vx_base.specs.declared.kind.Kind.TheVariants as kind
 
--- ---- what is there
+-- ---- objects in slots
 
--- what is there is what stands in the slot
+-- a slot that exists has its object
 pub there_is : (slot : Option ℕ) (object : ObjectValue) → IsTrue (is_some (in_slot slot object)) → in_slot slot object ≡ Some (object_in slot object)
 there_is slot object h = grind arith
 
--- in a slot of a delay stands an image
+-- a slot of a delay has an image
 pub slot_has_image : (k : ℕ) (object : ObjectValue) → IsTrue (is_some (in_slot (Some k) object)) → HasImage (Some k) object
 slot_has_image k object h = grind arith
 
@@ -21,11 +21,11 @@ image_of_kind object h = grind arith
 pub graph_of_kind : (object : ObjectValue) → object_kind object ≡ kind.Graph → object ≡ GraphObject (graph_value object)
 graph_of_kind object h = grind arith
 
--- where an image stands, something is there, and it is one
+-- a slot with an image exists, and its object is that image
 pub image_there : (slot : Option ℕ) (object : ObjectValue) → HasImage slot object → IsTrue (is_some (in_slot slot object)) × (object_in slot object ≡ ImageObject (image_value (object_in slot object)))
 image_there slot object h = grind (arith, image_of_kind)
 
--- what stands in a slot is an object
+-- the object in a slot is valid
 pub IsObject-in_slot : (slot : Option ℕ) (object : ObjectValue) → IsObject object → IfSome (in_slot slot object) IsObject
 IsObject-in_slot None object h = h
 IsObject-in_slot (Some k) (DelayObject images) h =
@@ -42,7 +42,7 @@ IsObject-in_slot (Some k) other h = tt
 pub with_slot_twice : (slot : Option ℕ) (image : ImageValue) (left object : ObjectValue) → with_slot slot (ImageObject image) (with_slot slot left object) ≡ with_slot slot (ImageObject image) object
 with_slot_twice slot image left object = grind (arith, set-set)
 
--- an image that is written stands there
+-- an image that is written to a slot is in it
 pub with_slot_there : (slot : Option ℕ) (image : ImageValue) (object : ObjectValue) → HasImage slot object → in_slot slot (with_slot slot (ImageObject image) object) ≡ Some (ImageObject image)
 with_slot_there None image object h = refl
 with_slot_there (Some k) image (DelayObject images) h =
@@ -56,7 +56,7 @@ with_slot_there (Some k) image (DelayObject images) h =
     )
 with_slot_there (Some k) image other h = cc
 
--- what stands in another slot stays
+-- other slots don't change
 pub with_slot_beside : (j k : ℕ) (new object : ObjectValue) → j ≢ k → in_slot (Some j) (with_slot (Some k) new object) ≡ in_slot (Some j) object
 with_slot_beside j k (ImageObject image) (DelayObject images) apart =
     grind (

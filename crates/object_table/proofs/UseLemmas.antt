@@ -1,14 +1,14 @@
--- How often nodes use what is held.
+-- How often nodes use each object.
 use Rattle.std.proofs.Common.{◌≡◌, ℕ, ◌+◌, ◌-◌, ◌<◌, ◌≤◌, Bool, cond, List, [], ◌∷◌, ◌++◌, length, map, get_or, take, Option, Some, None, refl, sym, ap, ◌∙◌, arith, ◌==◌, All}
 use Rattle.object_table.proofs.Common.{nat_cmp, keys_of, lookup, set_value, is_at, flat_map, option_map, map-append, length-map, get_or-map, All-map, sum_by-append, count_by-le-length, sorted_tail, Node, Numbered, Cell, given, ObjectValue, Entry, used_more, used_names, times}
 use Rattle.std.proofs.lemmas.List.{take_more, flat_map_more}
 use Rattle.object_table.proofs.EntryLemmas.{InOrder, same_name, past_head}
 
--- how often a name stands in two lists
+-- how often a name occurs in two lists
 pub times-append : (name : ℕ) (first second : List ℕ) → times name (first ++ second) ≡ times name first + times name second
 times-append name first second = sum_by-append (λ other. cond (name == other) 1 0) first second
 
--- ---- entries whose uses are more, or less, by as often as their names stand in a list
+-- ---- entries with use counts raised, or lowered, by how often each name occurs in a list
 
 -- an entry of other uses
 abbrev pub with_uses : Entry → ℕ → Entry

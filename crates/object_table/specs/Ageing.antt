@@ -6,22 +6,22 @@ use Rattle.object_table.specs.Context.{with_graph}
 use Rattle.object_table.specs.Named.{Named, object_held}
 use Rattle.object_table.specs.Object.{aged_object}
 
--- whether something is held under a name
+-- whether an object is held under a name
 abbrev pub is_there : List Named → ℕ → Bool
 is_there objects name = is_some (object_held objects name)
 
--- the delays that age with a graph once one more does: of those before it, those that are held still
+-- the graph with one more delay that ages with it; delays that are no longer held are left out
 abbrev pub one_more : List Named → GraphValue → ℕ → GraphValue
 one_more objects graph delay = with_delays graph (filter (is_there objects) graph.delays ++ delay ∷ [])
 
--- the objects, once a delay is registered with the graph of this name; where it is registered already, nothing changes
+-- the objects after a delay is registered with the graph of this name; nothing changes if it is registered already
 abbrev pub registered : List Named → ℕ → GraphValue → ℕ → List Named
 registered objects name graph delay = if is_registered graph delay then objects else with_graph objects name (one_more objects graph delay)
 
--- what is held under a name, one step later where it is a delay and the name is one of these
+-- the object of a name, aged if its name is in the list; only delays age
 abbrev pub aged_if : List ℕ → Named → Named
 aged_if names o = if list_any (λ name. name == o.name) names then record o { object = aged_object o.object } else o
 
--- the objects, once each delay that is held under one of these names is aged
+-- the objects after each delay of these names is aged
 abbrev pub aged_under : List ℕ → List Named → List Named
 aged_under names objects = map (aged_if names) objects

@@ -1,4 +1,4 @@
--- In how many blocks of a pool images have their samples: one for each image.
+-- How many blocks of a pool the objects' images occupy: one for each image.
 use Rattle.std.specs.Prelude.{ℕ, ◌≡◌, ◌≤◌, ◌+◌, List, sum_by}
 use Rattle.vx_base.specs.declared.format.Format.{Format}
 use Rattle.vx_base.specs.Image.{ImageValue}
@@ -7,45 +7,45 @@ use Rattle.pixel_pool.specs.declared.pool.Pool.{Pool}
 use Rattle.pixel_pool.specs.Pool.{lent_of, one_of}
 use Rattle.object_table.specs.Named.{Named}
 
--- in how many blocks of a format an image has its samples: in one, of its own format
+-- the number of blocks of a format that an image occupies: 1 of its own format
 abbrev pub image_blocks : ImageValue → Format → ℕ
 image_blocks image format = one_of image.format format
 
--- in how many the images of a delay have theirs
+-- the number of blocks of a format that the images of a delay occupy
 abbrev pub delay_blocks : List ImageValue → Format → ℕ
 delay_blocks images format = sum_by (λ image. image_blocks image format) images
 
--- in how many an object has samples
+-- the number of blocks of a format that an object occupies
 abbrev pub object_blocks : ObjectValue → Format → ℕ
 object_blocks (ImageObject image) format = image_blocks image format
 object_blocks (DelayObject images) format = delay_blocks images format
 object_blocks other format = 0
 
--- in how many some objects have theirs
+-- the number of blocks of a format that a list of objects occupies
 abbrev pub blocks_of_all : List ObjectValue → Format → ℕ
 blocks_of_all objects format = sum_by (λ object. object_blocks object format) objects
 
--- in how many all that is held has its samples
+-- the number of blocks of a format that a client's objects occupy
 abbrev pub blocks_in : List Named → Format → ℕ
 blocks_in objects format = sum_by (λ o. object_blocks o.object format) objects
 
--- so many blocks of each format are lent, or more
+-- at least `blocks format` blocks of each format are lent
 abbrev pub LendsAtLeast : Pool → (Format → ℕ) → Type 0
 LendsAtLeast pool blocks = (format : Format) → blocks format ≤ lent_of pool format
 
--- so many more are lent
+-- the number of lent blocks of each format has risen by `blocks format`
 abbrev pub LendsMore : Pool → Pool → (Format → ℕ) → Type 0
 LendsMore old new blocks = (format : Format) → lent_of new format ≡ lent_of old format + blocks format
 
--- so many less are lent
+-- the number of lent blocks of each format has fallen by `blocks format`
 abbrev pub LendsLess : Pool → Pool → (Format → ℕ) → Type 0
 LendsLess old new blocks = (format : Format) → lent_of new format + blocks format ≡ lent_of old format
 
--- what is lent has changed by as much as what is held
+-- the number of lent blocks has changed by as much as the number that the objects occupy
 abbrev pub Balances : Pool → Pool → List Named → List Named → Type 0
 Balances pool changed before after =
     (format : Format) → lent_of changed format + blocks_in before format ≡ lent_of pool format + blocks_in after format
 
--- what is held has its samples in as many blocks
+-- the objects occupy as many blocks of each format as before
 abbrev pub KeepsBlocks : List Named → List Named → Type 0
 KeepsBlocks before after = (format : Format) → blocks_in after format ≡ blocks_in before format

@@ -7,20 +7,20 @@ use Rattle.vx_base.specs.Object.{ObjectValue, GraphObject, object_bytes}
 use Rattle.object_table.specs.Named.{Named, with_object}
 use Rattle.object_table.specs.declared.table.TheConstants.{END_OF_NAMES, GREATEST_OBJECTS}
 
--- the name that comes next, and the objects in the order of their names
+-- the next name, and the objects in the order of their names
 pub record Context : Type 0 where
   pub next : ℕ
   pub objects : List Named
 
--- a new context: no object, and name 1 next
+-- a new context: no objects, and 1 as the next name
 abbrev pub new_context : Context
 new_context = record { next = 1; objects = [] }
 
--- the object whose live name this is
+-- the object of a live name
 abbrev pub object_named : List Named → ℕ → Option ObjectValue
 object_named objects name = option_map (λ o. o.object) (find (λ o. o.live && o.name == name) objects)
 
--- what a context is charged for its objects
+-- the bytes that a context is charged for its objects
 abbrev pub charge_of : List Named → ℕ
 charge_of objects = sum_by (λ o. object_bytes o.object) objects
 
@@ -32,10 +32,10 @@ can_insert c = nat_lt c.next END_OF_NAMES && nat_lt (length c.objects) GREATEST_
 abbrev pub with_new : Context → ObjectValue → Context
 with_new c object = record { next = c.next + 1; objects = c.objects ++ record { name = c.next; live = true; object = object } ∷ [] }
 
--- the context with other objects under its names
+-- the context with other objects
 abbrev pub with_objects : Context → List Named → Context
 with_objects c objects = record { next = c.next; objects = objects }
 
--- the objects, of which the graph of this name is another
+-- the objects with another graph under this name
 abbrev pub with_graph : List Named → ℕ → GraphValue → List Named
 with_graph objects name graph = with_object objects (cell_of name) (GraphObject graph)

@@ -8,45 +8,45 @@ use Rattle.vx_base.specs.Description.{Description}
 use Rattle.vx_base.specs.Image.{ImageValue, new_image, description_of}
 use Rattle.vx_base.specs.Object.{ObjectValue, ImageObject, DelayObject, object_kind}
 
--- so many new images
+-- the new images of a delay, one for each slot
 abbrev pub new_delay : Description → ℕ → List ImageValue
 new_delay d slots = replicate slots (new_image d.width d.height d.format)
 
--- the images one step later: the last comes first
+-- the images after one step: each moves to the next slot, the last to the first. OpenVX 1.3, vxAgeDelay
 abbrev pub aged : List ImageValue → List ImageValue
 aged images = drop (length images - 1) images ++ take (length images - 1) images
 
--- the image in a slot that is there
+-- the image in a slot that exists
 abbrev pub image_in : List ImageValue → ℕ → ImageValue
 image_in images k = slice_index_or images k (new_image 0 0 U8)
 
--- what stands in a slot, as far as it is there; without a slot the object itself; only a delay has slots
+-- the image in a slot of a delay, or without a slot the object itself; none where the slot does not exist or the object is no delay
 abbrev pub in_slot : Option ℕ → ObjectValue → Option ObjectValue
 in_slot None object = Some object
 in_slot (Some k) (DelayObject images) = option_map ImageObject (slice_get images k)
 in_slot (Some k) other = None
 
--- the object, with another in a slot of it, or without a slot in its place
+-- the object with another image in a slot; without a slot, the other object itself
 abbrev pub with_slot : Option ℕ → ObjectValue → ObjectValue → ObjectValue
 with_slot None new object = new
 with_slot (Some k) (ImageObject image) (DelayObject images) = DelayObject (slice_set images k image)
 with_slot slot new object = object
 
--- the kind of what a slot is for, or without a slot that of the object itself
+-- the kind of the object in a slot, whether the slot exists or not; without a slot, the kind of the object itself
 abbrev pub slot_kind : Option ℕ → ObjectValue → Option Kind
 slot_kind None object = Some (object_kind object)
 slot_kind (Some k) (DelayObject images) = Some kind.Image
 slot_kind (Some k) other = None
 
--- what stands in a slot that is there
+-- the object in a slot that exists
 abbrev pub object_in : Option ℕ → ObjectValue → ObjectValue
 object_in slot object = unwrap_or (in_slot slot object) (ImageObject (new_image 0 0 U8))
 
--- an image stands in the slot
+-- the slot has an image
 abbrev pub HasImage : Option ℕ → ObjectValue → Type 0
 HasImage slot object = option_map object_kind (in_slot slot object) ≡ Some kind.Image
 
--- what a delay keeps, whatever is written to it: 1 to 16 images of one description
+-- the invariant of a delay: 1 to 16 images of one description
 pub record AreSlots (d : Description) (images : List ImageValue) : Type 0 where
   pub least : 1 ≤ length images
   pub greatest : length images ≤ 16

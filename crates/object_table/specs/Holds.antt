@@ -1,4 +1,4 @@
--- What a client holds: OpenVX 1.3, "Object: Reference", an object that is released lives on while a graph uses it.
+-- Which objects are held. OpenVX 1.3, "Object: Reference": a released object lives on while a graph uses it.
 use Rattle.std.specs.Prelude.{ℕ, ◌==◌, Bool, false, ◌&&◌, ◌||◌, if◌then◌else◌, List, map, filter}
 use Rattle.std.specs.List.{list_any}
 use Rattle.vx_base.specs.declared.numbered.Numbered.{Numbered}
@@ -6,27 +6,27 @@ use Rattle.vx_base.specs.Node.{operands}
 use Rattle.vx_base.specs.Object.{ObjectValue, GraphObject}
 use Rattle.object_table.specs.Named.{Named}
 
--- whether a node names what has this name
+-- whether an operand of a node has this name
 abbrev pub names_it : ℕ → Numbered → Bool
 names_it name n = list_any (λ operand. operand.0.name == name) (operands n.node)
 
--- whether a graph's nodes do
+-- whether a node of a graph uses this name; other objects use none
 abbrev pub uses : ObjectValue → ℕ → Bool
 uses (GraphObject g) name = list_any (names_it name) g.nodes
 uses other name = false
 
--- whether a node of an unreleased graph uses what has this name
+-- whether a node of an unreleased graph uses this name
 abbrev pub is_used : List Named → ℕ → Bool
 is_used objects name = list_any (λ o. o.live && uses o.object name) objects
 
--- an object is held where its name is live, or a node of an unreleased graph uses it
+-- whether an object is held: its name is live, or a node of an unreleased graph uses it
 abbrev pub is_held : List Named → Named → Bool
 is_held objects o = o.live || is_used objects o.name
 
--- the objects that are held still
+-- the objects that are still held
 abbrev pub still_held : List Named → List Named
 still_held objects = filter (is_held objects) objects
 
--- the objects once a name isn't live
+-- the objects after a name is no longer live
 abbrev pub unnamed : List Named → ℕ → List Named
 unnamed objects name = map {A = Named} {B = Named} (λ o. if o.name == name then record o { live = false } else o) objects

@@ -21,22 +21,22 @@ value_of (Extremes extremes) = ExtremesObject extremes
 value_of (Graph graph) = GraphObject graph
 value_of (Virtual image) = VirtualObject image
 
--- an object that is an image, as one
+-- the image that an object is
 abbrev pub image_value : ObjectValue → ImageValue
 image_value (ImageObject image) = image
 image_value other = new_image 0 0 U8
 
--- an object that is a distribution, as one
+-- the distribution that an object is
 abbrev pub distribution_value : ObjectValue → DistributionValue
 distribution_value (DistributionObject distribution) = distribution
 distribution_value other = new_distribution (record { bins = 0; offset = 0; range = 0 })
 
--- an object that is a graph, as one
+-- the graph that an object is
 abbrev pub graph_value : ObjectValue → GraphValue
 graph_value (GraphObject graph) = graph
 graph_value other = new_graph
 
--- a delay whose images are one step later; other objects have no age
+-- the object after one step, if it is a delay; other objects don't change
 abbrev pub aged_object : ObjectValue → ObjectValue
 aged_object (DelayObject images) = DelayObject (aged images)
 aged_object other = other

@@ -1,4 +1,4 @@
--- What no write and no run changes of an object: the attributes that it was made with. OpenVX 1.3 has them as read-only attributes,
+-- The skeleton of an object: the attributes that no write and no run changes. OpenVX 1.3 has them as read-only attributes,
 -- as VX_IMAGE_WIDTH, VX_DELAY_SLOTS or VX_DISTRIBUTION_BINS.
 use Rattle.std.specs.Prelude.{[], map}
 use Rattle.vx_base.specs.Graph.{new_graph}
@@ -10,8 +10,8 @@ use Rattle.vx_base.specs.Rectangle.{empty}
 abbrev pub image_skeleton : ImageValue → ImageValue
 image_skeleton image = image_over (description_of image) empty []
 
--- of an image its size and format, of a delay those of each of its images, of a distribution its bins, of extremes and of a graph
--- that they are such; all of a table, a threshold, a matrix and a virtual image
+-- the size and format of an image, of each image for a delay; the bins of a distribution; only the kind of extremes and of a graph;
+-- the whole of every other object
 abbrev pub skeleton : ObjectValue → ObjectValue
 skeleton (ImageObject image) = ImageObject (image_skeleton image)
 skeleton (DelayObject images) = DelayObject (map image_skeleton images)

@@ -23,9 +23,9 @@ use Rattle.vx_base.specs.declared.slots.TheConstants.{GREATEST_SLOTS}
 use Rattle.object_table.specs.declared.table.TheConstants.{GREATEST_OBJECTS}
 use Rattle.vx_base.specs.declared.node.TheConstants.{GREATEST_NODES}
 
--- ---- what a name and a cell stand for
+-- ---- the objects of names and references
 
--- the object that is held under a name, where there is one
+-- the object that is held under a name that has one
 abbrev pub object_under : List Named → ℕ → ObjectValue
 object_under objects name = unwrap_or (object_held objects name) (ImageObject (new_image 0 0 U8))
 
@@ -37,21 +37,21 @@ IsUnder objects wanted name = option_map object_kind (object_held objects name) 
 abbrev pub graph_under : List Named → ℕ → GraphValue
 graph_under objects name = graph_value (object_under objects name)
 
--- the object that a cell holds, where it holds one
+-- the object that a reference names, if it names one
 abbrev pub cell_object : List Named → Cell → ObjectValue
 cell_object objects cell = unwrap_or (held objects cell) (ImageObject (new_image 0 0 U8))
 
--- the image that a cell holds
+-- the image that a reference names
 abbrev pub image_held : List Named → Cell → ImageValue
 image_held objects cell = image_value (cell_object objects cell)
 
--- a cell holds an image
+-- a reference names an image
 abbrev pub HoldsImage : List Named → Cell → Type 0
 HoldsImage objects cell = option_map object_kind (held objects cell) ≡ Some kind.Image
 
 -- ---- entries
 
--- what an entry of the map shows
+-- the view of an entry of the map
 abbrev pub named : ℕ × Entry → Named
 named e = record { name = e.0; live = e.1.live; object = e.1.object }
 
@@ -59,14 +59,14 @@ named e = record { name = e.0; live = e.1.live; object = e.1.object }
 abbrev pub nodes_at : ℕ → List (ℕ × Entry) → List Node
 nodes_at name entries = unwrap_or (option_map (λ e. nodes_in e.object) (lookup (is_at (nat_cmp name)) entries)) []
 
--- the entries, each used so much more often, or less, as its name stands in a list
+-- the entries with use counts raised, or lowered, by how often each name occurs in a list
 abbrev pub used_more : List ℕ → List (ℕ × Entry) → List (ℕ × Entry)
 used_more names entries = map {A = ℕ × Entry} {B = ℕ × Entry} (λ e. let n : Entry = e.1 in (e.0, record n { uses = n.uses + times e.0 names })) entries
 
 abbrev pub used_less : List ℕ → List (ℕ × Entry) → List (ℕ × Entry)
 used_less names entries = map {A = ℕ × Entry} {B = ℕ × Entry} (λ e. let n : Entry = e.1 in (e.0, record n { uses = n.uses - times e.0 names })) entries
 
--- the entries, once a name isn't live
+-- the entries after a name is no longer live
 abbrev pub ended : ℕ → List (ℕ × Entry) → List (ℕ × Entry)
 ended name entries = map {A = ℕ × Entry} {B = ℕ × Entry} (λ e. let n : Entry = e.1 in if e.0 == name then (e.0, record n { live = false }) else e) entries
 
@@ -74,15 +74,14 @@ ended name entries = map {A = ℕ × Entry} {B = ℕ × Entry} (λ e. let n : En
 abbrev pub is_kept : ℕ × Entry → Bool
 is_kept e = e.1.live || nat_lt 0 e.1.uses
 
--- the entries that are held still
+-- the entries that are still held
 abbrev pub kept : List (ℕ × Entry) → List (ℕ × Entry)
 kept entries = filter is_kept entries
 
--- ---- what a table keeps
+-- ---- the invariant of a table
 
--- names in their order, below the next; at most 1,024 objects, each charged no more than 16 of the largest images, none a graph of
--- more than 256 nodes; the sum of their charges; how often the nodes of unreleased graphs use each, and that each is held; and no node
--- uses a name to come
+-- The invariant of a table: distinct names below the next one, at most 1,024 objects of bounded size, the exact charge and use counts,
+-- each entry held, and no node that uses a name not given yet.
 pub record IsTable (next charge : ℕ) (entries : List (ℕ × Entry)) : Type 0 where
   pub names : IsStrictlyIncreasing (map (λ e. e.0) entries)
   pub below : All (λ e. e.0 < next) entries

@@ -1,4 +1,4 @@
--- How often nodes use what is held.
+-- How often nodes use each object.
 use Rattle.std.specs.Prelude.{ℕ, ◌==◌, if◌then◌else◌, List, [], ◌++◌, map, count_by}
 use Rattle.std.specs.List.{flat_map}
 use Rattle.vx_base.specs.declared.node.Node.{Node}
@@ -7,7 +7,7 @@ use Rattle.vx_base.specs.Node.{inputs, outputs}
 use Rattle.vx_base.specs.Object.{ObjectValue, GraphObject}
 use Rattle.object_table.specs.Named.{Named}
 
--- the names of a node's operands, one for each
+-- the names of a node's operands, one for each operand
 abbrev pub used_names : Node → List ℕ
 used_names n = map (λ cell. cell.name) (inputs n ++ outputs n)
 
@@ -16,7 +16,7 @@ abbrev pub nodes_in : ObjectValue → List Node
 nodes_in (GraphObject graph) = nodes_of graph
 nodes_in other = []
 
--- the names that the nodes of an unreleased graph use, as often as they do
+-- the names that the nodes of an unreleased graph use, each as often as it is used
 abbrev pub names_used_by : Named → List ℕ
 names_used_by o = if o.live then flat_map used_names (nodes_in o.object) else []
 
@@ -24,6 +24,6 @@ names_used_by o = if o.live then flat_map used_names (nodes_in o.object) else []
 abbrev pub names_used : List Named → List ℕ
 names_used objects = flat_map names_used_by objects
 
--- how often a name stands in a list
+-- how often a name occurs in a list
 abbrev pub times : ℕ → List ℕ → ℕ
 times name names = count_by (λ other. name == other) names

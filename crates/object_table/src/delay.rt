@@ -21,7 +21,7 @@ use std::alloc::{AllocError, Global};
 use std::marker::Model;
 use vx_base::{Desc, Picture, Rect, Samples, SlotCount};
 
-/// 1 to 16 images of one description, the newest first: slot k stands k steps behind it.
+/// 1 to 16 images of one description, the newest first: slot k is k steps older than slot 0.
 #[derive(Drop)]
 pub struct Delay {
     desc: Desc,
@@ -41,7 +41,7 @@ impl Model for Delay {
 }
 
 impl Delay {
-    /// A delay of so many new images of a description.
+    /// Returns a delay of new images of a description, one for each slot.
     pub fn new(
         alloc: Global,
         pool: &mut Pool,
@@ -59,7 +59,7 @@ impl Delay {
         Ok(Delay { desc, images })
     }
 
-    /// Gives the blocks of all images back. It takes no memory.
+    /// Gives the blocks of all images back to the pool. It allocates nothing.
     pub fn end(self, pool: &mut Pool)
         requires { LendsAtLeast pool.old (delay_blocks self) }
         ensures { LendsLess pool.old pool.new (delay_blocks self) }
@@ -67,7 +67,8 @@ impl Delay {
         end_images(self.images, pool);
     }
 
-    /// The image in a slot; slot 0 is the newest. `InvalidValue`: the delay has no such slot.
+    /// Returns the image in a slot; slot 0 is the newest. `InvalidValue`: the delay has no such
+    /// slot.
     pub fn slot(&self, k: u8) -> Result<&Stored, TableFault>
         ensures ok { IfOk result (λ image. slice_get self.now k ≡ Some image.now) }
         ensures err { IfErr result (λ fault. (fault ≡ InvalidValue) ×
@@ -79,7 +80,7 @@ impl Delay {
         }
     }
 
-    /// The sample bytes of all images.
+    /// Returns the bytes of all images' samples.
     pub fn bytes(&self) -> usize
         ensures value { result ≡ sum_by image_bytes self.now }
         ensures limit { result ≤ GREATEST_SLOTS * GREATEST_BYTES }
@@ -87,7 +88,7 @@ impl Delay {
         self.images.len() * self.desc.byte_count()
     }
 
-    /// Each image comes to the slot behind its own, and the last to slot 0. It takes no memory.
+    /// Moves each image to the next slot, and the last one to slot 0. It allocates nothing.
     pub fn age(&mut self)
         ensures value { self.new ≡ aged self.old }
         ensures bytes { sum_by image_bytes self.new ≡ sum_by image_bytes self.old }
@@ -108,7 +109,7 @@ impl Delay {
         image.write(picture);
     }
 
-    /// Makes these places of the image in a slot the valid ones, and each sample outside them 0.
+    /// Sets the valid rectangle of the image in a slot, and each sample outside it to 0.
     pub fn set_valid(&mut self, k: u8, valid: Rect)
         requires within { k < length self.old }
         requires image { IsImage (image_in self.old k) }
@@ -120,8 +121,8 @@ impl Delay {
         image.set_valid(valid);
     }
 
-    /// Takes out the samples of the image in a slot, and says its size and format; `put` brings
-    /// them back.
+    /// Takes the samples out of the image in a slot, and returns them with its size and format;
+    /// `put` brings them back.
     pub fn take(&mut self, k: u8) -> (Desc, Samples)
         requires within { k < length self.old }
         ensures desc { result.0 ≡ description_of (image_in self.old k) }
@@ -135,7 +136,7 @@ impl Delay {
         image.take()
     }
 
-    /// Gives the image in a slot these samples, and this valid rectangle.
+    /// Puts samples into the image in a slot, and sets its valid rectangle.
     pub fn put(&mut self, k: u8, samples: Samples, valid: Rect)
         requires within { k < length self.old }
         requires format { samples_format samples ≡ (image_in self.old k).format }
@@ -148,7 +149,8 @@ impl Delay {
     }
 }
 
-/// So many new images of a description. An error has given back what was taken.
+/// Returns `count` new images of a description. On an error the blocks taken so far go back to the
+/// pool.
 fn new_images(
     alloc: Global,
     pool: &mut Pool,
@@ -173,7 +175,7 @@ fn new_images(
     Ok(images)
 }
 
-/// Gives the blocks of images back.
+/// Gives the blocks of images back to the pool.
 fn end_images(images: Vec<Stored>, pool: &mut Pool)
     requires { LendsAtLeast pool.old (delay_blocks images.items) }
     ensures { LendsLess pool.old pool.new (delay_blocks images.items) }

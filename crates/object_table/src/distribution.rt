@@ -1,4 +1,4 @@
-//! Distributions: counts of the samples that fell into bins.
+//! Distributions: how many samples fell into each bin.
 ghost use Rattle.std.specs.Prelude.{◌≡◌, length, IfOk};
 ghost use Rattle.vx_base.specs.Object.{new_distribution, IsDistribution};
 
@@ -24,26 +24,26 @@ impl Model for Distribution {
 }
 
 impl Distribution {
-    /// A distribution that has counted nothing: each of its counts is 0.
+    /// Returns a distribution of these bins with each count 0.
     pub fn new(alloc: Global, bins: Bins) -> Result<Distribution, AllocError>
         ensures value { IfOk result (λ distribution. distribution ≡ new_distribution bins) }
         ensures distribution { IfOk result IsDistribution }
     {
-        // What is read is known to be within its limits.
+        // Reading a field tells the prover its range.
         let _limits = (bins.offset(), bins.range());
         let count = usize::from(bins.bins());
         let counts = vec![in alloc; 0; count]?;
         Ok(Distribution { bins, counts })
     }
 
-    /// The bins, which never change.
+    /// Returns the bins, which never change.
     pub fn bins(&self) -> Bins
         ensures { result ≡ self.now.bins }
     {
         self.bins
     }
 
-    /// How many samples fell into each bin.
+    /// Returns how many samples fell into each bin.
     pub fn counts(&self) -> &[u32]
         ensures value { result.now ≡ self.now.counts }
         ensures distribution { IsDistribution self.now }
@@ -51,7 +51,7 @@ impl Distribution {
         &self.counts
     }
 
-    /// Has these counts from now on, one for each bin. It takes no memory.
+    /// Replaces the counts, one for each bin. It allocates nothing.
     pub fn set_counts(&mut self, counts: &[u32])
         requires { length counts.now ≡ self.old.bins.bins }
         ensures { self.new ≡ record { bins = self.old.bins; counts = counts.now } }

@@ -1,20 +1,20 @@
-//! Why a call isn't done.
+//! Why a call fails.
 use crate::object::Object;
 use thiserror::Error;
 
-/// Why a call on a table or a delay isn't done; it changed nothing.
+/// Why a call on a table or a delay fails. A call that fails changes nothing.
 #[derive(Clone, Copy, PartialEq, Eq, Debug, Error)]
 pub enum TableFault {
-    /// No memory was found.
+    /// No memory could be allocated.
     #[error("no memory")]
     NoMemory,
     /// The name isn't live.
     #[error("the name isn't live")]
     InvalidReference,
-    /// 1,024 objects are held, or each name was given.
+    /// The table holds 1,024 objects, or has used every name.
     #[error("no object more can be held")]
     NoResources,
-    /// A delay has no such slot.
+    /// The delay has no such slot.
     #[error("the delay has no such slot")]
     InvalidValue,
 }

@@ -32,7 +32,7 @@ use vx_base::{
     VirtualImage,
 };
 
-/// What a client's name stands for.
+/// The object of a client's name.
 #[derive(Drop)]
 pub struct Object {
     content: Content,
@@ -62,13 +62,15 @@ impl Model for Object {
 }
 
 impl Object {
+    /// Returns an object of this content.
     pub fn new(content: Content) -> Object
         ensures { result ≡ value_of content }
     {
         Object { content }
     }
 
-    /// Gives the blocks of the object's images back, and drops the rest. It takes no memory.
+    /// Gives the blocks of the object's images back to the pool, and drops the rest. It allocates
+    /// nothing.
     pub fn end(self, pool: &mut Pool)
         requires { LendsAtLeast pool.old (object_blocks self) }
         ensures { LendsLess pool.old pool.new (object_blocks self) }
@@ -80,12 +82,14 @@ impl Object {
         }
     }
 
+    /// Returns the content of the object.
     pub fn content(&self) -> &Content
         ensures { value_of result.now ≡ self.now }
     {
         &self.content
     }
 
+    /// Returns the kind of the object.
     pub fn kind(&self) -> Kind
         ensures { result ≡ object_kind self.now }
     {
@@ -102,8 +106,8 @@ impl Object {
         }
     }
 
-    /// The kind of what a slot is for, or without a slot that of the object itself. `None`: only a
-    /// delay has slots.
+    /// Returns the kind of the object in a slot; without a slot, the kind of the object itself.
+    /// `None` for a slot of an object that isn't a delay. The slot need not exist.
     pub fn slot_kind(&self, slot: Option<u8>) -> Option<Kind>
         ensures { result ≡ slot_kind slot self.now }
     {
@@ -114,7 +118,7 @@ impl Object {
         }
     }
 
-    /// Whether the slot is there; without a slot, the object itself is.
+    /// Returns whether the delay has the slot; always true without a slot.
     pub fn has_slot(&self, slot: Option<u8>) -> bool
         ensures { result ≡ is_some (in_slot slot self.now) }
     {
@@ -125,7 +129,7 @@ impl Object {
         }
     }
 
-    /// What the object is charged, in bytes: its images' samples.
+    /// Returns the bytes that the object is charged: those of its images' samples.
     pub fn bytes(&self) -> usize
         ensures value { result ≡ object_bytes self.now }
         ensures limit { result ≤ GREATEST_SLOTS * GREATEST_BYTES }
@@ -137,7 +141,7 @@ impl Object {
         }
     }
 
-    /// The image that stands in a slot, or without a slot that the object is.
+    /// Returns the image in a slot; without a slot, the image that the object is.
     pub fn image(&self, slot: Option<u8>) -> &Stored
         requires { HasImage slot self.now }
         ensures { result.now ≡ image_value (object_in slot self.now) }
@@ -149,7 +153,8 @@ impl Object {
         }
     }
 
-    /// Takes the samples of a picture of the description that the image there has.
+    /// Copies a picture to the image in a slot, or without a slot to the object itself. Both are of
+    /// one description.
     pub fn write(&mut self, slot: Option<u8>, picture: &Picture)
         requires there { HasImage slot self.old }
         requires object { IsObject self.old }
@@ -166,7 +171,7 @@ impl Object {
         }
     }
 
-    /// Makes these places of the image there the valid ones, and each sample outside them 0.
+    /// Sets the valid rectangle of the image there, and each sample outside it to 0.
     pub fn set_valid(&mut self, slot: Option<u8>, valid: Rect)
         requires there { HasImage slot self.old }
         requires object { IsObject self.old }
@@ -183,7 +188,7 @@ impl Object {
         }
     }
 
-    /// Takes out the samples of the image there, and says its size and format.
+    /// Takes the samples out of the image there, and returns them with its size and format.
     pub fn take(&mut self, slot: Option<u8>) -> (Desc, Samples)
         requires { HasImage slot self.old }
         ensures desc { result.0 ≡ description_of (image_value (object_in slot self.old)) }
@@ -201,7 +206,7 @@ impl Object {
         }
     }
 
-    /// Gives the image there these samples, and this valid rectangle.
+    /// Puts samples into the image there, and sets its valid rectangle.
     pub fn put(&mut self, slot: Option<u8>, samples: Samples, valid: Rect)
         requires there { HasImage slot self.old }
         requires format { samples_format samples ≡ (image_value (object_in slot self.old)).format }
@@ -216,7 +221,7 @@ impl Object {
         }
     }
 
-    /// Ages the object if it is a delay. It takes no memory.
+    /// Ages the object if it is a delay. It allocates nothing.
     pub fn age(&mut self)
         ensures value { self.new ≡ aged_object self.old }
         ensures bytes { object_bytes self.new ≡ object_bytes self.old }
@@ -227,8 +232,8 @@ impl Object {
         }
     }
 
-    /// Replaces the counts of the distribution that the object is by these, one for each bin. It
-    /// takes no memory.
+    /// Replaces the counts of the distribution that the object is, one for each bin. It allocates
+    /// nothing.
     pub fn set_counts(&mut self, counts: &[u32])
         requires kind { object_kind self.old ≡ kind.Distribution }
         requires size { length counts.now ≡ (distribution_value self.old).bins.bins }
@@ -241,7 +246,7 @@ impl Object {
         }
     }
 
-    /// Replaces the extremes that the object is by these.
+    /// Replaces the extremes that the object is.
     pub fn set_extremes(&mut self, extremes: Extremes)
         requires { object_kind self.old ≡ kind.Extremes }
         ensures value { self.new ≡ ExtremesObject extremes }
@@ -253,7 +258,7 @@ impl Object {
         }
     }
 
-    /// The graph that the object is.
+    /// Returns the graph that the object is.
     pub fn graph(&self) -> &Graph
         requires { object_kind self.now ≡ kind.Graph }
         ensures { result.now ≡ graph_value self.now }
@@ -264,8 +269,8 @@ impl Object {
         }
     }
 
-    /// Adds a node to the graph that the object is, and says its number. A fault has changed
-    /// nothing.
+    /// Adds a node to the graph that the object is, and returns the node's number. A fault has
+    /// changed nothing.
     pub fn add_node(&mut self, node: NodeSpec) -> Result<u32, GraphFault>
         requires { object_kind self.old ≡ kind.Graph }
         ensures number { IfOk result (λ number. number ≡ (graph_value self.old).next) }
@@ -282,7 +287,7 @@ impl Object {
         }
     }
 
-    /// Removes the node of this number from the graph that the object is, and hands it back.
+    /// Removes the node of this number from the graph that the object is, and returns it.
     /// `InvalidReference`: the graph has no such node.
     pub fn remove_node(&mut self, number: u32) -> Result<NodeSpec, GraphFault>
         requires { object_kind self.old ≡ kind.Graph }
@@ -303,8 +308,8 @@ impl Object {
         }
     }
 
-    /// Makes delays of these names, each of which stands there once, those that age with the graph
-    /// that the object is.
+    /// Sets the names of the delays that age with the graph that the object is. No name occurs
+    /// twice.
     pub fn set_delays(&mut self, delays: Vec<u32>)
         requires kind { object_kind self.old ≡ kind.Graph }
         requires distinct { AllPairs (λ a b. a ≢ b) delays.items }

@@ -13,8 +13,8 @@ use std::alloc::{AllocError, Global};
 use std::marker::Model;
 use vx_base::{Desc, Picture, Rect, Samples};
 
-/// An image with a block of a pool, in which it has its samples. While it is written they stand
-/// elsewhere, and it has none.
+/// An image whose samples are a block of a pool. While the image is written its samples are taken
+/// out, and it has none.
 #[derive(Drop)]
 pub struct Stored {
     desc: Desc,
@@ -35,7 +35,7 @@ impl Model for Stored {
 }
 
 impl Stored {
-    /// A new image: 0 everywhere, and wholly valid.
+    /// Returns a new image: each sample is 0, and the whole image is valid.
     pub fn new(pool: &mut Pool, desc: Desc) -> Result<Stored, AllocError>
         ensures value { IfOk result (λ image. image
             ≡ new_image desc.width desc.height desc.format) }
@@ -52,7 +52,7 @@ impl Stored {
         })
     }
 
-    /// Gives the image's block back. It takes no memory.
+    /// Gives the image's block back to the pool. It allocates nothing.
     pub fn end(self, pool: &mut Pool)
         requires { LendsAtLeast pool.old (image_blocks self) }
         ensures { LendsLess pool.old pool.new (image_blocks self) }
@@ -60,21 +60,21 @@ impl Stored {
         pool.give_back(self.block);
     }
 
-    /// The size and format of the image, which never change.
+    /// Returns the size and format of the image, which never change.
     pub fn desc(&self) -> Desc
         ensures { result ≡ description_of self.now }
     {
         self.desc
     }
 
-    /// The places that are valid.
+    /// Returns the valid rectangle.
     pub fn valid(&self) -> Rect
         ensures { result ≡ self.now.valid }
     {
         self.valid
     }
 
-    /// The samples of all places, by rows from the top.
+    /// Returns the samples of all pixels, row by row from the top.
     pub fn samples(&self) -> &Samples
         ensures value { values result.now ≡ self.now.samples }
         ensures format { samples_format result.now ≡ self.now.format }
@@ -82,7 +82,7 @@ impl Stored {
         self.block.samples()
     }
 
-    /// A copy of the samples of all places.
+    /// Returns a copy of the samples of all pixels.
     pub fn picture(&self, alloc: Global) -> Result<Picture, AllocError>
         requires { IsImage self.now }
         ensures { IfOk result (λ picture. picture ≡ picture_of self.now) }
@@ -90,7 +90,7 @@ impl Stored {
         Ok(Picture::new(self.desc, self.block.samples().copy(alloc)?))
     }
 
-    /// The image, lent to who reads it.
+    /// Returns a borrowed view of the image.
     pub fn image(&self) -> Image<'_>
         requires { IsImage self.now }
         ensures { result ≡ self.now }
@@ -102,7 +102,8 @@ impl Stored {
         }
     }
 
-    /// Takes the samples of a picture of the image's description; all of them are then valid.
+    /// Copies the samples of a picture, which is of the image's description. The whole image is
+    /// then valid.
     pub fn write(&mut self, picture: &Picture)
         requires image { IsImage self.old }
         requires same { description_of self.old ≡ picture.now.description }
@@ -115,7 +116,7 @@ impl Stored {
         self.block.put(samples);
     }
 
-    /// Makes these places the valid ones, and each sample outside them 0.
+    /// Sets the valid rectangle, and each sample outside it to 0.
     pub fn set_valid(&mut self, valid: Rect)
         requires image { IsImage self.old }
         requires room { IsWithin valid self.old.width self.old.height }
@@ -129,8 +130,8 @@ impl Stored {
         self.valid = valid;
     }
 
-    /// Takes the samples out, so that they can be written while other images are read; `put` brings
-    /// them back. Says the size and format beside them.
+    /// Takes the samples out, and returns them with the size and format. They can then be written
+    /// while other images are read; `put` brings them back.
     pub fn take(&mut self) -> (Desc, Samples)
         ensures desc { result.0 ≡ description_of self.old }
         ensures value { values result.1 ≡ self.old.samples }
@@ -140,7 +141,7 @@ impl Stored {
         (self.desc, self.block.lift())
     }
 
-    /// Has these samples from now on, and this valid rectangle.
+    /// Puts samples in, and sets the valid rectangle.
     pub fn put(&mut self, samples: Samples, valid: Rect)
         requires { samples_format samples ≡ self.old.format }
         ensures { self.new ≡ image_over (description_of self.old) valid (values samples) }
@@ -150,7 +151,7 @@ impl Stored {
     }
 }
 
-/// Makes each sample of some rows 0 that is outside a rectangle.
+/// Sets each sample of a band of rows to 0 that is outside a rectangle.
 fn clear_outside(samples: &mut Samples, valid: Rect, width: u16, rows: Band)
     requires rows { rows.start + rows.count < 2 ^ 16 }
     requires size { length (values samples.old) ≡ rows.count * width }

@@ -1,4 +1,4 @@
-//! Objects under their names, with their charge.
+//! Objects by name, with their charge.
 ghost use Rattle.std.specs.Prelude.{◌≡◌, ◌*◌, ◌≤◌, IsTrue, IsSome, is_none, Some, None, []};
 ghost use Rattle.std.specs.Prelude.{if◌then◌else◌, length, map, IfOk, IfErr, OnOk, OnErr};
 ghost use Rattle.std.specs.Option.{option_map};
@@ -34,13 +34,13 @@ use std::collections::BTreeMap;
 use std::marker::Model;
 use vx_base::{Desc, Extremes, ObjRef, Picture, Rect, Samples};
 
-/// Each name is below this: 2^32.
+/// The bound of names, 2^32: each name is below it.
 const END_OF_NAMES: u64 = 4_294_967_296;
 
-/// The greatest number of objects that are held.
+/// The most objects that a table holds.
 pub const GREATEST_OBJECTS: usize = 1024;
 
-/// What is held under a name: the name is live, or nodes use what it stands for.
+/// An object that is held under a name: the name is live, or nodes use the object.
 #[derive(Drop)]
 pub struct Entry {
     pub live: bool,
@@ -48,7 +48,7 @@ pub struct Entry {
     pub object: Object,
 }
 
-/// The objects that a client holds, by their names, and the name that comes next.
+/// The objects of a client by name, and the next name.
 #[derive(Drop)]
 pub struct Table {
     alloc: Global,
@@ -70,7 +70,7 @@ impl Model for Table {
 }
 
 impl Table {
-    /// A table without objects. Name 1 comes next.
+    /// Returns a table without objects. The next name is 1.
     pub fn new(alloc: Global) -> Table
         ensures { result ≡ new_context }
     {
@@ -82,7 +82,8 @@ impl Table {
         }
     }
 
-    /// Gives the blocks of all images back, and drops the objects. It takes no memory.
+    /// Gives the blocks of all images back to the pool, and drops the objects. It allocates
+    /// nothing.
     pub fn end(self, pool: &mut Pool)
         requires { LendsAtLeast pool.old (blocks_in self.objects) }
         ensures { LendsLess pool.old pool.new (blocks_in self.objects) }
@@ -92,19 +93,19 @@ impl Table {
         }
     }
 
-    /// The allocator of the objects' table.
+    /// Returns the allocator of the table.
     pub fn allocator(&self) -> Global {
         self.alloc
     }
 
-    /// How many objects are held.
+    /// Returns how many objects are held.
     pub fn held(&self) -> usize
         ensures { result ≡ length self.now.objects }
     {
         self.entries.len()
     }
 
-    /// What the client is charged for its objects, in bytes.
+    /// Returns the bytes that the client is charged for its objects.
     pub fn charged_bytes(&self) -> u64
         ensures value { result ≡ charge_of self.now.objects }
         ensures limit { result ≤ GREATEST_OBJECTS * (GREATEST_SLOTS * GREATEST_BYTES) }
@@ -112,15 +113,17 @@ impl Table {
         self.charge
     }
 
-    /// Whether one more object can be held: a name is left, and fewer than 1,024 are held.
+    /// Returns whether one more object can be held: a name is left, and fewer than 1,024 objects
+    /// are held.
     pub fn can_insert(&self) -> bool
         ensures { result ≡ can_insert self.now }
     {
         self.next < END_OF_NAMES && self.entries.len() < GREATEST_OBJECTS
     }
 
-    /// Holds an object under the next name, which is live; a graph has no nodes yet. Each fault
-    /// hands the object back, and has changed nothing.
+    /// Inserts an object under the next name, and returns the name, which is live. A graph has no
+    /// nodes yet. A fault hands the object back, and has changed nothing. `NoResources`: no name is
+    /// left, or 1,024 objects are held. `NoMemory`: the allocation failed.
     pub fn insert(&mut self, object: Object) -> Result<u32, InsertFault>
         requires { nodes_in object ≡ [] }
         ensures name { IfOk result (λ name. name ≡ self.old.next) }
@@ -157,7 +160,7 @@ impl Table {
         }
     }
 
-    /// The object whose live name this is.
+    /// Returns the object of a live name. `InvalidReference`: the name isn't live.
     pub fn get(&self, name: u32) -> Result<&Object, TableFault>
         ensures ok { IfOk result (λ object. object_named self.now.objects name ≡ Some object.now) }
         ensures held { IfOk result (λ object. object_held self.now.objects name ≡ Some object.now) }
@@ -170,7 +173,7 @@ impl Table {
         }
     }
 
-    /// The object that is held under this name, which may be released.
+    /// Returns the object that is held under a name, whether the name is live or not.
     pub fn get_held(&self, name: u32) -> Option<&Object>
         ensures { option_map (λ object. object.now) result ≡ object_held self.now.objects name }
     {
@@ -180,7 +183,7 @@ impl Table {
         }
     }
 
-    /// The image that a cell holds.
+    /// Returns the image that a reference names.
     pub fn image(&self, cell: ObjRef) -> &Stored
         requires { HoldsImage self.now.objects cell }
         ensures { result.now ≡ image_held self.now.objects cell }
@@ -191,7 +194,7 @@ impl Table {
         }
     }
 
-    /// Writes a picture to the image that a cell holds; both are of one description.
+    /// Writes a picture to the image that a reference names; both are of one description.
     pub fn write(&mut self, cell: ObjRef, picture: &Picture)
         requires there { HoldsImage self.old.objects cell }
         requires object { IsObject (object_under self.old.objects cell.name) }
@@ -207,8 +210,8 @@ impl Table {
         entry.object.write(cell.slot(), picture);
     }
 
-    /// Makes these places of the image that a cell holds the valid ones, and each sample outside
-    /// them 0.
+    /// Sets the valid rectangle of the image that a reference names, and each sample outside it to
+    /// 0.
     pub fn set_valid(&mut self, cell: ObjRef, valid: Rect)
         requires there { HoldsImage self.old.objects cell }
         requires object { IsObject (object_under self.old.objects cell.name) }
@@ -224,8 +227,8 @@ impl Table {
         entry.object.set_valid(cell.slot(), valid);
     }
 
-    /// Takes out the samples of the image that a cell holds, and says its size and format; `put`
-    /// brings them back.
+    /// Takes the samples out of the image that a reference names, and returns them with its size
+    /// and format; `put` brings them back.
     pub fn take(&mut self, cell: ObjRef) -> (Desc, Samples)
         requires { HoldsImage self.old.objects cell }
         ensures desc { result.0 ≡ description_of (image_held self.old.objects cell) }
@@ -242,7 +245,7 @@ impl Table {
         entry.object.take(cell.slot())
     }
 
-    /// Gives the image that a cell holds these samples, and this valid rectangle.
+    /// Puts samples into the image that a reference names, and sets its valid rectangle.
     pub fn put(&mut self, cell: ObjRef, samples: Samples, valid: Rect)
         requires there { HoldsImage self.old.objects cell }
         requires format { samples_format samples ≡ (image_held self.old.objects cell).format }
@@ -256,7 +259,7 @@ impl Table {
         entry.object.put(cell.slot(), samples, valid);
     }
 
-    /// Ages the delay under a name. It takes no memory.
+    /// Ages the delay under a name. It allocates nothing.
     pub fn age(&mut self, name: u32)
         requires { IsUnder self.old.objects kind.Delay name }
         ensures { self.new ≡ with_objects self.old
@@ -269,7 +272,7 @@ impl Table {
         entry.object.age();
     }
 
-    /// Replaces the counts of the distribution under a name by these, one for each bin.
+    /// Replaces the counts of the distribution under a name, one for each bin.
     pub fn set_counts(&mut self, name: u32, counts: &[u32])
         requires kind { IsUnder self.old.objects kind.Distribution name }
         requires size { length counts.now
@@ -284,7 +287,7 @@ impl Table {
         entry.object.set_counts(counts);
     }
 
-    /// Replaces the extremes under a name by these.
+    /// Replaces the extremes under a name.
     pub fn set_extremes(&mut self, name: u32, extremes: Extremes)
         requires { IsUnder self.old.objects kind.Extremes name }
         ensures { self.new ≡ with_objects self.old

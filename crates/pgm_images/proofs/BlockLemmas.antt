@@ -65,9 +65,9 @@ pub without_lowest : (n t i : ℕ) → bit_at n t ≡ 1 → ((j : ℕ) → j < t
 without_lowest n t i set below =
     grind (arith, nat_tests, cases_order i t, bit_at_and n (n - 1) i, lowest_gone t n set below, high_kept t i n, below i)
 
--- ---- what stands at each place
+-- ---- each position of a block
 
--- what was found out at one more place
+-- one more position of the block
 pub one_told : (maxval : ℕ) (numbers bytes text : List ℕ) (i number count : ℕ) → i < length numbers → i < length bytes → Tells maxval number count (drop i text)
     → AreTold maxval i numbers bytes text → AreTold maxval (i + 1) (set numbers i number) (set bytes i count) text
 one_told maxval numbers bytes text i number count in_numbers in_bytes told before place within = elim (cases_eq place i) [
@@ -110,7 +110,7 @@ module _ (maxval : ℕ) (numbers bytes text : List ℕ) (told : AreTold maxval 6
   abbrev at : ℕ → List ℕ
   at i = drop i text
 
-  -- only whitespace stands before the next number
+  -- there is only whitespace before the next number
   blank_until : (left end place d : ℕ) → Walks bytes text left end → end + d ≤ place → place < 64 → ((j : ℕ) → j < place → bit_at left j ≡ 0)
       → (begins_space (at (end + d)) ≡ true) × (take_next (at end) ≡ take_next (at (end + d)))
   blank_until left end place zero walk le within below =

@@ -1,9 +1,9 @@
--- What a text's header tells of the picture that the text stands for.
+-- The description that a text's header gives for the picture that the text encodes.
 use Rattle.std.proofs.Common.{◌≡◌, ℕ, ℤ, true, List, Some, None, Result, Ok, Err, refl, ap, IfOk}
 use Rattle.pgm_images.proofs.Common.{Description, sample_count, PictureValue, PgmFault, BeginsWith, HeaderValue, take_header, header_description, numbers_in, samples_up_to, picture_with, picture_under, picture_after, reading, description_in, is_headed}
 use Rattle.pgm_images.specs.Reading.{description_after}
 
--- ---- a picture that is read has the description that the header tells
+-- ---- a picture that is read has the description of the header
 
 with_told : (d : Description) (r : Result (List ℤ) PgmFault) (p : PictureValue) → picture_with d r ≡ Ok p → d ≡ p.description
 with_told d (Ok samples) p e = let same : record { description = d; samples = samples } ≡ p = cc in ap (λ (p : PictureValue). p.description) same
@@ -21,7 +21,7 @@ pub read_description : (text : List ℕ) (r : Result Description PgmFault) → r
 read_description text (Ok d) told = λ p e. cc (after_told (take_header text) p e, told)
 read_description text (Err fault) told = tt
 
--- it is told that the header is allowed
+-- a text with a description has a header that is accepted
 pub told_headed : (text : List ℕ) (d : Description) → description_in text ≡ Ok d → is_headed text ≡ true
 told_headed text d told = known (take_header text) refl told
   where

@@ -21,7 +21,7 @@ nil_blanks = record { parts = []; each = All-nil IsBlank; spelled = refl }
 cons_blanks : (part rest : List ℕ) → IsBlank part → IsBlanks rest → IsBlanks (part ++ rest)
 cons_blanks part rest is others = record { parts = part ∷ others.parts; each = All-cons IsBlank part others.parts is others.each; spelled = ap (λ l. part ++ l) others.spelled }
 
--- what stands at the front of a text whose blanks were passed; within says whether a comment was begun
+-- the blanks at the front of a text, and the rest after them; the first argument says whether the text begins inside a comment
 abbrev pub Passed : Bool → List ℕ → List ℕ → Type 0
 Passed false text rest = (blanks : List ℕ) × IsBlanks blanks × (text ≡ blanks ++ rest)
 Passed true text rest = (tail blanks : List ℕ) × IsTail tail × IsBlanks blanks × (text ≡ tail ++ (blanks ++ rest))

@@ -45,7 +45,7 @@ samples_decide : (text : List ℕ) (value : HeaderValue) (rest : List ℕ) → I
     (samples_up_to value.maxval (numbers_in value.encoding value.maxval (value.height * value.width) rest)))
 samples_decide text value rest is sides allowed = under text value rest is ∙ rw (sides, allowed) refl
 
--- what follows has not so many samples and nothing else
+-- the text after the header isn't exactly the stated number of samples
 pub bad_samples : (text : List ℕ) (value : HeaderValue) (rest : List ℕ) → IsHeader text value rest → (is_side value.width && is_side value.height) ≡ true
     → is_maxval value.maxval ≡ true
     → ((samples : List ℕ) → length samples ≡ value.height * value.width → HasSamples value.encoding value.maxval rest samples → ⊥)

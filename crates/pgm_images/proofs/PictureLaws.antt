@@ -1,4 +1,4 @@
--- What a text stands for is a picture.
+-- What a text encodes is a valid picture.
 use Rattle.std.proofs.Common.{◌≡◌, ℕ, ℤ, pos, ◌≤◌, Bool, true, false, if◌then◌else◌, nat_lt, List, [], ◌∷◌, length, map, Ok, refl, sym, subst, ◌∙◌, arith, All, nat_le, leb-true, ltb-true}
 use Rattle.pgm_images.proofs.Common.{ints, and_parts, length-map, All-nil, All-cons, U8, IsSample, sample_count, PictureValue, IsPicture, format_up_to, all_up_to, reading, Stands}
 use Rattle.vx_base.specs.declared.format.Format.{Format}
@@ -25,6 +25,6 @@ stands_picture text p s =
       sampled = subst (λ (l : List ℤ). All (IsSample p.description.format) l) (sym s.samples) each;
     }
 
--- what is read is one
+-- what is read from a text is a valid picture
 pub read_picture : (text : List ℕ) (p : PictureValue) → reading text ≡ Ok p → IsPicture p
 read_picture text p e = stands_picture text p (stands_read text p e)

@@ -1,8 +1,8 @@
--- What was read has the samples that its header tells.
+-- A text that is read has the number of samples that its header states.
 use Rattle.std.proofs.Common.{◌≡◌, ℕ, ℤ, pos, zero, suc, Bool, true, false, List, [], ◌∷◌, length, map, Option, Some, None, Result, Ok, Err, if◌then◌else◌, refl, ap, sym, ◌∙◌}
 use Rattle.pgm_images.proofs.Common.{option_map, InvalidValue, Encoding, Plain, Raw, BeginsWith, then_take, take_next, ends, so_many, take_raw, nothing_left, numbers_in, samples_up_to, all_up_to}
 
--- ---- what stands before a step that was taken
+-- ---- the text before a token that was taken
 
 pub then_some : {A B : Type 0} (t : BeginsWith A) (next : A → List ℕ → Option B) (r : B) → then_take t next ≡ Some r
     → (x : A) × (rest : List ℕ) × (t ≡ Some (x, rest)) × (next x rest ≡ Some r)

@@ -21,7 +21,7 @@ next_digits s x rest space digit =
     let first : 0 * 10 + (x - 48) ≡ x - 48 = omega arith in
     rw (no_comment, space, no_comment_either, no_space, digit) (ap (λ n. Some (digits_after n rest)) first)
 
--- what the bytes after the first digit are, two and three say: whether there are so many digits
+-- the cases of a short number: `two` and `three` say whether it has a second and a third digit
 short_cases : (two three : Bool) (s x1 x2 x3 x4 : ℕ) (rest : List ℕ) (a b c : ℕ) → is_space s ≡ true → is_ascii_digit x1 ≡ true → a ≡ x1 - 48
     → two ≡ is_ascii_digit x2 → (is_ascii_digit x2 ≡ true → b ≡ x2 - 48) → three ≡ is_ascii_digit x3 → (is_ascii_digit x3 ≡ true → c ≡ x3 - 48) → (two && (three && is_ascii_digit x4)) ≡ false
     → take_next (s ∷ x1 ∷ x2 ∷ x3 ∷ x4 ∷ rest)
@@ -49,7 +49,7 @@ number_fits : (three : Bool) (tens c number : ℕ) → tens < 100 → (three ≡
     → number ≡ (if three then tens * 10 + c else tens) % 256 → number ≡ (if three then tens * 10 + c else tens)
 number_fits three tens c number low is fits e = grind (arith, nat_tests)
 
--- the digits of a number, of which two and three say whether there are so many
+-- the positions of a number's digits; `two` and `three` say whether it has a second and a third
 digits_in : (two three : Bool) (s x1 x2 x3 x4 : ℕ) (rest : List ℕ) → is_ascii_digit x1 ≡ true → two ≡ is_ascii_digit x2 → three ≡ is_ascii_digit x3
     → (k : ℕ) → 0 < k → k < 2 + bool_byte two + bool_byte (two && three) → begins_digit (drop k (s ∷ x1 ∷ x2 ∷ x3 ∷ x4 ∷ rest)) ≡ true
 digits_in two three s x1 x2 x3 x4 rest one is2 is3 zero some less = absurd (omega arith)
@@ -63,7 +63,7 @@ digits_in true true s x1 x2 x3 x4 rest one is2 is3 (suc (suc (suc (suc k)))) som
 and_and : (a b c : Bool) → ((a && b) && c) ≡ (a && (b && c))
 and_and a b c = grind arith
 
--- neither a number was told nor a digit stands at the front: so it is whitespace before no digit
+-- a front that is neither an unknown byte nor a digit is whitespace
 only_blank : (blank digit : Bool) → not (blank || digit) ≡ false → digit ≡ false → blank ≡ true
 only_blank blank digit e none = grind arith
 

@@ -1,4 +1,4 @@
--- A text is read as a picture exactly where it stands for it.
+-- A text is read as a picture exactly if it encodes it.
 use Rattle.std.proofs.Common.{arith, ◌≡◌, ℕ, ℤ, pos, zero, suc, ◌+◌, ◌*◌, ◌⊎◌, inl, inr, Bool, true, false, ◌&&◌, ◌≢◌, if◌then◌else◌, nat_lt, List, [], ◌∷◌, ◌++◌, length, map, Option, Some, None, Result, Ok, Err, IsTrue, refl, ap, sym, subst, ◌∙◌, append_assoc, append-nil, lt-ltb, le-ltb}
 use Rattle.pgm_images.proofs.Common.{option_map, and_parts, cases_eq, cases_lt, nat_tests, Description, is_side, sample_count, PictureValue, PgmFault, Encoding, Plain, Raw, BeginsWith, then_take, is_space, begins_digit, take_next, HeaderValue, take_header, is_maxval, format_up_to, header_description, so_many, take_short_sample, take_long_sample, take_raw, nothing_left, numbers_in, samples_up_to, all_up_to, picture_with, picture_under, picture_after, reading, fault_of, fault, AreSpaced, Stands, IsHeader}
 use Rattle.pgm_images.specs.Header.{past_header, take_magic, take_numbers}
@@ -154,7 +154,7 @@ sampled : (d : Description) (r : Result (List ℤ) PgmFault) (p : PictureValue) 
 sampled d (Ok samples) p e = (samples, refl, cc)
 sampled d (Err fault) p e = cc
 
--- ---- what is read stands in the text
+-- ---- what is read is encoded by the text
 
 appended : (body more numbers others : List ℕ) → AreSpaced body numbers → AreSpaced more others → AreSpaced (body ++ more) (numbers ++ others)
 appended body more [] others none after = rw none after
@@ -205,7 +205,7 @@ stands_read text p e =
     } in
     subst (Stands text) (ap (λ (x : Description). record { description = x; samples = samples }) is_d ∙ is_p) made
 
--- ---- what a text stands for is read
+-- ---- what a text encodes is read
 
 described_back : (d : Description) (maxval : ℕ) → IsDescription d → IsTrue (is_maxval maxval) → d.format ≡ format_up_to maxval → header_description d.width d.height maxval ≡ Ok d
 described_back d maxval is allowed same = rw (is.width, is.height, allowed) (rw (sym same) refl)

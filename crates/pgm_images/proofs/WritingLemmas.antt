@@ -6,7 +6,7 @@ use Rattle.vx_base.specs.Image.{ImageValue, IsImage}
 use Rattle.vx_base.proofs.TableLaws.{part_is_run, row_fits}
 use Rattle.image_core.specs.Rows.{row_of}
 
--- a row's samples stand behind those of the rows above it
+-- a row's samples come after those of the rows above it
 pub row_more : (image : ImageValue) (y : ℕ) → IsImage image → y < image.height
     → take ((y + 1) * image.width) image.samples ≡ take (y * image.width) image.samples ++ row_of image y
 row_more image y is below =

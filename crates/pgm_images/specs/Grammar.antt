@@ -13,7 +13,7 @@ use Rattle.pgm_images.specs.Raster.{all_up_to}
 
 -- ---- gaps and numbers
 
--- what follows the `#` of a comment: bytes other than CR and LF, and one of these
+-- the rest of a comment after its `#`: bytes other than CR and LF, and then one of these
 abbrev pub IsTail : List ℕ → Type 0
 IsTail [] = ⊥
 IsTail (b ∷ text) = ((ends_line b ≡ true) × (text ≡ [])) ⊎ ((ends_line b ≡ false) × IsTail text)
@@ -23,13 +23,13 @@ abbrev pub IsBlank : List ℕ → Type 0
 IsBlank [] = ⊥
 IsBlank (b ∷ text) = ((is_space b ≡ true) × (text ≡ [])) ⊎ ((begins_comment b ≡ true) × IsTail text)
 
--- any number of them, also none
+-- any number of whitespace bytes and comments, also none
 pub record IsBlanks (text : List ℕ) : Type 0 where
   pub parts : List (List ℕ)
   pub each : All IsBlank parts
   pub spelled : text ≡ flat_map (λ part. part) parts
 
--- a gap, which is one of them or more, and one decimal digit or more
+-- a gap, which is at least one whitespace byte or comment, and a number of at least one decimal digit
 pub record IsSpaced (text : List ℕ) (n : ℕ) : Type 0 where
   pub gap : List ℕ
   pub digits : List ℕ
@@ -40,7 +40,7 @@ pub record IsSpaced (text : List ℕ) (n : ℕ) : Type 0 where
   pub one : 0 < length digits
   pub value : digits_value 10 digits ≡ n
 
--- such numbers, one after the other
+-- such gaps and numbers, one after the other
 abbrev pub AreSpaced : List ℕ → List ℕ → Type 0
 AreSpaced text [] = text ≡ []
 AreSpaced text (n ∷ numbers) = (first rest : List ℕ) × IsSpaced first n × AreSpaced rest numbers × (text ≡ first ++ rest)
@@ -56,7 +56,7 @@ ArePairs bytes (n ∷ numbers) = (a b : ℕ) × (rest : List ℕ) × (bytes ≡ 
 abbrev pub IsRaster : (maxval : ℕ) → List ℕ → List ℕ → Type 0
 IsRaster maxval bytes numbers = ((maxval < 256) × (bytes ≡ numbers)) ⊎ ((256 ≤ maxval) × ArePairs bytes numbers)
 
--- ---- a header, and what follows it
+-- ---- a header, and the samples after it
 
 -- the second byte of a text, after `P`: `2` of a plain one, `5` of a raw one
 abbrev pub magic : Encoding → ℕ
@@ -68,7 +68,7 @@ abbrev pub EndsHeader : Encoding → (after rest : List ℕ) → Type 0
 EndsHeader Plain after rest = (after ≡ rest) × (begins_digit rest ≡ false)
 EndsHeader Raw after rest = (space : ℕ) × (is_space space ≡ true) × (after ≡ space ∷ rest)
 
--- the text begins with this header, and the rest follows it
+-- the text is this header, followed by the rest
 pub record IsHeader (text : List ℕ) (header : HeaderValue) (rest : List ℕ) : Type 0 where
   pub body : List ℕ
   pub after : List ℕ
@@ -76,14 +76,14 @@ pub record IsHeader (text : List ℕ) (header : HeaderValue) (rest : List ℕ) :
   pub end : EndsHeader header.encoding after rest
   pub spelled : text ≡ 80 ∷ magic header.encoding ∷ (body ++ after)
 
--- what follows a header has these samples, and nothing else
+-- the rest after a header encodes exactly these samples
 abbrev pub HasSamples : Encoding → (maxval : ℕ) → List ℕ → List ℕ → Type 0
 HasSamples Plain maxval rest samples = (body end : List ℕ) × AreSpaced body samples × IsBlanks end × (rest ≡ body ++ end)
 HasSamples Raw maxval rest samples = IsRaster maxval rest samples
 
 -- ---- whole texts
 
--- `P2`, the width, the height, the maxval and the samples, and perhaps whitespace and comments
+-- `P2`, the width, the height, the maxval and the samples; whitespace and comments may follow
 pub record IsPlainText (text : List ℕ) (width height maxval : ℕ) (samples : List ℕ) : Type 0 where
   pub body : List ℕ
   pub end : List ℕ
@@ -101,7 +101,7 @@ pub record IsRawText (text : List ℕ) (width height maxval : ℕ) (samples : Li
   pub bytes : IsRaster maxval raster samples
   pub spelled : text ≡ 80 ∷ 53 ∷ (body ++ space ∷ raster)
 
--- the text stands for the picture
+-- the text encodes the picture
 pub record Stands (text : List ℕ) (p : PictureValue) : Type 0 where
   pub maxval : ℕ
   pub numbers : List ℕ

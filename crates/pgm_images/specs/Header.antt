@@ -11,28 +11,28 @@ use Rattle.pgm_images.specs.declared.header.Encoding.TheVariants.{Plain, Raw}
 use Rattle.pgm_images.specs.declared.header.Header.{Header}
 use Rattle.pgm_images.specs.Marks.{BeginsWith, then_take, is_space, take_next}
 
--- the numbers as the text has them, of any size
+-- the fields of a header as the text has them, of any size
 pub record HeaderValue : Type 0 where
   pub encoding : Encoding
   pub width : ℕ
   pub height : ℕ
   pub maxval : ℕ
 
--- `P2` or `P5`
+-- the encoding that `P2` or `P5` at the front says
 abbrev pub take_magic : List ℕ → BeginsWith Encoding
 take_magic [] = None
 take_magic (a ∷ []) = None
 take_magic (a ∷ b ∷ text) =
     if (a == 80) && (b == 50) then Some (Plain, text) else if (a == 80) && (b == 53) then Some (Raw, text) else None
 
--- The text after the header, once its maxval was taken: one whitespace byte ends a header of P5,
--- and no comment may stand before it.
+-- The text after the header, given the text after its maxval. One whitespace byte ends a header of
+-- P5, and no comment may come before it.
 abbrev pub past_header : Encoding → List ℕ → Option (List ℕ)
 past_header Plain text = Some text
 past_header Raw [] = None
 past_header Raw (b ∷ text) = if is_space b then Some text else None
 
--- the width, the height and the maxval, each behind a gap
+-- the width, the height and the maxval, each after a gap
 abbrev pub take_numbers : Encoding → List ℕ → BeginsWith HeaderValue
 take_numbers encoding text =
     then_take (take_next text) (λ width rest. then_take (take_next rest) (λ height rest. then_take (take_next rest) (λ maxval rest.
@@ -45,19 +45,18 @@ take_header text = then_take (take_magic text) take_numbers
 abbrev pub is_maxval : ℕ → Bool
 is_maxval n = nat_le 1 n && nat_le n 32767
 
--- the format of pictures whose samples are up to this
+-- the format of a picture with this maxval
 abbrev pub format_up_to : ℕ → Format
 format_up_to maxval = if nat_lt maxval 256 then U8 else S16
 
--- the description of the pictures with such a header, or the header's fault
+-- the description of a picture with such a header, or the header's fault
 abbrev pub header_description : (width height maxval : ℕ) → Result Description PgmFault
 header_description width height maxval =
     if is_side width && is_side height
     then (if is_maxval maxval then Ok (record { width = width; height = height; format = format_up_to maxval }) else Err InvalidFormat)
     else Err InvalidDimension
 
--- The code took such a header from the front, and rest is what follows it. It keeps 16 bits of each
--- number, as Kept says.
+-- The code read this header, and `rest` is the text after it. It keeps each number as `Kept` says.
 pub record KeptHeader (taken : BeginsWith HeaderValue) (header : Header) (rest : List ℕ) : Type 0 where
   pub value : HeaderValue
   pub is : taken ≡ Some (value, rest)

@@ -1,14 +1,14 @@
--- The marks of a PGM text from the front: whitespace, comments and numbers (Netpbm, pgm(5)).
+-- The tokens of a PGM text, taken from its front: whitespace, comments and numbers (Netpbm, pgm(5)).
 use Rattle.std.specs.Prelude.{◌≡◌, ℕ, ◌+◌, ◌-◌, ◌*◌, ◌<◌, ◌≤◌, drop, length, slice_index, ◌==◌, ◌||◌, Bool, true, false, not, if◌then◌else◌, nat_lt, min, List, [], ◌∷◌, Option, Some, None}
 use Rattle.std.specs.Option.{option_and_then}
 use Rattle.std.specs.Char.{is_ascii_digit}
 use Rattle.std.specs.Int.{bit_at}
 
--- a mark's value and the text after it, or none where the text doesn't begin with such a mark
+-- a token's value and the text after it, or none where the text doesn't begin with such a token
 abbrev pub BeginsWith : Type 0 → Type 0
 BeginsWith A = Option (A × List ℕ)
 
--- one mark after the other
+-- one token after the other
 abbrev pub then_take : {A B : Type 0} → BeginsWith A → (A → List ℕ → Option B) → Option B
 then_take None next = None
 then_take (Some taken) next = next taken.0 taken.1
@@ -25,8 +25,8 @@ is_space b = (b == 32) || (b == 9) || ends_line b
 abbrev pub begins_comment : ℕ → Bool
 begins_comment b = b == 35
 
--- The text after all whitespace and comments at its front, or none where a comment doesn't end;
--- within says whether the front is within a comment.
+-- The text after all whitespace and comments at its front, or none where a comment doesn't end.
+-- `within` says whether the text begins inside a comment.
 abbrev pub past_blanks : (within : Bool) → List ℕ → Option (List ℕ)
 past_blanks true [] = None
 past_blanks true (b ∷ text) = past_blanks (not (ends_line b)) text
@@ -34,31 +34,31 @@ past_blanks false [] = Some []
 past_blanks false (b ∷ text) =
     if begins_comment b then past_blanks true text else if is_space b then past_blanks false text else Some (b ∷ text)
 
--- the number that these digits are when they follow those of n, and the text after them
+-- the number that the digits of n and then those of the text spell, and the text after them
 abbrev pub digits_after : ℕ → List ℕ → ℕ × List ℕ
 digits_after n [] = (n, [])
 digits_after n (b ∷ text) = if is_ascii_digit b then digits_after (n * 10 + (b - 48)) text else (n, b ∷ text)
 
--- a number: one digit or more, up to a byte that is none or the end
+-- a number: one digit or more, up to the end or to a byte that isn't a digit
 abbrev pub take_number : List ℕ → BeginsWith ℕ
 take_number [] = None
 take_number (b ∷ text) = if is_ascii_digit b then Some (digits_after 0 (b ∷ text)) else None
 
--- whether a digit stands at the front
+-- whether the text begins with a digit
 abbrev pub begins_digit : List ℕ → Bool
 begins_digit [] = false
 begins_digit (b ∷ text) = is_ascii_digit b
 
--- whether whitespace or a comment stands at the front
+-- whether the text begins with whitespace or a comment
 abbrev pub begins_gap : List ℕ → Bool
 begins_gap [] = false
 begins_gap (b ∷ text) = begins_comment b || is_space b
 
--- a gap, which is whitespace bytes and comments, one of them at least; and a number
+-- a gap, which is at least one whitespace byte or comment, and then a number
 abbrev pub take_next : List ℕ → BeginsWith ℕ
 take_next text = if begins_gap text then option_and_then take_number (past_blanks false text) else None
 
--- whether nothing but whitespace and comments is left
+-- whether the text is nothing but whitespace and comments
 abbrev pub ends : List ℕ → Bool
 ends text = nothing (past_blanks false text)
   where
@@ -67,21 +67,20 @@ ends text = nothing (past_blanks false text)
     nothing (Some []) = true
     nothing (Some (b ∷ text)) = false
 
--- The code took a number from the front, and rest is what follows it. It keeps 16 bits: a number
--- above 65535 as 65535, which is above all limits of a PGM text too.
+-- The code read a number from the front, and `rest` is the text after it. It keeps a number above
+-- 65535 as 65535, which is above all limits of a PGM text too.
 pub record Kept (taken : BeginsWith ℕ) (kept : ℕ) (rest : List ℕ) : Type 0 where
   pub number : ℕ
   pub is : taken ≡ Some (number, rest)
   pub least : kept ≡ min number 65535
 
--- whether a whitespace byte stands at the front
+-- whether the text begins with a whitespace byte
 abbrev pub begins_space : List ℕ → Bool
 begins_space [] = false
 begins_space (b ∷ text) = is_space b
 
--- The code looked what stands at the front: a number up to the maxval behind one whitespace byte,
--- and how many bytes both are, which are none where no number begins there. It found that nothing
--- else does than whitespace or a digit.
+-- The code examined the front of the text. Either no number begins there, and `bytes` is 0, or the
+-- text begins with one whitespace byte and a number up to the maxval, of `bytes` bytes in all.
 pub record Tells (maxval number bytes : ℕ) (text : List ℕ) : Type 0 where
   pub few : bytes ≤ length text
   pub is : 0 < bytes → Kept (take_next text) number (drop bytes text)
@@ -91,16 +90,16 @@ pub record Tells (maxval number bytes : ℕ) (text : List ℕ) : Type 0 where
   pub kind : begins_digit text ≡ false → begins_space text ≡ true
   pub none : bytes ≡ 0 → begins_space text ≡ true → begins_digit (drop 1 text) ≡ false
 
--- the same at each of so many places of a text
+-- the same at each of the first `count` positions of a text
 abbrev pub AreTold : (maxval count : ℕ) (numbers bytes text : List ℕ) → Type 0
 AreTold maxval count numbers bytes text = (place : ℕ) → place < count → Tells maxval (slice_index numbers place) (slice_index bytes place) (drop place text)
 
--- a bit is set for each of 64 places where a number begins
+-- bit k of `begins` is set where a number begins at position k, for 64 positions
 abbrev pub AreBegins : (begins : ℕ) (bytes : List ℕ) → Type 0
 AreBegins begins bytes = (place : ℕ) → place < 64 → bit_at begins place ≡ (if nat_lt 0 (slice_index bytes place) then 1 else 0)
 
--- The code looked so at 64 places, the first of which is none within a number, and found out at
--- which of them numbers begin.
+-- The code examined the first 64 positions, the first of which isn't inside a number, and marked
+-- those where a number begins.
 pub record IsBlock (maxval : ℕ) (numbers bytes : List ℕ) (begins : ℕ) (text : List ℕ) : Type 0 where
   pub told : AreTold maxval 64 numbers bytes text
   pub marked : AreBegins begins bytes

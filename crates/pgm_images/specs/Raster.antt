@@ -23,14 +23,14 @@ abbrev pub nothing_left : List ℕ → Bool
 nothing_left [] = true
 nothing_left (b ∷ text) = false
 
--- so many numbers, each as take takes it, and then what is_end allows at the end of a text
+-- `count` numbers, each as `take` reads it, and then an end that `is_end` accepts
 abbrev pub so_many : (take : List ℕ → BeginsWith ℕ) (is_end : List ℕ → Bool) → ℕ → List ℕ → Option (List ℕ)
 so_many take is_end zero text = if is_end text then Some [] else None
 so_many take is_end (suc count) text = then_take (take text) (λ number rest. option_map (λ numbers. number ∷ numbers) (so_many take is_end count rest))
 
--- The samples that the text after a header has, or none where it has not so many samples and
--- nothing else. Each of a plain text stands behind a gap, and whitespace and comments may follow
--- the last.
+-- The numbers of the text after a header, or none if there are fewer than `count`, or anything
+-- follows them. In a plain text each comes after a gap, and whitespace and comments may follow the
+-- last.
 abbrev pub numbers_in : Encoding → (maxval count : ℕ) → List ℕ → Option (List ℕ)
 numbers_in Plain maxval count text = so_many take_next ends count text
 numbers_in Raw maxval count text = so_many (take_raw maxval) nothing_left count text
@@ -38,30 +38,30 @@ numbers_in Raw maxval count text = so_many (take_raw maxval) nothing_left count 
 abbrev pub all_up_to : ℕ → List ℕ → Bool
 all_up_to maxval numbers = list_all (λ n. nat_le n maxval) numbers
 
--- they are samples where none is above the maxval, which is told of a whole text alone
+-- the numbers as samples, or InvalidValue where one is above the maxval; without numbers InvalidFormat
 abbrev pub samples_up_to : ℕ → Option (List ℕ) → Result (List ℤ) PgmFault
 samples_up_to maxval None = Err InvalidFormat
 samples_up_to maxval (Some numbers) = if all_up_to maxval numbers then Ok (map pos numbers) else Err InvalidValue
 
--- The code wrote these samples over others, or told the fault.
+-- The code wrote these samples over existing ones, or returned the fault.
 pub record Reads {A : Type 0} (told : Result (List ℤ) PgmFault) (samples : List ℤ) (result : Result A PgmFault) : Type 0 where
   pub ok : OnOk result (told ≡ Ok samples)
   pub err : IfErr result (λ fault. told ≡ Err fault)
 
--- These numbers of a text are the samples, unless one is above the maxval. A number above 65535 was
--- taken for 65535.
+-- The samples are these numbers of a text, unless one is above the maxval. The code reads a number
+-- above 65535 as 65535.
 pub record Filled (maxval : ℕ) (high : Bool) (written : List ℤ) (numbers : List ℕ) : Type 0 where
   pub above : high ≡ not (all_up_to maxval numbers)
   pub samples : high ≡ false → written ≡ map pos numbers
 
--- these numbers, and then the others
+-- these numbers, followed by the others
 abbrev pub after : List ℕ → Option (List ℕ) → Option (List ℕ)
 after done o = option_map (λ others. done ++ others) o
 
--- so many of the whole text's numbers are left to be written, and rest is the text with them
+-- `left` numbers of the whole text are still to be written, and `rest` is the text with them
 abbrev pub Filling : (take : List ℕ → BeginsWith ℕ) (is_end : List ℕ → Bool) (maxval : ℕ) (above : Bool) (samples : List ℤ) (left : ℕ) (rest : List ℕ) (whole : Option (List ℕ)) → Type 0
 Filling take is_end maxval above samples left rest whole = (numbers : List ℕ) × Filled maxval above samples numbers × (whole ≡ after numbers (so_many take is_end left rest))
 
--- the same of a plain text, whose numbers before index were written
+-- the same for a plain text, whose first `index` numbers are written
 abbrev pub PlainUpTo : {T : Type 0} (value : T → ℤ) (maxval index : ℕ) (above : Bool) (samples : List T) (rest : List ℕ) (whole : Option (List ℕ)) → Type 0
 PlainUpTo value maxval index above samples rest whole = Filling take_next ends maxval above (map value (take index samples)) (length samples - index) rest whole

@@ -1,4 +1,4 @@
--- What a PGM text stands for: a picture, or the first fault.
+-- The picture that a PGM text encodes, or its first fault.
 use Rattle.std.specs.Prelude.{◌≡◌, ℕ, ℤ, ◌⊎◌, Bool, true, false, List, Option, Some, None, Result, Ok, Err}
 use Rattle.vx_base.specs.Description.{Description, sample_count}
 use Rattle.vx_base.specs.declared.samples.Samples.{Samples}
@@ -14,7 +14,7 @@ abbrev pub picture_with : Description → Result (List ℤ) PgmFault → Result 
 picture_with d (Ok samples) = Ok (record { description = d; samples = samples })
 picture_with d (Err fault) = Err fault
 
--- of a header, the description that it tells and the text after it
+-- the picture that the text after a header encodes, given the header's description or its fault
 abbrev pub picture_under : HeaderValue → Result Description PgmFault → List ℕ → Result PictureValue PgmFault
 picture_under header (Err fault) text = Err fault
 picture_under header (Ok d) text = picture_with d (samples_up_to header.maxval (numbers_in header.encoding header.maxval (sample_count d) text))
@@ -23,7 +23,7 @@ abbrev pub picture_after : BeginsWith HeaderValue → Result PictureValue PgmFau
 picture_after None = Err InvalidFormat
 picture_after (Some taken) = picture_under taken.0 (header_description taken.0.width taken.0.height taken.0.maxval) taken.1
 
--- the picture that a text stands for, or the first fault
+-- the picture that a text encodes, or its first fault
 abbrev pub reading : List ℕ → Result PictureValue PgmFault
 reading text = picture_after (take_header text)
 
@@ -31,7 +31,7 @@ abbrev pub fault_of : Result PictureValue PgmFault → Option PgmFault
 fault_of (Ok p) = None
 fault_of (Err fault) = Some fault
 
--- the first fault of a text, which is none where it stands for a picture
+-- the first fault of a text, or none where it encodes a picture
 abbrev pub fault : List ℕ → Option PgmFault
 fault text = fault_of (reading text)
 
@@ -39,19 +39,17 @@ abbrev pub description_after : BeginsWith HeaderValue → Result Description Pgm
 description_after None = Err InvalidFormat
 description_after (Some taken) = header_description taken.0.width taken.0.height taken.0.maxval
 
--- the description of the picture that a text stands for if it stands for one, as its header tells
--- it, or the header's fault
+-- the description of the picture that a text encodes, from its header alone, or the header's fault
 abbrev pub description_in : List ℕ → Result Description PgmFault
 description_in text = description_after (take_header text)
 
--- The text's header is allowed, and the samples are as it tells: of the format, and one for each
--- place.
+-- The text's header is accepted, and the samples have the format and number that it states.
 pub record HasRoom (text : List ℕ) (samples : Samples) : Type 0 where
   pub description : Description
   pub told : description_in text ≡ Ok description
   pub described : Describes description samples
 
--- whether the text begins with a header that is allowed: only then memory is taken
+-- whether the text begins with a header that is accepted; only then is memory allocated
 abbrev pub is_headed : List ℕ → Bool
 is_headed text = allowed (take_header text)
   where
@@ -63,6 +61,6 @@ is_headed text = allowed (take_header text)
     allowed None = false
     allowed (Some taken) = without_fault (header_description taken.0.width taken.0.height taken.0.maxval)
 
--- why reading failed: the first fault, or there was no memory for the samples
+-- why reading failed: the first fault of the text, or no memory for the samples
 pub record FailsFor (text : List ℕ) (e : PgmFault) : Type 0 where
   pub is : (fault text ≡ Some e) ⊎ ((e ≡ NoMemory) × (is_headed text ≡ true))

@@ -1,9 +1,10 @@
-//! Many numbers of a text at once.
+//! Reads many numbers of a text at a time, with SIMD lanes.
 //!
-//! How long a number is isn't known before it is read, and where the next one begins follows from
-//! that: so numbers that are read one after another wait for each other. What stands at a place if
-//! a number begins there depends on nothing else. So that is found out for a block of places at
-//! once, by lanes, and where numbers begin is a mask of bits: they are taken by going through it.
+//! The length of a number is known only once it is read, and the next number begins where it ends,
+//! so numbers that are read in turn wait for each other. The number that would begin at a given
+//! position depends only on the bytes there. `Block` therefore computes it for 64 positions in
+//! parallel, and keeps a bit mask of the positions where a number does begin. Going through the
+//! bits of the mask gives the numbers in order.
 ghost use Rattle.std.specs.Prelude.{◌≡◌, ◌≤◌, ◌<◌, ℕ, List, Option, Bool, true, length, drop};
 ghost use Rattle.pgm_images.specs.Marks.{AreTold, AreBegins, IsBlock};
 ghost use Rattle.pgm_images.specs.Raster.{PlainUpTo};
@@ -12,11 +13,11 @@ use crate::marks::short_number;
 use crate::text_sample::TextSample;
 use std::simd::prelude::*;
 
-/// How many places are looked at at once.
+/// The number of positions of a block.
 const PLACES: usize = 64;
 
-/// What stands at each place of a block: a number of at most three digits behind a whitespace
-/// byte, and how many bytes both are, which are none where no number begins.
+/// For each position of a block, the number that begins there and the length of its text in bytes.
+/// The text is a whitespace byte and one to three digits; the length is 0 where no number begins.
 #[derive(Drop)]
 pub struct Block {
     numbers: [u8; PLACES],
@@ -24,7 +25,7 @@ pub struct Block {
 }
 
 impl Block {
-    /// Of no text.
+    /// Returns a block of no text.
     pub fn new() -> Block {
         Block {
             numbers: [0; PLACES],
@@ -32,8 +33,8 @@ impl Block {
         }
     }
 
-    /// Looks at the places at the front of a text, and at the four bytes after them. Whether
-    /// nothing stands there but whitespace and short numbers up to the maxval.
+    /// Fills the block from the first 64 positions of a text and the four bytes after them. Returns
+    /// whether the text there is only whitespace and short numbers up to the maxval.
     fn look(&mut self, maxval: u8, text: &[u8]) -> bool
         requires { 68 ≤ length text.now }
         ensures { result ≡ true → AreTold maxval 64 self.new.numbers self.new.bytes text.now }
@@ -55,7 +56,7 @@ impl Block {
         !others
     }
 
-    /// A bit for each place where a number begins.
+    /// Returns a mask with a bit for each position where a number begins.
     fn begins(&self) -> u64
         ensures { AreBegins result self.now.bytes }
     {
@@ -64,8 +65,8 @@ impl Block {
             .to_bitmask()
     }
 
-    /// Where the numbers of the block at the front of a text begin. No bits tell nothing: numbers
-    /// are then to be taken one by one.
+    /// Fills the block from the front of a text, and returns the mask of the positions where
+    /// numbers begin. 0 says nothing about the text: the numbers have to be read one by one.
     pub fn renew(&mut self, maxval: u16, text: &[u8]) -> u64
         ensures { 0 < result → IsBlock maxval self.new.numbers self.new.bytes result text.now }
     {
@@ -79,8 +80,8 @@ impl Block {
         }
     }
 
-    /// Writes the block's numbers over samples from an index on, and tells where the next number
-    /// and the next sample are.
+    /// Writes the block's numbers over samples from an index on. Returns the offset of the next
+    /// number in the text and the index of the next sample.
     pub fn fill<T: TextSample>(
         &self,
         maxval: u16,

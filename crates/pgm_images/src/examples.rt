@@ -1,4 +1,4 @@
-//! Worked examples: what texts stand for.
+//! Worked examples: texts and what they encode.
 ghost use Rattle.std.specs.Prelude.{◌≡◌, [], ◌∷◌, ◌++◌, Ok, Err, pos, codes};
 ghost use Rattle.vx_base.specs.declared.format.Format.TheVariants.{U8, S16};
 ghost use Rattle.pgm_images.specs.declared.fault.PgmFault.TheVariants.{InvalidFormat};
@@ -7,7 +7,8 @@ ghost use Rattle.pgm_images.specs.declared.fault.PgmFault.TheVariants.{InvalidVa
 ghost use Rattle.pgm_images.specs.Reading.{reading};
 ghost use Rattle.pgm_images.specs.Writing.{pgm_text};
 
-/// Two samples of one byte, 10 and 20, behind headers with and without comments; and one of two.
+/// Two samples of one byte each, 10 and 20, after headers with and without comments; and one sample
+/// of two bytes.
 pub fn raw()
     ensures bytes { reading (codes "P5\n2 1\n255\n" ++ 10 ∷ 20 ∷ [])
         ≡ Ok (record {
@@ -35,7 +36,7 @@ pub fn raw()
         }) }
 {}
 
-/// A sample of S16, and one behind leading zeros and before a comment.
+/// A sample of S16, and one with leading zeros before it and a comment after it.
 pub fn plain()
     ensures short { reading (codes "P2 1 1 300 5")
         ≡ Ok (record {
@@ -51,8 +52,9 @@ pub fn plain()
         }) }
 {}
 
-/// Texts without a header: a magic alone, one without a gap after it, a comment that doesn't end,
-/// a maxval of P5 without the one whitespace byte, and whitespace that is none.
+/// Texts without a header: a magic number alone, one without a gap after it, a comment that doesn't
+/// end, a maxval of P5 without the one whitespace byte after it, and a byte that isn't whitespace
+/// in PGM.
 pub fn headers()
     ensures empty { reading [] ≡ Err InvalidFormat }
     ensures magic { reading (codes "P5") ≡ Err InvalidFormat }
@@ -65,7 +67,7 @@ pub fn headers()
         ≡ Err InvalidFormat }
 {}
 
-/// Sides and maxvals that aren't allowed. A header of P2 ends with the last digit of its maxval.
+/// Widths, heights and maxvals out of range. A header of P2 ends with the last digit of its maxval.
 pub fn limits()
     ensures no_width { reading (codes "P2 0 1 255x") ≡ Err InvalidDimension }
     ensures no_maxval_either { reading (codes "P5 0 1 0\n") ≡ Err InvalidDimension }
@@ -76,7 +78,8 @@ pub fn limits()
     ensures too_great { reading (codes "P5 1 1 32768\n" ++ 0 ∷ 0 ∷ []) ≡ Err InvalidFormat }
 {}
 
-/// Samples that are too few or too many, or above the maxval, which is told of a whole text alone.
+/// Too few or too many samples, or one above the maxval. A sample above the maxval is reported only
+/// if the rest of the text is well formed.
 pub fn samples()
     ensures too_few { reading (codes "P5 1 1 255\n") ≡ Err InvalidFormat }
     ensures too_many { reading (codes "P5 1 1 255\n" ++ 10 ∷ 20 ∷ []) ≡ Err InvalidFormat }
@@ -89,7 +92,7 @@ pub fn samples()
     ensures above_and_stray { reading (codes "P2 1 1 255 256 x") ≡ Err InvalidFormat }
 {}
 
-/// Two samples, 10 and 20, that are written.
+/// Two samples, 10 and 20, as they are written.
 pub fn written_text()
     ensures { pgm_text (record {
       description = record { width = 2; height = 1; format = U8 };

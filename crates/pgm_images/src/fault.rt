@@ -1,17 +1,17 @@
-//! Why no picture was read from a text.
+//! Why a text could not be read.
 ghost use Rattle.std.specs.Prelude.{◌≡◌};
 
 use std::alloc::AllocError;
 use thiserror::Error;
 
-/// Why no picture was read from a text: it stands for none, or there was no memory.
+/// Why a text could not be read: it encodes no picture, or memory ran out.
 #[derive(Clone, Copy, Debug, PartialEq, Eq, Error)]
 pub enum PgmFault {
-    /// There was no memory for the samples of the picture.
+    /// No memory could be allocated for the samples of the picture.
     #[error("no memory")]
     NoMemory,
-    /// The text has no header of a PGM text, its maxval isn't 1 to 32767, or what follows the
-    /// header isn't as many samples as the header tells and nothing else.
+    /// The text has no PGM header, its maxval isn't 1 to 32767, or the header isn't followed by
+    /// exactly the number of samples that it states.
     #[error("invalid format")]
     InvalidFormat,
     /// The width or the height isn't 1 to 8192.

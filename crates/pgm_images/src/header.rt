@@ -16,7 +16,7 @@ pub enum Encoding {
     Raw,
 }
 
-/// What a header tells. A number above 65535 is kept as 65535, which is above all limits too.
+/// The fields of a header. A number above 65535 is kept as 65535, which is above every limit too.
 #[derive(Clone, Copy, Debug)]
 pub struct Header {
     pub encoding: Encoding,
@@ -25,7 +25,7 @@ pub struct Header {
     pub maxval: u16,
 }
 
-/// `P2` or `P5`, and the text after it.
+/// Returns the encoding that `P2` or `P5` at the front says, and the text after it.
 fn take_magic(text: &[u8]) -> Option<(Encoding, &[u8])>
     ensures some { IfSome result (λ taken. take_magic text.now ≡ Some (taken.0, taken.1.now)) }
     ensures none { IfNone result (take_magic text.now ≡ None) }
@@ -37,8 +37,8 @@ fn take_magic(text: &[u8]) -> Option<(Encoding, &[u8])>
     }
 }
 
-/// The text after the header, of which the maxval was taken: one whitespace byte ends a header of
-/// P5, and no comment may stand there.
+/// Returns the text after the header, given the text after the maxval. One whitespace byte ends a
+/// header of P5, and no comment may come before it.
 fn past_header(encoding: Encoding, text: &[u8]) -> Option<&[u8]>
     ensures some { IfSome result (λ rest. past_header encoding text.now ≡ Some rest.now) }
     ensures none { IfNone result (past_header encoding text.now ≡ None) }
@@ -50,7 +50,7 @@ fn past_header(encoding: Encoding, text: &[u8]) -> Option<&[u8]>
     }
 }
 
-/// A header, and the text after it.
+/// Returns the header at the front, and the text after it. `None`: the text has no header.
 pub fn take_header(text: &[u8]) -> Option<(Header, &[u8])>
     ensures some { IfSome result (λ taken. KeptHeader (take_header text.now) taken.0 taken.1.now) }
     ensures none { IfNone result (take_header text.now ≡ None) }
@@ -70,7 +70,8 @@ pub fn take_header(text: &[u8]) -> Option<(Header, &[u8])>
 }
 
 impl Header {
-    /// The description of the pictures with such a header.
+    /// Returns the description of a picture with this header. `InvalidDimension`: a side isn't 1 to
+    /// 8192. `InvalidFormat`: the maxval isn't 1 to 32767.
     pub fn described(self) -> Result<Desc, PgmFault>
         ensures value { result ≡ header_description self.width self.height self.maxval }
         ensures allowed { IfOk result (λ d. IsTrue (is_maxval self.maxval)) }

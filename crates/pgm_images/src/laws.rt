@@ -1,4 +1,4 @@
-//! What the definitions mean: functions that do nothing, whose contracts are facts.
+//! Laws about the definitions, as contracts of functions that do nothing.
 ghost use Rattle.std.specs.Prelude.{◌≡◌, ◌≢◌, ◌*◌, ◌&&◌, true, false, ℕ, List, length, None, Some};
 ghost use Rattle.std.specs.Prelude.{Ok};
 ghost use Rattle.vx_base.specs.declared.format.Format.TheVariants.{U8};
@@ -13,24 +13,23 @@ ghost use Rattle.pgm_images.specs.Grammar.{Stands, IsHeader, HasSamples};
 ghost use Rattle.pgm_images.specs.Reading.{reading, fault};
 ghost use Rattle.pgm_images.specs.Writing.{pgm_text};
 
-/// What is read is what the text stands for by the grammar, and what a text stands for is read. It
-/// stands for one picture at most.
+/// `reading` gives a picture exactly where the grammar says that the text encodes it. A text
+/// encodes at most one picture.
 pub fn standing()
     ensures found { (text : List ℕ) (p : PictureValue) → reading text ≡ Ok p → Stands text p }
     ensures only { (text : List ℕ) (p : PictureValue) → Stands text p → reading text ≡ Ok p }
     ensures one { (text : List ℕ) (p q : PictureValue) → Stands text p → Stands text q → p ≡ q }
 {}
 
-/// A text has no fault exactly where it stands for a picture, and want of memory is no fault of a
-/// text.
+/// A text has no fault exactly where it encodes a picture. `NoMemory` is never the fault of a text.
 pub fn faultless()
     ensures stands { (text : List ℕ) → fault text ≡ None → (p : PictureValue) × Stands text p }
     ensures none { (text : List ℕ) (p : PictureValue) → Stands text p → fault text ≡ None }
     ensures memory { (text : List ℕ) → fault text ≢ Some NoMemory }
 {}
 
-/// The header that is read is the one with which the text begins by the grammar, and what is left
-/// is what follows it; so a text begins with one header at most.
+/// `take_header` gives a header and the rest exactly where the grammar says that the text is that
+/// header and that rest. So a text begins with at most one header.
 pub fn headers()
     ensures found { (text : List ℕ) (header : HeaderValue) (rest : List ℕ) →
         take_header text ≡ Some (header, rest) → IsHeader text header rest }
@@ -38,10 +37,13 @@ pub fn headers()
         IsHeader text header rest → take_header text ≡ Some (header, rest) }
 {}
 
-/// Which fault a text has that stands for no picture: it begins with no header; its header has a
-/// width or height that isn't allowed; or a maxval that isn't; what follows the header isn't as
-/// many samples as it says, and nothing else; or one of these is above the maxval. The first of
-/// these is told.
+/// The fault of a text is the first that applies:
+///
+/// 1. `InvalidFormat`: no header.
+/// 2. `InvalidDimension`: a width or height out of range.
+/// 3. `InvalidFormat`: a maxval out of range.
+/// 4. `InvalidFormat`: the header isn't followed by exactly the number of samples that it states.
+/// 5. `InvalidValue`: a sample above the maxval.
 pub fn first_faults()
     ensures header { (text : List ℕ) →
         ((header : HeaderValue) (rest : List ℕ) → IsHeader text header rest → ⊥) →
@@ -65,7 +67,7 @@ pub fn first_faults()
         all_up_to header.maxval samples ≡ false → fault text ≡ Some InvalidValue }
 {}
 
-/// What is written of a picture of U8 stands for that picture, and is read back as it.
+/// The text that is written for a picture of U8 encodes that picture, and is read back as it.
 pub fn read_back()
     ensures stands { (p : PictureValue) → IsPicture p → p.description.format ≡ U8 →
         Stands (pgm_text p) p }

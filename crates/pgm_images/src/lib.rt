@@ -1,16 +1,20 @@
 //! PGM texts as pictures, and images as PGM texts (Netpbm, pgm(5)).
 //!
-//! `read` gives the picture that a text stands for, plain (P2) or raw (P5), or the first fault, and
-//! `read_into` writes its samples over others, of which `described` tells the format and how many.
-//! `write` gives the raw text of an image of U8, which is read back as the same picture, and
-//! `WrittenHeader` what that begins with, for whoever has the samples at hand. Of the definitions
-//! `Grammar` says which text stands for which picture, and `Reading` takes a text apart from its
-//! front and computes the picture or the fault; `laws` states that they agree.
+//! `read` returns the picture that a text encodes, plain (P2) or raw (P5), or the text's first
+//! fault. `described` returns the format and size alone, and `read_into` writes the samples over
+//! existing ones. `write` returns the raw text of an image of U8, which is read back as the same
+//! picture. `WrittenHeader` is the header of that text alone, for callers that write the samples
+//! themselves.
 //!
-//! - `fault`: why no picture was read
+//! Of the definitions, `Grammar` relates texts and the pictures that they encode. `Reading` parses
+//! a text from its front, and computes the picture or the fault. `laws` states that they agree.
+//!
+//! - `fault`: why a text could not be read
 //! - `marks`: whitespace, comments and numbers
 //! - `header`: the encoding, the width, the height and the maxval
-//! - `text_sample`, `block`, `raster`: numbers as samples, many at once, and all of a text
+//! - `text_sample`: number types of samples
+//! - `block`: many numbers at a time
+//! - `raster`: all samples of a text
 //! - `reading`, `writing`: whole texts
 //! - `laws`, `examples`: what the definitions mean
 #![tactic(auto)]

@@ -1,25 +1,25 @@
-//! The marks of a text, from its front: whitespace, comments and numbers.
+//! The tokens of a text, taken from its front: whitespace, comments and numbers.
 ghost use Rattle.std.specs.Prelude.{◌≡◌, ◌∷◌, IfSome, IfNone, None, Some, false, true, min, length};
 ghost use Rattle.std.specs.Prelude.{◌+◌, ◌*◌, ◌-◌, ◌%◌, nat_lt, if◌then◌else◌, ℕ, List};
 ghost use Rattle.std.specs.Char.{is_ascii_digit};
 ghost use Rattle.pgm_images.specs.Marks.{ends_line, is_space, begins_gap, past_blanks};
 ghost use Rattle.pgm_images.specs.Marks.{digits_after, take_number, take_next, ends, Kept, Tells};
 
-/// CR or LF.
+/// Returns whether a byte is CR or LF.
 fn ends_line(byte: u8) -> bool
     ensures { result ≡ ends_line byte }
 {
     byte == b'\r' || byte == b'\n'
 }
 
-/// Blank, TAB, CR or LF.
+/// Returns whether a byte is a blank, TAB, CR or LF.
 pub fn is_space(byte: u8) -> bool
     ensures { result ≡ is_space byte }
 {
     byte == b' ' || byte == b'\t' || ends_line(byte)
 }
 
-/// The text after all whitespace and comments at its front. `None` where a comment doesn't end.
+/// Returns the text after all whitespace and comments at its front. `None`: a comment doesn't end.
 fn past_blanks(text: &[u8]) -> Option<&[u8]>
     ensures some { IfSome result (λ rest. past_blanks false text.now ≡ Some rest.now) }
     ensures none { IfNone result (past_blanks false text.now ≡ None) }
@@ -39,7 +39,7 @@ fn past_blanks(text: &[u8]) -> Option<&[u8]>
     if within { None } else { Some(rest) }
 }
 
-/// The number that the digits at the front are, and the text after them.
+/// Returns the number that the digits at the front spell, and the text after them.
 fn digits(text: &[u8]) -> (u16, &[u8])
     ensures { Kept (Some (digits_after 0 text.now)) result.0 result.1.now }
 {
@@ -57,7 +57,7 @@ fn digits(text: &[u8]) -> (u16, &[u8])
     (number, rest)
 }
 
-/// A number, and the text after it.
+/// Returns the number at the front, and the text after it. `None`: no digit is at the front.
 fn take_number(text: &[u8]) -> Option<(u16, &[u8])>
     ensures some { IfSome result (λ taken. Kept (take_number text.now) taken.0 taken.1.now) }
     ensures none { IfNone result (take_number text.now ≡ None) }
@@ -68,7 +68,7 @@ fn take_number(text: &[u8]) -> Option<(u16, &[u8])>
     }
 }
 
-/// Whether whitespace or a comment stands at the front.
+/// Returns whether the text begins with whitespace or a comment.
 fn begins_gap(text: &[u8]) -> bool
     ensures { result ≡ begins_gap text.now }
 {
@@ -78,7 +78,7 @@ fn begins_gap(text: &[u8]) -> bool
     }
 }
 
-/// What a byte is as a digit: below 10 where it is one.
+/// Returns the value of a byte as a digit: below 10 exactly where the byte is a digit.
 #[inline(always)]
 fn digit(byte: u8) -> u8
     ensures below { nat_lt result 10 ≡ is_ascii_digit byte }
@@ -87,7 +87,7 @@ fn digit(byte: u8) -> u8
     byte.wrapping_sub(b'0')
 }
 
-/// The number with one digit more, where that is one. It wraps around above 255.
+/// Appends a decimal digit to a number if the byte was one. The result wraps around above 255.
 #[inline(always)]
 fn with_digit(number: u8, digit: u8, is_digit: bool) -> u8
     ensures { result ≡ (if is_digit then number * 10 + digit else number) % 256 }
@@ -96,10 +96,12 @@ fn with_digit(number: u8, digit: u8, is_digit: bool) -> u8
     number.wrapping_add(u8::from(is_digit) * more)
 }
 
-/// The number of at most three digits behind a whitespace byte, and how many bytes both are: none
-/// where no number begins. Whether something else stands there: a number that is longer or above
-/// the maxval, or a byte that is neither whitespace nor a digit. How many digits there are can't
-/// be foreseen, so nothing here branches on it.
+/// Reads a whitespace byte and a number of one to three digits from five bytes. Returns the number
+/// and the length of both in bytes, which is 0 where no number begins. The third value says whether
+/// the bytes are anything else: a longer number, one above the maxval, or a byte that is neither
+/// whitespace nor a digit.
+///
+/// The processor can't predict the number of digits, so nothing here branches on it.
 #[inline(always)]
 pub fn short_number(
     maxval: u8,
@@ -127,7 +129,8 @@ pub fn short_number(
     (number, bytes, is_other)
 }
 
-/// A gap and a number, and the text after them.
+/// Returns the number that comes after a gap at the front, and the text after both. `None`: the
+/// text does not begin with a gap and a number.
 pub fn take_next(text: &[u8]) -> Option<(u16, &[u8])>
     ensures some { IfSome result (λ taken. Kept (take_next text.now) taken.0 taken.1.now) }
     ensures none { IfNone result (take_next text.now ≡ None) }
@@ -139,7 +142,7 @@ pub fn take_next(text: &[u8]) -> Option<(u16, &[u8])>
     }
 }
 
-/// Whether nothing but whitespace and comments is left.
+/// Returns whether the text is nothing but whitespace and comments.
 pub fn ends(text: &[u8]) -> bool
     ensures { result ≡ ends text.now }
 {

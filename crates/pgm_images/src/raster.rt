@@ -14,11 +14,11 @@ use crate::marks::{ends, take_next};
 use crate::text_sample::TextSample;
 use vx_base::Samples;
 
-/// How many numbers are taken one by one before a block is looked at again.
+/// How many numbers are read one by one before a block is tried again.
 const SINGLES: usize = 16;
 
-/// Takes numbers one by one and writes them over samples from an index on, up to another. Whether
-/// one is above the maxval, and the text after them. `None` where there aren't so many.
+/// Reads numbers one by one and writes them over the samples `from..to`. Returns whether one is
+/// above the maxval, and the text after them. `None`: there are fewer numbers.
 fn read_singly<'a, T: TextSample>(
     maxval: u16,
     text: &'a [u8],
@@ -48,8 +48,9 @@ fn read_singly<'a, T: TextSample>(
     Some((high, rest))
 }
 
-/// So many decimal numbers and nothing else but whitespace and comments. A number above the maxval
-/// is told only once all is read, and written as the maxval.
+/// Reads one decimal number for each sample; only whitespace and comments may follow the last. A
+/// number above the maxval is reported only once the whole text is read, and is written as the
+/// maxval.
 fn read_plain<T: TextSample>(maxval: u16, text: &[u8], samples: &mut [T]) -> Result<(), PgmFault>
     requires limit { maxval ≤ T.limit }
     requires maxval { maxval ≤ 32767 }
@@ -84,7 +85,7 @@ fn read_plain<T: TextSample>(maxval: u16, text: &[u8], samples: &mut [T]) -> Res
     }
 }
 
-/// The greatest of the bytes, or 0.
+/// Returns the greatest of the bytes, or 0 without bytes.
 fn greatest(bytes: &[u8]) -> u8
     ensures { (n : ℕ) → nat_le result n ≡ all_up_to n bytes.now }
 {
@@ -95,7 +96,7 @@ fn greatest(bytes: &[u8]) -> u8
     greatest
 }
 
-/// So many samples of one byte each and nothing else.
+/// Reads one byte for each sample; nothing may follow.
 fn read_bytes(maxval: u16, bytes: &[u8], samples: &mut [u8]) -> Result<(), PgmFault>
     ensures { Reads (samples_up_to maxval
         (so_many take_short_sample nothing_left (length samples.old) bytes.now))
@@ -115,7 +116,7 @@ fn read_bytes(maxval: u16, bytes: &[u8], samples: &mut [u8]) -> Result<(), PgmFa
     Ok(())
 }
 
-/// A number of two bytes, and the bytes after it.
+/// Returns the number of two bytes at the front, and the bytes after it.
 fn take_pair(bytes: &[u8]) -> Option<(u16, &[u8])>
     ensures some { IfSome result (λ taken. Kept (take_long_sample bytes.now) taken.0 taken.1.now) }
     ensures none { IfNone result (take_long_sample bytes.now ≡ None) }
@@ -125,7 +126,7 @@ fn take_pair(bytes: &[u8]) -> Option<(u16, &[u8])>
     Some((u16::from_be_bytes([*high, *low]), rest))
 }
 
-/// So many samples of two bytes each and nothing else.
+/// Reads two bytes for each sample; nothing may follow.
 fn read_pairs<T: TextSample>(maxval: u16, bytes: &[u8], samples: &mut [T]) -> Result<(), PgmFault>
     requires limit { maxval ≤ T.limit }
     requires maxval { maxval ≤ 32767 }
@@ -152,8 +153,10 @@ fn read_pairs<T: TextSample>(maxval: u16, bytes: &[u8], samples: &mut [T]) -> Re
     }
 }
 
-/// Reads the samples that the text after a header has, and which are all that it has, over others
-/// of the header's format. They may be any where there is a fault.
+/// Reads the samples of the text after a header over existing samples of the header's format. The
+/// text has exactly one number for each. After a fault the samples may have any value.
+/// `InvalidFormat`: the text has fewer numbers, or more. `InvalidValue`: a sample is above the
+/// maxval.
 pub fn read_samples(header: Header, text: &[u8], samples: &mut Samples) -> Result<(), PgmFault>
     requires maxval { IsTrue (is_maxval header.maxval) }
     requires format { samples_format samples.old ≡ format_up_to header.maxval }

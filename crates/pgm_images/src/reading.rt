@@ -1,4 +1,4 @@
-//! Reading a text.
+//! Reads whole texts.
 ghost use Rattle.std.specs.Prelude.{◌≡◌, length, Ok, Err, IfOk, OnOk, IfErr};
 ghost use Rattle.vx_base.specs.Description.{Description};
 ghost use Rattle.vx_base.specs.Picture.{PictureValue, values, samples_format};
@@ -11,12 +11,14 @@ use crate::raster::read_samples;
 use std::alloc::Global;
 use vx_base::{Desc, Picture, Samples};
 
-/// The description of the picture that a text stands for, if it stands for one: its header alone
+/// Returns the description of the picture that a text encodes, if it encodes one. Only the header
 /// is read.
 ///
-/// The fault is the first of these: `InvalidFormat` where the text has no header,
-/// `InvalidDimension` where a side isn't 1 to 8192, `InvalidFormat` where the maxval isn't 1 to
-/// 32767.
+/// The fault is the first of these:
+///
+/// 1. `InvalidFormat`: the text has no header.
+/// 2. `InvalidDimension`: a side isn't 1 to 8192.
+/// 3. `InvalidFormat`: the maxval isn't 1 to 32767.
 pub fn described(text: &[u8]) -> Result<Desc, PgmFault>
     ensures told { result ≡ description_in text.now }
     ensures ok { IfOk result (λ d. (p : PictureValue) →
@@ -29,11 +31,12 @@ pub fn described(text: &[u8]) -> Result<Desc, PgmFault>
     header.described()
 }
 
-/// Reads the samples of a text over others, which are of the format and as many as `described`
-/// tells. It takes no memory.
+/// Reads the samples of a text over existing ones, which have the format and number that
+/// `described` returns. It allocates nothing.
 ///
-/// The fault is `InvalidFormat` where what follows the header isn't as many samples and nothing
-/// else, else `InvalidValue` where a sample is above the maxval. The samples may be any then.
+/// After a fault the samples may have any value. `InvalidFormat`: the header isn't followed by
+/// exactly the number of samples that it states. `InvalidValue`: otherwise, a sample is above the
+/// maxval.
 pub fn read_into(text: &[u8], samples: &mut Samples) -> Result<(), PgmFault>
     requires { HasRoom text.now samples.old }
     ensures format { samples_format samples.new ≡ samples_format samples.old }
@@ -48,13 +51,19 @@ pub fn read_into(text: &[u8], samples: &mut Samples) -> Result<(), PgmFault>
     read_samples(header, rest, samples)
 }
 
-/// The picture that a PGM text stands for (Netpbm, pgm(5)): P2 or P5, with samples of U8 where the
-/// maxval is below 256 and else of S16, as the text has them.
+/// Returns the picture that a PGM text encodes (Netpbm, pgm(5)). The text is P2 or P5. The samples
+/// are U8 where the maxval is below 256, else S16, with the values of the text.
 ///
-/// The fault is the first of these: `InvalidFormat` where the text has no header,
-/// `InvalidDimension` where a side isn't 1 to 8192, `InvalidFormat` where the maxval isn't 1 to
-/// 32767 or what follows isn't as many samples and nothing else, `InvalidValue` where a sample is
-/// above the maxval. Memory is taken for the samples alone, and only once the header is allowed.
+/// The fault is the first of these:
+///
+/// 1. `InvalidFormat`: the text has no header.
+/// 2. `InvalidDimension`: a side isn't 1 to 8192.
+/// 3. `InvalidFormat`: the maxval isn't 1 to 32767, or the header isn't followed by exactly the
+///    number of samples that it states.
+/// 4. `InvalidValue`: a sample is above the maxval.
+///
+/// `NoMemory`: the samples could not be allocated. Memory is allocated only for the samples, and
+/// only once the header is accepted.
 pub fn read(alloc: Global, text: &[u8]) -> Result<Picture, PgmFault>
     ensures stands { IfOk result (λ picture. Stands text.now picture) }
     ensures ok { IfOk result (λ picture. reading text.now ≡ Ok picture) }

@@ -1,14 +1,14 @@
-//! Number types of the samples that texts have.
+//! Number types of the samples of texts.
 ghost use Rattle.std.specs.Prelude.{◌≡◌, ◌≤◌, ℕ, pos};
 
 use image_core::Number;
 
-/// A number type of the samples of pictures that texts stand for.
+/// A number type of the samples of pictures that texts encode.
 pub trait TextSample: Number {
-    /// The greatest number that is such a sample.
+    /// The greatest number that fits in a sample.
     ghost limit: { ℕ };
 
-    /// The number as a sample.
+    /// Returns the number as a sample.
     fn of_number(number: u16) -> Self
         requires { number ≤ limit }
         ensures { Self.value result ≡ pos number };

@@ -1,4 +1,4 @@
-//! Writing a text.
+//! Writes whole texts.
 ghost use Rattle.std.specs.Prelude.{◌≡◌, ◌+◌, ◌≤◌, ◌++◌, length, drop, IfOk};
 ghost use Rattle.vx_base.specs.declared.format.Format.TheVariants.{U8 as FormatU8};
 ghost use Rattle.vx_base.specs.Picture.{picture_of};
@@ -10,13 +10,13 @@ use std::alloc::{AllocError, Global};
 use std::marker::Model;
 use vx_base::Desc;
 
-/// The bytes of a header whose sides have four digits each. None is longer.
+/// The length of the longest header in bytes: both sides have four digits.
 const LONGEST: usize = 17;
 
-/// What a text that is written begins with: `P5`, the sides and the maxval 255.
+/// The header of a text that is written: `P5`, the sides and the maxval 255.
 #[derive(Debug, Drop)]
 pub struct WrittenHeader {
-    /// The header stands at the end, and what is before it means nothing.
+    /// The header is at the end of these bytes; those before `start` have no meaning.
     bytes: [u8; LONGEST],
     start: usize,
 }
@@ -32,8 +32,8 @@ impl Model for WrittenHeader {
 }
 
 impl WrittenHeader {
-    /// The header of a picture of U8 with these sides. It takes no memory: it is put together from
-    /// its end.
+    /// Returns the header of a picture of U8 with these sides. It is built from its end, and
+    /// allocates nothing.
     pub fn new(desc: Desc) -> WrittenHeader
         ensures { result ≡ written_header desc }
     {
@@ -47,7 +47,7 @@ impl WrittenHeader {
         WrittenHeader { bytes, start }
     }
 
-    /// The bytes, of which there are at most 17.
+    /// Returns the bytes of the header, at most 17.
     pub fn bytes(&self) -> &[u8]
         ensures value { result.now ≡ self.now }
         ensures short { length result.now ≤ 17 }
@@ -56,7 +56,7 @@ impl WrittenHeader {
     }
 }
 
-/// Puts some bytes right before a place, and returns where they begin.
+/// Writes bytes so that they end right before `end`, and returns where they begin.
 fn put_before(bytes: &mut [u8], end: usize, part: &[u8]) -> usize
     requires room { length part.now ≤ end }
     requires within { end ≤ length bytes.old }
@@ -68,14 +68,14 @@ fn put_before(bytes: &mut [u8], end: usize, part: &[u8]) -> usize
     start
 }
 
-/// The PGM text of an image of U8: a raw one (P5) of all samples, whether valid or not, with 255
-/// for the maxval. It is read back as the same picture (Netpbm, pgm(5)).
+/// Returns the PGM text of an image of U8: a raw one (P5) with maxval 255 and all samples, whether
+/// valid or not. It is read back as the same picture (Netpbm, pgm(5)).
 pub fn write(alloc: Global, image: &Image<'_>) -> Result<Vec<u8>, AllocError>
     requires { image.now.format ≡ FormatU8 }
     ensures { IfOk result (λ text. text.items ≡ pgm_text (picture_of image.now)) }
 {
     let desc = image.desc();
-    // Its contract says that the samples are as many as the image has places.
+    // The contract of `valid` tells the prover that the image has a sample for each pixel.
     let _valid = image.valid();
     let header = WrittenHeader::new(desc);
     let mut text = Vec::with_capacity(alloc, LONGEST + desc.sample_count())?;

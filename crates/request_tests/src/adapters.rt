@@ -1,12 +1,13 @@
-//! What std's readers and writers answer, through `FromRead` and `FromWrite`: an error that std's
-//! own loops try again ends the stream here, and nothing is tried again.
+//! Std's readers and writers, through `FromRead` and `FromWrite`. Std's own loops retry some
+//! errors; here every error ends the stream, and nothing is retried.
 ghost use Rattle.std.specs.Prelude.{◌<◌, ◌^◌};
 
 use std::io;
 use std::io::{ErrorKind, Read, Write};
 use vx_requests::{Failed, FromRead, FromWrite, Sink, Source, StreamFault, fill, write_all};
 
-/// Answers a read with the next of these: a byte, or an error that std's own loops try again.
+/// A reader that answers each read from a script: with a byte, or with an error that std's own
+/// loops would retry.
 #[derive(Drop)]
 struct ScriptedReader<'a> {
     answers: &'a [Option<u8>],
@@ -30,7 +31,7 @@ impl Read for ScriptedReader<'_> {
     }
 }
 
-/// What filling three bytes answers, the bytes, and how often the reader was asked.
+/// Fills three bytes from a script, and returns the result, the bytes, and the number of reads.
 fn fill_three(
     answers: &[Option<u8>],
     mut budget: u64,
@@ -54,7 +55,7 @@ fn reads_no_more_after_an_error(rt: HostRuntime) {
     assert!(rt; fill_three(&[None, Some(b'a')], 9) == (failed, *b"...", 1));
 }
 
-/// Takes at most so many bytes at a write, or answers errors.
+/// A writer that takes a limited number of bytes in each write, or fails.
 #[derive(Drop)]
 struct ScriptedWriter {
     taken: Vec<u8>,

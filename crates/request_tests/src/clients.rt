@@ -1,4 +1,4 @@
-//! What clients with a small quota may hold, and graphs of theirs.
+//! Clients with a small quota, and their graphs.
 use client_contexts::Runtime;
 use client_model::{Limits, Reply, Request};
 use std::alloc::Global;
@@ -7,8 +7,8 @@ use vx_base::{
     Border, Code, Desc, Format, Function, Node, NodeSpec, ObjRef, Outline, Picture, Policy, Samples,
 };
 
-/// Opens a context, and makes images of this many sample bytes until one is refused: how many were
-/// made, under the names 1, 2 and on. None where something else is answered.
+/// Opens a context, and creates images of this description until one is refused. Returns how many
+/// were created, under the names 1, 2, .. `None`: another reply came, or none of nine was refused.
 fn images_made(alloc: Global, runtime: &mut Runtime, client: u16, desc: Desc) -> Option<u32> {
     let opened = runtime.apply(alloc, client, &Request::OpenContext).ok()?;
     if !matches!(opened, Reply::Empty) {
@@ -39,12 +39,12 @@ fn each_has_its_quota(rt: HostRuntime) -> Result<(), Fail> {
     Ok(())
 }
 
-/// The reply to a request of client 1.
+/// Returns the reply to a request of client 1.
 pub fn reply(alloc: Global, runtime: &mut Runtime, request: &Request) -> Result<Reply, Fail> {
     Ok(runtime.apply(alloc, 1, request).ok().ok_or("no memory")?)
 }
 
-/// The name that client 1's request gives to what it creates.
+/// Returns the name that a request of client 1 creates.
 pub fn create(alloc: Global, runtime: &mut Runtime, request: &Request) -> Result<u32, Fail> {
     match reply(alloc, runtime, request)? {
         Reply::Name(name) => Ok(name),
@@ -52,7 +52,7 @@ pub fn create(alloc: Global, runtime: &mut Runtime, request: &Request) -> Result
     }
 }
 
-/// Client 1's request, which succeeds and tells nothing.
+/// Makes a request of client 1, which has to succeed with an empty reply.
 pub fn succeed(alloc: Global, runtime: &mut Runtime, request: &Request) -> Result<(), Fail> {
     match reply(alloc, runtime, request)? {
         Reply::Empty => Ok(()),
@@ -60,7 +60,7 @@ pub fn succeed(alloc: Global, runtime: &mut Runtime, request: &Request) -> Resul
     }
 }
 
-/// Whether client 1's request is refused with this code.
+/// Returns whether a request of client 1 is refused with this code.
 fn is_refused(
     alloc: Global,
     runtime: &mut Runtime,
@@ -101,7 +101,7 @@ pub fn with_a_graph(alloc: Global, limits: Limits) -> Result<Runtime, Fail> {
     Ok(runtime)
 }
 
-/// The request that adds a node of a function from an image to another to graph 3.
+/// Returns the request that adds a node to graph 3, from one image to another.
 fn adding(function: Function, input: u32, output: u32) -> Result<Request, Fail> {
     let node = NodeSpec::new(Node {
         function,
@@ -117,7 +117,7 @@ fn adding(function: Function, input: u32, output: u32) -> Result<Request, Fail> 
     Ok(Request::AddNode(3, node))
 }
 
-/// Adds such a node, and gives its number.
+/// Adds such a node, and returns its number.
 pub fn add(
     alloc: Global,
     runtime: &mut Runtime,
@@ -131,7 +131,7 @@ pub fn add(
     }
 }
 
-/// Adds Not of an image to another to graph 3, and gives the node's number.
+/// Adds the node Not to graph 3, from one image to another, and returns the node's number.
 pub fn add_not(alloc: Global, runtime: &mut Runtime, input: u32, output: u32) -> Result<u32, Fail> {
     add(alloc, runtime, Function::NotBits, input, output)
 }
@@ -148,7 +148,7 @@ pub fn write_sample(alloc: Global, runtime: &mut Runtime, sample: u8) -> Result<
     )
 }
 
-/// Whether image 2 holds this sample.
+/// Returns whether image 2 has this sample.
 pub fn holds(alloc: Global, runtime: &mut Runtime, sample: u8) -> Result<bool, Fail> {
     Ok(
         match reply(alloc, runtime, &Request::ReadImage(ObjRef::new(2, None)))? {
@@ -167,7 +167,7 @@ fn a_graph_runs(rt: HostRuntime) -> Result<(), Fail> {
     let limits = Limits::new(8, 1).ok_or("within the limits")?;
     let mut runtime = with_a_graph(alloc, limits)?;
     let verify = Request::VerifyGraph(3);
-    // The second node of the run is added first.
+    // The node that runs second is added first.
     assert!(rt; add_not(alloc, &mut runtime, 4, 2)? == 1);
     assert!(rt; is_refused(alloc, &mut runtime, &verify, Code::InvalidLink)?);
     assert!(rt; add_not(alloc, &mut runtime, 1, 4)? == 2);
@@ -179,8 +179,8 @@ fn a_graph_runs(rt: HostRuntime) -> Result<(), Fail> {
     Ok(())
 }
 
-/// Whether image 1, which a node of graph 3 uses, is released in name alone: no new node can use
-/// it, what it is charged is charged still, and the graph runs on it.
+/// Releases image 1, which a node of graph 3 uses, and returns whether the image is still held: no
+/// new node can use it, it is still charged, and the graph still runs on it.
 fn is_held(alloc: Global, runtime: &mut Runtime, making: &Request) -> Result<bool, Fail> {
     succeed(alloc, runtime, &Request::Release(1))?;
     let adding = adding(Function::NotBits, 1, 4)?;

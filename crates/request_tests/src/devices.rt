@@ -1,4 +1,4 @@
-//! A source and a sink in memory that move a few bytes at a call, and can fail.
+//! A source and a sink in memory that move a few bytes in each call, and can fail.
 ghost use Rattle.std.specs.Prelude.{◌<◌, Some};
 
 use vx_requests::{Failed, Sink, Source};
@@ -6,12 +6,12 @@ use vx_requests::{Failed, Sink, Source};
 /// More calls than a test makes.
 pub const NEVER: u64 = 1 << 40;
 
-/// Gives its bytes, at most `piece` of them at a read.
+/// A source of bytes that gives at most `piece` of them in each read.
 #[derive(Drop)]
 pub struct PiecewiseSource<'a> {
     pub bytes: &'a [u8],
     pub piece: usize,
-    /// How many reads are left before they fail.
+    /// The number of reads before one fails.
     pub until_failure: u64,
     pub reads: u64,
     pub failures: u64,
@@ -39,12 +39,12 @@ impl Source for PiecewiseSource<'_> {
     }
 }
 
-/// Takes bytes, at most `piece` of them at a write.
+/// A sink that takes at most `piece` bytes in each write.
 #[derive(Drop)]
 pub struct PiecewiseSink {
     pub bytes: Vec<u8>,
     pub piece: usize,
-    /// How many writes and flushes are left before they fail.
+    /// The number of writes and flushes before one fails.
     pub until_failure: u64,
     pub failures: u64,
 }

@@ -1,16 +1,16 @@
-//! Tests of the public calls on requests, of what no stream of bytes through the program shows: the
-//! order of reads and flushes, devices that fail, requests that are written, small quotas, and the
-//! blocks of images. `tools/check_program` shows the rest on the program.
+//! Tests of the public functions on requests, for cases that no stream through the program reaches:
+//! the order of reads and flushes, devices that fail, requests that are written, small quotas, and
+//! the blocks of images. `tools/check_program` tests the rest on the program.
 //!
-//! - `devices`: a source and a sink in memory that move a few bytes at a call, and can fail
-//! - `streams`: a stream in pieces, each read and each write failing, and how far it was read
-//! - `turns`: a reply is flushed before a byte of the next frame is asked for
-//! - `adapters`: what std's readers and writers answer, through `FromRead` and `FromWrite`
-//! - `requests`: requests as bytes, and back; texts of faults
-//! - `pictures`: pictures of more bytes than a small frame has, in pieces, cut short and refused
-//! - `texts`: the same of PGM texts
-//! - `clients`: what a client with a small quota may hold
-//! - `pooled`: the blocks in which clients' images have their samples
+//! - `devices`: a source and a sink in memory that move a few bytes in each call, and can fail
+//! - `streams`: a stream in pieces, each read and each write failing, and how far a stream is read
+//! - `turns`: a reply is flushed before a byte of the next frame is read
+//! - `adapters`: std's readers and writers, through `FromRead` and `FromWrite`
+//! - `requests`: requests to bytes and back; the texts of faults
+//! - `pictures`: pictures of more bytes than a small frame, in pieces, cut short and refused
+//! - `texts`: the same for PGM texts
+//! - `clients`: clients with a small quota
+//! - `pooled`: the pool's blocks of clients' images
 #![tactic(auto)]
 
 #[cfg(test)]

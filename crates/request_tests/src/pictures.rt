@@ -1,4 +1,4 @@
-//! Pictures of more bytes than a small frame has: in pieces, cut short, and refused.
+//! Pictures of more bytes than a small frame: in pieces, cut short, and refused.
 use crate::devices::{NEVER, PiecewiseSink};
 use crate::streams::{ALL_AT_ONCE, Devices, serve_bytes};
 use client_contexts::Runtime;
@@ -8,20 +8,20 @@ use std::test::Fail;
 use vx_base::{Desc, Format, ObjRef, Picture, Samples};
 use vx_requests::{StreamFault, fits_a_frame, write_request};
 
-/// The first image of client 1.
+/// Returns the reference to the first image of client 1.
 pub fn image() -> ObjRef {
     ObjRef::new(1, None)
 }
 
-/// A format and sizes of each: the samples of the last two take more bytes than are decoded at
-/// once.
+/// The format, width and height of each picture. The last two have more bytes of samples than are
+/// decoded at a time.
 const PICTURES: [(Format, u16, u16); 3] = [
     (Format::U8, 13, 11),
     (Format::S16, 70, 130),
     (Format::U32, 97, 61),
 ];
 
-/// Fills samples with numbers that follow no pattern.
+/// Fills samples with pseudorandom numbers.
 pub fn scatter(samples: &mut Samples, seed: u32) {
     let mut number = seed;
     match samples {
@@ -47,7 +47,7 @@ pub fn scatter(samples: &mut Samples, seed: u32) {
     }
 }
 
-/// The frame in which client 1 sends a request.
+/// Returns the frame in which client 1 sends a request.
 pub fn frame(alloc: Global, request: &Request) -> Result<Vec<u8>, Fail> {
     let mut sink = PiecewiseSink {
         bytes: Vec::new(alloc),
@@ -64,7 +64,7 @@ pub fn frame(alloc: Global, request: &Request) -> Result<Vec<u8>, Fail> {
     }
 }
 
-/// The frame in which client 1 writes a picture to its image.
+/// Returns the frame in which client 1 writes a picture to its image.
 fn writing(alloc: Global, desc: Desc, seed: u32) -> Result<Vec<u8>, Fail> {
     let mut samples = Samples::zeros(alloc, desc.format(), desc.sample_count())?;
     scatter(&mut samples, seed);
@@ -77,8 +77,8 @@ fn writing(alloc: Global, desc: Desc, seed: u32) -> Result<Vec<u8>, Fail> {
     )
 }
 
-/// What client 1 is answered that reads what such a frame has written: the frame's body after the
-/// reference.
+/// Returns the body of the reply to reading the image that such a frame has written: the frame's
+/// body after the reference.
 fn read(writing: &[u8]) -> &[u8] {
     if writing.len() < 12 {
         writing
@@ -87,7 +87,7 @@ fn read(writing: &[u8]) -> &[u8] {
     }
 }
 
-/// The replies to a stream that is served whole.
+/// Serves a stream, which has to succeed, and returns the replies.
 pub fn ask(alloc: Global, runtime: &mut Runtime, stream: &[u8]) -> Result<Vec<u8>, Fail> {
     let served = serve_bytes(alloc, runtime, stream, ALL_AT_ONCE);
     if served.result.is_err() {
@@ -96,7 +96,7 @@ pub fn ask(alloc: Global, runtime: &mut Runtime, stream: &[u8]) -> Result<Vec<u8
     Ok(served.written)
 }
 
-/// Client 1's context, with an image of this description under 1.
+/// Returns a runtime in which client 1 has image 1, of this description.
 pub fn opened(alloc: Global, desc: Desc) -> Result<Runtime, Fail> {
     let mut runtime = Runtime::new(alloc, Limits::default());
     ask(
@@ -112,14 +112,15 @@ pub fn opened(alloc: Global, desc: Desc) -> Result<Runtime, Fail> {
     Ok(runtime)
 }
 
-/// Whether the image is read as such a frame has written it.
+/// Returns whether the image has the samples that such a frame has written.
 fn holds(alloc: Global, runtime: &mut Runtime, writing: &[u8]) -> Result<bool, Fail> {
     let asked = frame(alloc, &Request::ReadImage(image()))?;
     let replies = ask(alloc, runtime, asked.as_slice())?;
     Ok(replies.len() > 8 && replies[7] == 0 && &replies[8..] == read(writing))
 }
 
-/// Whether a picture that goes in by these pieces, and out by these, comes back.
+/// Writes a picture in pieces of one size and reads it in pieces of another. Returns whether it is
+/// the same.
 fn comes_back(
     alloc: Global,
     desc: Desc,
@@ -156,8 +157,8 @@ fn pictures_in_pieces(rt: HostRuntime) -> Result<(), Fail> {
     Ok(())
 }
 
-/// Whether the image is as it was written first after a part of the frame that writes the next
-/// picture, and after a read of that frame that fails.
+/// Returns whether the image still has the first picture after two failed writes of the next one:
+/// the stream ends after this part of its frame, and a read of the part fails.
 fn stays(
     alloc: Global,
     runtime: &mut Runtime,
@@ -173,7 +174,7 @@ fn stays(
     Ok(ended && stays && holds(alloc, runtime, first)?)
 }
 
-/// Whether it stays so after each of 23 parts.
+/// Returns whether the image stays the same for each of 23 parts.
 fn stays_after_parts(
     alloc: Global,
     runtime: &mut Runtime,
@@ -194,7 +195,7 @@ fn stays_after_parts(
     Ok(true)
 }
 
-/// An image is as it was where the stream ends within the frame that writes it, or a read fails.
+/// An image doesn't change if the stream ends within the frame that writes it, or a read fails.
 #[test]
 fn pictures_cut_short(rt: HostRuntime) -> Result<(), Fail> {
     let alloc = rt.alloc();
@@ -210,8 +211,8 @@ fn pictures_cut_short(rt: HostRuntime) -> Result<(), Fail> {
     Ok(())
 }
 
-/// Whether a picture of another description is refused with this code, and the image is as it was
-/// written first.
+/// Returns whether a picture of another description is refused with this code, and the image still
+/// has the first picture.
 fn is_refused(
     alloc: Global,
     runtime: &mut Runtime,
@@ -225,7 +226,7 @@ fn is_refused(
     Ok(replies.len() > 16 && replies[7] == code && &replies[16..] == read(first))
 }
 
-/// A refused picture is read past, and the next one is written.
+/// A refused picture is skipped, and the next one is written.
 #[test]
 fn pictures_refused(rt: HostRuntime) -> Result<(), Fail> {
     let alloc = rt.alloc();

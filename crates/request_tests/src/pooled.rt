@@ -1,5 +1,5 @@
-//! The blocks in which the clients' images have their samples: that they are used again and given
-//! back, and that no samples come to who is next.
+//! The pool's blocks of clients' images: they are reused and given back, and the next client to get
+//! a block never sees the old samples.
 use crate::clients::{add, add_not, create, holds, reply, succeed, with_a_graph, write_sample};
 use client_contexts::Runtime;
 use client_model::{Limits, Reply, Request};
@@ -7,7 +7,7 @@ use std::alloc::Global;
 use std::test::Fail;
 use vx_base::{Desc, Format, Function, ObjRef, Outline, Picture, Samples, SlotCount};
 
-/// Whether so many blocks of U8, of S16 and of U32 are lent, of so many that there are.
+/// Returns whether these are the numbers of lent blocks and of all blocks, of U8, S16 and U32.
 fn has(runtime: &Runtime, lent: [usize; 3], blocks: [usize; 3]) -> bool {
     let [bytes, shorts, words] = [Format::U8, Format::S16, Format::U32];
     lent == [
@@ -22,14 +22,14 @@ fn has(runtime: &Runtime, lent: [usize; 3], blocks: [usize; 3]) -> bool {
         ]
 }
 
-/// A runtime in which client 1 has a context.
+/// Returns a runtime in which client 1 has a context.
 fn opened(alloc: Global) -> Result<Runtime, Fail> {
     let mut runtime = Runtime::new(alloc, Limits::default());
     succeed(alloc, &mut runtime, &Request::OpenContext)?;
     Ok(runtime)
 }
 
-/// Samples of a format, none of which is 0.
+/// Returns samples of a format, none of which is 0.
 fn no_zeros(alloc: Global, format: Format, count: usize) -> Result<Samples, Fail> {
     Ok(match format {
         Format::U8 => Samples::U8(vec![in alloc; 255; count]?),
@@ -38,7 +38,7 @@ fn no_zeros(alloc: Global, format: Format, count: usize) -> Result<Samples, Fail
     })
 }
 
-/// Writes samples that aren't 0 to all of a cell.
+/// Writes samples that aren't 0 to the whole image that a reference names.
 fn fill(alloc: Global, runtime: &mut Runtime, cell: ObjRef, desc: Desc) -> Result<(), Fail> {
     let samples = no_zeros(alloc, desc.format(), desc.sample_count())?;
     if samples.len() != desc.sample_count() || samples.format() != desc.format() {
@@ -48,7 +48,7 @@ fn fill(alloc: Global, runtime: &mut Runtime, cell: ObjRef, desc: Desc) -> Resul
     succeed(alloc, runtime, &Request::WriteImage(cell, picture))
 }
 
-/// Whether a cell holds 0 everywhere.
+/// Returns whether the image that a reference names is 0 everywhere.
 fn is_cleared(alloc: Global, runtime: &mut Runtime, cell: ObjRef) -> Result<bool, Fail> {
     match reply(alloc, runtime, &Request::ReadImage(cell))? {
         Reply::Picture(picture) => Ok(match picture.samples() {
@@ -60,7 +60,8 @@ fn is_cleared(alloc: Global, runtime: &mut Runtime, cell: ObjRef) -> Result<bool
     }
 }
 
-/// Whether a cell held 0 everywhere, where it holds no 0 now.
+/// Returns whether the image that a reference names was 0 everywhere, and fills it with other
+/// samples.
 fn was_cleared(
     alloc: Global,
     runtime: &mut Runtime,
@@ -72,14 +73,14 @@ fn was_cleared(
     Ok(was_cleared && !is_cleared(alloc, runtime, cell)?)
 }
 
-/// Each format, and the blocks of an image of it: of U8, of S16 and of U32.
+/// Each format, and the blocks of an image of that format: of U8, of S16 and of U32.
 const FORMATS: [(Format, [usize; 3]); 3] = [
     (Format::U8, [1, 0, 0]),
     (Format::S16, [0, 1, 0]),
     (Format::U32, [0, 0, 1]),
 ];
 
-/// Whether three images one after the other are cleared, in one block.
+/// Returns whether three images, created one after the other, are all 0 and use the same block.
 fn images_use_one_block(alloc: Global, format: Format, one: [usize; 3]) -> Result<bool, Fail> {
     let desc = Desc::new(5, 7, format).ok_or("within the limits")?;
     let mut runtime = opened(alloc)?;
@@ -107,8 +108,8 @@ fn a_new_image_is_cleared_and_uses_the_block_of_a_released_one(
     Ok(())
 }
 
-/// Whether all slots of a new delay of image 1, which is of this description, are cleared. It is
-/// aged and released.
+/// Creates a delay like image 1, which has this description, ages it and releases it. Returns
+/// whether slots 0 to 2 were 0, and whether it used the blocks that it should.
 fn slots_are_cleared(
     alloc: Global,
     runtime: &mut Runtime,
@@ -143,7 +144,7 @@ fn a_new_delay_is_cleared_and_uses_the_blocks_of_a_released_one(
     Ok(())
 }
 
-/// Creates an image of four samples and a delay of so many like it.
+/// Creates an image of four samples, and a delay of this number of images like it.
 fn create_many(
     alloc: Global,
     runtime: &mut Runtime,
@@ -172,7 +173,7 @@ fn a_released_context_has_given_all_blocks_back(rt: HostRuntime) -> Result<(), F
     Ok(())
 }
 
-/// Links images 1 and 2 of graph 3 by a chain of six nodes of Box through five virtual images.
+/// Adds a chain of six nodes Box to graph 3, from image 1 to image 2 through five virtual images.
 fn add_chain(alloc: Global, runtime: &mut Runtime) -> Result<(), Fail> {
     let open = Outline::new(None, None, None).ok_or("nothing is declared")?;
     for _ in 5..9 {
@@ -199,7 +200,7 @@ fn a_chain_runs_through_two_blocks_and_gives_them_back(rt: HostRuntime) -> Resul
     Ok(())
 }
 
-/// How many slots of U8 the plan has that is kept of graph 3 of client 1, if one is.
+/// Returns the number of U8 slots in the cached plan of graph 3 of client 1, if there is one.
 fn kept_slots(runtime: &Runtime) -> Option<usize> {
     match runtime.kept(1, 3) {
         Some(kept) => Some(kept.plan.slot_count(Format::U8)),
@@ -240,7 +241,8 @@ fn images_that_get_smaller_use_one_block(rt: HostRuntime) -> Result<(), Fail> {
     Ok(())
 }
 
-/// Whether so many blocks of U8 are lent once client 1 has asked for something, whatever the reply.
+/// Returns whether this number of U8 blocks is lent after a request of client 1, whatever the
+/// reply.
 fn leaves(
     alloc: Global,
     runtime: &mut Runtime,
@@ -261,7 +263,7 @@ fn so_many_blocks_are_lent_after_each_call(rt: HostRuntime) -> Result<(), Fail> 
     for (request, lent) in [
         (Request::VerifyGraph(3), 2),
         (Request::ProcessGraph(3), 2),
-        // A node reads it still.
+        // A node still reads it.
         (Request::Release(1), 2),
         (Request::ProcessGraph(3), 2),
         (Request::RemoveNode(3, 1), 1),
@@ -269,7 +271,7 @@ fn so_many_blocks_are_lent_after_each_call(rt: HostRuntime) -> Result<(), Fail> 
         // There is no image 1.
         (Request::CreateDelay(ObjRef::new(1, None), slots), 4),
         (Request::AgeDelay(5), 4),
-        // A node writes it still, as long as its graph is there.
+        // A node still writes it until its graph is released.
         (Request::Release(2), 4),
         (Request::Release(3), 3),
         (Request::Release(5), 0),
@@ -277,7 +279,7 @@ fn so_many_blocks_are_lent_after_each_call(rt: HostRuntime) -> Result<(), Fail> 
     ] {
         assert!(rt; leaves(alloc, &mut runtime, &request, lent)?);
     }
-    // Never were more lent at once.
+    // There were never more lent at the same time.
     assert!(rt; has(&runtime, [0; 3], [4, 0, 0]));
     Ok(())
 }

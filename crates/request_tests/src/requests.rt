@@ -1,4 +1,4 @@
-//! Requests as bytes, and back; and the texts of faults.
+//! Requests to bytes and back; the texts of faults.
 use crate::devices::{NEVER, PiecewiseSink};
 use client_model::{Request, Text};
 use std::alloc::Global;
@@ -10,8 +10,8 @@ use vx_base::{
 };
 use vx_requests::{Failed, ParseFault, StreamFault, fits_a_frame, parse, write_request};
 
-/// The result of writing a request of client 258 by seven bytes at a call, and what was taken;
-/// `BadLength` where it fits no frame.
+/// Writes a request of client 258, seven bytes in each call. Returns the result, which is
+/// `BadLength` if the request fits no frame, and the bytes that were taken.
 fn write(alloc: Global, request: &Request, good_writes: u64) -> (Result<(), StreamFault>, Vec<u8>) {
     let mut sink = PiecewiseSink {
         bytes: Vec::new(alloc),
@@ -26,7 +26,7 @@ fn write(alloc: Global, request: &Request, good_writes: u64) -> (Result<(), Stre
     (result, sink.bytes)
 }
 
-/// Requests with their frames, by number.
+/// Returns the request of a number, which has its frame in the test.
 fn request(alloc: Global, number: u8) -> Option<Request> {
     match number {
         0 => Some(Request::OpenContext),
@@ -64,7 +64,7 @@ fn request(alloc: Global, number: u8) -> Option<Request> {
     }
 }
 
-/// Those of them that are on graphs.
+/// Returns the request of a number, of those on graphs.
 fn request_on_graphs(number: u8) -> Option<Request> {
     match number {
         19 => Some(Request::CreateGraph),
@@ -135,7 +135,7 @@ const FRAMES: [&[u8]; 27] = [
     b"\0\0\0\x0b\x01\x02\x1b\0\0\x01\x02\0\x01\0\0",
 ];
 
-/// Whether a request is written to these bytes.
+/// Returns whether a request is written as these bytes.
 fn is_written(alloc: Global, request: &Request, bytes: &[u8]) -> bool {
     let (result, taken) = write(alloc, request, NEVER);
     result.is_ok() && taken.as_slice() == bytes
@@ -153,7 +153,8 @@ fn written_as_bytes(rt: HostRuntime) {
     }
 }
 
-/// The request that is parsed from what was written of this one, where that ends in these bytes.
+/// Writes a request, which has to end in these bytes, and returns the request that they are parsed
+/// as.
 fn there_and_back(alloc: Global, request: &Request, end: &[u8]) -> Option<Request> {
     let (result, taken) = write(alloc, request, NEVER);
     if result.is_err() || !taken.as_slice().ends_with(end) {
@@ -165,7 +166,8 @@ fn there_and_back(alloc: Global, request: &Request, end: &[u8]) -> Option<Reques
     }
 }
 
-/// The samples of a picture of one column that was written, to an end of these bytes, and parsed.
+/// Writes a picture of one column, which has to end in these bytes, and returns the samples that
+/// are parsed.
 fn picture_and_back(alloc: Global, samples: Samples, end: &[u8]) -> Option<Samples> {
     let desc = Desc::new(1, 3, samples.format())?;
     if samples.len() != desc.sample_count() {
@@ -179,7 +181,7 @@ fn picture_and_back(alloc: Global, samples: Samples, end: &[u8]) -> Option<Sampl
     }
 }
 
-/// The entries of a table that was written and parsed.
+/// Writes a table, and returns the entries that are parsed.
 fn table_and_back(alloc: Global, entries: Samples) -> Option<Samples> {
     let request = Request::CreateLut(Lut::new(entries)?);
     match there_and_back(alloc, &request, b"") {
@@ -220,7 +222,7 @@ fn words_there_and_back(rt: HostRuntime) -> Result<(), Fail> {
     Ok(())
 }
 
-/// A request with a picture of 3000 samples.
+/// Returns a request with a picture of 3000 samples.
 fn long_request(alloc: Global) -> Option<Request> {
     let desc = Desc::new(1500, 2, Format::S16)?;
     let samples = Samples::zeros(alloc, Format::S16, desc.sample_count()).ok()?;
@@ -240,7 +242,7 @@ fn stops_at_a_write_that_fails(rt: HostRuntime) -> Result<(), Fail> {
     Ok(())
 }
 
-/// Whether a value is shown as this text.
+/// Returns whether a value is displayed as this text.
 fn is_shown<T: Display>(alloc: Global, value: &T, text: &str) -> bool {
     match format!(in alloc; "{value}") {
         Ok(shown) => shown.as_str() == text,

@@ -1,5 +1,5 @@
-//! One stream of two clients, over devices that move it in pieces or fail, and how far a stream is
-//! read that ends badly.
+//! One stream of two clients, over devices that move it in pieces or fail; and how far a stream
+//! with a fault is read.
 use crate::devices::{NEVER, PiecewiseSink, PiecewiseSource};
 use client_contexts::Runtime;
 use client_model::Limits;
@@ -7,8 +7,8 @@ use std::alloc::Global;
 use std::process::Abort;
 use vx_requests::{StreamFault, Summary, serve};
 
-/// Clients 1 and 2 in turn: each opens a context, makes an image of one U8 sample, writes 10 or 20
-/// and reads.
+/// Clients 1 and 2 in turn: each opens a context, creates an image of one U8 sample, writes 10 or
+/// 20, and reads it.
 pub const TURNS: &[u8] = b"\x00\x00\x00\x03\x00\x01\x01\
 \x00\x00\x00\x03\x00\x02\x01\
 \x00\x00\x00\x08\x00\x01\x03\x01\x00\x01\x00\x01\
@@ -18,6 +18,7 @@ pub const TURNS: &[u8] = b"\x00\x00\x00\x03\x00\x01\x01\
 \x00\x00\x00\x08\x00\x01\x07\x00\x00\x00\x01\xff\
 \x00\x00\x00\x08\x00\x02\x07\x00\x00\x00\x01\xff";
 
+/// The replies to `TURNS`.
 pub const REPLIES: &[u8] = b"\x00\x00\x00\x04\x00\x01\x01\x00\
 \x00\x00\x00\x04\x00\x02\x01\x00\
 \x00\x00\x00\x08\x00\x01\x03\x00\x00\x00\x00\x01\
@@ -27,10 +28,10 @@ pub const REPLIES: &[u8] = b"\x00\x00\x00\x04\x00\x01\x01\x00\
 \x00\x00\x00\x0a\x00\x01\x07\x00\x01\x00\x01\x00\x01\x0a\
 \x00\x00\x00\x0a\x00\x02\x07\x00\x01\x00\x01\x00\x01\x14";
 
-/// Where the replies end.
+/// The offsets at which the replies end.
 const REPLY_ENDS: [usize; 9] = [0, 8, 16, 28, 40, 48, 56, 70, 84];
 
-/// How the devices of a stream behave: pieces, and calls until one fails.
+/// The devices of a stream: the sizes of their pieces, and the number of calls until one fails.
 #[derive(Clone, Copy)]
 pub struct Devices {
     pub source_piece: usize,
@@ -39,15 +40,16 @@ pub struct Devices {
     pub good_writes: u64,
 }
 
-/// What serving a stream gave.
+/// The result of serving a stream.
 #[derive(Drop)]
 pub struct Served {
     pub result: Result<Summary, StreamFault>,
     pub written: Vec<u8>,
-    /// How many bytes were left, and how often they were read.
+    /// The number of bytes left, and the number of reads.
     left: (usize, u64),
 }
 
+/// Serves a stream to a runtime, over devices that move it in pieces or fail.
 pub fn serve_bytes(
     alloc: Global,
     runtime: &mut Runtime,
@@ -81,6 +83,7 @@ fn serve_turns(alloc: Global, devices: Devices) -> Served {
     serve_bytes(alloc, &mut runtime, TURNS, devices)
 }
 
+/// Devices that move everything in one piece, and never fail.
 pub const ALL_AT_ONCE: Devices = Devices {
     source_piece: 1_000_000,
     good_reads: NEVER,
@@ -108,7 +111,8 @@ fn in_pieces(rt: HostRuntime) {
     }
 }
 
-/// Serves over devices of which one fails; whether it ended well, with all replies.
+/// Serves over devices of which one may fail with this fault. Returns whether it succeeded, with
+/// all replies.
 fn ends_well(rt: &impl Abort, alloc: Global, devices: Devices, fault: StreamFault) -> bool {
     let served = serve_turns(alloc, devices);
     assert!(rt; REPLIES.starts_with(served.written.as_slice()));
@@ -120,8 +124,8 @@ fn ends_well(rt: &impl Abort, alloc: Global, devices: Devices, fault: StreamFaul
     is_ok
 }
 
-/// The stream has 98 bytes and its replies 84, each of which takes a call here; beyond are the read
-/// that finds the end, and the flushes.
+/// The stream has 98 bytes and its replies 84, and each byte takes a call here. Further calls are
+/// the flushes, and the read that finds the end.
 #[test]
 fn each_read_and_each_write_failing(rt: HostRuntime) {
     for good in 0..120 {
@@ -159,8 +163,8 @@ fn a_write_that_takes_nothing(rt: HostRuntime) {
     assert!(rt; served.written.is_empty());
 }
 
-/// Streams that end badly, one after the other to the same runtime: how they end, what is written,
-/// how many bytes are left, and how often they are read.
+/// Streams with a fault, one after the other to the same runtime: how serving ends, the bytes
+/// written, the bytes left, and the number of reads.
 #[test]
 fn how_far_it_reads(rt: HostRuntime) {
     let mut runtime = Runtime::new(rt.alloc(), Limits::default());
@@ -177,7 +181,7 @@ fn how_far_it_reads(rt: HostRuntime) {
             b"",
             (0, 3),
         ),
-        // No byte after a length that isn't allowed is asked for.
+        // No byte is read after a length out of range.
         (
             b"\x00\x00\x00\x02\x00\x07",
             StreamFault::BadLength,
@@ -190,14 +194,14 @@ fn how_far_it_reads(rt: HostRuntime) {
             b"",
             (3, 1),
         ),
-        // A whole frame, in two reads, and a byte.
+        // A whole frame, in two reads, and one byte.
         (
             b"\x00\x00\x00\x03\x00\x07\x01\xff",
             StreamFault::Truncated,
             b"\x00\x00\x00\x04\x00\x07\x01\x00",
             (0, 4),
         ),
-        // The context that the stream before opened is still open.
+        // The context that the previous stream opened is still open.
         (
             b"\x00\x00\x00\x03\x00\x07\x01\xff",
             StreamFault::Truncated,
@@ -212,7 +216,7 @@ fn how_far_it_reads(rt: HostRuntime) {
     }
 }
 
-/// Streams that end well, one after the other to the same runtime: an empty one, one that opens a
+/// Streams without a fault, one after the other to the same runtime: an empty one, one that opens a
 /// context, and one that finds it open.
 #[test]
 fn goes_on_after_a_good_end(rt: HostRuntime) {

@@ -8,10 +8,10 @@ use std::test::Fail;
 use vx_base::{Desc, Format, Samples};
 use vx_requests::StreamFault;
 
-/// Sides of images: the text of the first has fewer bytes than a small frame.
+/// Widths and heights of images. The text of the first has fewer bytes than a small frame.
 const SIDES: [(u16, u16); 3] = [(3, 2), (13, 11), (100, 7)];
 
-/// A raw text with this maxval, of U8 samples below 256.
+/// Returns a raw text of pseudorandom U8 samples, with this maxval.
 fn text(alloc: Global, width: u16, height: u16, maxval: u16, seed: u32) -> Result<Vec<u8>, Fail> {
     let mut text = format!(in alloc; "P5\n{width} {height}\n{maxval}\n")?.into_bytes();
     let count = usize::from(width) * usize::from(height);
@@ -23,18 +23,18 @@ fn text(alloc: Global, width: u16, height: u16, maxval: u16, seed: u32) -> Resul
     Ok(text)
 }
 
-/// The frame in which client 1 writes a text to its image.
+/// Returns the frame in which client 1 writes a text to its image.
 fn writing(alloc: Global, text: &[u8]) -> Result<Vec<u8>, Fail> {
     let text = Text::new(text.to_vec(alloc)?);
     frame(alloc, &Request::WriteImagePgm(image(), text))
 }
 
-/// The frame in which client 1 reads its image as a text.
+/// Returns the frame in which client 1 reads its image as a text.
 fn reading(alloc: Global) -> Result<Vec<u8>, Fail> {
     frame(alloc, &Request::ReadImagePgm(image()))
 }
 
-/// The frame in which client 1 is answered with a text.
+/// Returns the reply frame that gives client 1 a text.
 fn answer(alloc: Global, text: &[u8]) -> Result<Vec<u8>, Fail> {
     let length = (text.len() as u64 + 4).to_be_bytes();
     let mut reply = length[4..].to_vec(alloc)?;
@@ -43,18 +43,19 @@ fn answer(alloc: Global, text: &[u8]) -> Result<Vec<u8>, Fail> {
     Ok(reply)
 }
 
-/// Whether the image is read as this text.
+/// Returns whether the image is read as this text.
 fn holds(alloc: Global, runtime: &mut Runtime, text: &[u8]) -> Result<bool, Fail> {
     let replies = ask(alloc, runtime, reading(alloc)?.as_slice())?;
     Ok(replies.as_slice() == answer(alloc, text)?.as_slice())
 }
 
-/// The reply to a frame that writes, which has eight bytes, and those that follow it.
+/// Splits replies after the first, which answers a write and has eight bytes.
 fn split_reply(replies: &[u8]) -> (&[u8], &[u8]) {
     replies.split_at(replies.len().min(8))
 }
 
-/// Whether a text that goes in by these pieces, and out by these, comes back.
+/// Writes a text in pieces of one size and reads it in pieces of another. Returns whether it is the
+/// same.
 fn comes_back(
     alloc: Global,
     desc: Desc,
@@ -79,7 +80,7 @@ fn comes_back(
     )
 }
 
-/// What is written is read again, byte for byte.
+/// A text that is written is read back byte for byte.
 #[test]
 fn texts_in_pieces(rt: HostRuntime) -> Result<(), Fail> {
     for (width, height) in SIDES {
@@ -91,7 +92,8 @@ fn texts_in_pieces(rt: HostRuntime) -> Result<(), Fail> {
     Ok(())
 }
 
-/// Whether the image holds the first text after each of 23 parts of the frame that writes the next.
+/// Returns whether the image still has the first text after each of 23 parts of the frame that
+/// writes the next.
 fn stays_after_parts(
     alloc: Global,
     runtime: &mut Runtime,
@@ -109,7 +111,7 @@ fn stays_after_parts(
     Ok(true)
 }
 
-/// An image is as it was where the stream ends within the frame that writes it.
+/// An image doesn't change if the stream ends within the frame that writes it.
 #[test]
 fn texts_cut_short(rt: HostRuntime) -> Result<(), Fail> {
     let alloc = rt.alloc();
@@ -131,7 +133,7 @@ fn texts_cut_short(rt: HostRuntime) -> Result<(), Fail> {
     Ok(())
 }
 
-/// Whether a text is refused with this code, and the image holds the first one.
+/// Returns whether a text is refused with this code, and the image still has the first one.
 fn is_refused(
     alloc: Global,
     runtime: &mut Runtime,
@@ -144,7 +146,7 @@ fn is_refused(
     Ok(is_refused && holds(alloc, runtime, first)?)
 }
 
-/// A text's own fault comes before what the image says, and leaves the image as it was.
+/// A fault of the text comes before a mismatch with the image, and the image doesn't change.
 #[test]
 fn texts_refused(rt: HostRuntime) -> Result<(), Fail> {
     let alloc = rt.alloc();
@@ -156,7 +158,7 @@ fn texts_refused(rt: HostRuntime) -> Result<(), Fail> {
         &mut runtime,
         writing(alloc, first.as_slice())?.as_slice(),
     )?;
-    // The sides, the maxval, how many bytes are left out at the end, and the code.
+    // Width, height, maxval, the number of bytes missing at the end, and the code.
     for (width, height, maxval, short, code) in [
         (40, 3, 255, 1, 5),
         (40, 3, 100, 0, 7),
@@ -174,7 +176,7 @@ fn texts_refused(rt: HostRuntime) -> Result<(), Fail> {
     Ok(())
 }
 
-/// Raw texts of two bytes a sample, and of one, that an image of U8 doesn't take.
+/// An image of U8 refuses raw texts of two bytes a sample, and some of one byte.
 #[test]
 fn texts_of_two_bytes_refused(rt: HostRuntime) -> Result<(), Fail> {
     let alloc = rt.alloc();
@@ -196,7 +198,7 @@ fn texts_of_two_bytes_refused(rt: HostRuntime) -> Result<(), Fail> {
     Ok(())
 }
 
-/// An image of S16 is read as no text.
+/// An image of S16 can't be read as a text.
 #[test]
 fn no_texts_of_shorts(rt: HostRuntime) -> Result<(), Fail> {
     let alloc = rt.alloc();

@@ -1,4 +1,4 @@
-//! A reply is written and flushed before a byte of the next frame is asked for: a source that
+//! A reply is written and flushed before a byte of the next frame is read, as a source finds that
 //! watches the sink.
 ghost use Rattle.std.specs.Prelude.{None};
 
@@ -9,12 +9,12 @@ use client_model::Limits;
 use std::cell::Cell;
 use vx_requests::{Failed, Sink, Source, Summary, serve};
 
-/// Gives frames, and fails where it is asked for a byte past a frame before the reply to it was
-/// flushed, or while the sink holds a byte that was written since.
+/// A source of frames. It fails if a byte after a frame is read before the reply was flushed, or
+/// while the sink holds bytes that were written after the flush.
 #[derive(Drop)]
 struct InTurns<'a> {
     stream: &'a [u8],
-    /// How many bytes of the frame are left.
+    /// The number of bytes left of the frame.
     frame: usize,
     begun: u64,
     flushed: &'a Cell<u64>,
@@ -24,7 +24,7 @@ struct InTurns<'a> {
 }
 
 impl InTurns<'_> {
-    /// The bytes of the next frame, or 0 where it may not be asked for.
+    /// Returns the number of bytes of the next frame, or 0 while it must not be read.
     fn next_frame(&self) -> usize {
         match self.stream {
             [a, b, c, d, ..] if self.flushed.get() == self.begun && !self.holds.get() => {
@@ -65,8 +65,8 @@ impl Source for InTurns<'_> {
     }
 }
 
-/// Takes bytes, counts its flushes, and says whether it holds bytes that were written since the
-/// last, where the source sees both.
+/// A sink that counts its flushes, and shows the source whether it holds bytes that were written
+/// since the last.
 #[derive(Drop)]
 struct Flushed<'a> {
     bytes: Vec<u8>,

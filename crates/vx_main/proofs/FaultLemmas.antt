@@ -1,4 +1,4 @@
--- How `apply` ends where a text stands for no picture.
+-- How `apply` ends for a text that encodes no picture.
 use Rattle.std.proofs.Common.{◌≡◌, ℕ, List, Some, Result, Ok, Err, IfErr, IsErrAnd, inl, inr, ap, ◌∙◌}
 use Rattle.vx_base.specs.Picture.{PictureValue}
 use Rattle.pgm_images.specs.declared.fault.PgmFault.{PgmFault}

@@ -1,4 +1,4 @@
--- What a quota's word tells, by the number that `parse` reads from it.
+-- The meaning of a quota's word, by the number that `parse` reads from it.
 use Rattle.std.proofs.Common.{◌≡◌, ◌∙◌, ◌<◌, ◌≤◌, ◌^◌, ℕ, Bool, true, List, [], ◌∷◌, length, Option, Some, None, if◌then◌else◌, Result, Ok, Err, ◌≢◌, get_or, ap, sym, subst, refl, rules, arith, inl, inr}
 use Rattle.std.proofs.lemmas.Bool.{cases_Bool, cases_lt, lt-leb}
 use Rattle.std.specs.Str.{all_ascii_digits}
@@ -16,11 +16,11 @@ digits_model = numerals_by_value _ tells_all_ascii_digits
 abbrev IsNumber : List ℕ → Type 0
 IsNumber word = (all_ascii_digits word ≡ true) × (0 < length word) × (digits_value 10 word < 2 ^ 64)
 
--- a number of bytes that may be told
+-- a number of bytes that is a limit
 abbrev pub limit_of : ℕ → Option ℕ
 limit_of n = if is_limit n then Some n else None
 
--- digits tell the number that they write
+-- digits alone give the number that they spell
 told_of_digits : (word : List ℕ) → all_ascii_digits word ≡ true → bytes_told word ≡ limit_of (digits_value 10 word)
 told_of_digits word digits = ap (λ (t : Bool). if t then limit_of (digits_value 10 word) else None) digits
 
@@ -28,7 +28,7 @@ told_of_digits word digits = ap (λ (t : Bool). if t then limit_of (digits_value
 great : (n : ℕ) → 2 ^ 64 ≤ n → limit_of n ≡ None
 great n high = search (rules, arith, high, lt-leb n 1099511627776)
 
--- what writes no number below 2^64 tells none
+-- a word that spells no number below 2^64 gives none
 told_of_others : (word : List ℕ) → (IsNumber word → ⊥) → bytes_told word ≡ None
 told_of_others [] others = refl
 told_of_others (c ∷ cs) others =

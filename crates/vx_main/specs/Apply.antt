@@ -1,4 +1,4 @@
--- What `apply` gives.
+-- The results of `apply`.
 use Rattle.std.specs.Prelude.{◌≡◌, ◌⊎◌, ℕ, List, None, Result, Ok, Err, if◌then◌else◌}
 use Rattle.vx_base.specs.declared.code.Code.{Code}
 use Rattle.vx_base.specs.declared.code.Code.TheVariants.{InvalidFormat, InvalidDimension, InvalidValue, NoMemory}
@@ -17,21 +17,21 @@ use Rattle.vx_main.specs.declared.ended.Ended.TheVariants.{Refused}
 use Rattle.vx_main.specs.declared.job.Job.{Job}
 use Rattle.vx_main.specs.Job.{node_of}
 
--- the image that the job's node gives of a picture, and its text
+-- the image that the job's node gives for a picture, and its text
 abbrev pub image_made : Job → PictureValue → ImageValue
 image_made job p = node_image (node_of job) First U8 (pictured p) None
 
 abbrev pub text_made : Job → PictureValue → List ℕ
 text_made job p = pgm_text (picture_of (image_made job p))
 
--- the code that tells a text's fault
+-- the status code for a fault of a text
 abbrev pub pgm_fault_code : PgmFault → Code
 pgm_fault_code fault.InvalidDimension = InvalidDimension
 pgm_fault_code fault.InvalidValue = InvalidValue
 pgm_fault_code fault.InvalidFormat = InvalidFormat
 pgm_fault_code fault.NoMemory = NoMemory
 
--- the text that comes of a picture of U8, or the code that says why there is none
+-- the resulting text of a picture of U8, or the code of the fault
 abbrev pub applied_to : Job → Result PictureValue PgmFault → Result (List ℕ) Code
 applied_to job (Err fault) = Err (pgm_fault_code fault)
 applied_to job (Ok p) = if same_format p.description.format U8 then Ok (text_made job p) else Err InvalidFormat
@@ -39,6 +39,6 @@ applied_to job (Ok p) = if same_format p.description.format U8 then Ok (text_mad
 abbrev pub applied : Job → List ℕ → Result (List ℕ) Code
 applied job text = applied_to job (reading text)
 
--- ended for want of memory, or by the code that says why there is no text
+-- the program ended because memory ran out, or with the code of the fault
 pub record EndsFor (outcome : Result (List ℕ) Code) (ended : Ended) : Type 0 where
   pub is : (ended ≡ Refused NoMemory) ⊎ ((code : Code) × (outcome ≡ Err code) × (ended ≡ Refused code))

@@ -1,4 +1,4 @@
--- What `apply` is asked to do.
+-- The jobs of `apply`.
 use Rattle.std.specs.Prelude.{ℕ, List, Option, Some, None, codes, if◌then◌else◌}
 use Rattle.std.specs.Str.{bytes_eq}
 use Rattle.vx_base.specs.declared.border.Border.{Border}
@@ -13,7 +13,7 @@ use Rattle.vx_main.specs.declared.job.Operation.TheVariants.{Not, Box, Gaussian,
 
 -- ---- words
 
--- the operation that the word FUNCTION stands for
+-- the operation that the word FUNCTION names
 abbrev pub operation_told : List ℕ → Option Operation
 operation_told word =
     if bytes_eq word (codes "not") then Some Not
@@ -23,7 +23,7 @@ operation_told word =
     else (if bytes_eq word (codes "erode") then Some Erode
     else (if bytes_eq word (codes "dilate") then Some Dilate else None)))))
 
--- the border that the word after `--border` stands for
+-- the border that the word after `--border` names
 abbrev pub border_told : List ℕ → Option Border
 border_told word =
     if bytes_eq word (codes "undefined") then Some Undefined
@@ -39,7 +39,7 @@ function_of Median = function.Median
 function_of Erode = function.Erode
 function_of Dilate = function.Dilate
 
--- the node that runs it, from image 1 to image 2
+-- the node of a job, from image 1 to image 2
 abbrev pub node_of : Job → Node
 node_of job =
     record {

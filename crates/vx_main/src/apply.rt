@@ -1,4 +1,4 @@
-//! One function of one PGM text, as its reader and its writer see it.
+//! `apply`: one function of one PGM text, from a reader to a writer.
 ghost use Rattle.std.specs.Prelude.{◌≡◌, Ok, IfOk, IfErr, OnOk};
 ghost use Rattle.vx_base.specs.declared.format.Format.TheVariants.{U8 as FormatU8};
 ghost use Rattle.client_model.specs.Answer.{answer_to};
@@ -15,16 +15,16 @@ use std::io::{ErrorKind, Read, Write};
 use vx_base::{Code, Format, ObjRef, Picture};
 use vx_requests::StreamFault;
 
-/// How many bytes a text may have: 2^29.
+/// The most bytes of a text: 2^29.
 const LONGEST: usize = 536_870_912;
 
-/// The client whose requests are made; there is no other.
+/// The only client, in whose name the requests are made.
 const CLIENT: u16 = 1;
 
-/// Reads a PGM text to its end, and writes the text of what the job makes of its picture.
+/// Reads a PGM text to its end, applies the job to its picture, and writes the resulting text.
 ///
-/// A reader that fails and a text that is too long, whatever it holds, come before its faults. No
-/// byte is read past the first that is too many.
+/// A failing reader and a text that is too long are reported before the text's own faults. At most
+/// one byte is read beyond the longest text.
 pub fn apply<R: Read + Drop, W: Write>(
     alloc: Global,
     job: Job,
@@ -36,7 +36,7 @@ pub fn apply<R: Read + Drop, W: Write>(
     write_bytes(writer, made.bytes())
 }
 
-/// All bytes that a reader gives, unless they are more than a text may have.
+/// Returns all bytes of a reader. `NoResources`: they are more than a text may have.
 fn read_text<R: Read + Drop>(alloc: Global, reader: R) -> Result<Vec<u8>, Ended> {
     let mut text = Vec::new(alloc);
     let mut limited = reader.take(LONGEST as u64 + 1);
@@ -50,7 +50,7 @@ fn read_text<R: Read + Drop>(alloc: Global, reader: R) -> Result<Vec<u8>, Ended>
     }
 }
 
-/// The text of what the job makes of the U8 picture for which a text stands, or why there is none.
+/// Returns the text that the job gives for the U8 picture of a text, or why there is none.
 fn applied(alloc: Global, job: Job, text: &[u8]) -> Result<Text, Ended>
     ensures ok { IfOk result (λ made. applied job text.now ≡ Ok made) }
     ensures err { IfErr result (EndsFor (applied job text.now)) }
@@ -62,8 +62,9 @@ fn applied(alloc: Global, job: Job, text: &[u8]) -> Result<Text, Ended>
     Ok(made(alloc, job, picture)?)
 }
 
-/// The text of what the job makes of a picture of U8, by requests of one client to a server of the
-/// default limits. None of these is refused: two images of the greatest size are within the quota.
+/// Returns the text that the job gives for a picture of U8, by requests of one client to a server
+/// with the default limits. No request is refused: two images of the greatest size are within the
+/// quota.
 fn made(alloc: Global, job: Job, picture: Picture) -> Result<Text, NoMemory>
     requires { picture.description.format ≡ FormatU8 }
     ensures { IfOk result (λ text. text ≡ text_made job picture) }
@@ -82,7 +83,7 @@ fn made(alloc: Global, job: Job, picture: Picture) -> Result<Text, NoMemory>
     }
 }
 
-/// Makes a request whose reply tells nothing more than that it was done.
+/// Makes a request, and ignores its reply.
 fn ask(runtime: &mut Runtime, alloc: Global, request: Request) -> Result<(), NoMemory>
     ensures limits { runtime.new.limits ≡ runtime.old.limits }
     ensures state { OnOk result (state_of 1 runtime.new

@@ -1,4 +1,4 @@
-//! The program's words.
+//! The program's command line.
 ghost use Rattle.std.specs.Prelude.{◌≡◌};
 
 use crate::job::{Job, border_told, operation_told};
@@ -11,10 +11,10 @@ use vx_base::Border;
 /// The server's version.
 const VERSION: &str = "0.1.0";
 
-/// The word for the number of bytes that a quota and a work are by default.
+/// The default of the limits in bytes, as a word of the command line.
 const DEFAULT_BYTES: &str = "268435456";
 
-/// What the server may take beside what its options allow, as its help says it.
+/// The help text on memory that the options do not limit.
 const MEMORY_TAKEN: &str = "\
 Images may take twice their quota, and the graph that runs twice its work bytes. Beside that:
   free blocks     of images that are gone, which others use again: at most 16384 of each format,
@@ -26,17 +26,18 @@ Images may take twice their quota, and the graph that runs twice its work bytes.
 Free blocks and kept plans are charged to no client. Where memory is refused, free blocks are given
 up; a request that finds none is answered NO_MEMORY.";
 
-/// What a command line asks for.
+/// What a command line tells the program to do.
 #[derive(Clone, Copy, PartialEq, Eq, Debug)]
 pub enum Asked {
-    /// To serve a stream, with these limits for each client.
+    /// Serve a stream, with these limits for each client.
     Serve(Limits),
-    /// To make one picture of another.
+    /// Apply one function to a picture.
     Apply(Job),
 }
 
-/// What the words ask for, where they are a command line of the program: the subcommand `serve`,
-/// with or without a quota and a work, or `apply` with a function, with or without a border.
+/// Returns what the words tell the program to do: `serve`, with or without a quota and a work, or
+/// `apply` with a function, with or without a border. The error holds the text of a refusal, of the
+/// help or of the version.
 pub fn read_words(alloc: Global, words: &[&str]) -> Result<Asked, Error> {
     let program = Command::new(alloc, "vx_main")
         .version(VERSION)
@@ -56,7 +57,7 @@ pub fn read_words(alloc: Global, words: &[&str]) -> Result<Asked, Error> {
     }
 }
 
-/// The subcommand `serve`.
+/// Returns the subcommand `serve`.
 fn serve_command<'a>(alloc: Global) -> Result<Command<'a>, AllocError> {
     let quota = bytes_option(
         alloc,
@@ -75,7 +76,7 @@ fn serve_command<'a>(alloc: Global) -> Result<Command<'a>, AllocError> {
         .arg(work)
 }
 
-/// An option whose value is a number of bytes.
+/// Returns an option whose value is a number of bytes.
 fn bytes_option<'a>(alloc: Global, name: &'static str, help: &'static str) -> Arg<'a> {
     Arg::new(alloc, name)
         .long(name)
@@ -84,7 +85,7 @@ fn bytes_option<'a>(alloc: Global, name: &'static str, help: &'static str) -> Ar
         .help(help)
 }
 
-/// The limits that the words after `serve` ask for.
+/// Returns the limits of the words after `serve`.
 fn read_limits(alloc: Global, serve: &ArgMatches<'_>) -> Result<Limits, Error> {
     let quota = serve.get_str("quota").unwrap_or(DEFAULT_BYTES);
     let work = serve.get_str("work").unwrap_or(DEFAULT_BYTES);
@@ -100,7 +101,7 @@ fn read_limits(alloc: Global, serve: &ArgMatches<'_>) -> Result<Limits, Error> {
     Err(serve.error(ErrorKind::ValueValidation, text)?)
 }
 
-/// The subcommand `apply`.
+/// Returns the subcommand `apply`.
 fn apply_command<'a>(alloc: Global) -> Result<Command<'a>, AllocError> {
     let function = Arg::new(alloc, "function")
         .value_name("FUNCTION")
@@ -118,7 +119,7 @@ fn apply_command<'a>(alloc: Global) -> Result<Command<'a>, AllocError> {
         .arg(border)
 }
 
-/// The job that the words after `apply` ask for.
+/// Returns the job of the words after `apply`.
 fn read_job(alloc: Global, apply: &ArgMatches<'_>) -> Result<Job, Error> {
     let Some(operation) = operation_told(apply.get_str("function").unwrap_or("")) else {
         return Err(no_word(
@@ -139,7 +140,7 @@ fn read_job(alloc: Global, apply: &ArgMatches<'_>) -> Result<Job, Error> {
     }
 }
 
-/// The refusal of a word after `apply`, with this text.
+/// Returns the refusal of a word after `apply`, with this text.
 fn no_word(alloc: Global, text: &str) -> Result<Error, AllocError> {
     let mut apply = apply_command(alloc)?.bin_name("vx_main apply")?;
     apply.error(ErrorKind::ValueValidation, text)
@@ -148,12 +149,12 @@ fn no_word(alloc: Global, text: &str) -> Result<Error, AllocError> {
 ghost use Rattle.client_model.specs.Allowance.{is_limit};
 ghost use Rattle.vx_main.specs.CommandLine.{bytes_told, limits_told};
 
-/// The number of bytes that a word tells: decimal digits and nothing else, for a number from 1 to
-/// 2^40.
+/// Returns the number of bytes that a word spells: decimal digits and nothing else, for a number
+/// from 1 to 2^40. `None`: any other word.
 pub fn bytes_told(word: &str) -> Option<u64>
     ensures { result ≡ bytes_told word.now }
 {
-    // `parse` takes a plus.
+    // `parse` would accept a plus sign.
     if word.starts_with('+') {
         return None;
     }
@@ -163,15 +164,15 @@ pub fn bytes_told(word: &str) -> Option<u64>
     }
 }
 
-/// Whether a quota or a work may be so many bytes.
+/// Returns whether a limit may be this number of bytes.
 fn is_limit(bytes: u64) -> bool
     ensures { result ≡ is_limit bytes }
 {
     (1..=GREATEST_LIMIT).contains(&bytes)
 }
 
-/// The limits of a program that is told this quota and this work. `None` unless each is a word that
-/// tells a number of bytes.
+/// Returns the limits for the words of a quota and a work. `None`: one of them spells no number of
+/// bytes that is allowed.
 pub fn limits_told(quota: &str, work: &str) -> Option<Limits>
     ensures { result ≡ limits_told quota.now work.now }
 {

@@ -1,4 +1,4 @@
-//! How the program ends other than well.
+//! How the program ends without success.
 ghost use Rattle.std.specs.Prelude.{◌≡◌};
 
 use client_contexts::NoMemory;
@@ -12,16 +12,16 @@ use vx_requests::StreamFault;
 pub enum Ended {
     /// The command line was refused, with this text.
     CommandLine(String),
-    /// The stream ended early.
+    /// Serving the stream failed.
     Stream(StreamFault),
-    /// `apply` was refused, or there was no memory to start with.
+    /// `apply` failed with this code, or the program found no memory to start.
     Refused(Code),
 }
 
 impl Ended {
     ghost use Rattle.vx_main.specs.Ended.{ended_status, ended_line};
 
-    /// The program's exit status.
+    /// Returns the program's exit status.
     pub fn status(&self) -> u8
         ensures { result ≡ ended_status self.now }
     {
@@ -33,7 +33,7 @@ impl Ended {
         }
     }
 
-    /// The line on standard error, without its end.
+    /// Returns the line for standard error, without a line feed.
     pub fn line(&self) -> &str
         ensures { result.now ≡ ended_line self.now }
     {

@@ -1,4 +1,4 @@
-//! What `apply` is asked to do.
+//! The jobs of `apply`.
 ghost use Rattle.std.specs.Prelude.{◌≡◌};
 ghost use Rattle.vx_main.specs.Job.{function_of, node_of, operation_told, border_told};
 
@@ -10,7 +10,7 @@ pub const SOURCE: u32 = 1;
 /// The name of the output image, the second name.
 pub const RESULT: u32 = 2;
 
-/// A function that makes one U8 image of one other.
+/// A function from one U8 image to another.
 #[derive(Clone, Copy, PartialEq, Eq, Debug)]
 pub enum Operation {
     Not,
@@ -21,7 +21,7 @@ pub enum Operation {
     Dilate,
 }
 
-/// A function, and what counts beyond the image's edges, which means nothing to `Not`.
+/// A function, and the border mode beyond the image's edges, which does not matter for `Not`.
 #[derive(Clone, Copy, PartialEq, Eq, Debug)]
 pub struct Job {
     pub operation: Operation,
@@ -29,7 +29,7 @@ pub struct Job {
 }
 
 impl Operation {
-    /// The function of the server's that this is.
+    /// Returns the server's function for this operation.
     pub fn function(self) -> Function
         ensures { result ≡ function_of self }
     {
@@ -45,7 +45,7 @@ impl Operation {
 }
 
 impl Job {
-    /// The node that does it, from the image `SOURCE` to the image `RESULT`.
+    /// Returns the node of the job, from the image `SOURCE` to the image `RESULT`.
     pub fn node(self) -> NodeSpec
         ensures { result ≡ node_of self }
     {
@@ -62,7 +62,7 @@ impl Job {
     }
 }
 
-/// The operation that a word stands for.
+/// Returns the operation with this word, if there is one.
 pub fn operation_told(word: &str) -> Option<Operation>
     ensures { result ≡ operation_told word.now }
 {
@@ -83,7 +83,7 @@ pub fn operation_told(word: &str) -> Option<Operation>
     }
 }
 
-/// The border that a word stands for.
+/// Returns the border with this word, if there is one.
 pub fn border_told(word: &str) -> Option<Border>
     ensures { result ≡ border_told word.now }
 {

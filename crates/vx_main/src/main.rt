@@ -1,9 +1,9 @@
 //! The server's program.
 //!
-//! `vx_main serve` reads request frames from standard input and writes a reply frame for each to
-//! standard output. `vx_main apply` reads one PGM text there, and writes the text of what one
-//! function makes of it. `program::run` is all of it over any reader and writer; `main` gives it
-//! the process's own, prints the line of how it ended, and ends with the status.
+//! `vx_main serve` reads request frames from standard input, and writes a reply frame for each to
+//! standard output. `vx_main apply` reads one PGM text there, applies one function, and writes the
+//! resulting text. `program::run` does all of it over any reader and writer. `main` gives it those
+//! of the process, prints the line of a failure, and exits with the status.
 #![tactic(auto)]
 
 mod apply;
@@ -21,10 +21,10 @@ use std::process::ExitCode;
 use std::{env, io};
 use vx_base::Code;
 
-/// How many bytes of replies are gathered before they are written.
+/// The size in bytes of the buffer for replies.
 const REPLY_BUFFER: usize = 65_536;
 
-/// The command line's words without the program's name.
+/// Returns the words of the command line without the program's name.
 fn words(rt: &HostRuntime) -> Result<Vec<String>, Ended> {
     match env::args(rt) {
         Ok(args) => Ok(args.skip(1).collect(rt.alloc())?),

@@ -8,7 +8,7 @@ use crate::ended::Ended;
 use std::io::Write;
 use vx_requests::StreamFault;
 
-/// Writes all of the bytes, and flushes them.
+/// Writes all of the bytes, and flushes the writer.
 pub fn write_bytes<W: Write>(writer: &mut W, bytes: &[u8]) -> Result<(), Ended>
     ensures ok { OnOk result (Appends (W.contents writer.old) (W.contents writer.new) bytes.now) }
     ensures err { IfErr result (λ ended. ended ≡ Stream WriteFailed) }

@@ -12,9 +12,9 @@ use std::io::{Read, Write};
 use vx_base::Code;
 use vx_requests::{FromRead, FromWrite, serve};
 
-/// Runs the program with these words, which come without its name.
+/// Runs the program with these words, without its name.
 ///
-/// A text of help, or the name and version, goes to the writer, and is `Ok`.
+/// Help and the version are written to the writer, and are `Ok`.
 pub fn run<R: Read + Drop, W: Write + Drop>(
     alloc: Global,
     words: &[&str],
@@ -27,7 +27,7 @@ pub fn run<R: Read + Drop, W: Write + Drop>(
     }
 }
 
-/// Does what the words ask for.
+/// Does what the command line says.
 fn perform<R: Read + Drop, W: Write + Drop>(
     alloc: Global,
     asked: Asked,
@@ -40,8 +40,8 @@ fn perform<R: Read + Drop, W: Write + Drop>(
     }
 }
 
-/// Answers a command line that asks for no work: help and the version go to the writer, all else is
-/// refused.
+/// Handles a command line that starts no work: help and the version go to the writer, anything else
+/// is refused.
 fn refuse<W: Write>(alloc: Global, error: &Error, writer: &mut W) -> Result<(), Ended> {
     if error.kind() == ErrorKind::OutOfMemory {
         return Err(Ended::Refused(Code::NoMemory));
@@ -53,7 +53,7 @@ fn refuse<W: Write>(alloc: Global, error: &Error, writer: &mut W) -> Result<(), 
     write_bytes(writer, text.as_bytes())
 }
 
-/// Serves the frames that the reader gives, with these limits for each client.
+/// Serves the frames of the reader, with these limits for each client.
 fn serve_stream<R: Read + Drop, W: Write + Drop>(
     alloc: Global,
     limits: Limits,

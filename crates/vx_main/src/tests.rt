@@ -8,8 +8,8 @@ use std::test::Fail;
 use vx_base::Code;
 use vx_requests::StreamFault;
 
-/// A context of client 7, two images of one U8 sample, 10 into the first, Not of it into the
-/// second, which is read.
+/// Client 7 opens a context, creates two images of one U8 sample, writes 10 to the first, runs Not
+/// from the first to the second, and reads the second.
 const REQUESTS: &[u8] = b"\x00\x00\x00\x03\x00\x07\x01\
 \x00\x00\x00\x08\x00\x07\x03\x01\x00\x01\x00\x01\
 \x00\x00\x00\x08\x00\x07\x03\x01\x00\x01\x00\x01\
@@ -29,7 +29,7 @@ fn serves_streams(rt: HostRuntime) {
     for (input, output) in [
         (&b""[..], &b""[..]),
         (REQUESTS, REPLIES),
-        // An op that takes no body has one, an op that isn't known, and the stream goes on.
+        // A body where the op has none, and an unknown op; the stream goes on after both.
         (
             b"\x00\x00\x00\x04\x00\x07\x01\x00\x00\x00\x00\x03\x00\x07\xc8\x00\x00\x00\x03\x00\x07\x01",
             b"\x00\x00\x00\x04\x00\x07\x01\x02\x00\x00\x00\x04\x00\x07\xc8\x02\x00\x00\x00\x04\x00\x07\x01\x00",
@@ -91,8 +91,8 @@ fn tells_why_it_ended(rt: HostRuntime) -> Result<(), Fail> {
     Ok(())
 }
 
-/// Contexts of clients 7 and 8; two images of four bytes and one of one byte for 7; one of four
-/// bytes for 8.
+/// Clients 7 and 8 open contexts; 7 creates two images of four bytes and one of one byte; 8 creates
+/// one of four bytes.
 const CREATES: &[u8] = b"\x00\x00\x00\x03\x00\x07\x01\
 \x00\x00\x00\x03\x00\x08\x01\
 \x00\x00\x00\x08\x00\x07\x03\x01\x00\x02\x00\x02\
@@ -108,7 +108,7 @@ const THIRD_REFUSED: &[u8] = b"\x00\x00\x00\x04\x00\x07\x01\x00\
 \x00\x00\x00\x04\x00\x07\x03\x0d\
 \x00\x00\x00\x08\x00\x08\x03\x00\x00\x00\x00\x01";
 
-/// Those with nine bytes and more.
+/// The replies with a quota of nine bytes or more.
 const THIRD_MADE: &[u8] = b"\x00\x00\x00\x04\x00\x07\x01\x00\
 \x00\x00\x00\x04\x00\x08\x01\x00\
 \x00\x00\x00\x08\x00\x07\x03\x00\x00\x00\x00\x01\
@@ -116,7 +116,8 @@ const THIRD_MADE: &[u8] = b"\x00\x00\x00\x04\x00\x07\x01\x00\
 \x00\x00\x00\x08\x00\x07\x03\x00\x00\x00\x00\x03\
 \x00\x00\x00\x08\x00\x08\x03\x00\x00\x00\x00\x01";
 
-/// Those with seven bytes: the second image is refused, and the third has its name.
+/// The replies with a quota of seven bytes: the second image is refused, and the third gets its
+/// name.
 const SECOND_REFUSED: &[u8] = b"\x00\x00\x00\x04\x00\x07\x01\x00\
 \x00\x00\x00\x04\x00\x08\x01\x00\
 \x00\x00\x00\x08\x00\x07\x03\x00\x00\x00\x00\x01\
@@ -149,7 +150,7 @@ fn allows_each_client_its_quota(rt: HostRuntime) {
     }
 }
 
-/// Runs the program with words that it refuses: it reads and writes nothing, and its line has this
+/// Runs the program with words that it refuses. It reads and writes nothing, and its line has this
 /// text.
 fn refuses(rt: &impl Abort, alloc: Global, words: &[&str], text: &str) {
     let mut written = Vec::new(alloc);
@@ -276,13 +277,13 @@ fn reads_the_command_line(rt: HostRuntime) {
     }
 }
 
-/// Ten to forty, two in a row.
+/// A 2 by 2 picture of 10 to 40.
 const SQUARE: &[u8] = b"P5\n2 2\n255\n\x0a\x14\x1e\x28";
 
-/// What the box filter makes of it where the edges are repeated.
+/// The box filter of `SQUARE` with edges repeated.
 const BOXED: &[u8] = b"P5\n2 2\n255\n\x14\x17\x1a\x1e";
 
-/// One to nine, three in a row.
+/// A 3 by 3 picture of 1 to 9.
 const NINE: &[u8] = b"P2 3 3 9 1 2 3 4 5 6 7 8 9";
 
 #[test]
@@ -333,7 +334,7 @@ fn applies_functions(rt: HostRuntime) {
     }
 }
 
-/// Runs `apply` to an end that isn't a success: nothing is written then.
+/// Runs `apply`, which has to fail and write nothing.
 fn ends<R: Read + Drop>(rt: &impl Abort, alloc: Global, reader: R, status: u8, line: &str) {
     let mut written = Vec::new(alloc);
     match run(alloc, &["apply", "erode"], reader, &mut written) {
@@ -363,7 +364,7 @@ fn refuses_texts(rt: HostRuntime) {
     }
 }
 
-/// Gives some bytes, and then fails.
+/// A reader that gives some bytes, and then fails.
 #[derive(Drop)]
 struct FailingReader<'a> {
     bytes: &'a [u8],
@@ -380,7 +381,7 @@ impl Read for FailingReader<'_> {
 
 #[test]
 fn tells_a_reader_that_fails(rt: HostRuntime) {
-    // Whatever came before, also a whole text, and one that has a fault.
+    // The read fault comes first whatever bytes came before it, also a whole text or a faulty one.
     for bytes in [&b""[..], SQUARE, b"P5 0 1 255\n"] {
         ends(&rt, rt.alloc(), FailingReader { bytes }, 4, "read failed");
     }
@@ -388,13 +389,13 @@ fn tells_a_reader_that_fails(rt: HostRuntime) {
 
 #[test]
 fn tells_a_text_that_is_too_long(rt: HostRuntime) {
-    // The reader has no end, and would fail after the one byte that is too many.
+    // The text is one byte too long. The reader would fail after that byte.
     let endless = io::repeat(b' ').take(536_870_913);
     let failing = endless.chain(FailingReader { bytes: b"" });
     ends(&rt, rt.alloc(), failing, 5, "NO_RESOURCES");
 }
 
-/// Takes some bytes, and then fails; or takes all, and fails to flush them.
+/// A writer that takes some bytes and then fails, or takes all and fails to flush them.
 #[derive(Drop)]
 struct FailingWriter {
     room: usize,

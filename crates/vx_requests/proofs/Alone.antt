@@ -26,7 +26,7 @@ mine-all client (m ∷ marked) each =
     let first = each 0 m (omega arith) in
     rw (kept_of client m first.0 first.1, mine-all client marked (λ k d within. each (suc k) d (omega arith)))
 
--- and all replies stand at them
+-- and all replies are to kept frames
 kept_replies-all : (client : ℕ) (marked : List Received) (replies : List ReplyFrame) → AllKept client marked → length replies ≡ length marked
     → kept_replies client marked replies ≡ replies
 kept_replies-all client [] [] each long = refl

@@ -31,7 +31,7 @@ each_byte [] are i = omega arith
 each_byte (b ∷ bytes) are zero = are 0 0 (omega arith)
 each_byte (b ∷ bytes) are (suc i) = each_byte bytes (λ k d within. are (suc k) d (omega arith)) i
 
--- the frame that stands at the front, where the bytes say an allowed length and have a frame of it
+-- the frame at the front, if the bytes begin with a length in range and are long enough
 first_frame : (stream : List ℕ) → IsBytes stream → 4 ≤ length stream → IsLength (said_length stream) → said_length stream + 4 ≤ length stream
     → (f : Frame) × (later : List ℕ) × IsFrame f × (stream ≡ frame_bytes f ++ later) × (length later < length stream) × IsBytes later
 first_frame (a ∷ b ∷ c ∷ d ∷ e ∷ g ∷ op ∷ tail) bytes four ok whole =

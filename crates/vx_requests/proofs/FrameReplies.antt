@@ -17,7 +17,7 @@ use Rattle.client_model.specs.Request.{TakesMemory}
 use Rattle.vx_wire.specs.Faults.{MayFailWith}
 use Rattle.vx_wire.specs.Requests.{HoldsSamples}
 
--- the model's answer to a body, once it is known what the body spells
+-- the model's answer to a body, given the request that the body encodes
 answer_is : (limits : Allowance) (state : State) (op : ℕ) (body : List ℕ) (spelled : Result Request BodyFault) → request_of op body ≡ spelled
     → answer limits state op body ≡ answer_spelled limits state spelled
 unfolding answer
@@ -42,7 +42,7 @@ kept_states limits old new client op body own others other =
       | inr differ ↦ others other (λ e. let same : (client == other) ≡ true = eq-eqb client other (sym e) in cc) ∙ sym (ap state differ)
     ]
 
--- a request whose samples are parsed wants memory, and so does one that takes some when it is answered, but for the two that read an image
+-- a request needs memory if its samples are parsed or its answer allocates, except for the two that read an image
 wants_to_parse : (request : Request) → HoldsSamples request → NeedsMemory request
 wants_to_parse (ReadImage image) holds = holds
 wants_to_parse (ReadImagePgm image) holds = holds
@@ -77,7 +77,7 @@ module _ (limits : Allowance) (old new : ℕ → State) (client op : ℕ) (body 
     said = refl;
   }
 
-  -- a body that spells no request
+  -- a body that encodes no request
   pub refused_reply : (fault : BodyFault) → request_of op body ≡ Err fault → ((each : ℕ) → new each ≡ old each)
       → IsReply limits (frame_of client op body) old new (spelled client op (said_of (Refused (fault_code (parse_fault fault)))))
   refused_reply fault spelled same =

@@ -8,7 +8,7 @@ frame_eq f g p q r =
     let at : ℕ → ℕ → List ℕ → Frame = λ c o b. record { client = c; op = o; body = b } in
     ap (λ c. at c f.op f.body) p ∙ ap (λ o. at g.client o f.body) q ∙ ap (at g.client g.op) r
 
--- the length that stands at the front of a frame
+-- the length at the front of a frame
 frame_length : (f : Frame) (x : List ℕ) → IsFrame f → said_length (frame_bytes f ++ x) ≡ length f.body + 3
 frame_length f x is = let len = is.len in from_be_bytes-to_be_bytes_4 (length f.body + 3) (omega arith)
 

@@ -17,7 +17,7 @@ fits client (AddNode graph node) below is fit = record { client = below; op = om
 fits client (Immediate node) below is fit = record { client = below; op = omega arith; bytes = body_is (Immediate node) is; len = omega (arith, length-node_bytes node) }
 fits client request below is fit = record { client = below; op = omega arith; bytes = body_is request is; len = omega arith }
 
--- what has room in a frame fits one
+-- a request whose frame is within the limits fits a frame
 pub no_other : (client : ℕ) (request : Request) → IsFrame (request_frame client request) → IsTrue (fits_a_frame request)
 no_other client (WriteImagePgm cell text) is = le-leb (length text) GREATEST_TEXT (omega (arith, is.len))
 no_other client request is = refl

@@ -1,4 +1,4 @@
--- What is told of an image that is read where it stands.
+-- Replies that write an image's own samples.
 use Rattle.std.proofs.Common.{◌≡◌, ℕ, List, sym, ap, ◌∙◌}
 use Rattle.vx_requests.proofs.Common.{Cell, ReadImage, ReadImagePgm, Reply, State, World, state_of, said_of, Answered, Content, reply_bytes, states_of, spelled, said_in, reply_frame, Text}
 use Rattle.client_contexts.specs.Applies.{IsAnswered}

@@ -1,4 +1,4 @@
--- From what stands after a length to a frame.
+-- From the bytes after a length to a frame.
 use Rattle.std.proofs.Common.{◌≡◌, ℕ, ◌+◌, ◌-◌, ◌<◌, ◌^◌, List, [], ◌∷◌, ◌++◌, Option, Ok, Err, inl, arith, length, refl, sym, ap, subst, All}
 use Rattle.vx_requests.proofs.Common.{w16, w32, to_be_bytes, from_be_bytes-to_be_bytes_4, Consumes, Appends, Consumes-trans, Appends-nil, Allowance, State, Refused, NoMemory, StreamFault, WriteFailed, Answered, Content, Made, IsLength, said_length, frame_of, reply_bytes, AppendsFront, BreaksOff, ReadsSome, IsReply, AnswersBody, ServesFrame, Turn, reply_frame}
 use Rattle.vx_requests.specs.declared.stream.fault.StreamFault.TheVariants.{Truncated, BadLength, ReadFailed, ReaderWouldNotEnd}

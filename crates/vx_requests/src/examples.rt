@@ -7,7 +7,7 @@ ghost use Rattle.vx_requests.specs.Frame.Frames.{IsLength};
 ghost use Rattle.vx_requests.specs.Serving.Clients.{spelled};
 ghost use Rattle.vx_wire.specs.Replies.{said_of};
 
-/// The least length and the greatest, and those beyond.
+/// The least and the greatest length, and one beyond each.
 pub fn lengths()
     ensures least { IsLength 3 }
     ensures greatest { IsLength 536870912 }
@@ -15,7 +15,7 @@ pub fn lengths()
     ensures too_long { IsLength 536870913 → ⊥ }
 {}
 
-/// The frames in which client 258 asks for image 7, and removes node 3 from graph 7.
+/// The frames in which client 258 reads image 7, and removes node 3 from graph 7.
 pub fn frames()
     ensures read { frame_bytes (request_frame 258 (ReadImage (record { name = 7; slot = None })))
         ≡ 0 ∷ 0 ∷ 0 ∷ 8 ∷ 1 ∷ 2 ∷ 7 ∷ 0 ∷ 0 ∷ 0 ∷ 7 ∷ 255 ∷ [] }
@@ -23,7 +23,7 @@ pub fn frames()
         ≡ 0 ∷ 0 ∷ 0 ∷ 11 ∷ 1 ∷ 2 ∷ 21 ∷ 0 ∷ 0 ∷ 0 ∷ 7 ∷ 0 ∷ 0 ∷ 0 ∷ 3 ∷ [] }
 {}
 
-/// The frame in which client 258 is told the number of a node that was added.
+/// The reply frame that gives client 258 the number of a node that was added.
 pub fn replies()
     ensures { reply_bytes (spelled 258 20 (said_of (Node 3)))
         ≡ 0 ∷ 0 ∷ 0 ∷ 8 ∷ 1 ∷ 2 ∷ 20 ∷ 0 ∷ 0 ∷ 0 ∷ 0 ∷ 3 ∷ [] }

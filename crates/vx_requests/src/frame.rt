@@ -1,5 +1,5 @@
-//! Frames: the parts of a request's as they are read, and whole ones of requests and replies as
-//! they are written; samples as they are read and written.
+//! Frames: reads the parts of a request frame, and writes whole request and reply frames; reads and
+//! writes samples.
 
 mod limits;
 mod reader;

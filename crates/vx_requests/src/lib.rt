@@ -1,15 +1,15 @@
 //! Requests and replies as streams of bytes.
 //!
-//! - `stream`: a `Source` gives bytes and a `Sink` takes them, and both tell how many of their
-//!   calls failed, and where they can, which bytes they gave and took; `FromRead` and `FromWrite`
-//!   make them of std's readers and writers; `fill` and `write_all` move whole buffers.
-//! - `frame`: the length, the client, the op and the body of a request as they are read, and frames
-//!   of requests (`write_request`) and of replies (`write_reply`) as they are written; samples as
-//!   they are read and written.
-//! - `serving`: a stream of requests answered frame by frame (`serve`), and its `Summary`.
-//! - `laws::frames`, `laws::streams`: what the definitions of `specs/Serving` mean.
+//! - `stream`: a `Source` gives bytes and a `Sink` takes them. Both count their failed calls and,
+//!   where they can, know the bytes that they gave or took. `FromRead` and `FromWrite` wrap the
+//!   readers and writers of std. `fill` and `write_all` move whole buffers.
+//! - `frame`: reads the length, the client, the op and the body of a request frame; writes frames
+//!   of requests (`write_request`) and of replies (`write_reply`); reads and writes samples.
+//! - `serving`: `serve` answers a stream of requests frame by frame, and returns a `Summary`.
+//! - `laws::frames`, `laws::streams`: laws about the definitions of `specs/Serving`.
 //!
-//! The headline is `Session` (`specs/Serving/Session.antt`), the clause `session` of `serve`.
+//! The headline theorem is `Session` (`specs/Serving/Session.antt`), the clause `session` of
+//! `serve`.
 #![tactic(auto)]
 
 pub mod examples;

@@ -1,4 +1,4 @@
-//! Frames in, replies out.
+//! Reads request frames, and writes reply frames.
 ghost use Rattle.std.specs.Prelude.{◌≡◌, ◌+◌, ◌<◌, ◌≤◌, ◌^◌, IfOk};
 ghost use Rattle.vx_requests.specs.Stream.Transfer.{read_failures, write_failures};
 ghost use Rattle.vx_requests.specs.Serving.Clients.{states_of};
@@ -20,23 +20,30 @@ use client_contexts::Runtime;
 use std::alloc::Global;
 pub use summary::Summary;
 
-/// How often one call of `serve` reads its source at most: 2^40.
+/// The most reads of the source in one call of `serve`: 2^40.
 const MOST_READS: u64 = 1_099_511_627_776;
 
-/// Serves the frames that the source gives, from the first to the last.
+/// Serves the frames of the source, from the first to the last.
 ///
-/// Each frame gets one reply, which is written and flushed before a byte after the frame is asked
-/// for. A frame whose body has at most 64 bytes takes no memory to be read; a longer one for which
-/// there is none is read past and answered NO_MEMORY, and changes nothing. The samples of a longer
-/// WriteImage are read to where the image has them from then on, unless it is refused, and those of
-/// a WriteImagePgm go there from its frame. Those that ReadImage and ReadImagePgm give are written
-/// from where they stand.
+/// Each frame gets one reply, which is written and flushed before a byte after the frame is read.
+/// Reading a frame with a body of at most 64 bytes allocates nothing. If no memory can be allocated
+/// for a longer body, the body is skipped, the reply is NO_MEMORY, and nothing changes.
 ///
-/// Ok is the end of the stream at a frame's start, and `Truncated` its end elsewhere. `BadLength`
-/// comes where a frame says a length below 3 or above 2^29, as soon as its four bytes are read;
-/// `ReadFailed` and `WriteFailed` where a read, or a write or a flush, failed; and
-/// `ReaderWouldNotEnd` after 2^40 reads. The runtime is then as the frames that were read whole
-/// have left it.
+/// Samples are not copied on the way. Those of a WriteImage with a longer body are read straight
+/// into the image's new samples, and those of a WriteImagePgm are parsed there from the frame; a
+/// request that is refused writes none. ReadImage and ReadImagePgm write the samples of the image
+/// itself.
+///
+/// Ok: the stream ended between two frames. Faults:
+///
+/// - `Truncated`: the stream ended within a frame
+/// - `BadLength`: a frame's length is below 3 or above 2^29; it is reported as soon as its four
+///   bytes are read
+/// - `ReadFailed`: a read failed
+/// - `WriteFailed`: a write or a flush failed
+/// - `ReaderWouldNotEnd`: 2^40 reads were made
+///
+/// However it ends, the runtime is in the state that the frames read whole have left.
 pub fn serve<S: Source, K: Sink>(
     alloc: Global,
     source: &mut S,
@@ -70,7 +77,7 @@ pub fn serve<S: Source, K: Sink>(
     Ok(summary)
 }
 
-/// Serves one frame and returns the code of its reply. `None` is the end of the stream.
+/// Serves one frame, and returns the code of its reply. `None`: the stream has ended.
 fn serve_one<S: Source, K: Sink>(
     alloc: Global,
     reader: &mut Reader<S>,

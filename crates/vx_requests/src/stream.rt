@@ -1,5 +1,5 @@
-//! Bytes in and out: sources and sinks, those of std's readers and writers, and whole buffers from
-//! and to them. A call that fails ends the stream, with a `StreamFault`: nothing is tried again.
+//! Streams of bytes: sources and sinks, wrappers of std's readers and writers, and transfers of
+//! whole buffers. A call that fails ends the stream with a `StreamFault`: nothing is retried.
 
 mod fault;
 mod from_read;

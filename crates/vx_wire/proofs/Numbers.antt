@@ -21,6 +21,6 @@ found_each {A} p P (y ∷ all) x each e = known (p y) e (found_each p P all x (A
     known true e later = let same : y ≡ x = cc in subst P same (All-head P y all each)
     known false e later = later e
 
--- what stands for a number has that number
+-- a value that is found by a number has that number
 pub number_is : {A : Type 0} (number : A → ℕ) (all : List A) (n : ℕ) (x : A) → numbered number all n ≡ Some x → n ≡ number x
 number_is number all n x e = eqb-true n (number x) (found_passes (λ y. n == number y) all x e)

@@ -1,4 +1,4 @@
--- What is read has one spelling: the bytes that it was read from.
+-- A value that is read has one encoding: the bytes that it was read from.
 use Rattle.std.proofs.Common.{◌≡◌, ℕ, ◌+◌, ◌*◌, ◌<◌, ◌≤◌, nat_le, nat_lt, length, take, drop, sym, take-append-drop, length-take-le, ◌^◌, ◌%◌, ◌/◌, ◌==◌, List, [], ◌∷◌, ◌++◌, Option, Some, None, Result, Ok, Err, Bool, true, false, ◌⊎◌, inl, inr, IsTrue, if◌then◌else◌, unwrap_or, arith, refl, ap, subst, ◌∙◌, append_assoc, All, IfSome, eqb-true, leb-true}
 use Rattle.vx_wire.proofs.Common.{nat_tests, w16, w32, to_be_bytes, All-head, All-tail, All-take, All-drop, U8, S16, U32, IsCell, is_side, IsDescription, may_be_side, IsOutline, is_slot_count, IsRectangle, are_bins, BodyFault, InvalidParameters, InvalidFormat, InvalidDimension, InvalidValue, Taken, and_then, allowed, take_byte, take_short, take_long, take_bytes, take_format, format_number, open_format_number, take_open_format, take_side, take_description, description_bytes, open_side_number, open_side_numbered, take_open_side, take_outline, outline_bytes, slot_numbered, take_reference, reference_bytes, take_slots, take_rectangle, rectangle_bytes, is_up_to_256, take_bins, bins_bytes}
 use Rattle.vx_base.specs.Rectangle.{rectangle}
@@ -48,11 +48,11 @@ byte_of (a ∷ others) n rest is e =
 
 -- ---- fields after one another
 
--- what is read of bytes that stand after others: all of them spell it, and it is one of P
+-- a field that is read after `front`: the bytes up to its end encode its value, which has the property P
 pub record Reads {A : Type 0} (front : List ℕ) (take : List ℕ → Taken A) (bytes : A → List ℕ) (P : A → Type 0) : Type 0 where
   pub of : (body : List ℕ) (x : A) (rest : List ℕ) → AllBytes body → take body ≡ Ok (x, rest) → (front ++ body ≡ bytes x ++ rest) × P x × AllBytes rest
 
--- a field, and what is read after it
+-- a field, and the fields after it
 pub then_reads : {A B : Type 0} {front : List ℕ} {take : List ℕ → Taken A} {field : A → List ℕ} {P : A → Type 0} {bytes : B → List ℕ} {Q : B → Type 0}
     → Reads [] take field P → (next : A → List ℕ → Taken B) → ((x : A) → P x → Reads (front ++ field x) (next x) bytes Q) → Reads front (λ body. and_then (take body) next) bytes Q
 then_reads {A} {B} {front} {take} {field} {P} {bytes} {Q} first next later = record {
@@ -123,7 +123,7 @@ enough_of : (b : Bool) (x y rest others : List ℕ) → (if b then ok x rest els
 enough_of true x y rest others e = let p = taken_same x y rest others e in (refl, p.0, p.1)
 enough_of false x y rest others e = cc
 
--- so many bytes
+-- a number of bytes
 pub bytes_reads : (n : ℕ) → Reads [] (take_bytes n) (λ bytes. bytes) (λ bytes. (length bytes ≡ n) × AllBytes bytes)
 bytes_reads n = record {
   of = λ body bytes rest is e.

@@ -4,7 +4,7 @@ use Rattle.vx_wire.proofs.Common.{Format, sample_count, IsSample, sample_bytes, 
 use Rattle.vx_wire.proofs.ReadFields.{Reads, then_reads, made, bytes_reads, description_reads}
 use Rattle.vx_wire.proofs.SampleBytes.{encoded_back}
 
--- so many samples
+-- a number of samples
 pub samples_reads : (format : Format) (count : ℕ) → Reads [] (take_samples format count) (λ samples. encoded format samples) (λ samples. (length samples ≡ count) × All (IsSample format) samples)
 samples_reads format count =
     then_reads (bytes_reads (count * sample_bytes format)) _ (λ bytes are.

@@ -34,7 +34,7 @@ sample_back U32 (negsuc n) is = absurd (omega (arith, ints, is.at_least))
 signed_of_is : (m : ℕ) → m < 65536 → (cast_unsigned w16 (signed_of (pos m)) ≡ m) × IsSample S16 (signed_of (pos m))
 signed_of_is m below = (grind (arith, nat_tests, ints), record { at_least = grind (arith, nat_tests, ints); at_most = grind (arith, nat_tests, ints) })
 
--- a byte at any place
+-- the byte at any index
 each_byte : (bytes : List ℕ) → AllBytes bytes → (i : ℕ) → get_or bytes i 0 < 256
 each_byte [] is i = omega arith
 each_byte (b ∷ bytes) is zero = let first : b < 256 = All-head (λ b. b < 256) b bytes is in omega arith
@@ -75,7 +75,7 @@ sample_of_bytes U32 bytes is long =
 
 -- ---- samples one after the other
 
--- and so many samples that many times as many
+-- the encoding of samples has the bytes of one sample times their number
 pub length-encoded : (format : Format) (samples : List ℤ) → length (encoded format samples) ≡ length samples * sample_bytes format
 length-encoded format [] = omega arith
 length-encoded format (z ∷ samples) =
@@ -92,7 +92,7 @@ decoded_back format (z ∷ samples) is =
     rw (take_at first others (sample_bytes format) long, drop_at first others (sample_bytes format) long, sample_back format z (All-head (IsSample format) z samples is))
     (rw (decoded_back format samples (All-tail (IsSample format) z samples is)) refl)
 
--- as many bytes as so many samples take are those of the samples that they encode
+-- bytes of the length of `count` samples are the encoding of the samples that they decode to
 pub encoded_back : (format : Format) (count : ℕ) (bytes : List ℕ) → AllBytes bytes → length bytes ≡ count * sample_bytes format
     → (encoded format (decoded format count bytes) ≡ bytes) × (length (decoded format count bytes) ≡ count) × All (IsSample format) (decoded format count bytes)
 encoded_back format zero [] is long = (refl, refl, All-nil (IsSample format))

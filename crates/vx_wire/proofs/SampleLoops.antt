@@ -4,7 +4,7 @@ use Rattle.vx_wire.proofs.Common.{Format, sample_bytes, decoded_sample, decoded}
 use Rattle.std.proofs.lemmas.List.{take_more_set, map-append}
 use Rattle.std.proofs.Math.ListN.{set}
 
--- the sample after so many
+-- one more sample, after the first i
 pub decoded_more : (format : Format) (i : ℕ) (bytes : List ℕ) → let w = sample_bytes format in
     decoded format (suc i) bytes ≡ decoded format i bytes ++ decoded_sample format (take w (drop (i * w) bytes)) ∷ []
 decoded_more format zero bytes =

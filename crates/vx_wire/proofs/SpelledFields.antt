@@ -104,7 +104,7 @@ bins_back b rest is =
     let (bins, offset) = both_of (is_up_to_256 b.bins) (nat_lt b.offset 256) front in
     rw (up_to_256_back b.bins _ bins, offset_back b.offset _ offset, up_to_256_back b.range _ range) refl
 
--- so many bytes
+-- a number of bytes
 pub bytes_back : (n : ℕ) (bytes rest : List ℕ) → length bytes ≡ n → take_bytes n (bytes ++ rest) ≡ Ok (bytes, rest)
 bytes_back n bytes rest long =
     let enough : nat_le n (length (bytes ++ rest)) ≡ true = le-leb n (length (bytes ++ rest)) (omega (arith, length-append bytes rest)) in
@@ -112,7 +112,7 @@ bytes_back n bytes rest long =
 
 -- ---- samples
 
--- so many samples
+-- a number of samples
 pub taken_back : (format : Format) (count : ℕ) (samples : List ℤ) (rest : List ℕ) → length samples ≡ count → All (IsSample format) samples
     → take_samples format count (encoded format samples ++ rest) ≡ Ok (samples, rest)
 taken_back format count samples rest size is =

@@ -37,7 +37,7 @@ first_ten : (head rest left bytes : List ℕ) (image : Cell) (d : Description) �
     → (take_reference (head ++ bytes) ≡ Ok (image, rest ++ bytes)) × (take_description (rest ++ bytes) ≡ Ok (d, bytes))
 first_ten head rest left bytes image d long is_image is_d = (grind (arith, common_steps), grind (arith, common_steps))
 
--- such a body spells no request
+-- such a body encodes no request
 pub wrong_body : (head rest left bytes : List ℕ) (image : Cell) (d : Description) → length head ≡ 10 → take_reference head ≡ Ok (image, rest) → take_description rest ≡ Ok (d, left)
     → length bytes ≢ byte_count d → write_image_in (head ++ bytes) ≡ Err InvalidParameters
 wrong_body head rest left bytes image d long is_image is_d other =

@@ -1,11 +1,11 @@
--- The bins of a distribution: how many there are, the offset and the range.
+-- The bins of a distribution: their number, the offset and the range.
 use Rattle.std.specs.Prelude.{ℕ, ◌&&◌, Bool, if◌then◌else◌, nat_le, nat_lt, List, ◌++◌, Some, None, Ok}
 use Rattle.std.specs.Int.{w16, to_be_bytes}
 use Rattle.vx_base.specs.Statistics.{BinsValue}
 use Rattle.vx_wire.specs.declared.body_fault.BodyFault.TheVariants.{InvalidValue}
 use Rattle.vx_wire.specs.Fields.{Taken, and_then, allowed, take_short}
 
--- how many bins there may be, and how many numbers may fall into them: 1 to 256
+-- whether a number of bins or a range is 1 to 256
 abbrev pub is_up_to_256 : ℕ → Bool
 is_up_to_256 n = nat_le 1 n && nat_le n 256
 

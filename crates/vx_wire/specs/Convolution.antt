@@ -1,4 +1,4 @@
--- Convolutions: the columns, the rows, the exponent, and then the coefficients by rows from the top, which are one field.
+-- Convolutions: the columns, the rows, the exponent, and then the coefficients row by row from the top, which are one field.
 use Rattle.std.specs.Prelude.{ℕ, ◌*◌, if◌then◌else◌, nat_le, List, ◌∷◌, Some, None, Ok}
 use Rattle.vx_base.specs.declared.format.Format.TheVariants.{S16}
 use Rattle.vx_base.specs.Convolution.{ConvolutionValue, is_odd_side}
@@ -6,14 +6,14 @@ use Rattle.vx_wire.specs.declared.body_fault.BodyFault.TheVariants.{InvalidDimen
 use Rattle.vx_wire.specs.Fields.{Taken, and_then, allowed, take_byte}
 use Rattle.vx_wire.specs.Samples.{encoded, take_samples}
 
--- how many columns or rows there are: 3, 5, 7 or 9
+-- the number of columns or rows: 3, 5, 7 or 9
 abbrev pub take_odd_side : List ℕ → Taken ℕ
 take_odd_side body = and_then (take_byte body) (λ n rest. allowed InvalidDimension (if is_odd_side n then Some n else None) rest)
 
 abbrev pub take_exponent : List ℕ → Taken ℕ
 take_exponent body = and_then (take_byte body) (λ n rest. allowed InvalidValue (if nat_le n 31 then Some n else None) rest)
 
--- coefficients are encoded as S16 samples are
+-- a convolution; the coefficients are encoded as S16 samples
 abbrev pub take_convolution : List ℕ → Taken ConvolutionValue
 take_convolution body =
     and_then (take_odd_side body) (λ columns rest. and_then (take_odd_side rest) (λ rows rest. and_then (take_exponent rest) (λ exponent rest.

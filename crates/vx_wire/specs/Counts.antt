@@ -1,4 +1,4 @@
--- What is told of a distribution: how many bins there are, and the count of each.
+-- The reply for a distribution: the number of bins, and the count of each.
 use Rattle.std.specs.Prelude.{ℕ, List, ◌++◌, length}
 use Rattle.std.specs.List.{flat_map}
 use Rattle.std.specs.Int.{w16, w32, to_be_bytes}

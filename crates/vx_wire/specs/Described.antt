@@ -1,4 +1,4 @@
--- What is told of an image: the format, the width, the height and the valid rectangle.
+-- The reply that describes an image: the format, the width, the height and the valid rectangle.
 use Rattle.std.specs.Prelude.{ℕ, List, ◌∷◌, ◌++◌}
 use Rattle.std.specs.Int.{w16, to_be_bytes}
 use Rattle.client_model.specs.declared.reply.Described.{Described}

@@ -1,4 +1,4 @@
--- What is told of extremes: the least and the greatest sample, how many pixels have each, and the column and the row of the first of them.
+-- The reply for extremes: the least and the greatest sample, how many pixels have each, and the column and the row of the first of these.
 use Rattle.std.specs.Prelude.{ℕ, List, ◌++◌}
 use Rattle.std.specs.Int.{w16, w32, to_be_bytes}
 use Rattle.vx_base.specs.declared.format.Format.TheVariants.{S16}

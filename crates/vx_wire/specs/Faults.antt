@@ -1,4 +1,4 @@
--- Why no request was read from a body, and the code of the reply.
+-- Why parsing a body failed, and the code of the reply.
 use Rattle.std.specs.Prelude.{◌≡◌, Result, Ok, Err}
 use Rattle.vx_base.specs.declared.code.Code.{Code}
 use Rattle.vx_base.specs.declared.code.Code.TheVariants as codes
@@ -9,19 +9,19 @@ use Rattle.vx_wire.specs.declared.parse_fault.ParseFault.{ParseFault}
 use Rattle.vx_wire.specs.declared.parse_fault.ParseFault.TheVariants as parsing
 use Rattle.vx_wire.specs.Requests.{HoldsSamples}
 
--- a body's fault, as parsing gives it
+-- the fault of parsing for a fault of the body
 abbrev pub parse_fault : BodyFault → ParseFault
 parse_fault InvalidParameters = parsing.InvalidParameters
 parse_fault InvalidFormat = parsing.InvalidFormat
 parse_fault InvalidDimension = parsing.InvalidDimension
 parse_fault InvalidValue = parsing.InvalidValue
 
--- why parsing failed: there was no memory for the samples of the request that is spelled, or none is spelled
+-- why parsing failed: no memory for the samples of the request that the body encodes, or the fault of the body
 abbrev pub MayFailWith : Result Request BodyFault → ParseFault → Type 0
 MayFailWith (Ok request) e = (e ≡ parsing.NoMemory) × HoldsSamples request
 MayFailWith (Err fault) e = e ≡ parse_fault fault
 
--- the code of the reply to a body from which no request was read
+-- the status code of the reply to a body that could not be parsed
 abbrev pub fault_code : ParseFault → Code
 fault_code parsing.NoMemory = codes.NoMemory
 fault_code parsing.InvalidParameters = codes.InvalidParameters

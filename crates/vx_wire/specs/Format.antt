@@ -1,4 +1,4 @@
--- The format of samples, by its number.
+-- Formats of samples, as numbers.
 use Rattle.std.specs.Prelude.{ℕ, List, [], ◌∷◌, Option, Some, None}
 use Rattle.vx_base.specs.declared.format.Format.{Format}
 use Rattle.vx_base.specs.declared.format.Format.TheVariants.{U8, S16, U32}
@@ -18,19 +18,19 @@ format_numbered n = numbered format_number (U8 ∷ S16 ∷ U32 ∷ []) n
 abbrev pub take_format : List ℕ → Taken Format
 take_format body = and_then (take_byte body) (λ n rest. allowed InvalidFormat (format_numbered n) rest)
 
--- 0 stands for a format that is open
+-- the number of a format; an open format is 0
 abbrev pub open_format_number : Option Format → ℕ
 open_format_number None = 0
 open_format_number (Some format) = format_number format
 
--- the format with this number, which may be open
+-- the format with this number; 0 is an open format
 abbrev pub open_format_numbered : ℕ → Option (Option Format)
 open_format_numbered n = numbered open_format_number (None ∷ Some U8 ∷ Some S16 ∷ Some U32 ∷ []) n
 
 abbrev pub take_open_format : List ℕ → Taken (Option Format)
 take_open_format body = and_then (take_byte body) (λ n rest. allowed InvalidFormat (open_format_numbered n) rest)
 
--- the format with this number, of those that tables and thresholds take
+-- the format with this number, of those that tables and thresholds can have
 abbrev pub input_format_numbered : ℕ → Option Format
 input_format_numbered n = numbered format_number (U8 ∷ S16 ∷ []) n
 

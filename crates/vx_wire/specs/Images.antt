@@ -20,11 +20,11 @@ query_image_in body = one_field take_reference QueryImage body
 abbrev pub write_image_in : List ℕ → Result Request BodyFault
 write_image_in body = two_fields take_reference take_picture WriteImage body
 
--- the request to write to this image the picture of a description whose samples these bytes encode
+-- the request to write a picture of this description to an image; these bytes encode its samples
 abbrev pub write_image_of : Cell → Description → List ℕ → Request
 write_image_of image d bytes = WriteImage image (record { description = d; samples = decoded d.format (sample_count d) bytes })
 
--- all bytes after the reference are the text, also none
+-- the request to write a text: all bytes after the reference, also none
 abbrev pub write_image_pgm_in : List ℕ → Result Request BodyFault
 write_image_pgm_in body = and_then (take_reference body) (λ image text. Ok (WriteImagePgm image text))
 

@@ -1,4 +1,4 @@
--- The bodies of nodes that run at once.
+-- The body of Immediate, which runs a node by itself.
 use Rattle.std.specs.Prelude.{ℕ, List, Result}
 use Rattle.client_model.specs.declared.request.Request.{Request}
 use Rattle.client_model.specs.declared.request.Request.TheVariants.{Immediate}

@@ -1,4 +1,4 @@
--- Lookup tables: the format, and then the entries for all of its samples, which are one field.
+-- Lookup tables: the format, and then an entry for each sample value of it; all entries are one field.
 use Rattle.std.specs.Prelude.{ℕ, List, ◌∷◌, Ok}
 use Rattle.vx_base.specs.Sample.{range_size}
 use Rattle.vx_base.specs.Lut.{LutValue}

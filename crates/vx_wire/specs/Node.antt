@@ -42,7 +42,7 @@ take_border body =
     and_then (take_byte body) (λ mode rest. and_then (take_byte rest) (λ constant rest.
     allowed InvalidParameters (border_with mode constant) rest))
 
--- ---- the policy and the amount; one that the function lacks is 0
+-- ---- the policy and the amount; each is 0 if the function doesn't have it
 
 abbrev pub policy_number : Policy → ℕ
 policy_number Wrap = 0

@@ -6,7 +6,7 @@ use Rattle.vx_wire.specs.Numbered.{numbered}
 use Rattle.vx_wire.specs.declared.op.Op.{Op}
 use Rattle.vx_wire.specs.declared.op.Op.TheVariants.{OpenContext, ReleaseContext, CreateImage, QueryImage, WriteImage, WriteImagePgm, ReadImage, ReadImagePgm, SetValid, Release, CreateLut, CreateThreshold, CreateConvolution, CreateDistribution, ReadDistribution, CreateMinMax, ReadMinMax, CreateGraph, CreateVirtualImage, AddNode, RemoveNode, VerifyGraph, ProcessGraph, Immediate, CreateDelay, AgeDelay, RegisterAutoAging}
 
--- the number of this project's that stands for the op
+-- the number of an op; this project's own
 abbrev pub op_number : Op → ℕ
 op_number OpenContext = 1
 op_number ReleaseContext = 2

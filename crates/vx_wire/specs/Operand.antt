@@ -1,4 +1,4 @@
--- The operands of a node. Name 0 without a slot stands for one that is absent.
+-- The operands of a node. An operand that is absent is name 0 without a slot.
 use Rattle.std.specs.Prelude.{ℕ, ◌&&◌, Bool, if◌then◌else◌, List, Option, Some, None, is_some, is_none, Ok}
 use Rattle.vx_base.specs.declared.function.Parameters.{Parameters}
 use Rattle.vx_base.specs.Cell.{Cell}
@@ -9,7 +9,7 @@ use Rattle.vx_wire.specs.declared.fields.operand.Presence.TheVariants.{Required,
 use Rattle.vx_wire.specs.Fields.{Taken, and_then, allowed}
 use Rattle.vx_wire.specs.Reference.{take_reference, reference_bytes}
 
--- the operand that a reference stands for, if it is there or isn't as its presence wants
+-- the operand that a reference encodes, if its presence is as required
 abbrev pub operand : Presence → Cell → Option (Option Cell)
 operand Required cell = if is_nothing cell then None else Some (Some cell)
 operand Absent cell = if is_nothing cell then Some None else None
@@ -22,13 +22,13 @@ abbrev pub operand_bytes : Option Cell → List ℕ
 operand_bytes None = reference_bytes (record { name = 0; slot = None })
 operand_bytes (Some cell) = reference_bytes cell
 
--- an operand that is one, and is there or isn't as its presence wants
+-- whether an operand can be encoded, and its presence is as required
 abbrev pub is_operand : Presence → Option Cell → Bool
 is_operand Required cell = is_some cell && is_named cell
 is_operand Absent cell = is_none cell
 is_operand Free cell = is_named cell
 
--- ---- which operands the node of a function has
+-- ---- the operands that the node of a function has
 
 abbrev pub second_input : Parameters → Presence
 second_input p = if is_some p.second_input then Required else Absent
@@ -36,7 +36,7 @@ second_input p = if is_some p.second_input then Required else Absent
 abbrev pub first_output : Parameters → Presence
 first_output p = if p.output_pair then Free else Required
 
--- of two outputs at least one is there
+-- whether the second output is required: of two outputs, at least one has to be there
 abbrev pub second_output : Parameters → Option Cell → Presence
 second_output p out1 = if p.output_pair then (if is_none out1 then Required else Free) else Absent
 

@@ -1,4 +1,4 @@
--- What is known of an image that isn't there: the format, the width and the height. 0 leaves one open.
+-- Partial descriptions, as virtual images have them: the format, the width and the height. 0 leaves one open.
 use Rattle.std.specs.Prelude.{ℕ, ◌==◌, if◌then◌else◌, List, ◌∷◌, ◌++◌, Option, Some, None, unwrap_or, Ok}
 use Rattle.std.specs.Int.{w16, to_be_bytes}
 use Rattle.vx_base.specs.Description.{is_side}
@@ -10,7 +10,7 @@ use Rattle.vx_wire.specs.Format.{open_format_number, take_open_format}
 abbrev pub open_side_number : Option ℕ → ℕ
 open_side_number side = unwrap_or side 0
 
--- the width or height with this number, which may be open
+-- the width or height with this number; 0 is an open one
 abbrev pub open_side_numbered : ℕ → Option (Option ℕ)
 open_side_numbered n = if n == 0 then Some None else if is_side n then Some (Some n) else None
 

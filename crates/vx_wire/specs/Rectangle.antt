@@ -5,7 +5,7 @@ use Rattle.vx_base.specs.Rectangle.{Rectangle, rectangle}
 use Rattle.vx_wire.specs.declared.body_fault.BodyFault.TheVariants.{InvalidValue}
 use Rattle.vx_wire.specs.Fields.{Taken, and_then, allowed, take_short}
 
--- the bounds are looked at once all four are there
+-- a rectangle; the bounds are checked only when all four are there
 abbrev pub take_rectangle : List ℕ → Taken Rectangle
 take_rectangle body =
     and_then (take_short body) (λ x0 rest. and_then (take_short rest) (λ y0 rest.

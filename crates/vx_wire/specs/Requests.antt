@@ -1,5 +1,5 @@
--- Requests and their bodies. Each table goes by families: contexts, images, objects of any kind, tables (and thresholds and convolutions), statistics (distributions and extremes),
--- graphs, nodes that run at once, delays.
+-- Requests and their bodies. Each table is ordered by families: contexts, images, objects of any kind, tables (and thresholds and
+-- convolutions), statistics, graphs, immediate nodes, delays.
 use Rattle.std.specs.Prelude.{ℕ, ⊤, List, [], ◌∷◌, ◌++◌, Option, Some, None, Result, Err}
 use Rattle.std.specs.Int.{w32, to_be_bytes}
 use Rattle.client_model.specs.declared.request.Request.{Request}
@@ -28,7 +28,7 @@ use Rattle.vx_wire.specs.Graphs.{create_graph_in, create_virtual_image_in, add_n
 use Rattle.vx_wire.specs.Immediate.{immediate_in}
 use Rattle.vx_wire.specs.Delays.{create_delay_in, age_delay_in, register_auto_aging_in}
 
--- the request that a body of this op spells
+-- the request that a body of this op encodes
 abbrev pub request_with : Op → List ℕ → Result Request BodyFault
 request_with ops.OpenContext body = open_context_in body
 request_with ops.ReleaseContext body = release_context_in body
@@ -58,16 +58,16 @@ request_with ops.CreateDelay body = create_delay_in body
 request_with ops.AgeDelay body = age_delay_in body
 request_with ops.RegisterAutoAging body = register_auto_aging_in body
 
--- without an op it spells none
+-- the request that a body of this op encodes, or a fault without an op
 abbrev pub request_with_known : Option Op → List ℕ → Result Request BodyFault
 request_with_known None body = Err InvalidParameters
 request_with_known (Some op) body = request_with op body
 
--- the request that a body spells after an op's number
+-- the request that an op's number and a body encode
 abbrev pub request_of : ℕ → List ℕ → Result Request BodyFault
 request_of number body = request_with_known (op_numbered number) body
 
--- the body that spells a request
+-- the body that encodes a request
 abbrev pub body_of : Request → List ℕ
 body_of OpenContext = []
 body_of ReleaseContext = []
@@ -97,7 +97,7 @@ body_of (CreateDelay exemplar slots) = reference_bytes exemplar ++ slots ∷ []
 body_of (AgeDelay name) = to_be_bytes w32 name
 body_of (RegisterAutoAging graph delay) = to_be_bytes w32 graph ++ to_be_bytes w32 delay
 
--- a request whose body holds samples, entries or a text, for which parsing takes memory
+-- the request's body has samples, entries or a text, for which parsing allocates memory
 abbrev pub HoldsSamples : Request → Type 0
 HoldsSamples OpenContext = ⊥
 HoldsSamples ReleaseContext = ⊥

@@ -1,4 +1,4 @@
--- Samples as bytes: each of 1, 2 or 4, the most significant first.
+-- Samples as bytes: 1, 2 or 4 for each, the most significant first.
 use Rattle.std.specs.Prelude.{ℕ, zero, suc, ◌*◌, ℤ, pos, unsigned_abs, List, [], ◌∷◌, ◌++◌, take, drop, Ok}
 use Rattle.std.specs.List.{flat_map}
 use Rattle.std.specs.Int.{w8, w16, w32, to_be_bytes, from_be_bytes, cast_unsigned}
@@ -22,7 +22,7 @@ encoded_sample U8 z = unsigned_abs z ∷ []
 encoded_sample S16 z = to_be_bytes w16 (cast_unsigned w16 z)
 encoded_sample U32 z = to_be_bytes w32 (unsigned_abs z)
 
--- so many samples, one after the other
+-- the samples that these bytes encode, one after the other
 abbrev pub decoded : Format → ℕ → List ℕ → List ℤ
 decoded format zero bytes = []
 decoded format (suc count) bytes = decoded_sample format (take (sample_bytes format) bytes) ∷ decoded format count (drop (sample_bytes format) bytes)
@@ -30,11 +30,11 @@ decoded format (suc count) bytes = decoded_sample format (take (sample_bytes for
 abbrev pub encoded : Format → List ℤ → List ℕ
 encoded format samples = flat_map (encoded_sample format) samples
 
--- they are one field
+-- `count` samples of a format, which are one field
 abbrev pub take_samples : Format → ℕ → List ℕ → Taken (List ℤ)
 take_samples format count body = and_then (take_bytes (count * sample_bytes format) body) (λ bytes rest. Ok (decoded format count bytes, rest))
 
--- ---- pictures: the description, and then the samples by rows from the top
+-- ---- pictures: the description, and then the samples row by row from the top
 
 abbrev pub take_picture : List ℕ → Taken PictureValue
 take_picture body =

@@ -1,4 +1,4 @@
--- How many slots a delay has.
+-- The number of slots of a delay.
 use Rattle.std.specs.Prelude.{ℕ, List}
 use Rattle.vx_base.specs.Slots.{slot_count}
 use Rattle.vx_wire.specs.declared.body_fault.BodyFault.TheVariants.{InvalidValue}

@@ -11,12 +11,12 @@ use Rattle.vx_wire.specs.Fields.{Taken, and_then, allowed, take_byte, take_bytes
 use Rattle.vx_wire.specs.Format.{format_number, take_input_format}
 use Rattle.vx_wire.specs.Samples.{decoded_sample, encoded_sample}
 
--- whether it has a lower and an upper limit
+-- whether a threshold has a lower and an upper limit
 abbrev pub is_range : ThresholdKind → Bool
 is_range (Binary t) = false
 is_range (Range lower upper) = true
 
--- 0 stands for BINARY and 1 for RANGE
+-- the number of a threshold's kind: 0 is BINARY and 1 is RANGE
 abbrev pub range_number : Bool → ℕ
 range_number false = 0
 range_number true = 1
@@ -27,15 +27,15 @@ range_numbered n = numbered range_number (false ∷ true ∷ []) n
 abbrev pub take_is_range : List ℕ → Taken Bool
 take_is_range body = and_then (take_byte body) (λ n rest. allowed InvalidParameters (range_numbered n) rest)
 
--- a limit is encoded as an S16 sample is, whatever the format
+-- a limit, which is encoded as an S16 sample in every format
 abbrev pub take_signed : List ℕ → Taken ℤ
 take_signed body = and_then (take_bytes 2 body) (λ bytes rest. Ok (decoded_sample S16 bytes, rest))
 
--- and is a sample of the format
+-- a limit that is a sample of the format
 abbrev pub take_limit : Format → List ℕ → Taken ℤ
 take_limit format body = and_then (take_signed body) (λ z rest. allowed InvalidValue (if is_sample format z then Some z else None) rest)
 
--- the upper one is not below the lower
+-- the upper limit, which is not below the lower
 abbrev pub take_upper : Format → ℤ → List ℕ → Taken ℤ
 take_upper format lower body = and_then (take_limit format body) (λ z rest. allowed InvalidValue (if int_le lower z then Some z else None) rest)
 

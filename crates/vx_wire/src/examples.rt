@@ -1,4 +1,4 @@
-//! Worked examples: what bodies spell, in bytes.
+//! Worked examples: bodies, in bytes, and the requests that they encode.
 ghost use Rattle.std.specs.Prelude.{◌≡◌, [], ◌∷◌, Some, None, Ok, Err, pos, negsuc};
 ghost use Rattle.vx_base.specs.declared.format.Format.TheVariants.{U8, S16, U32};
 ghost use Rattle.vx_base.specs.declared.policy.Policy.TheVariants.{Wrap, Saturate};
@@ -32,8 +32,7 @@ ghost use Rattle.vx_wire.specs.Described.{described_bytes};
 ghost use Rattle.vx_wire.specs.Counts.{counts_bytes};
 ghost use Rattle.vx_wire.specs.Extremes.{extremes_bytes};
 
-/// Contexts are opened and released by an empty body, and no request has another op than those of
-/// the table.
+/// Opening and releasing a context has an empty body. No request has an op that isn't in the table.
 pub fn ops()
     ensures open { request_of 1 [] ≡ Ok OpenContext }
     ensures open_with_more { request_of 1 (0 ∷ []) ≡ Err InvalidParameters }
@@ -43,7 +42,7 @@ pub fn ops()
     ensures not_known { request_of 200 [] ≡ Err InvalidParameters }
 {}
 
-/// Images of one sample, of 8192 by 2 samples, and of what no image has.
+/// Creating images of one sample and of 8192 by 2 samples; and descriptions out of range.
 pub fn images_made()
     ensures smallest { request_of 3 (1 ∷ 0 ∷ 1 ∷ 0 ∷ 1 ∷ [])
         ≡ Ok (CreateImage (record { width = 1; height = 1; format = U8 })) }
@@ -57,7 +56,7 @@ pub fn images_made()
     ensures first_fault { request_of 3 (4 ∷ 0 ∷ []) ≡ Err InvalidFormat }
 {}
 
-/// Two samples of -2 and 1 that are written to image 7, and slot 3 of delay 258 that is read.
+/// Writing the samples -2 and 1 to image 7, and reading slot 3 of delay 258.
 pub fn images_written_and_read()
     ensures written { request_of 5 (0 ∷ 0 ∷ 0 ∷ 7 ∷ 255 ∷ 2 ∷ 0 ∷ 2 ∷ 0 ∷ 1 ∷ 255
         ∷ 254 ∷ 0 ∷ 1 ∷ [])
@@ -75,8 +74,8 @@ pub fn images_written_and_read()
         ≡ Ok (ReadImage (record { name = 258; slot = Some 3 })) }
 {}
 
-/// Texts that are written to image 7, also none: what they say is no matter here. A reference that
-/// is cut short has no text behind it.
+/// Writing texts to image 7, also an empty one: the text isn't parsed here. A reference that is cut
+/// short leaves no text.
 pub fn texts_written()
     ensures written { request_of 6 (0 ∷ 0 ∷ 0 ∷ 7 ∷ 255 ∷ 80 ∷ 53 ∷ 10 ∷ [])
         ≡ Ok (WriteImagePgm (record { name = 7; slot = None }) (80 ∷ 53 ∷ 10 ∷ [])) }
@@ -87,7 +86,7 @@ pub fn texts_written()
     ensures cut { request_of 6 (0 ∷ 0 ∷ 0 ∷ 7 ∷ []) ≡ Err InvalidParameters }
 {}
 
-/// Image 7 that is read as a text, and references that are cut short or have more behind them.
+/// Reading image 7 as a text; references that are cut short or followed by more bytes.
 pub fn texts_read()
     ensures read { request_of 8 (0 ∷ 0 ∷ 0 ∷ 7 ∷ 255 ∷ [])
         ≡ Ok (ReadImagePgm (record { name = 7; slot = None })) }
@@ -97,7 +96,7 @@ pub fn texts_read()
     ensures more { request_of 8 (0 ∷ 0 ∷ 0 ∷ 7 ∷ 255 ∷ 0 ∷ []) ≡ Err InvalidParameters }
 {}
 
-/// Image 1 that is asked about, and references that are cut short or have more behind them.
+/// Querying image 1; references that are cut short or followed by more bytes.
 pub fn images_queried()
     ensures queried { request_of 4 (0 ∷ 0 ∷ 0 ∷ 1 ∷ 255 ∷ [])
         ≡ Ok (QueryImage (record { name = 1; slot = None })) }
@@ -107,8 +106,8 @@ pub fn images_queried()
     ensures more { request_of 4 (0 ∷ 0 ∷ 0 ∷ 1 ∷ 255 ∷ 0 ∷ []) ≡ Err InvalidParameters }
 {}
 
-/// What is told of a U8 image of 4 by 1 samples whose second and third are valid, and of one of
-/// 258 by 1 samples of an open format of which none is.
+/// The descriptions of a U8 image of 4 by 1 samples whose second and third are valid, and of an
+/// image of 258 by 1 samples with an open format and no valid pixels.
 pub fn images_described()
     ensures known { described_bytes (record {
       format = Some U8;
@@ -128,8 +127,8 @@ pub fn images_described()
         ≡ 0 ∷ 1 ∷ 2 ∷ 0 ∷ 1 ∷ 0 ∷ 0 ∷ 0 ∷ 0 ∷ 0 ∷ 0 ∷ 0 ∷ 0 ∷ [] }
 {}
 
-/// Columns 1 and 2 of row 0 of image 1 that become valid, no place of it, and bounds that no
-/// rectangle has. Bounds are looked at once all four are there.
+/// Setting the valid rectangle of image 1 to columns 1 and 2 of row 0, or to no pixels; and bounds
+/// that no rectangle has. The bounds are checked only once all four are there.
 pub fn valid_rectangles_set()
     ensures set { request_of 9 (0 ∷ 0 ∷ 0 ∷ 1 ∷ 255 ∷ 0 ∷ 1 ∷ 0 ∷ 0 ∷ 0 ∷ 3 ∷ 0 ∷ 1 ∷ [])
         ≡ Ok (SetValid (record { name = 1; slot = None })
@@ -155,14 +154,14 @@ pub fn valid_rectangles_set()
         ≡ Err InvalidParameters }
 {}
 
-/// Object 258 that is released, and a name that is cut short or has a slot.
+/// Releasing object 258; a name that is cut short or has a slot.
 pub fn objects_released()
     ensures released { request_of 10 (0 ∷ 0 ∷ 1 ∷ 2 ∷ []) ≡ Ok (Release 258) }
     ensures cut { request_of 10 (0 ∷ 0 ∷ 1 ∷ []) ≡ Err InvalidParameters }
     ensures with_a_slot { request_of 10 (0 ∷ 0 ∷ 1 ∷ 2 ∷ 255 ∷ []) ≡ Err InvalidParameters }
 {}
 
-/// Tables of what no table is of, and tables that are cut short.
+/// Tables of formats that no table has, and tables that are cut short.
 pub fn tables()
     ensures no_format { request_of 11 (3 ∷ []) ≡ Err InvalidFormat }
     ensures one_entry { request_of 11 (1 ∷ 5 ∷ []) ≡ Err InvalidParameters }
@@ -170,7 +169,8 @@ pub fn tables()
     ensures empty { request_of 11 [] ≡ Err InvalidParameters }
 {}
 
-/// U8 samples above 10, S16 samples from -1 to 2, and thresholds of what none is.
+/// Thresholds for U8 samples above 10 and for S16 samples from -1 to 2; and fields that no
+/// threshold has.
 pub fn thresholds()
     ensures binary { request_of 12 (0 ∷ 1 ∷ 0 ∷ 10 ∷ 255 ∷ 0 ∷ [])
         ≡ Ok (CreateThreshold (record {
@@ -197,8 +197,8 @@ pub fn thresholds()
     ensures more { request_of 12 (0 ∷ 1 ∷ 0 ∷ 10 ∷ 255 ∷ 0 ∷ 0 ∷ []) ≡ Err InvalidParameters }
 {}
 
-/// A convolution of 3 columns and 5 rows whose sums are divided by 2^31, and numbers that no
-/// convolution has. The first of them that is wrong decides, also where the coefficients are cut.
+/// A convolution of 3 columns and 5 rows whose sums are divided by 2^31; and numbers that no
+/// convolution has. The first wrong number decides, even if the coefficients are cut short.
 pub fn convolutions()
     ensures made { request_of 13 (3 ∷ 5 ∷ 31 ∷ 0 ∷ 1 ∷ 255 ∷ 254 ∷ 0 ∷ 3 ∷ 0 ∷ 4 ∷ 0 ∷ 5 ∷ 0 ∷ 6 ∷ 0
         ∷ 7 ∷ 0 ∷ 8 ∷ 0 ∷ 9 ∷ 0 ∷ 10 ∷ 0 ∷ 11 ∷ 0 ∷ 12 ∷ 0 ∷ 13 ∷ 127 ∷ 255 ∷ 128 ∷ 0 ∷ [])
@@ -224,7 +224,7 @@ pub fn convolutions()
 {}
 
 /// Distributions of 3 bins from 0 to 255, and of 256 that end above 255; and numbers that no bins
-/// have. The first of them that is wrong decides, also where the next is cut.
+/// have. The first wrong number decides, even if the next one is cut short.
 pub fn distributions_made()
     ensures made { request_of 14 (0 ∷ 3 ∷ 0 ∷ 0 ∷ 1 ∷ 0 ∷ [])
         ≡ Ok (CreateDistribution (record { bins = 3; offset = 0; range = 256 })) }
@@ -243,14 +243,14 @@ pub fn distributions_made()
     ensures more { request_of 14 (0 ∷ 3 ∷ 0 ∷ 0 ∷ 1 ∷ 0 ∷ 0 ∷ []) ≡ Err InvalidParameters }
 {}
 
-/// Distribution 258 that is read, and a name that is cut short or has a slot.
+/// Reading distribution 258; a name that is cut short or has a slot.
 pub fn distributions_read()
     ensures read { request_of 15 (0 ∷ 0 ∷ 1 ∷ 2 ∷ []) ≡ Ok (ReadDistribution 258) }
     ensures cut { request_of 15 (0 ∷ 0 ∷ 1 ∷ []) ≡ Err InvalidParameters }
     ensures with_a_slot { request_of 15 (0 ∷ 0 ∷ 1 ∷ 2 ∷ 255 ∷ []) ≡ Err InvalidParameters }
 {}
 
-/// Extremes that are made by an empty body, and extremes 258 that are read.
+/// Creating extremes by an empty body, and reading extremes 258.
 pub fn extremes_made_and_read()
     ensures made { request_of 16 [] ≡ Ok CreateMinMax }
     ensures made_with_more { request_of 16 (0 ∷ []) ≡ Err InvalidParameters }
@@ -259,8 +259,8 @@ pub fn extremes_made_and_read()
     ensures with_a_slot { request_of 17 (0 ∷ 0 ∷ 1 ∷ 2 ∷ 255 ∷ []) ≡ Err InvalidParameters }
 {}
 
-/// What is told of a distribution of 3 bins, and of extremes -2 and 258, of which there are 1 and
-/// 65,536, the first in column 3 and row 4, and in column 5 and row 515.
+/// The replies for a distribution of 3 bins, and for extremes -2 and 258. The first occurs once, in
+/// column 3 and row 4; the second 65,536 times, first in column 5 and row 515.
 pub fn statistics_told()
     ensures counts { counts_bytes (1 ∷ 0 ∷ 16777216 ∷ [])
         ≡ 0 ∷ 3 ∷ 0 ∷ 0 ∷ 0 ∷ 1 ∷ 0 ∷ 0 ∷ 0 ∷ 0 ∷ 1 ∷ 0 ∷ 0 ∷ 0 ∷ [] }
@@ -275,14 +275,14 @@ pub fn statistics_told()
         ≡ 255 ∷ 254 ∷ 1 ∷ 2 ∷ 0 ∷ 0 ∷ 0 ∷ 1 ∷ 0 ∷ 1 ∷ 0 ∷ 0 ∷ 0 ∷ 3 ∷ 0 ∷ 4 ∷ 0 ∷ 5 ∷ 2 ∷ 3 ∷ [] }
 {}
 
-/// A graph that is made by an empty body.
+/// Creating a graph by an empty body.
 pub fn graphs_made()
     ensures made { request_of 18 [] ≡ Ok CreateGraph }
     ensures more { request_of 18 (0 ∷ []) ≡ Err InvalidParameters }
 {}
 
-/// Virtual images of graph 3 of which all is known, nothing or a part, and of what none is. The
-/// first field that is wrong decides, also where the next is cut.
+/// Virtual images of graph 3 with all fields known, none or some; and fields out of range. The
+/// first wrong field decides, even if the next one is cut short.
 pub fn virtual_images_made()
     ensures known { request_of 19 (0 ∷ 0 ∷ 0 ∷ 3 ∷ 1 ∷ 1 ∷ 2 ∷ 32 ∷ 0 ∷ [])
         ≡ Ok (CreateVirtualImage 3 (record {
@@ -315,7 +315,7 @@ pub fn virtual_images_made()
     ensures no_name { request_of 19 (0 ∷ 0 ∷ 0 ∷ []) ≡ Err InvalidParameters }
 {}
 
-/// Not of image 1 to image 2 that is added to graph 258, and nodes that are none. The name is taken
+/// Adding Not of image 1 to image 2 to graph 258; and nodes that aren't valid. The name is read
 /// before the node.
 pub fn nodes_added()
     ensures added { request_of 20 (0 ∷ 0 ∷ 1 ∷ 2 ∷ 4 ∷ 0 ∷ 0 ∷ 0 ∷ 0 ∷ 0 ∷ 0 ∷ 0 ∷ 1 ∷ 255 ∷ 0 ∷ 0
@@ -346,7 +346,7 @@ pub fn nodes_added()
     ensures no_name { request_of 20 (4 ∷ 0 ∷ 0 ∷ []) ≡ Err InvalidParameters }
 {}
 
-/// Node 258 that is removed from graph 3.
+/// Removing node 258 from graph 3.
 pub fn nodes_removed()
     ensures removed { request_of 21 (0 ∷ 0 ∷ 0 ∷ 3 ∷ 0 ∷ 0 ∷ 1 ∷ 2 ∷ []) ≡ Ok (RemoveNode 3 258) }
     ensures cut { request_of 21 (0 ∷ 0 ∷ 0 ∷ 3 ∷ 0 ∷ 0 ∷ 1 ∷ []) ≡ Err InvalidParameters }
@@ -354,7 +354,7 @@ pub fn nodes_removed()
         ≡ Err InvalidParameters }
 {}
 
-/// Graph 258 that is verified and run, and a name that is cut short or has a slot.
+/// Verifying and running graph 258; a name that is cut short or has a slot.
 pub fn graphs_verified_and_run()
     ensures verified { request_of 22 (0 ∷ 0 ∷ 1 ∷ 2 ∷ []) ≡ Ok (VerifyGraph 258) }
     ensures verified_cut { request_of 22 (0 ∷ 0 ∷ 1 ∷ []) ≡ Err InvalidParameters }
@@ -365,7 +365,8 @@ pub fn graphs_verified_and_run()
     ensures run_with_a_slot { request_of 23 (0 ∷ 0 ∷ 1 ∷ 2 ∷ 255 ∷ []) ≡ Err InvalidParameters }
 {}
 
-/// Not of image 1 to image 2, and nodes of Not with what it lacks or without what it has.
+/// Not of image 1 to image 2; and nodes of Not with an operand that it doesn't have, or without one
+/// that it has.
 pub fn nodes()
     ensures whole { request_of 24 (4 ∷ 0 ∷ 0 ∷ 0 ∷ 0 ∷ 0 ∷ 0 ∷ 0 ∷ 1 ∷ 255 ∷ 0 ∷ 0 ∷ 0 ∷ 0 ∷ 255 ∷ 0
         ∷ 0 ∷ 0 ∷ 2 ∷ 255 ∷ 0 ∷ 0 ∷ 0 ∷ 0 ∷ 255 ∷ [])
@@ -408,7 +409,7 @@ pub fn nodes()
         ∷ 0 ∷ 0 ∷ 255 ∷ []) ≡ Err InvalidParameters }
 {}
 
-/// Multiply of images 1 and 2 to image 3 by 1 / 2^15, saturating, and amounts beyond 15.
+/// Multiply of images 1 and 2 to image 3 by 1 / 2^15, saturating; and amounts above 15.
 pub fn multiplied()
     ensures whole { request_of 24 (7 ∷ 0 ∷ 0 ∷ 1 ∷ 15 ∷ 0 ∷ 0 ∷ 0 ∷ 1 ∷ 255 ∷ 0 ∷ 0 ∷ 0 ∷ 2 ∷ 255
         ∷ 0 ∷ 0 ∷ 0 ∷ 3 ∷ 255 ∷ 0 ∷ 0 ∷ 0 ∷ 0 ∷ 255 ∷ [])
@@ -430,7 +431,7 @@ pub fn multiplied()
     ensures too_much_and_cut { request_of 24 (7 ∷ 0 ∷ 0 ∷ 0 ∷ 16 ∷ []) ≡ Err InvalidValue }
 {}
 
-/// A delay of 3 images like image 1, of 1 and of 16, and of what no delay has.
+/// Delays of 3 images like image 1, of 1 and of 16; and slot counts that no delay has.
 pub fn delays_made()
     ensures made { request_of 25 (0 ∷ 0 ∷ 0 ∷ 1 ∷ 255 ∷ 3 ∷ [])
         ≡ Ok (CreateDelay (record { name = 1; slot = None }) 3) }
@@ -448,22 +449,22 @@ pub fn delays_made()
     ensures more { request_of 25 (0 ∷ 0 ∷ 0 ∷ 1 ∷ 255 ∷ 3 ∷ 0 ∷ []) ≡ Err InvalidParameters }
 {}
 
-/// Delay 2 that is aged, and a name that is cut short or has a slot.
+/// Aging delay 2; a name that is cut short or has a slot.
 pub fn delays_aged()
     ensures aged { request_of 26 (0 ∷ 0 ∷ 0 ∷ 2 ∷ []) ≡ Ok (AgeDelay 2) }
     ensures cut { request_of 26 (0 ∷ 0 ∷ 0 ∷ []) ≡ Err InvalidParameters }
     ensures with_a_slot { request_of 26 (0 ∷ 0 ∷ 0 ∷ 2 ∷ 255 ∷ []) ≡ Err InvalidParameters }
 {}
 
-/// Delay 2 that is registered with graph 3, and a name that is cut short.
+/// Registering delay 2 with graph 3; a name that is cut short.
 pub fn delays_registered()
     ensures registered { request_of 27 (0 ∷ 0 ∷ 0 ∷ 3 ∷ 0 ∷ 0 ∷ 0 ∷ 2 ∷ [])
         ≡ Ok (RegisterAutoAging 3 2) }
     ensures cut { request_of 27 (0 ∷ 0 ∷ 0 ∷ 3 ∷ 0 ∷ 0 ∷ 0 ∷ []) ≡ Err InvalidParameters }
 {}
 
-/// The spellings of a picture, of a text, of a rectangle, of a threshold, of a convolution, of
-/// bins, of two outlines, of a node of a graph and of a delay.
+/// The encodings of a picture, a text, a rectangle, a threshold, a convolution, bins, two partial
+/// descriptions, a node of a graph and a delay.
 pub fn spelled()
     ensures picture { body_of (WriteImage (record { name = 7; slot = None })
         (record {

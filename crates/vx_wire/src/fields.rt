@@ -1,4 +1,4 @@
-//! Taking fields from the front of a body, in order.
+//! Reads fields from the front of a body, in order.
 ghost use Rattle.std.specs.Prelude.{◌≡◌, length, Ok, Err, IfOk, IfErr, OnOk};
 ghost use Rattle.client_model.specs.declared.request.Request.{Request as RequestValue};
 ghost use Rattle.vx_wire.specs.Fields.{Takes, take_byte, take_short, take_long, take_bytes, at_end};
@@ -21,10 +21,10 @@ pub mod threshold;
 use crate::body_fault::BodyFault;
 use std::marker::Model;
 
-/// The bytes of a body that are left.
+/// The bytes of a body that have not been read.
 ///
-/// Each method takes one field from their front, and so does each function of the modules here.
-/// After a fault nothing is said of what is left: the first fault ends the reading of a body.
+/// Each method reads one field from their front, and so does each function of the modules here.
+/// After a fault the remaining bytes are unspecified: the first fault ends the reading of a body.
 #[derive(Drop)]
 pub struct Fields<'a> {
     rest: &'a [u8],
@@ -39,14 +39,14 @@ impl<'a> Model for Fields<'a> {
 }
 
 impl<'a> Fields<'a> {
-    /// All fields of the body.
+    /// Returns all fields of a body.
     pub fn new(body: &'a [u8]) -> Fields<'a>
         ensures { result ≡ body.now }
     {
         Fields { rest: body }
     }
 
-    /// A number of one byte.
+    /// Reads a number of one byte.
     pub fn byte(&mut self) -> Result<u8, BodyFault>
         ensures { Takes take_byte self.old self.new result }
     {
@@ -59,7 +59,7 @@ impl<'a> Fields<'a> {
         }
     }
 
-    /// A number of two bytes.
+    /// Reads a number of two bytes, the most significant first.
     pub fn short(&mut self) -> Result<u16, BodyFault>
         ensures { Takes take_short self.old self.new result }
     {
@@ -68,7 +68,7 @@ impl<'a> Fields<'a> {
         Ok(u16::from_be_bytes([high, low]))
     }
 
-    /// A number of four bytes.
+    /// Reads a number of four bytes, the most significant first.
     pub fn long(&mut self) -> Result<u32, BodyFault>
         ensures { Takes take_long self.old self.new result }
     {
@@ -77,7 +77,7 @@ impl<'a> Fields<'a> {
         Ok(u32::from(high) * 65536 + u32::from(low))
     }
 
-    /// So many bytes, which are one field.
+    /// Reads `count` bytes, which are one field. `InvalidParameters`: fewer are left.
     pub fn bytes(&mut self, count: usize) -> Result<&'a [u8], BodyFault>
         ensures ok { IfOk result (λ bytes. take_bytes count self.old ≡ Ok (bytes.now, self.new)) }
         ensures len { IfOk result (λ bytes. length bytes.now ≡ count) }
@@ -92,14 +92,14 @@ impl<'a> Fields<'a> {
         }
     }
 
-    /// All bytes that are left, also none, which are one field.
+    /// Returns all bytes that are left, which are one field and may be none.
     pub fn rest(&self) -> &'a [u8]
         ensures { result.now ≡ self.now }
     {
         self.rest
     }
 
-    /// The end: nothing follows the last field.
+    /// Checks that nothing follows the last field.
     pub fn end(&self) -> Result<(), BodyFault>
         ensures ok { OnOk result ((request : RequestValue) → at_end request self.now ≡ Ok request) }
         ensures err { IfErr result (λ e. (request : RequestValue) →

@@ -1,3 +1,3 @@
-//! What the definitions mean: functions that do nothing, whose contracts are facts.
+//! Laws about the definitions, as contracts of functions that do nothing.
 
 pub mod bodies;

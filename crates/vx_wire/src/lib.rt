@@ -1,22 +1,22 @@
 //! The bodies of requests and replies, as bytes.
 //!
-//! `parse` reads the request that a body spells; the functions named after what they encode, as
-//! `description_bytes`, give the bytes of a field. A field that is read and then encoded gives its
-//! bytes again, and the laws say so of whole requests. No stream, no frame and no client stands
-//! here.
+//! `parse` returns the request that a body encodes. The functions named after what they encode, as
+//! `description_bytes`, return the bytes of a field. Reading a field and encoding it gives its
+//! bytes again; the laws state this for whole requests. Streams, frames and clients are none of
+//! this crate's concern.
 //!
-//! - `op`: what kind of request a frame holds, and its number
-//! - `body_fault`, `parse_fault`: why a body spells no request, and why none was read
-//! - `fields`: taking fields from the front of a body, and in its modules what each subject takes
-//!   and gives: `format`, `description`, `outline` (of an image that isn't there), `reference`,
-//!   `rectangle`, `samples`, `threshold`, `convolution`, `bins` (of a distribution), `operand`,
-//!   `node`, `slots` (of a delay), `described` (what is told of an image), `extremes`
+//! - `op`: the kinds of requests, and their numbers
+//! - `body_fault`, `parse_fault`: why a body encodes no request, and why parsing failed
+//! - `fields`: reads fields from the front of a body. Its modules read and encode one field each:
+//!   `format`, `description`, `outline` (a partial description), `reference`, `rectangle`,
+//!   `samples`, `threshold`, `convolution`, `bins` (of a distribution), `operand`, `node`, `slots`
+//!   (of a delay). `described` (of an image) and `extremes` encode replies.
 //! - `requests`: the bodies of requests, by families: `contexts`, `images`, `objects` (of any
 //!   kind), `tables` (and thresholds and convolutions), `statistics` (distributions and extremes),
 //!   `graphs`, `immediate`, `delays`
-//! - `parsing`: the body of any request; `write_image_head`: what stands before the samples of one
-//!   that writes an image; `write_image_pgm_fields`: the image and the text of one that writes a
-//!   text
+//! - `parsing`: the body of any request
+//! - `write_image_head`: the fields before the samples in the body of WriteImage
+//! - `write_image_pgm_fields`: the image and the text in the body of WriteImagePgm
 //! - `laws`, `examples`: what the definitions mean
 #![tactic(auto)]
 

@@ -1,11 +1,11 @@
-//! The ops of requests.
+//! The ops of requests: the byte of a frame that says the kind of its request.
 ghost use Rattle.std.specs.Prelude.{◌≡◌, ◌↔◌, Some};
 ghost use Rattle.vx_wire.specs.declared.op.Op.{Op as RequestOp};
 ghost use Rattle.vx_wire.specs.Op.{op_number, op_numbered, op_of};
 
 use client_model::Request;
 
-/// What kind of request a frame holds.
+/// The kind of request that a frame holds.
 #[derive(Clone, Copy, PartialEq, Eq, Debug)]
 pub enum Op {
     OpenContext,
@@ -38,7 +38,7 @@ pub enum Op {
 }
 
 impl Op {
-    /// The byte that stands for the op in a frame.
+    /// Returns the byte of the op in a frame.
     pub fn number(self) -> u8
         ensures { result ≡ op_number self }
     {
@@ -73,7 +73,7 @@ impl Op {
         }
     }
 
-    /// The op with this number, if there is one.
+    /// Returns the op with this number, if there is one.
     pub fn from_number(number: u8) -> Option<Op>
         ensures value { result ≡ op_numbered number }
         ensures inverse { (op : RequestOp) → (result ≡ Some op) ↔ (op_number op ≡ number) }
@@ -110,7 +110,7 @@ impl Op {
         }
     }
 
-    /// The op of a request.
+    /// Returns the op of a request.
     pub fn of(request: &Request) -> Op
         ensures { result ≡ op_of request.now }
     {

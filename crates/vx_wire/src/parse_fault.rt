@@ -1,4 +1,4 @@
-//! Why no request was read from a body.
+//! Why parsing a body failed.
 ghost use Rattle.std.specs.Prelude.{◌≡◌};
 
 use crate::body_fault::BodyFault;
@@ -6,27 +6,24 @@ use std::alloc::AllocError;
 use thiserror::Error;
 use vx_base::Code;
 
-/// Why no request was read from a body: it spells none, or there was no memory.
+/// Why parsing a body failed: it encodes no request, or memory ran out.
 #[derive(Clone, Copy, Debug, PartialEq, Eq, Error)]
 pub enum ParseFault {
-    /// There was no memory for the samples of a picture, the entries of a table or a text.
+    /// No memory could be allocated for the samples of a picture, the entries of a table or a text.
     #[error("no memory")]
     NoMemory,
-    /// A field is cut short or has a value that isn't allowed, the op is none, or something
-    /// follows the last field.
+    /// The op is unknown, a field is cut short or has a value that isn't allowed, or bytes follow
+    /// the last field.
     #[error("invalid parameters")]
     InvalidParameters,
-    /// A number stands for no format, or for one that a table or a threshold doesn't take.
+    /// A number is no format, or one that a table or a threshold can't have.
     #[error("invalid format")]
     InvalidFormat,
-    /// A width or a height isn't 1 to 8192 (or 0, where it may be left open), or the columns or the
-    /// rows of a convolution aren't 3, 5, 7 or 9.
+    /// A width or a height isn't 1 to 8192 (or 0, where it may be open), or the columns or the rows
+    /// of a convolution aren't 3, 5, 7 or 9.
     #[error("invalid dimension")]
     InvalidDimension,
-    /// An amount is beyond what the function takes, the limit of a threshold isn't a sample of its
-    /// format or is below the lower limit, the bounds of a rectangle aren't those of one, the slots
-    /// of a delay aren't 1 to 16, the exponent of a convolution is above 31, or the number, the
-    /// offset or the range of bins isn't one that bins have.
+    /// A number is out of range, as `BodyFault::InvalidValue` lists.
     #[error("invalid value")]
     InvalidValue,
 }
@@ -34,7 +31,7 @@ pub enum ParseFault {
 impl ParseFault {
     ghost use Rattle.vx_wire.specs.Faults.{fault_code};
 
-    /// The code of the reply to such a body.
+    /// Returns the status code of the reply to such a body.
     pub fn code(self) -> Code
         ensures { result ≡ fault_code self }
     {

@@ -22,12 +22,12 @@ use crate::requests::tables::{create_convolution, create_lut, create_threshold};
 use client_model::Request;
 use std::alloc::Global;
 
-/// The request that a body spells after the number of its op.
+/// Returns the request that the number of an op and a body encode.
 ///
-/// The fault is that of the first field that is cut short or isn't allowed, and
-/// `InvalidParameters` where something follows the last field or no op has the number. Memory is
-/// taken for the samples of a picture, the entries of a table or a text alone, and only once
-/// nothing else is wrong.
+/// The fault is that of the first field that is cut short or out of range. `InvalidParameters`: no
+/// op has the number, or bytes follow the last field. `NoMemory`: an allocation failed. Memory is
+/// allocated only for the samples of a picture, the entries of a table or a text, and only once the
+/// rest of the body is valid.
 pub fn parse(alloc: Global, op: u8, body: &[u8]) -> Result<Request, ParseFault>
     ensures ok { IfOk result (λ request. request_of op body.now ≡ Ok request) }
     ensures err { IfErr result (MayFailWith (request_of op body.now)) }

@@ -19,7 +19,7 @@ use crate::fields::Fields;
 use crate::fields::reference::take_reference;
 use vx_base::ObjRef;
 
-/// The name that is all of a body.
+/// Reads a body that is a name and nothing else.
 fn name_alone(body: &[u8]) -> Result<u32, BodyFault>
     ensures ok { IfOk result (λ name. (made : ℕ → RequestValue) →
         one_field take_long made body.now ≡ Ok (made name)) }
@@ -32,7 +32,7 @@ fn name_alone(body: &[u8]) -> Result<u32, BodyFault>
     Ok(name)
 }
 
-/// The reference that is all of a body.
+/// Reads a body that is a reference and nothing else.
 fn reference_alone(body: &[u8]) -> Result<ObjRef, BodyFault>
     ensures ok { IfOk result (λ cell. (made : Cell → RequestValue) →
         one_field take_reference made body.now ≡ Ok (made cell)) }

@@ -45,7 +45,7 @@ Instead of --socket and --status a service manager may hand over one or two list
 
 
 def most_held(connections: int, bytes_held: int) -> int:
-    """Bytes of frames that the broker would hold at most if there were no total."""
+    """Returns the most bytes of frames that the broker would hold without a total limit."""
     return 2 * connections * (bytes_held + 2 * AHEAD)
 
 
@@ -54,8 +54,8 @@ def servers_unless_told() -> int:
 
 
 def memory_each(servers: int) -> int:
-    """The bytes of addresses that each server may have where nothing is told: together three
-    quarters of the memory."""
+    """Returns the default limit of each server's address space in bytes: together three quarters of
+    the memory."""
     return part_of_memory(SERVERS_PART / servers)
 
 
@@ -112,8 +112,9 @@ def limits_of(told: argparse.Namespace) -> Limits:
 
 
 def limit_own_memory(asked: Optional[int]) -> None:
-    """What passes it fails here, where the connection that it is for is ended; the system would
-    end the broker, and all programs with it."""
+    """Limits the broker's own memory. An allocation beyond the limit then fails here, and only the
+    connection that needs it is ended. Without a limit the system would kill the broker, and with it
+    all programs."""
     limit = asked or max(LEAST_OWN_MEMORY, part_of_memory(OWN_PART))
     hard = resource.getrlimit(resource.RLIMIT_AS)[1]
     if asked is not None and (hard == resource.RLIM_INFINITY or limit < hard):
@@ -121,7 +122,7 @@ def limit_own_memory(asked: Optional[int]) -> None:
 
 
 def main(words: Optional[List[str]] = None) -> int:
-    """Runs the broker until it ends; its exit status."""
+    """Runs the broker until it ends, and returns its exit status."""
     told = parser().parse_args(words)
     limits = limits_of(told)
     servers = told.servers or servers_unless_told()

@@ -18,10 +18,10 @@ LONG_AT_ONCE = 4
 
 
 class Limits(NamedTuple):
-    """How many connections there are at once, of one process and of one user; bytes of the longest
-    frame and reply, and of those of all connections; seconds without a byte within a frame or a
-    reply, without a request, of the longest request, for what is asked once the broker stops, and
-    between two lines of counts."""
+    """The limits of the broker. Numbers of connections at the same time: all, of one process, of
+    one user. Bytes: of the longest frame and reply, and of those of all connections. Seconds:
+    without a byte within a frame or a reply, without a request, of the longest request, for pending
+    requests once the broker stops, and between two lines of counts."""
 
     connections: int
     per_process: int
@@ -70,8 +70,8 @@ class Connection:
     # ---- what it sends
 
     def wanted(self) -> int:
-        """It isn't read from while a long frame of it waits here, so that it can't have more than
-        one."""
+        """Returns the events to watch for. The connection isn't read while a long frame of it waits
+        here, so that it can't have two."""
         is_held_up = self.turn is not None and self.turn.is_long_and_unwritten
         reads = self.reads and not is_held_up and self.incoming.has_room
         return (READ if reads else 0) | (WRITE if self.outgoing else 0)
@@ -80,7 +80,7 @@ class Connection:
         return self.turn is None and self.incoming.is_whole and len(self.outgoing) <= AHEAD
 
     def next_frames(self, turn_bytes: int) -> Frames:
-        """Those of its next turn; once it has ended, that its context be released."""
+        """Returns the frames of its next turn; after its end, the release of its context."""
         if self.is_leaving:
             return release_of(self.number)
         return self.incoming.take(self.number,
@@ -88,26 +88,25 @@ class Connection:
                                   turn_bytes)
 
     def has_taken(self, seconds: float, long: int) -> None:
-        """A turn of it took so much of the server's time, and had so many requests that may take
-        long."""
+        """Notes the server's time of a turn, and how many of its requests may take long."""
         self.used += seconds
         self.took = seconds
         if long:
             self.pace = max(seconds / long, self.pace / 2)
 
     def has_finished(self) -> bool:
-        """Whether it sends no more, and has all of its replies."""
+        """Returns whether the connection sends no more, and has all of its replies."""
         return not (self.reads or self.turn or self.outgoing or self.incoming.is_whole)
 
     def fault(self) -> Optional[str]:
-        """What is wrong with the last that it sent, in words."""
+        """Returns what is wrong with its last bytes, in words."""
         is_cut_short = not self.reads and self.incoming.has_part
         return self.incoming.fault or ("its end within a frame" if is_cut_short else None)
 
     # ---- what it is sent
 
     def send(self, data: memoryview, now: float) -> int:
-        """How many bytes the connection took."""
+        """Sends data, and returns how many bytes the connection took."""
         try:
             sent = self.sock.send(data)
         except BlockingIOError:
@@ -125,7 +124,7 @@ class Connection:
 
     @property
     def most_waiting(self) -> int:
-        """The bytes of replies that may wait for it."""
+        """The most bytes of replies that may wait for the connection."""
         return self.limits.bytes_held + 2 * AHEAD
 
     def send_waiting(self, now: float) -> None:
@@ -137,7 +136,7 @@ class Connection:
     # ---- the clock
 
     def stall(self, now: float) -> Optional[str]:
-        """What it has kept waiting for too long, in words."""
+        """Returns what the connection has delayed for too long, in words."""
         patience, idle = self.limits.patience, self.limits.idle
         if self.outgoing and now - self.taken_at > patience:
             return f"took none of its {len(self.outgoing)} bytes of replies for {patience:g} s"
@@ -152,7 +151,7 @@ class Connection:
 
     @property
     def bytes_held(self) -> int:
-        """What it has of the bytes of all connections."""
+        """Its share of the bytes held for all connections."""
         return self.incoming.taken + len(self.outgoing)
 
     def clear(self) -> None:

@@ -1,4 +1,4 @@
-"""What the broker counts, and how it tells that."""
+"""The broker's counts, and how it reports them."""
 
 from typing import Any, Dict, Tuple
 
@@ -20,7 +20,7 @@ class Counts(Accepted):
         self.longest = self.longest_lately = 0.0
 
     def note_gap(self, seconds: float) -> None:
-        """A server has answered a request after so long."""
+        """Notes how long a server took to answer a request."""
         if seconds > self.longest_lately:
             self.longest_lately = seconds
             self.longest = max(self.longest, seconds)
@@ -68,7 +68,7 @@ SERVER_METRICS = (
 
 
 def as_metrics(state: Dict[str, Any]) -> str:
-    """The state in Prometheus' text format."""
+    """Returns the state in Prometheus' text format."""
     refusals = metric("refusals_total", "counter", "Refusals by code", [
         (f'{{code="{code}"}}', count) for code, count in state["refusals"].items()])
     lines = (*metrics_of(state, METRICS), *refusals, *metrics_of_servers(state, SERVER_METRICS))

@@ -38,8 +38,8 @@ for _op in (wire.RELEASE_CONTEXT, wire.CREATE_IMAGE, wire.WRITE_IMAGE_PGM, wire.
 
 
 class Frames:
-    """Whole frames of one connection, with its number in them: the bytes, and the client (u16) and
-    the op (u8) of each as one number, as the connection sent them."""
+    """Whole frames of one connection, with its number filled in: the bytes, and the client (u16)
+    and the op (u8) of each frame as one number, as the connection sent them."""
 
     __slots__ = ("pieces", "size", "asked", "long")
 
@@ -48,17 +48,17 @@ class Frames:
 
 
 def release_of(number: int) -> Frames:
-    """The request that a connection's context be released."""
+    """Returns the request that releases a connection's context."""
     return Frames([bytearray(wire.release_context(number))], LEAST_FRAME,
                   [number << 8 | wire.RELEASE_CONTEXT], 1)
 
 
 class TotalReached(MemoryError):
-    """All connections together hold as much as they may. Nothing was read or changed."""
+    """All connections together hold as many bytes as they may. Nothing was read or changed."""
 
 
 class Total:
-    """The bytes of long frames and of replies that wait, of all connections together."""
+    """The total bytes of long frames and of waiting replies, over all connections."""
 
     def __init__(self, most: int) -> None:
         self.most, self.bytes = most, 0
@@ -73,8 +73,8 @@ class Total:
 
 
 class Incoming:
-    """What a connection has sent and isn't passed on yet: small frames, or a long one, the last of
-    them in part."""
+    """The bytes that a connection has sent and that aren't passed on yet: small frames, or a long
+    one. The last frame may be incomplete."""
 
     def __init__(self, most: int, total: Total, descriptors: Descriptors) -> None:
         self.most, self.total, self.descriptors = most, total, descriptors
@@ -95,17 +95,17 @@ class Incoming:
 
     @property
     def is_whole(self) -> bool:
-        """Whether the first frame is all here."""
+        """Whether the first frame is complete."""
         return not self.left if self.pieces else self.size is not None and len(
             self.held) >= self.size
 
     @property
     def has_part(self) -> bool:
-        """Whether there is something of a frame that isn't whole, and nothing before it."""
+        """Whether there is only an incomplete frame."""
         return bool(self.pieces or self.held) and not self.is_whole
 
     def receive(self, sock: socket.socket) -> int:
-        """Reads what is there, as far as there is room; how many bytes that was."""
+        """Reads the bytes that have come, as far as the buffer allows, and returns how many."""
         if self.pieces:
             return self.receive_long(sock)
         data = self.descriptors.read(sock, AHEAD - len(self.held))
@@ -131,12 +131,12 @@ class Incoming:
         self.filled = 0
 
     def let_go(self) -> None:
-        """What it had of the total is others'."""
+        """Gives its share of the total back."""
         self.total.give(self.taken)
         self.taken = 0
 
     def look(self) -> None:
-        """Looks at the length of the first frame, if it is there."""
+        """Reads the length of the first frame, if it has come."""
         self.size = None
         if len(self.held) < 4:
             return
@@ -154,8 +154,9 @@ class Incoming:
                 self.left = self.size - self.filled
 
     def take(self, number: int, long_at_once: int, turn_bytes: int) -> Frames:
-        """A turn's frames, the first of which is whole, with this client number put in. At most so
-        many of them may take long, and nothing follows one of which nothing is known."""
+        """Returns the frames of a turn, with this client number filled in; the first one is
+        complete. A limited number of them may take long, and no frame follows one of an unknown
+        kind."""
         frames = (self.take_long(number) if self.pieces else
                   self.take_small(number, long_at_once, turn_bytes))
         self.look()

@@ -28,7 +28,8 @@ STOP_LOOKS, PUT_OFF_LOOKS = 0.1, 0.001
 
 
 class Plan(NamedTuple):
-    """Which program is started, how often, and how many bytes of addresses each server may have."""
+    """The program to start, the number of servers, and the limit of each one's address space in
+    bytes."""
 
     command: List[str]
     servers: int
@@ -36,7 +37,7 @@ class Plan(NamedTuple):
 
 
 class Broker(Front):
-    """The connections and the servers, and who waits for what."""
+    """The broker: its connections and servers, and the events that they wait for."""
 
     def __init__(self, listener: Listener, status: Optional[Listener], plan: Plan,
                  limits: Limits) -> None:
@@ -63,8 +64,8 @@ class Broker(Front):
     # ---- the loop
 
     def run(self) -> int:
-        """Serves until a signal, or until the servers fail; the exit status. Raises OSError where
-        the first server can't be started."""
+        """Serves until a signal comes or the servers fail, and returns the exit status. Raises
+        OSError if the first server can't be started."""
         with self.signals:
             self.begin_servers()
             most = self.plan.memory
@@ -84,7 +85,7 @@ class Broker(Front):
         return self.finish()
 
     def timeout(self) -> Optional[float]:
-        """Until the clock is looked at: for ever where nothing can be late."""
+        """Returns the seconds until the clock must be checked; None if nothing can be late."""
         if any(server.puts_off for server in self.servers):
             return PUT_OFF_LOOKS
         if self.stops_at is not None:
@@ -101,8 +102,8 @@ class Broker(Front):
     # ---- new connections
 
     def may_listen(self) -> bool:
-        """Newcomers wait while a number is about to be free, and while there is no server; where
-        all connections are there they are turned away."""
+        """Returns whether newcomers are accepted. They wait while a number is about to become free,
+        or while there is no server. If all connections are in use, they are turned away."""
         has_answer = bool(self.numbers) or len(self.open) >= self.limits.connections
         can_serve = any(server.takes_connections for server in self.servers)
         return has_answer and can_serve and self.stops_at is None
@@ -121,7 +122,7 @@ class Broker(Front):
         return self.admission.reason_against(owner)
 
     def free(self, connection: Connection) -> None:
-        """Its number may be given to another one: no server has a context of it."""
+        """Frees the number of a connection: no server has a context of it any more."""
         self.numbers.append(connection.number)
         self.admission.let_out(connection.owner)
         server = connection.server
@@ -133,7 +134,7 @@ class Broker(Front):
     # ---- connections
 
     def serve(self, connection: Connection, mask: int) -> None:
-        """Moves what one connection has ready."""
+        """Reads from and writes to one connection that is ready."""
         if not connection.is_open:
             return
         try:
@@ -156,7 +157,7 @@ class Broker(Front):
             self.settle(connection)
 
     def end_greatest(self) -> None:
-        """Ends the connection that has most of what the broker holds."""
+        """Ends the connection with the most bytes held."""
         greatest = max(self.open, key=lambda connection: connection.bytes_held)
         self.end(greatest, f"{greatest.bytes_held} bytes of its frames or replies wait, the most "
                            f"of {self.total.bytes} in all (--total-held)")
@@ -170,9 +171,9 @@ class Broker(Front):
         connection.sock.send(b"")
 
     def settle(self, connection: Connection) -> None:
-        """Has the connection wait for its next turn, or ends it, where that can be now; and watches
-        it for what it wants next. Replies to the frames before its end, or before a length that
-        isn't allowed, are still sent."""
+        """Lets a connection wait for its next turn, or ends it if possible, and watches it for the
+        next events. Replies to frames that came before its end, or before a length out of range,
+        are still sent."""
         if connection.may_ask() and self.stops_at is None:
             self.wait_for_turn(connection)
         if connection.incoming.fault:
@@ -183,8 +184,8 @@ class Broker(Front):
             self.watch(connection)
 
     def wait_for_turn(self, connection: Connection) -> None:
-        """Has it wait for its server, which is the one with the fewest connections where it has
-        asked nothing yet; one that may end as others have, or may hang, is asked last."""
+        """Puts a connection in its server's line. A new connection gets the server with the fewest
+        connections; a server that may end as others have, or may hang, is chosen last."""
         if connection.server is None:
             servers = [server for server in self.servers if server.takes_connections]
             if not servers:
@@ -207,7 +208,7 @@ class Broker(Front):
         self.events.watch(connection.sock.fileno(), wanted, partial(self.serve, connection))
 
     def end(self, connection: Connection, words: Optional[str] = None) -> None:
-        """Closes a connection. Its context is released once the reply that it is owed has come."""
+        """Closes a connection. Its context is released once its pending reply has come."""
         if not connection.is_open:
             return
         if words:
@@ -223,8 +224,8 @@ class Broker(Front):
             self.release(connection)
 
     def release(self, connection: Connection) -> None:
-        """Has the context of a connection that has ended released, or frees its number where that
-        is done."""
+        """Releases the context of a connection that has ended, or frees its number if that is
+        done."""
         server = connection.server
         has_context = connection.is_known and not connection.is_leaving
         if server is not None and has_context and server.lost_at is None and self.stops_at is None:
@@ -236,7 +237,7 @@ class Broker(Front):
     # ---- what servers are asked, and answer
 
     def pass_on(self, server: Server) -> None:
-        """Begins the turns that can be begun, and writes what the server takes."""
+        """Begins the turns that can begin, and writes what the server takes."""
         for connection in server.begin_turns(self.now):
             if connection.is_open:
                 self.watch(connection)
@@ -295,7 +296,7 @@ class Broker(Front):
                 self.watch(connection)
 
     def complete(self, server: Server, turn: Turn) -> None:
-        """A server has answered a connection's turn."""
+        """Handles the end of a turn that a server has answered."""
         server.complete(turn, self.now)
         if turn.connection.is_open:
             self.settle(turn.connection)
@@ -305,7 +306,7 @@ class Broker(Front):
     # ---- servers that begin and end
 
     def begin_servers(self) -> None:
-        """Starts as many servers as are wanted. Raises OSError where one can't be started."""
+        """Starts as many servers as configured. Raises OSError if one can't be started."""
         while not self.has_servers():
             server = Server(self.plan.command, self.plan.memory, self.counts, self.now)
             self.servers.append(server)
@@ -322,8 +323,8 @@ class Broker(Front):
             self.starts_from = self.now + ACCEPT_PAUSE
 
     def reload(self) -> None:
-        """Starts new servers for new connections. The ones that are there end when their last
-        connection does."""
+        """Starts new servers for new connections. The existing ones end when their last connection
+        does."""
         before = [server for server in self.servers if server.takes_connections]
         for server in before:
             server.is_retiring = True
@@ -349,8 +350,8 @@ class Broker(Front):
         server.close_input(self.now)
 
     def lose(self, server: Server) -> None:
-        """A server has closed its output. Its connections get the replies that have come, and
-        end."""
+        """Handles a server that has closed its output. Its connections get the replies that have
+        come, and end."""
         server.lost_at = self.now
         self.close_input(server)
         self.events.forget(server.output)
@@ -364,13 +365,13 @@ class Broker(Front):
         self.bury()
 
     def cut(self, connection: Connection) -> None:
-        """Nothing more that it sends is wanted; it is sent what is owed."""
+        """Stops reading from a connection; pending replies are still sent."""
         connection.reads = False
         connection.incoming.clear()
         self.settle(connection)
 
     def bury(self) -> None:
-        """Forgets the servers whose processes have ended, and starts others."""
+        """Drops the servers whose processes have ended, and starts others."""
         for server in [*self.servers]:
             if self.is_overdue(server):
                 server.process.kill()
@@ -382,7 +383,8 @@ class Broker(Front):
             self.begin_again()
 
     def is_overdue(self, server: Server) -> bool:
-        """Whether a server runs on that has closed its output, or whose input has ended."""
+        """Returns whether a server should have ended: its output or its input was closed long
+        enough ago."""
         if server.lost_at is not None:
             return self.now > server.lost_at + END_SECONDS
         return server.closed_at is not None and self.now > server.closed_at + self.limits.grace
@@ -401,12 +403,12 @@ class Broker(Front):
             self.give_up()
 
     def is_untried(self, server: Server) -> bool:
-        """Whether a server has just begun, and has answered nothing yet."""
+        """Returns whether a server has just started, and has answered nothing yet."""
         return not server.answers and self.now < server.began_at + EARLY_SECONDS
 
     def give_up(self) -> None:
-        """Ends where no server is left that has ever answered; else goes on with those, and tries
-        again later."""
+        """Stops the broker if no server is left that has ever answered. Otherwise goes on with
+        those, and tries again later."""
         left = [server for server in self.servers if server.closed_at is None and server.answers]
         if not left:
             self.stop()
@@ -439,7 +441,7 @@ class Broker(Front):
                 self.end(connection, words)
 
     def end_hung(self) -> None:
-        """Ends the servers that have been at one request for longer than a request may take."""
+        """Ends the servers that have worked on one request for longer than allowed."""
         longest = self.limits.longest
         if longest is None:
             return
@@ -487,8 +489,8 @@ class Broker(Front):
                 self.stop()
 
     def stop(self) -> None:
-        """Accepts nothing more. Requests that are with the servers are still answered, and others
-        are not passed on."""
+        """Accepts nothing more. Requests that a server already has are still answered; others are
+        not passed on."""
         if self.stops_at is not None:
             return
         self.stops_at = self.now + self.limits.grace
@@ -509,7 +511,7 @@ class Broker(Front):
                                                            for connection in self.open))
 
     def finish(self) -> int:
-        """Ends what is left; the exit status."""
+        """Ends what is left, and returns the exit status."""
         for connection in [*self.open]:
             self.end(connection)
         why = ("the broker was told twice to end" if self.was_told_twice else

@@ -1,5 +1,5 @@
-"""A server's process, with the connections that wait for it, what is written to it and the replies
-that it owes."""
+"""A server's process, with the connections that wait for it, the requests written to it, and the
+replies that it owes."""
 
 import heapq
 import itertools
@@ -35,11 +35,11 @@ LONG_TURN, PART_PUT_OFF, MOST_PUT_OFF = 0.02, 0.05, 0.02
 
 
 class ServerFault(Exception):
-    """The server's program wrote what isn't the reply to what it was asked."""
+    """The server's program wrote something that isn't the reply to its request."""
 
 
 class Turn:
-    """The requests of one connection that are with the server."""
+    """The requests of one connection that the server has."""
 
     __slots__ = ("connection", "asked", "long", "size", "began", "least", "expected", "answered",
                  "unwritten")
@@ -58,9 +58,9 @@ class Turn:
 
 
 class Line:
-    """The connections that wait for a turn. Next is the one that has had least of the server's
-    time, where who was away doesn't get what it left to others: so a short request goes before
-    those of connections that take much."""
+    """The connections that wait for a turn. The next turn goes to the one that has used the least
+    of the server's time, so a short request comes before those of connections that take much. A
+    connection that was away gets no credit for the time that it didn't use."""
 
     def __init__(self) -> None:
         # A place is its connection's as long as that says so.
@@ -94,8 +94,8 @@ class Line:
         return connection
 
     def forget(self, connection: Connection) -> None:
-        """It waits no longer. Its place goes with the next that are left, so that there are never
-        more of these than of others."""
+        """Takes a connection out of the line. Its entry is removed later together with others, so
+        that such entries never outnumber the valid ones by far."""
         if connection.place is not None:
             connection.place = None
             self.waiting -= 1
@@ -111,7 +111,7 @@ class Line:
 
 
 class Piece(NamedTuple):
-    """A part of the replies to a turn; and whether it is the last part."""
+    """A part of the replies to a turn, and whether it is the last part."""
 
     turn: Turn
     bytes: memoryview
@@ -169,15 +169,15 @@ class Server:
         return not self.is_retiring and self.closed_at is None
 
     def add(self, connection: Connection) -> None:
-        """A connection that has asked nothing yet is this server's from now on."""
+        """Adds a connection that has asked nothing yet."""
         connection.server, connection.used = self, self.line.now + ARRIVAL_SECONDS
         self.members.add(connection)
 
     # ---- requests
 
     def begin_turns(self, now: float) -> List[Connection]:
-        """Begins turns, while those that have begun aren't expected to take long; the connections
-        whose they are."""
+        """Begins turns as long as those that have begun aren't expected to take long. Returns their
+        connections."""
         begun: List[Connection] = []
         self.puts_off = False
         while self.line and (not self.owed
@@ -196,8 +196,8 @@ class Server:
         return begun
 
     def may_be_asked_first(self, now: float) -> bool:
-        """Whether the connection that was answered last may in a moment be before the first in
-        line, which takes long."""
+        """Returns whether the last answered connection may soon ask again, and come before the
+        first in line, which takes long."""
         last, first = self.last, self.line.first
         if last is None or self.owed or first.took < LONG_TURN:
             return False
@@ -218,8 +218,8 @@ class Server:
         self.counts_of(turn).bytes_in += turn.size
 
     def write(self) -> List[Connection]:
-        """Writes what the server takes; the connections whose turns are written to their ends by
-        that."""
+        """Writes what the server takes. Returns the connections whose turns are now written
+        completely."""
         written: List[Connection] = []
         while self.waiting:
             try:
@@ -242,9 +242,9 @@ class Server:
     # ---- replies
 
     def replies(self, now: float) -> Iterator[Piece]:
-        """What the server wrote, cut where one turn ends: with the clients in it that the
-        connections sent. Each piece stands until the next is asked for. Raises EOFError at the
-        end."""
+        """Yields the bytes that the server wrote, split at the ends of turns, with the clients that
+        the connections sent. Each piece is valid until the next one is taken. Raises EOFError at
+        the end."""
         with self.view[self.rest :] as room:
             count = os.readv(self.output, [room])
         if not count:
@@ -269,8 +269,8 @@ class Server:
         return Piece(turn, self.view[start:end], not self.left and turn.answered == len(turn.asked))
 
     def scan(self, at: int, end: int) -> int:
-        """Puts the clients that its connection sent into the replies to the first turn, as far as
-        they have come; where the last of them ends that has begun."""
+        """Fills in the clients that the connection sent in the replies to the first turn, as far as
+        they have come. Returns where the last reply that has begun ends."""
         if not self.owed:
             raise ServerFault("a reply that nobody is owed")
         turn, buffer = self.owed[0], self.buffer
@@ -293,7 +293,7 @@ class Server:
         return at
 
     def complete(self, turn: Turn, now: float) -> None:
-        """The first turn that is owed has its replies."""
+        """Notes that the first pending turn has its replies."""
         self.owed.popleft()
         self.expected = self.expected - turn.expected if self.owed else 0.0
         turn.connection.has_taken(max(now - max(self.turned_at, turn.began), turn.least), turn.long)
@@ -304,14 +304,14 @@ class Server:
     # ---- its end
 
     def close_input(self, now: float) -> None:
-        """Ends its input, so that it ends."""
+        """Closes the server's input, so that it ends."""
         if self.closed_at is None:
             self.closed_at = now
             assert self.process.stdin is not None
             self.process.stdin.close()
 
     def close(self, now: float) -> None:
-        """Nothing more is asked of it or read from it."""
+        """Closes both pipes: nothing more is sent or read."""
         self.close_input(now)
         assert self.process.stdout is not None
         self.process.stdout.close()
@@ -320,10 +320,10 @@ class Server:
         self.line.clear()
 
     def seconds_at_request(self, now: float) -> float:
-        """How long it has been at its request; 0 where it has none."""
+        """Returns how long the server has worked on its request; 0 without one."""
         return now - self.moved_at if self.owed else 0.0
 
     def status(self) -> Optional[int]:
-        """Its exit status, as a shell says it where a signal ended it; None while it runs."""
+        """Returns its exit status, as a shell has it for a signal; None while it runs."""
         status = self.process.poll()
         return status if status is None or status >= 0 else 128 - status

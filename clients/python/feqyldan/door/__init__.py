@@ -1,22 +1,24 @@
-"""A door to the server for several programs: a Unix socket at which each connection gets a server
-of its own.
+"""
+The door: a Unix socket at which each connection gets a server of its own.
 
     python3 -m feqyldan.door --socket PATH [OPTION..] -- PROGRAM serve [WORD..]
 
 listens at the path. For each connection it starts the program, with the connection as its standard
-input and output, and stays out of the way: no byte of a request or a reply passes through the door.
+input and output. No byte of a request or a reply passes through the door.
 
-What the connections can rely on, and how it comes about:
+What connections can rely on, and how it is ensured:
 
-- The kernel keeps servers apart, gives each its share of the processors and counts what it takes.
-  What one program sends, leaves half sent or doesn't read is between it and its own server.
-- A connection that ends is a server that ends. Where a request is at work then, the server is
-  killed after the grace.
-- A server that ends is its connection's end alone. Nothing is started again: the program connects
+- The kernel isolates servers from each other, gives each its share of the processors, and counts
+  what it uses. Whatever one program sends, leaves half sent or doesn't read affects only its own
+  server.
+- When a connection ends, its server ends. If it is still working on a request, it is killed after
+  the grace.
+- A server that ends affects only its own connection. Nothing is started again: the program connects
   again.
-- The door's own end is no connection's: where it is killed, servers and programs go on.
+- The door's own end affects no connection: if it is killed, servers and programs go on.
 
-The door counts connections, of all, of a process and of a user, and turns away who has too many.
+The door counts connections: all, those of a process and those of a user. It turns away those over a
+limit.
 """
 
 from .command_line import main

@@ -65,7 +65,7 @@ def add_times(made: argparse.ArgumentParser) -> None:
 
 
 def plan_of(told: argparse.Namespace) -> Plan:
-    """Which server is started, and how."""
+    """Returns the plan: which server is started, and how."""
     total = part_of_memory(SERVERS_PART) if told.total_memory == 0 else told.total_memory
     memory = told.memory
     if memory == 0:
@@ -76,7 +76,7 @@ def plan_of(told: argparse.Namespace) -> Plan:
 
 
 def main(words: Optional[List[str]] = None) -> int:
-    """Runs the door until it ends; its exit status."""
+    """Runs the door until it ends, and returns its exit status."""
     told = parser().parse_args(words)
     limits = Limits(told.connections, told.per_process, told.per_user, told.grace, told.report)
     try:

@@ -1,4 +1,4 @@
-"""What the door counts, and how it tells that."""
+"""The door's counts, and how it reports them."""
 
 from typing import Any, Dict, Tuple
 
@@ -56,7 +56,7 @@ SERVER_METRICS = (
 
 
 def as_metrics(state: Dict[str, Any]) -> str:
-    """The state in Prometheus' text format."""
+    """Returns the state in Prometheus' text format."""
     whose = metric("server_user", "gauge", "The user whose connection a server has", [
         (f'{{process="{server["process"]}"}}', server["of_user"]) for server in state["servers"]])
     lines = (*metrics_of(state, METRICS), *metrics_of_servers(state, SERVER_METRICS), *whose)

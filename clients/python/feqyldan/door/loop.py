@@ -21,8 +21,9 @@ LOOK_SECONDS = 1.0
 
 
 class Limits(NamedTuple):
-    """How many connections there are at once, of one process and of one user; seconds for what is
-    asked once a connection or the door ends, and between two lines of counts."""
+    """The limits of the door. Numbers of connections at the same time: all, of one process, of one
+    user. Seconds: for pending requests once a connection or the door ends, and between two lines of
+    counts."""
 
     connections: int
     per_process: int
@@ -32,14 +33,14 @@ class Limits(NamedTuple):
 
 
 def has_ended(sock: socket.socket) -> bool:
-    """Whether nobody is at the other end any more."""
+    """Returns whether the other end of a connection is gone."""
     poll = select.poll()
     poll.register(sock.fileno(), 0)
     return bool(poll.poll(0))
 
 
 class Door(Front):
-    """The listening socket, and the servers that have a connection each."""
+    """The door: its listening socket, and the servers, each with a connection."""
 
     def __init__(self, listener: Listener, status: Optional[Listener], plan: Plan,
                  limits: Limits) -> None:
@@ -57,8 +58,8 @@ class Door(Front):
     # ---- the loop
 
     def run(self) -> int:
-        """Serves until a signal; the exit status. Raises Unusable where the program can't be
-        started."""
+        """Serves until a signal comes, and returns the exit status. Raises Unusable if the program
+        can't be started."""
         try:
             self.words = chosen(self.plan.command)
             with self.signals:
@@ -79,7 +80,7 @@ class Door(Front):
         return 0
 
     def timeout(self) -> Optional[float]:
-        """Until the clock is looked at: for ever where nothing can be late."""
+        """Returns the seconds until the clock must be checked; None if nothing can be late."""
         if self.stops_at is not None:
             return max(0.0, min(LOOK_SECONDS, self.stops_at - self.now))
         is_quiet = not (self.status or self.admission.turned_away.present
@@ -102,8 +103,8 @@ class Door(Front):
         return self.admission.reason_against(owner)
 
     def begin(self, sock: socket.socket, owner: Owner) -> None:
-        """Starts a connection's server. The connection is watched for its end alone. One that has
-        ended by now gets none."""
+        """Starts the server of a connection, and watches the connection only for its end. A
+        connection that has already ended gets no server."""
         if has_ended(sock):
             self.counts.accepted += 1
             self.descriptors.close(sock)
@@ -118,14 +119,14 @@ class Door(Front):
         self.events.watch_end(sock.fileno(), partial(self.leave, server))
 
     def leave(self, server: Server, _mask: int) -> None:
-        """The program has gone. Its server has the grace to see that."""
+        """Handles the end of a connection: its server has the grace to end."""
         self.events.forget(server.sock.fileno())
         server.left_at = self.now
 
     # ---- servers that end
 
     def bury(self) -> None:
-        """Takes note of all servers that have ended."""
+        """Notes all servers that have ended."""
         while self.servers:
             try:
                 process, status, usage = os.wait4(-1, os.WNOHANG)
@@ -153,7 +154,7 @@ class Door(Front):
         os.kill(server.process, signal.SIGKILL)
 
     def end_left(self) -> None:
-        """Ends the servers that go on though nobody waits for it."""
+        """Kills the servers that go on after their connections ended."""
         for server in self.servers.values():
             if server.left_at is not None and self.now > server.left_at + self.limits.grace:
                 server.left_at = None
@@ -196,7 +197,7 @@ class Door(Front):
                 self.stop()
 
     def reload(self) -> None:
-        """Chooses the program anew, for new connections."""
+        """Chooses the program again, for new connections."""
         try:
             self.words = chosen(self.plan.command)
         except (Unusable, OSError) as reason:
@@ -205,7 +206,7 @@ class Door(Front):
             self.lines.say(f"starts {self.words[0]} from now on, by SIGHUP")
 
     def stop(self) -> None:
-        """Accepts nothing more, and ends the servers' inputs."""
+        """Accepts nothing more, and closes the servers' inputs."""
         self.stops_at = self.now + self.limits.grace
         self.stop_listening()
         for server in self.servers.values():

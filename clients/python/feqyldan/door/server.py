@@ -1,4 +1,4 @@
-"""A server that has a connection to itself."""
+"""A server with a connection of its own."""
 
 import contextlib
 import os
@@ -26,9 +26,9 @@ TICKS = os.sysconf("SC_CLK_TCK")
 
 
 class Plan(NamedTuple):
-    """Which program is started; the bytes of addresses that each server may have, and that all may;
-    how nice they are; whether each runs as its connection's user; seconds for which replies may
-    wait to be taken, and requests to come."""
+    """The plan of a server: the program, the limits of address space in bytes of each server and of
+    all, the nice value, whether each runs as its connection's user, and the seconds for which
+    replies may wait to be read and requests to come."""
 
     command: List[str]
     memory: Optional[int]
@@ -40,9 +40,9 @@ class Plan(NamedTuple):
 
 
 def chosen(command: List[str]) -> List[str]:
-    """The command with the path of what it starts: so nothing is looked for at each start. In place
-    of a package's starter, which is a script, that is the program that this one would start.
-    Raises Unusable where the program isn't there, or doesn't serve."""
+    """Returns the command with the path of its program, so that no start has to search for it. A
+    package's starter, which is a script, is replaced by the program that it would start. Raises
+    Unusable if the program doesn't exist, or doesn't serve."""
     path = shutil.which(command[0])
     if path is None:
         raise Unusable(f"{command[0]} isn't there, or can't be run")
@@ -58,7 +58,7 @@ def chosen(command: List[str]) -> List[str]:
 
 
 def check(words: List[str]) -> None:
-    """Raises Unusable where a server doesn't end well whose input is empty."""
+    """Raises Unusable if a server with empty input doesn't succeed."""
     try:
         status = subprocess.run(words, stdin=subprocess.DEVNULL, stdout=subprocess.DEVNULL,
                                 timeout=TRIAL_SECONDS, check=False).returncode
@@ -76,8 +76,8 @@ def set_time(sock: socket.socket, option: int, seconds: float) -> None:
 
 
 class Server:
-    """The process, and a copy of its connection: by it the door sees the program go, and ends the
-    server's input."""
+    """The process of a server, and a copy of its connection. Through the copy the door sees the
+    program leave, and ends the server's input."""
 
     def __init__(self, sock: socket.socket, owner: Owner, words: List[str], plan: Plan,
                  now: float) -> None:
@@ -108,7 +108,7 @@ class Server:
         return f"the server of process {self.process} for {self.owner}"
 
     def end_input(self) -> None:
-        """What was sent is still answered, and then the server ends."""
+        """Ends the server's input: requests that were sent are still answered, and then it ends."""
         with contextlib.suppress(OSError):
             self.sock.shutdown(socket.SHUT_RD)
 
@@ -123,7 +123,8 @@ class Server:
 
 
 def user_of(sock: socket.socket) -> Dict[str, Any]:
-    """What has a process run as the user and the group at the other end, and no other group."""
+    """Returns the settings that run a process as the user and the group at the other end, without
+    further groups."""
     _process, user, group = struct.unpack("iII",
                                           sock.getsockopt(socket.SOL_SOCKET, socket.SO_PEERCRED,
                                                           12))
@@ -131,7 +132,7 @@ def user_of(sock: socket.socket) -> Dict[str, Any]:
 
 
 def limit(process: int, plan: Plan) -> None:
-    """Limits a process, or this one where the number is 0."""
+    """Limits a process; this one if the number is 0."""
     limit_memory(process, plan.memory)
     if plan.nice:
         with contextlib.suppress(OSError):
@@ -142,7 +143,7 @@ def limit(process: int, plan: Plan) -> None:
 
 
 def processor_seconds_of(process: int) -> float:
-    """What a process has had of the processors; 0 where it has ended."""
+    """Returns the processor time of a process in seconds; 0 if it has ended."""
     with contextlib.suppress(OSError), open(f"/proc/{process}/stat") as file:
         words = file.read().rpartition(")")[2].split()
         return (int(words[11]) + int(words[12])) / TICKS
@@ -150,7 +151,7 @@ def processor_seconds_of(process: int) -> float:
 
 
 def bytes_of(process: int) -> Tuple[int, int]:
-    """How many bytes a process has read and written; zeros where that isn't told."""
+    """Returns how many bytes a process has read and written; zeros if it isn't known."""
     with contextlib.suppress(OSError), open(f"/proc/{process}/io") as file:
         found = dict(line.split(": ") for line in file)
         return int(found["rchar"]), int(found["wchar"])

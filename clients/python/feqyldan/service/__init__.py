@@ -1,2 +1,2 @@
-"""What the door and the broker have in common: where they listen, whom they let in, what they say
-and tell, and how signals and a service manager reach them."""
+"""The common parts of the door and the broker: sockets, admission of connections, messages and
+state, signals and service managers."""

@@ -1,4 +1,4 @@
-"""Who is let in: so many connections of each process and of each user."""
+"""Admission: limits on the connections of each process and of each user."""
 
 import socket
 import struct
@@ -34,17 +34,17 @@ def owner_of(sock: socket.socket) -> Owner:
 
 
 class Accepted:
-    """How many connections were accepted and turned away so far; and what else is counted."""
+    """The numbers of connections that were accepted and turned away, and other counts."""
 
     def __init__(self) -> None:
         self.accepted = self.turned_away = 0
 
     def told(self) -> Tuple[float, ...]:
-        """All counts."""
+        """Returns all counts."""
         raise NotImplementedError
 
     def as_words(self, before: Tuple[float, ...]) -> str:
-        """What has happened since the counts were these."""
+        """Returns what has happened since the counts were these, in words."""
         raise NotImplementedError
 
 
@@ -62,8 +62,8 @@ class Admission:
         self.turned_away = turned_away(events, descriptors)
 
     def accept(self, listener: Listener) -> Optional[Tuple[socket.socket, Owner]]:
-        """The next connection; None where nobody waits. Raises OSError where the system has no room
-        for one."""
+        """Accepts the next connection; None if nobody waits. Raises OSError if the system has no
+        resources for it."""
         try:
             sock, _ = listener.sock.accept()
         except BlockingIOError:
@@ -71,7 +71,7 @@ class Admission:
         return sock, owner_of(sock)
 
     def reason_against(self, owner: Owner) -> Optional[str]:
-        """Why a process gets no connection, in words."""
+        """Returns why a process gets no connection, in words."""
         if self.processes[owner] >= self.per_process:
             return f"it has {self.processes[owner]} connections (--per-process)"
         if self.users[owner.user] >= self.per_user:

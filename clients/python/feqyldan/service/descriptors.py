@@ -1,10 +1,11 @@
-"""Descriptors that a program sends along with its bytes (SCM_RIGHTS). Nobody here wants them, and
-who closes the last copy of one may have to wait for as long as its sender likes: a TCP socket that
-lingers with unsent bytes waits for up to 2^15 seconds, and a message has 253 of them.
+"""
+Handles descriptors that a program sends along with its bytes (SCM_RIGHTS). Nothing here needs them.
+Closing the last copy of one may take as long as its sender likes: a TCP socket that lingers with
+unsent bytes waits for up to 2^15 seconds, and a message can have 253 of them.
 
-Linux refuses them at the sender where a socket says so (SO_PASSRIGHTS, from 6.16 on). Before that
-they are closed in a process that does nothing else, together with the sockets in which unread ones
-may wait. That one is killed where it hangs: a process that exits waits for nothing.
+Linux refuses them at the sender if a socket says so (SO_PASSRIGHTS, from 6.16 on). On older systems
+a separate process closes them, together with the sockets in which unread ones may wait. That
+process is killed if it hangs: a process that exits waits for nothing.
 """
 
 import array
@@ -20,7 +21,7 @@ MOST_SENT = 253
 
 
 def refuse(sock: socket.socket) -> bool:
-    """Has a socket, and those that it accepts, be sent no descriptors; whether Linux can."""
+    """Lets a socket, and those that it accepts, refuse descriptors. Returns whether Linux can."""
     with contextlib.suppress(OSError):
         sock.setsockopt(socket.SOL_SOCKET, SO_PASSRIGHTS, 0)
         return True
@@ -28,7 +29,7 @@ def refuse(sock: socket.socket) -> bool:
 
 
 class Descriptors:
-    """Reads from and closes sockets, without ever closing what a program has sent."""
+    """Reads from and closes sockets, without ever closing a descriptor that a program has sent."""
 
     def __init__(self, are_refused: bool) -> None:
         self.are_refused = are_refused
@@ -58,7 +59,7 @@ class Descriptors:
                         os.close(descriptor)
 
     def close(self, sock: socket.socket) -> None:
-        """Closes a connection, in which descriptors may wait that nobody has read."""
+        """Closes a connection that may have unread descriptors."""
         if self.are_refused or sock.fileno() < 0:
             sock.close()
         else:
@@ -70,8 +71,8 @@ class Descriptors:
 
     @contextlib.contextmanager
     def held_elsewhere(self, descriptors: List[int]) -> Iterator[None]:
-        """Descriptors that are closed within it are closed once more after it, by another process,
-        which has the last copy of each."""
+        """A context in which closing a descriptor never closes its last copy: another process has
+        that, and closes it after the context."""
         if not self.hand_over(descriptors):
             # It hangs, or has ended.
             self.end()
@@ -92,7 +93,8 @@ class Descriptors:
 
 
 class Closer:
-    """A process that closes what it is sent, once it is sent a message without descriptors."""
+    """A process that closes the descriptors that it is sent, once a message without descriptors
+    comes."""
 
     def __init__(self) -> None:
         self.sock, theirs = socket.socketpair(socket.AF_UNIX, socket.SOCK_SEQPACKET)
@@ -120,7 +122,8 @@ class Closer:
 
 
 def close_all_sent(source: socket.socket) -> None:
-    """Keeps nothing of the process that it is a copy of, and closes what comes."""
+    """Drops everything of the process that it is a copy of, and closes the descriptors that
+    come."""
     signal.set_wakeup_fd(-1)
     for which in (signal.SIGTERM, signal.SIGINT, signal.SIGHUP):
         signal.signal(which, signal.SIG_IGN)

@@ -1,5 +1,5 @@
-"""The side of a door or a broker that programs and operators see: it listens, lets in and turns
-away, tells its state and says what has happened."""
+"""The side of a door or a broker that programs and operators see: it listens, admits or turns away
+connections, reports its state, and writes messages."""
 
 import socket
 import time
@@ -15,7 +15,7 @@ from .visitors import StatusSocket
 
 
 class Front:
-    """What a door and a broker each fill in stands at the end."""
+    """The base class of the door and the broker. The methods at the end are theirs to define."""
 
     def __init__(self, name: str, listener: Listener, status: Optional[Listener], counts: Accepted,
                  limits: Any, as_metrics: Callable[[Dict[str, Any]], str]) -> None:
@@ -32,7 +32,7 @@ class Front:
         self.is_listening = False
 
     def has_news(self) -> bool:
-        """Whether something has happened that wasn't said yet."""
+        """Returns whether something has happened that wasn't reported yet."""
         return self.reported != self.admission.counts.told()
 
     # ---- new connections
@@ -69,7 +69,7 @@ class Front:
             self.status.look_at_clock(self.now)
 
     def report(self, connections: int) -> None:
-        """Says what has happened since it was said last, once a minute unless told otherwise."""
+        """Reports what has happened since the last report, once a minute by default."""
         if self.now - self.reported_at < self.report_seconds:
             return
         counts = self.admission.counts
@@ -85,7 +85,7 @@ class Front:
         self.admission.turned_away.end_all()
 
     def close(self) -> None:
-        """Closes what is open of it."""
+        """Closes its open sockets."""
         self.listener.close(self.descriptors)
         if self.status:
             self.status.close()
@@ -95,17 +95,17 @@ class Front:
     # ---- what each of them fills in
 
     def may_listen(self) -> bool:
-        """Whether newcomers are let in or turned away, and don't wait."""
+        """Returns whether newcomers are admitted or turned away now; otherwise they wait."""
         raise NotImplementedError
 
     def reason_against(self, owner: Owner) -> Optional[str]:
-        """Why a process gets no connection, in words."""
+        """Returns why a process gets no connection, in words."""
         raise NotImplementedError
 
     def begin(self, sock: socket.socket, owner: Owner) -> None:
-        """Takes a connection that is let in."""
+        """Begins a connection that is admitted."""
         raise NotImplementedError
 
     def state(self) -> Dict[str, Any]:
-        """What the status socket tells."""
+        """Returns the state for the status socket."""
         raise NotImplementedError

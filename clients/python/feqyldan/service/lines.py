@@ -10,12 +10,13 @@ LINES_A_SECOND = 20
 
 
 class Unusable(Exception):
-    """The program can't begin, for a reason in words."""
+    """The program can't start; the message says why."""
 
 
 class Lines:
-    """Lines on standard error, at most 20 a second: a connection that is ended again and again
-    doesn't fill a disk. No line waits for its reader: one that would is left out."""
+    """Writes lines to standard error, at most 20 a second, so that a connection that is ended again
+    and again doesn't fill a disk. No line waits for its reader: one that would have to wait is
+    dropped."""
 
     def __init__(self, name: str) -> None:
         self.name = name
@@ -32,8 +33,8 @@ class Lines:
             self.left_out += 1
 
     def write(self, words: str) -> bool:
-        """Whether the line was written. Whoever reads standard error may have ended, or may read no
-        more: then a write to a full pipe would wait for ever."""
+        """Writes a line, and returns whether it was written. The reader of standard error may have
+        ended, or may read no more: then a write to a full pipe would wait forever."""
         with contextlib.suppress(OSError, ValueError):
             ready = select.poll()
             ready.register(sys.stderr.fileno(), select.POLLOUT)

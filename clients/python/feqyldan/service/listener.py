@@ -1,5 +1,5 @@
-"""Where connections come from: a Unix socket with a file of its own, or one that a service manager
-hands over."""
+"""Listening sockets: a Unix socket with a file of its own, or one that a service manager hands
+over."""
 
 import contextlib
 import fcntl
@@ -19,7 +19,7 @@ LOCK_SECONDS = 5.0
 
 
 class Listener:
-    """A listening Unix socket. The file goes with it, unless the socket was handed over."""
+    """A listening Unix socket. Closing it removes its file, unless the socket was handed over."""
 
     def __init__(self, sock: socket.socket, path: str,
                  file: Optional[Tuple[int, int]] = None) -> None:
@@ -40,7 +40,7 @@ class Listener:
 
 
 def listen_at(path: str, mode: int) -> Listener:
-    """A socket of this program's own, whose file has this mode."""
+    """Returns a socket of this program's own, whose file has this mode."""
     if not path:
         raise Unusable("the path of a socket is empty")
     with locked(path):
@@ -49,7 +49,7 @@ def listen_at(path: str, mode: int) -> Listener:
 
 @contextlib.contextmanager
 def locked(path: str) -> Iterator[None]:
-    """One program at a time looks who listens at a path and takes it, by a lock on a file of this
+    """A context in which no other program can check or take a path, by a lock on a file of this
     name with .lock after it."""
     name, until = f"{path}.lock", time.monotonic() + LOCK_SECONDS
     file = None
@@ -66,7 +66,8 @@ def locked(path: str) -> Iterator[None]:
 
 
 def lock(name: str) -> Optional[int]:
-    """The file of this name with its lock; None where another one has that, after a moment."""
+    """Returns the file of this name with its lock; None if another program still has the lock after
+    a moment."""
     try:
         file = os.open(name, os.O_RDWR | os.O_CREAT | os.O_NOFOLLOW | os.O_CLOEXEC, 0o600)
     except OSError as error:
@@ -98,7 +99,7 @@ def bind(path: str, mode: int) -> Listener:
 
 
 def handed_over() -> List[Listener]:
-    """The sockets that a service manager hands over, which goes on to listen when this program
+    """Returns the sockets that a service manager hands over. It goes on listening when this program
     ends."""
     process, count = os.environ.pop("LISTEN_PID", ""), os.environ.pop("LISTEN_FDS", "")
     if process != str(os.getpid()):
@@ -121,7 +122,7 @@ def handed(descriptor: int) -> Listener:
 
 
 def is_at(file: int, path: str) -> bool:
-    """Whether an open file is the one at a path."""
+    """Returns whether an open file is the one at a path."""
     with contextlib.suppress(FileNotFoundError):
         return os.path.samestat(os.fstat(file), os.lstat(path))
     return False

@@ -1,4 +1,4 @@
-"""What the machine has, and what it allows this program."""
+"""The resources of the machine, and this program's limits."""
 
 import contextlib
 import os
@@ -14,18 +14,18 @@ GROUPS, OWN_GROUPS = "/sys/fs/cgroup", "/proc/self/cgroup"
 
 
 def processors() -> int:
-    """How many processors this program may use."""
+    """Returns how many processors this program may use."""
     return len(os.sched_getaffinity(0))
 
 
 def memory_bytes() -> int:
-    """The bytes of memory that the machine has, or fewer where a control group of this program
+    """Returns the bytes of memory of the machine, or fewer if a control group of this program
     allows fewer."""
     return min([os.sysconf("SC_PAGE_SIZE") * os.sysconf("SC_PHYS_PAGES"), *group_limits()])
 
 
 def group_limits() -> Iterator[int]:
-    """The limits on memory of this program's control groups and of those above them, of both
+    """Returns the memory limits of this program's control groups and of those above them, of both
     versions."""
     try:
         with open(OWN_GROUPS) as file:
@@ -43,7 +43,7 @@ def group_limits() -> Iterator[int]:
 
 
 def folders_up(path: str) -> Iterator[str]:
-    """A group's path, those above it, and the root, which is its own in a container."""
+    """Yields a group's path, those above it, and the root, which is its own in a container."""
     while path.strip("/"):
         yield path
         path = os.path.dirname(path)
@@ -57,7 +57,7 @@ def number_in(path: str) -> Optional[int]:
 
 
 def raise_file_limit(whose: str, files: int) -> None:
-    """Sees to it that so many files can be open, beside the program's own."""
+    """Raises the limit on open files, so that this many can be open besides the program's own."""
     wanted = files + OWN_FILES
     soft, hard = resource.getrlimit(resource.RLIMIT_NOFILE)
     if hard != resource.RLIM_INFINITY and hard < wanted:
@@ -67,8 +67,8 @@ def raise_file_limit(whose: str, files: int) -> None:
 
 
 def limit_memory(process: int, memory: Optional[int]) -> None:
-    """Limits the address space of a process that was started, at most to what this one is
-    allowed; to nothing else where the memory is None."""
+    """Limits the address space of a process that was started, at most to this program's own limit;
+    only to that if the memory is None."""
     allowed = resource.getrlimit(resource.RLIMIT_AS)[1]
     limits = [limit for limit in (memory, allowed)
               if limit is not None and limit != resource.RLIM_INFINITY]

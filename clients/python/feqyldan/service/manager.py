@@ -1,4 +1,4 @@
-"""What a service manager is told (sd_notify(3)), where it asks for that."""
+"""Notifies a service manager (sd_notify(3)), if it asks for that."""
 
 import contextlib
 import os
@@ -8,7 +8,7 @@ from typing import Optional
 
 
 class Manager:
-    """systemd, where this program is a service of it that notifies."""
+    """systemd, if this program is one of its services that notify."""
 
     def __init__(self) -> None:
         # The servers have nothing to tell.

@@ -1,4 +1,4 @@
-"""The state in Prometheus' text format, and what of it the system knows of processes."""
+"""The state in Prometheus' text format, including what the system knows about processes."""
 
 from typing import Any, Dict, Iterator, List, Sequence, Tuple
 
@@ -41,7 +41,7 @@ def metric(name: str, kind: str, words: str, values: List[Tuple[str, Any]]) -> I
 
 
 def memory_of(process: int) -> Tuple[int, int]:
-    """The bytes of memory that a process has, and the most that it has had; zeros where it has
+    """Returns the bytes of memory of a process, and the most that it has had; zeros if it has
     ended."""
     found = {"VmRSS": 0, "VmHWM": 0}
     try:

@@ -1,4 +1,4 @@
-"""What the command lines of the door and the broker have in common."""
+"""The common options of the command lines of the door and the broker."""
 
 import argparse
 from functools import partial
@@ -44,12 +44,12 @@ def memory_from(words: str) -> Optional[int]:
 
 
 def part_of_memory(part: float) -> int:
-    """A part of the machine's memory, or of what a control group allows."""
+    """Returns a part of the machine's memory, or of the memory that a control group allows."""
     return max(LEAST_MEMORY, int(memory_bytes() * part))
 
 
 def parser(name: str, description: str, epilog: str) -> argparse.ArgumentParser:
-    """A parser with the options for the sockets and the server's program."""
+    """Returns a parser with the options for the sockets and the server's program."""
     made = argparse.ArgumentParser(
         prog=name, formatter_class=argparse.RawDescriptionHelpFormatter,
         usage="%(prog)s --socket PATH [OPTION ..] -- PROGRAM serve [WORD ..]",
@@ -82,7 +82,8 @@ def add_admission(made: argparse.ArgumentParser, among: str) -> None:
 
 
 def listeners(told: argparse.Namespace) -> Tuple[Listener, Optional[Listener]]:
-    """The sockets that were handed over come first: that for programs, then that for the state."""
+    """Returns the listening sockets. Those that were handed over come first: the one for programs,
+    then the one for the state."""
     handed = handed_over()
     if not handed and told.socket is None:
         raise Unusable("where to listen isn't told (--socket), and no socket was handed over")

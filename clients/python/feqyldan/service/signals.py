@@ -1,4 +1,4 @@
-"""Signals that can be waited for together with descriptors."""
+"""Signals that a loop can wait for together with descriptors."""
 
 import signal
 import socket
@@ -10,8 +10,8 @@ TAKEN = (signal.SIGTERM, signal.SIGINT, signal.SIGHUP, signal.SIGCHLD)
 
 
 class Signals:
-    """Within it the signals that end, renew and tell of a child's end are read in place of
-    interrupting."""
+    """A context in which the signals for ending, reloading and a child's end are read and don't
+    interrupt."""
 
     def __init__(self, events: Events, handler: Handler) -> None:
         self.events, self.handler = events, handler
@@ -35,5 +35,5 @@ class Signals:
         self.writer.close()
 
     def taken(self) -> List[signal.Signals]:
-        """Those that have come, in order."""
+        """Returns the signals that have come, in order."""
         return [signal.Signals(number) for number in self.reader.recv(4096)]

@@ -1,4 +1,5 @@
-"""Those who connect and get a short answer: who is turned away, and who asks for the state."""
+"""Connections that get a short answer: those that are turned away, and those that ask for the
+state."""
 
 import json
 import socket
@@ -40,7 +41,7 @@ class Visitors:
         self.until: Dict[socket.socket, float] = {}
 
     def add(self, sock: socket.socket) -> None:
-        """Who came first leaves where too many are there."""
+        """Adds a connection; if there are too many, the first one is closed."""
         if len(self.present) >= VISITORS_AT_ONCE:
             self.end(next(iter(self.present)))
         sock.setblocking(False)
@@ -79,7 +80,7 @@ class Visitors:
 
 
 def turned_away(events: Events, descriptors: Descriptors) -> Visitors:
-    """Those whose first frame is answered NO_RESOURCES."""
+    """Returns the connections whose first frame is answered NO_RESOURCES."""
 
     def answer(data: bytes, is_all: bool) -> Optional[bytes]:
         if len(data) < LEAST_FRAME:
@@ -91,7 +92,7 @@ def turned_away(events: Events, descriptors: Descriptors) -> Visitors:
 
 
 class StatusSocket:
-    """A second socket, at which a program tells its state: as JSON, or as Prometheus' text by
+    """A second socket that reports the state of the program, as JSON, or as Prometheus' text for
     HTTP's GET /metrics."""
 
     def __init__(self, listener: Listener, events: Events, descriptors: Descriptors,
@@ -132,7 +133,7 @@ class StatusSocket:
         return self.page(words[1] if len(words) > 1 else b"/")
 
     def page(self, path: bytes) -> bytes:
-        """HTTP's answer to GET."""
+        """Returns HTTP's answer to GET."""
         status, kind, body = "200 OK", "application/json", json.dumps(self.state()) + "\n"
         if path == b"/metrics":
             kind, body = "text/plain; version=0.0.4", self.metrics(self.state())

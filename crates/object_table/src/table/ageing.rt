@@ -10,15 +10,16 @@ use crate::fault::TableFault;
 use crate::table::Table;
 
 impl Table {
-    /// Whether something is held under this name: it is live, or a node uses what it stands for.
+    /// Returns whether an object is held under this name: the name is live, or a node uses the
+    /// object.
     pub fn is_held(&self, name: u32) -> bool
         ensures { result ≡ is_there self.now.objects name }
     {
         self.entries.contains_key(&name)
     }
 
-    /// Registers a delay with the graph of this name, with which it ages from now on; where it is
-    /// registered already, nothing changes. `NoMemory` has changed nothing.
+    /// Registers a delay with the graph of this name: the delay ages with the graph from now on. A
+    /// delay that is registered already changes nothing. `NoMemory` has changed nothing.
     pub fn register(&mut self, graph: u32, delay: u32) -> Result<(), TableFault>
         requires { IsUnder self.old.objects kind.Graph graph }
         ensures ok { OnOk result (self.new
@@ -39,7 +40,8 @@ impl Table {
         Ok(())
     }
 
-    /// Those of these names under which something is held, and one more.
+    /// Returns those of the names under which an object is held, and one more name. `NoMemory`: the
+    /// allocation failed.
     fn held_and(&self, names: &[u32], name: u32) -> Result<Vec<u32>, TableFault>
         ensures value { IfOk result (λ held. held.items
             ≡ filter (is_there self.now.objects) names.now ++ name ∷ []) }
@@ -55,8 +57,8 @@ impl Table {
         }
     }
 
-    /// Ages each delay that is registered with the graph of this name and is still held. It takes
-    /// no memory.
+    /// Ages each delay that is registered with the graph of this name and is still held. It
+    /// allocates nothing.
     pub fn age_registered(&mut self, graph: u32)
         requires { IsUnder self.old.objects kind.Graph graph }
         ensures { self.new ≡ with_objects self.old
@@ -69,7 +71,7 @@ impl Table {
         }
     }
 
-    /// Ages the delay that is held under this name, if one is.
+    /// Ages the delay that is held under this name, if there is one.
     fn age_if_held(&mut self, name: u32)
         ensures { self.new ≡ with_objects self.old (aged_under (name ∷ []) self.old.objects) }
     {

@@ -1,4 +1,4 @@
-//! The graphs of a table, whose nodes use what it holds.
+//! The graphs of a table, whose nodes use its objects.
 ghost use Rattle.std.specs.Prelude.{◌≡◌, ◌*◌, ◌<◌, ◌≤◌, true, map, not, if◌then◌else◌, IsTrue};
 ghost use Rattle.std.specs.Prelude.{is_some, is_none, All, Some, Ok, Err, IfOk, IfErr, OnOk, OnErr};
 ghost use Rattle.std.specs.Result.{is_err};
@@ -32,7 +32,7 @@ use std::collections::BTreeMap;
 use vx_base::{Kind, Node, NodeSpec, Numbered, ObjRef};
 
 impl Table {
-    /// The graph under a name.
+    /// Returns the graph under a name.
     pub fn graph(&self, name: u32) -> &Graph
         requires { IsUnder self.now.objects kind.Graph name }
         ensures { result.now ≡ graph_under self.now.objects name }
@@ -43,9 +43,9 @@ impl Table {
         }
     }
 
-    /// Adds a node, whose operands are held, to the unreleased graph of this name, and says its
-    /// number. What its operands name is held from now on as long as the node is there. A fault has
-    /// changed nothing.
+    /// Adds a node to the unreleased graph of this name, and returns the node's number. The node's
+    /// operands are held, and stay held as long as the node exists. A fault has changed nothing.
+    /// `NoResources`: the graph can't take another node. `NoMemory`: the allocation failed.
     pub fn add_node(&mut self, graph: u32, node: NodeSpec) -> Result<u32, GraphFault>
         requires graph { IsUnder self.old.objects kind.Graph graph }
         requires live { IsTrue (is_some (object_named self.old.objects graph)) }
@@ -70,9 +70,9 @@ impl Table {
         Ok(number)
     }
 
-    /// Removes the node of this number from the unreleased graph of this name. What is then neither
-    /// named nor used is no longer held, and gives its blocks back. `InvalidReference`: the graph
-    /// has no such node. It takes no memory.
+    /// Removes the node of this number from the unreleased graph of this name. Objects that are
+    /// then neither named nor used are dropped, and their blocks go back to the pool.
+    /// `InvalidReference`: the graph has no such node. It allocates nothing.
     pub fn remove_node(
         &mut self,
         graph: u32,
@@ -100,8 +100,9 @@ impl Table {
         Ok(())
     }
 
-    /// Ends a name; with a graph's name its nodes end their uses. What is then neither named nor
-    /// used is no longer held, and gives its blocks back. It takes no memory.
+    /// Releases a name; the nodes of a graph that is released no longer use their operands. Objects
+    /// that are then neither named nor used are dropped, and their blocks go back to the pool.
+    /// `InvalidReference`: the name isn't live. It allocates nothing.
     pub fn release(&mut self, name: u32, pool: &mut Pool) -> Result<(), TableFault>
         requires { LendsAtLeast pool.old (blocks_in self.old.objects) }
         ensures result { result ≡ (if is_none (object_named self.old.objects name)
@@ -125,7 +126,7 @@ impl Table {
     }
 }
 
-/// A node begins to use what its operands name, each as often as it is an operand.
+/// Counts the uses that a node makes of its operands, one for each operand.
 fn begin_uses(entries: &mut BTreeMap<u32, Entry>, node: &Node)
     requires { All (λ e. e.1.uses ≤ GREATEST_OBJECTS * GREATEST_OBJECTS) entries.old.entries }
     ensures { entries.new.entries ≡ used_more (used_names node.now) entries.old.entries }
@@ -136,7 +137,7 @@ fn begin_uses(entries: &mut BTreeMap<u32, Entry>, node: &Node)
     begin_use(entries, node.out2);
 }
 
-/// A node begins to use an operand, if it has that.
+/// Counts a node's use of an operand, if the node has that operand.
 fn begin_use(entries: &mut BTreeMap<u32, Entry>, operand: Option<ObjRef>)
     requires { All (λ e. e.1.uses < 4294967295) entries.old.entries }
     ensures { entries.new.entries ≡ used_more (map (λ cell. cell.name) (given operand))
@@ -149,8 +150,8 @@ fn begin_use(entries: &mut BTreeMap<u32, Entry>, operand: Option<ObjRef>)
     }
 }
 
-/// A node ends its uses. What is then neither named nor used ends. Says what all the others
-/// are charged.
+/// Ends the uses that a node makes of its operands. Objects that are then neither named nor used
+/// are dropped. Returns the charge of the remaining objects.
 fn end_uses(entries: &mut BTreeMap<u32, Entry>, charge: u64, node: &Node, pool: &mut Pool) -> u64
     requires held { All (λ e. IsTrue (is_kept e)) entries.old.entries }
     requires charge { charge ≡ charge_of (map named entries.old.entries) }
@@ -167,7 +168,7 @@ fn end_uses(entries: &mut BTreeMap<u32, Entry>, charge: u64, node: &Node, pool: 
     end_use(entries, charge, node.out2, pool)
 }
 
-/// A node ends its use of an operand, if it has that, as `end_uses` does.
+/// Ends a node's use of an operand, if the node has that operand, as `end_uses` does.
 fn end_use(
     entries: &mut BTreeMap<u32, Entry>,
     charge: u64,
@@ -197,7 +198,7 @@ fn end_use(
     end_entry(entries, charge, name, pool)
 }
 
-/// All nodes of the graph under a live name end their uses, as `end_uses` says.
+/// Ends the uses of all nodes of the graph under a live name, as `end_uses` does.
 fn end_all_uses(entries: &mut BTreeMap<u32, Entry>, charge: u64, graph: u32, pool: &mut Pool) -> u64
     requires graph { option_map (λ e. object_kind e.object)
         (lookup (is_at (nat_cmp graph)) entries.old.entries) ≡ Some kind.Graph }
@@ -222,8 +223,8 @@ fn end_all_uses(entries: &mut BTreeMap<u32, Entry>, charge: u64, graph: u32, poo
     left
 }
 
-/// A name ends. What it stood for ends if no node uses it. Says what all the others are
-/// charged.
+/// Makes a name no longer live, and drops its object if no node uses it. Returns the charge of the
+/// remaining objects.
 fn end_name(entries: &mut BTreeMap<u32, Entry>, charge: u64, name: u32, pool: &mut Pool) -> u64
     requires held { All (λ e. IsTrue (is_kept e)) entries.old.entries }
     requires charge { charge ≡ charge_of (map named entries.old.entries) }
@@ -243,7 +244,7 @@ fn end_name(entries: &mut BTreeMap<u32, Entry>, charge: u64, name: u32, pool: &m
     end_entry(entries, charge, name, pool)
 }
 
-/// Ends what is under a name, and says what all the others are charged.
+/// Drops the object under a name. Returns the charge of the remaining objects.
 fn end_entry(entries: &mut BTreeMap<u32, Entry>, charge: u64, name: u32, pool: &mut Pool) -> u64
     requires charge { charge ≡ charge_of (map named entries.old.entries) }
     requires owns { LendsAtLeast pool.old (blocks_in (map named entries.old.entries)) }
@@ -263,7 +264,7 @@ fn end_entry(entries: &mut BTreeMap<u32, Entry>, charge: u64, name: u32, pool: &
     }
 }
 
-/// The nodes of the graph under a name.
+/// Returns the nodes of the graph under a name.
 fn nodes_under(entries: &BTreeMap<u32, Entry>, graph: u32) -> &[Numbered]
     requires { option_map (λ e. object_kind e.object)
         (lookup (is_at (nat_cmp graph)) entries.now.entries) ≡ Some kind.Graph }

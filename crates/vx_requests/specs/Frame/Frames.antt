@@ -32,11 +32,11 @@ payload f = to_be_bytes w16 f.client ++ f.op ∷ f.body
 abbrev pub frame_bytes : Frame → List ℕ
 frame_bytes f = to_be_bytes w32 (length f.body + 3) ++ payload f
 
--- what stands before a request's body
+-- the bytes before a request's body
 abbrev pub frame_head : ℕ → ℕ → ℕ → List ℕ
 frame_head len client op = to_be_bytes w32 len ++ (to_be_bytes w16 client ++ op ∷ [])
 
--- what stands before a reply's body
+-- the bytes before a reply's body
 abbrev pub reply_head : ℕ → ℕ → ℕ → ℕ → List ℕ
 reply_head len client op code = to_be_bytes w32 len ++ (to_be_bytes w16 client ++ op ∷ code ∷ [])
 
@@ -51,48 +51,48 @@ joined frames = flat_map frame_bytes frames
 abbrev pub joined_replies : List ReplyFrame → List ℕ
 joined_replies replies = flat_map reply_bytes replies
 
--- a length that is allowed
+-- a length in range
 abbrev pub IsLength : ℕ → Type 0
 IsLength n = (3 ≤ n) × (n ≤ GREATEST_LENGTH)
 
--- what can be sent as a frame: a body of bytes that is not too long
+-- a frame that can be sent: each field is in its range, and the body is not too long
 pub record IsFrame (f : Frame) : Type 0 where
   pub client : f.client < 2 ^ 16
   pub op : f.op < 2 ^ 8
   pub bytes : All (λ b. b < 2 ^ 8) f.body
   pub len : length f.body + 3 ≤ GREATEST_LENGTH
 
--- the length that the four bytes at the front say
+-- the length that the four bytes at the front encode
 abbrev pub said_length : List ℕ → ℕ
 said_length bytes = from_be_bytes w32 (take 4 bytes)
 
--- less than a whole frame, nothing included; one to three bytes always are
+-- less than a whole frame, possibly no bytes; one to three bytes always are
 abbrev pub IsBegun : List ℕ → Type 0
 IsBegun rest = 4 ≤ length rest → IsLength (said_length rest) × (length rest < said_length rest + 4)
 
--- the truncated start of a frame
+-- the start of a frame that was cut short
 abbrev pub IsTruncated : List ℕ → Type 0
 IsTruncated rest = (0 < length rest) × IsBegun rest
 
--- four bytes of a length that isn't allowed, and whatever follows
+-- four bytes of a length out of range, and whatever follows
 abbrev pub BeginsBadly : List ℕ → Type 0
 BeginsBadly rest = (4 ≤ length rest) × (IsLength (said_length rest) → ⊥)
 
--- a rest in which no whole frame is left: less than a whole one, or a length that isn't allowed
+-- a rest without a whole frame: less than a whole one, or a length out of range
 abbrev pub IsRest : List ℕ → Type 0
 IsRest rest = IsBegun rest ⊎ BeginsBadly rest
 
--- the stream is these frames, and after them this rest
+-- the stream is these frames, followed by this rest
 pub record Splits (stream : List ℕ) (frames : List Frame) (rest : List ℕ) : Type 0 where
   pub whole : stream ≡ joined frames ++ rest
   pub each : All IsFrame frames
   pub rest_is : IsRest rest
 
--- the frame in which a client sends the request
+-- the frame in which a client sends a request
 abbrev pub request_frame : ℕ → Request → Frame
 request_frame client request = record { client = client; op = op_number (op_of request); body = body_of request }
 
--- whether the request fits a frame: all do but a text that is too long
+-- whether a request fits a frame; only a text that is too long does not
 abbrev pub fits_a_frame : Request → Bool
 fits_a_frame (WriteImagePgm image text) = nat_le (length text) GREATEST_TEXT
 fits_a_frame request = true

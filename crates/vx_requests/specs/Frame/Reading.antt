@@ -1,4 +1,4 @@
--- What reading the parts of a frame does.
+-- The effect of reading the parts of a frame.
 use Rattle.std.specs.Prelude.{◌≡◌, ℕ, ℤ, ◌+◌, ◌*◌, ◌<◌, ◌^◌, List, [], length, All, Option, Some, None, Result, Ok, Err, ⊤, OnOk, IfErr}
 use Rattle.std.specs.Int.{w32, to_be_bytes}
 use Rattle.std.specs.Io.KnownBytes.{Consumes, IsAtEnd}
@@ -11,16 +11,16 @@ use Rattle.vx_requests.specs.declared.frame.reader.Reader.{Reader}
 use Rattle.vx_requests.specs.Stream.Transfer.{read_failures, CountsReads}
 use Rattle.vx_requests.specs.Frame.Frames.{IsBegun, IsTruncated, IsLength, said_length}
 
--- ---- what was read
+-- ---- the bytes that were read
 
--- how a stream breaks off within a frame
+-- the fault of a read within a frame, and the bytes that are left
 abbrev pub BreaksIn : StreamFault → Option (List ℕ) → Type 0
 BreaksIn Truncated left = IsAtEnd left
 BreaksIn ReadFailed left = Unit {0}
 BreaksIn ReaderWouldNotEnd left = Unit {0}
 BreaksIn e left = ⊥
 
--- how it breaks off after whole frames: what was read then, and what is left
+-- the fault of a stream after whole frames, the bytes read after them, and the bytes that are left
 abbrev pub BreaksOff : StreamFault → (rest : List ℕ) (left : Option (List ℕ)) → Type 0
 BreaksOff Truncated rest left = IsTruncated rest × IsAtEnd left
 BreaksOff BadLength rest left = (length rest ≡ 4) × (IsLength (said_length rest) → ⊥)
@@ -28,28 +28,28 @@ BreaksOff ReadFailed rest left = IsBegun rest
 BreaksOff WriteFailed rest left = ⊥
 BreaksOff ReaderWouldNotEnd rest left = IsBegun rest
 
--- fewer than len bytes were read, within a frame
+-- fewer than `len` bytes of a frame were read, because of this fault
 abbrev pub ReadsPart : Option (List ℕ) → Option (List ℕ) → ℕ → StreamFault → Type 0
 ReadsPart old new len e = (part : List ℕ) × Consumes old new part × (length part < len) × BreaksIn e new
 
--- len bytes were read
+-- `len` bytes were read
 abbrev pub ReadsSome : Option (List ℕ) → Option (List ℕ) → ℕ → Type 0
 ReadsSome old new len = (bytes : List ℕ) × Consumes old new bytes × (length bytes ≡ len) × All (λ b. b < 2 ^ 8) bytes
 
--- bytes were read that encode these samples
+-- the bytes of these samples were read
 abbrev pub ReadsSamples : Option (List ℕ) → Option (List ℕ) → Format → List ℤ → Type 0
 ReadsSamples old new format samples = (bytes : List ℕ) × Consumes old new bytes × (length bytes ≡ length samples * sample_bytes format) × All (λ b. b < 2 ^ 8) bytes
     × (samples ≡ decoded format (length samples) bytes)
 
--- the length of the next frame was read, or the end was there
+-- the length of the next frame was read, or the stream had ended
 abbrev pub ReadsLength : Option (List ℕ) → Option (List ℕ) → Result (Option ℕ) StreamFault → Type 0
 ReadsLength old new (Ok None) = Consumes old new [] × IsAtEnd new
 ReadsLength old new (Ok (Some len)) = IsLength len × Consumes old new (to_be_bytes w32 len)
 ReadsLength old new (Err e) = (rest : List ℕ) × Consumes old new rest × BreaksOff e rest new
 
--- ---- how often it was read: reads and failures count them for a source
+-- ---- the number of reads: `reads` and `failures` are the counters of a source
 
--- the counts have room for the reads that are still allowed
+-- the counters can't overflow within the budget of reads
 pub record CanRead {S : Type 0} (reads failures : S → ℕ) (r : Reader S) : Type 0 where
   pub reads_fit : reads r.source.now + r.budget < 2 ^ 63
   pub failures_fit : failures r.source.now < 2 ^ 62
@@ -60,7 +60,7 @@ pub record KeepsCount {S T : Type 0} (reads failures : S → ℕ) (old new : Rea
   pub counted : CountsReads (reads old.source.now) (reads new.source.now) old.budget new.budget result
   pub failed : failures new.source.now ≡ failures old.source.now + read_failures result
 
--- samples of a format were read over others from a reader; or it failed, and less than they take was read
+-- samples of a format were read over existing ones; or a read failed, and fewer bytes than they take were read
 pub record ReadsOver {S : Type 0} (left : S → Option (List ℕ)) (reads failures : S → ℕ) (old new : Reader S) (format : Format) (samples : List ℤ) (result : Result ⊤ StreamFault) : Type 0 where
   pub ok : OnOk result (ReadsSamples (left old.source.now) (left new.source.now) format samples)
   pub err : IfErr result (ReadsPart (left old.source.now) (left new.source.now) (length samples * sample_bytes format))

@@ -1,4 +1,4 @@
--- What one client by itself is answered: the body's request, and then the model's answer.
+-- The reply to a frame of one client by itself: its body is parsed, and the model answers the request.
 use Rattle.std.specs.Prelude.{ℕ, List, Result, Ok, Err}
 use Rattle.client_model.specs.declared.request.Request.{Request}
 use Rattle.client_model.specs.Allowance.{Allowance}
@@ -9,7 +9,7 @@ use Rattle.vx_wire.specs.Requests.{request_of}
 use Rattle.vx_wire.specs.Replies.{Said, refusal, said_of}
 use Rattle.vx_wire.specs.Faults.{parse_fault, fault_code}
 
--- a body that spells no request is refused, whether a context is open or not
+-- the reply to a body; one that encodes no request is refused, with or without a context
 abbrev pub answer_spelled : Allowance → State → Result Request BodyFault → Said × State
 answer_spelled limits state (Ok request) = (said_of (answer_to limits state request).0, (answer_to limits state request).1)
 answer_spelled limits state (Err fault) = (refusal (fault_code (parse_fault fault)), state)

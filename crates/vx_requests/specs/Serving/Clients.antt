@@ -1,4 +1,4 @@
--- What each client of a stream gets, from what one client by itself gets.
+-- The replies to each client of a stream, in terms of the replies to one client by itself.
 use Rattle.std.specs.Prelude.{ℕ, Bool, not, ◌&&◌, ◌==◌, cond, List, [], ◌∷◌, ◌++◌, map, filter}
 use Rattle.client_model.specs.Context.{State}
 use Rattle.client_contexts.specs.World.{World, state_of}
@@ -9,14 +9,14 @@ use Rattle.vx_wire.specs.Replies.{Said}
 abbrev pub states_of : World → ℕ → State
 states_of world client = state_of client world
 
--- the reply frame of what is said
+-- the frame of a reply
 abbrev pub spelled : ℕ → ℕ → Said → ReplyFrame
 spelled client op said = record { client = client; op = op; code = said.code; body = said.body }
 
 abbrev pub reply_to : Frame → Said → ReplyFrame
 reply_to f said = spelled f.client f.op said
 
--- a frame that was received, and whether it was lost for want of memory
+-- a frame that was received, and whether it was lost because memory ran out
 pub record Received : Type 0 where
   pub frame : Frame
   pub lost : Bool
@@ -24,29 +24,29 @@ pub record Received : Type 0 where
 abbrev pub frames_of : List Received → List Frame
 frames_of marked = map (λ m. m.frame) marked
 
--- whether this is a kept frame of the client
+-- whether a received frame is the client's and was kept
 abbrev pub is_kept_of : ℕ → Received → Bool
 is_kept_of client m = (m.frame.client == client) && not m.lost
 
--- the client's kept frames, in their order
+-- the client's kept frames, in order
 abbrev pub mine : ℕ → List Received → List Frame
 mine client marked = map (λ m. m.frame) (filter (is_kept_of client) marked)
 
--- the frames of the clients that a router sends to the server of this number
+-- the frames that a router sends to the server of this number: those of its clients
 abbrev pub sent_to : (ℕ → ℕ) → ℕ → List Received → List Received
 sent_to server number marked = filter (λ m. server m.frame.client == number) marked
 
--- the replies at the client's kept frames
+-- the replies to the client's kept frames
 abbrev pub kept_replies : ℕ → List Received → List ReplyFrame → List ReplyFrame
 kept_replies client [] replies = []
 kept_replies client (m ∷ marked) [] = []
 kept_replies client (m ∷ marked) (r ∷ replies) = cond (is_kept_of client m) (r ∷ kept_replies client marked replies) (kept_replies client marked replies)
 
--- what a lost frame is answered: NO_MEMORY
+-- the reply to a lost frame: NO_MEMORY
 abbrev pub no_memory : Frame → ReplyFrame
 no_memory f = reply_to f (record { code = 1; body = [] })
 
--- answer gives what is said to an op and a body in a state, and the new state
+-- `answer` gives the reply to an op and a body in a state, and the new state
 module _ {S : Type 0} (answer : S → ℕ → List ℕ → Said × S) where
   abbrev pub answer_frame : S → Frame → Said × S
   answer_frame state f = answer state f.op f.body
@@ -56,12 +56,12 @@ module _ {S : Type 0} (answer : S → ℕ → List ℕ → Said × S) where
   after state [] = state
   after state (f ∷ frames) = after (answer_frame state f).1 frames
 
-  -- the replies to these frames of one client; no other client exists
+  -- the replies to these frames of one client that has the server to itself
   abbrev pub alone : S → List Frame → List ReplyFrame
   alone state [] = []
   alone state (f ∷ frames) = reply_to f (answer_frame state f).0 ∷ alone (answer_frame state f).1 frames
 
-  -- the reply to a frame, where the clients are in these states: a lost one's is NO_MEMORY
+  -- the reply to a frame in these states of the clients; the reply to a lost frame is NO_MEMORY
   abbrev pub reply_in : (ℕ → S) → Received → ReplyFrame
   reply_in states m = cond m.lost (no_memory m.frame) (reply_to m.frame (answer_frame (states m.frame.client) m.frame).0)
 
@@ -73,7 +73,7 @@ module _ {S : Type 0} (answer : S → ℕ → List ℕ → Said × S) where
   abbrev pub states_after : (ℕ → S) → List Received → ℕ → S
   states_after start marked client = after (start client) (mine client marked)
 
-  -- the replies to frames that come after others: each the next of its client alone
+  -- the replies to frames that come after others: each is the next reply of its client alone
   abbrev pub served_after : (ℕ → S) → List Received → List Received → List ReplyFrame
   served_after start before [] = []
   served_after start before (m ∷ marked) = reply_in (states_after start before) m ∷ served_after start (before ++ m ∷ []) marked

@@ -1,4 +1,4 @@
--- How serve ended.
+-- How `serve` ends.
 use Rattle.std.specs.Prelude.{◌≡◌, List, [], ◌∷◌, ◌++◌, ℕ, length, Option, Result, Ok, Err, count_by, not, ◌==◌}
 use Rattle.std.specs.Io.KnownBytes.{Appends, IsAtEnd}
 use Rattle.vx_requests.specs.declared.stream.fault.StreamFault.{StreamFault}
@@ -7,12 +7,12 @@ use Rattle.vx_requests.specs.declared.serving.summary.Summary.{Summary}
 use Rattle.vx_requests.specs.Frame.Frames.{ReplyFrame, reply_bytes, joined_replies}
 use Rattle.vx_requests.specs.Frame.Reading.{BreaksOff}
 
--- all the replies were written but for an end of the last
+-- all replies were written, the last perhaps only in part
 abbrev pub AppendsMost : Option (List ℕ) → Option (List ℕ) → List ReplyFrame → Type 0
 AppendsMost old new replies = (earlier : List ReplyFrame) × (last : ReplyFrame) × (front : List ℕ) × (back : List ℕ)
     × (replies ≡ earlier ++ last ∷ []) × (reply_bytes last ≡ front ++ back) × Appends old new (joined_replies earlier ++ front)
 
--- what was read after the whole frames, what is left, and what was written
+-- for a fault, the bytes read after the whole frames, the bytes left and the bytes written
 abbrev pub EndsBy : StreamFault → (rest : List ℕ) (left taken_old taken_new : Option (List ℕ)) (replies : List ReplyFrame) → Type 0
 EndsBy WriteFailed rest left old new replies = (rest ≡ []) × AppendsMost old new replies
 EndsBy e rest left old new replies = BreaksOff e rest left × Appends old new (joined_replies replies)
@@ -22,7 +22,7 @@ Ends (Ok s) rest left old new replies = (rest ≡ []) × IsAtEnd left × Appends
     × (s.requests ≡ length replies) × (s.refused ≡ count_by (λ r. not (r.code == 0)) replies)
 Ends (Err e) rest left old new replies = EndsBy e rest left old new replies
 
--- it ended well, or by the stream's own fault
+-- `serve` succeeded, or failed because of the stream's bytes
 abbrev pub ReadsToARest : Result Summary StreamFault → Type 0
 ReadsToARest (Ok s) = Unit {0}
 ReadsToARest (Err Truncated) = Unit {0}

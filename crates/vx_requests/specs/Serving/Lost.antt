@@ -1,4 +1,4 @@
--- Which frames may be lost for want of memory.
+-- The frames that may be lost because memory runs out.
 use Rattle.std.specs.Prelude.{◌<◌, length, Result, Ok, Err, ◌⊎◌}
 use Rattle.client_model.specs.declared.request.Request.{Request}
 use Rattle.client_model.specs.declared.request.Request.TheVariants.{ReadImage, ReadImagePgm}
@@ -7,17 +7,17 @@ use Rattle.vx_wire.specs.declared.body_fault.BodyFault.{BodyFault}
 use Rattle.client_model.specs.Request.{TakesMemory}
 use Rattle.vx_wire.specs.Requests.{request_of, HoldsSamples}
 
--- a request for which memory is taken, when its samples are parsed or when it is answered; what ReadImage and ReadImagePgm give is written from where it stands
+-- the request needs memory for its samples or for its reply; ReadImage and ReadImagePgm do not, because they write the image's own samples
 abbrev pub NeedsMemory : Request → Type 0
 NeedsMemory (ReadImage image) = ⊥
 NeedsMemory (ReadImagePgm image) = ⊥
 NeedsMemory request = HoldsSamples request ⊎ TakesMemory request
 
--- such a request was spelled
+-- the body encodes a request that needs memory
 abbrev pub SpellsTaking : Result Request BodyFault → Type 0
 SpellsTaking (Ok request) = NeedsMemory request
 SpellsTaking (Err fault) = ⊥
 
--- one with a body of more than 64 bytes, or a request for which memory is taken
+-- the frame may be lost: its body has more than 64 bytes, or its request needs memory
 abbrev pub MayBeLost : Frame → Type 0
 MayBeLost f = (64 < length f.body) ⊎ SpellsTaking (request_of f.op f.body)

@@ -1,4 +1,4 @@
--- The headline: what a call of serve did.
+-- The headline: the effect of a call of `serve`.
 use Rattle.std.specs.Prelude.{◌≡◌, ℕ, true, List, ◌++◌, Option, Result, All}
 use Rattle.std.specs.Io.KnownBytes.{Consumes}
 use Rattle.client_model.specs.Allowance.{Allowance}
@@ -11,8 +11,8 @@ use Rattle.vx_requests.specs.Serving.Answer.{answer}
 use Rattle.vx_requests.specs.Serving.Lost.{MayBeLost}
 use Rattle.vx_requests.specs.Serving.Ends.{Ends}
 
--- What was read is whole frames and a rest; each frame was kept or lost; what was written is their replies;
--- each client's state is the one that its own kept frames leave.
+-- The bytes read are whole frames and a rest. Each frame was kept or lost. The bytes written are the replies to the frames.
+-- Each client's state is the one that its own kept frames leave.
 pub record Session (limits : Allowance) (left_old left_new taken_old taken_new : Option (List ℕ)) (old new : ℕ → State) (result : Result Summary StreamFault) : Type 0 where
   pub marked : List Received
   pub rest : List ℕ

@@ -18,7 +18,7 @@ use Rattle.vx_requests.specs.Serving.Lost.{MayBeLost}
 use Rattle.vx_requests.specs.Frame.Reading.{BreaksOff, ReadsPart}
 use Rattle.vx_wire.specs.Replies.{Said, said_of}
 
--- the reply that a frame gets, kept or lost, and the states that it leaves
+-- the reply to a frame that was kept or lost, and the clients' states after it
 pub record IsReply (limits : Allowance) (f : Frame) (old new : ℕ → State) (reply : ReplyFrame) : Type 0 where
   pub lost : Bool
   pub may : lost ≡ true → MayBeLost f
@@ -28,29 +28,29 @@ pub record IsReply (limits : Allowance) (f : Frame) (old new : ℕ → State) (r
 abbrev pub SameStates : (old new : ℕ → State) → Type 0
 SameStates old new = (client : ℕ) → new client ≡ old client
 
--- what a reply says, where its client is in this state
+-- the code and body of a reply, given its content and its client's state
 abbrev pub said_in : Allowance → State → Content → Said
 said_in limits state (Made reply) = said_of reply
 said_in limits state (Samples image) = said_of (answer_to limits state (ReadImage image)).0
 said_in limits state (Text image) = said_of (answer_to limits state (ReadImagePgm image)).0
 
--- the reply frame, where the clients are in these states
+-- the frame of a reply, given the clients' states
 abbrev pub reply_frame : Allowance → (ℕ → State) → Answered → ReplyFrame
 reply_frame limits states a = spelled a.client a.op (said_in limits (states a.client) a.content)
 
 module _ (limits : Allowance) (left_old left_new : Option (List ℕ)) (old new : ℕ → State) where
-  -- after a frame's client and op: a body of that length was read and answered, or less than that was read
+  -- after a frame's client and op: a body of `len` bytes was read and answered, or fewer bytes were read
   abbrev pub AnswersBody : (client op len : ℕ) → Result Content StreamFault → Type 0
   AnswersBody client op len (Ok content) = (body : List ℕ) × Consumes left_old left_new body × (length body ≡ len) × All (λ b. b < 2 ^ 8) body
       × IsReply limits (frame_of client op body) old new (reply_frame limits new (record { client = client; op = op; content = content }))
   AnswersBody client op len (Err e) = ReadsPart left_old left_new len e × SameStates old new
 
-  -- after a length: a whole payload of that length was read and answered, or less than that was read
+  -- after a frame's length: a payload of `len` bytes was read and answered, or fewer bytes were read
   abbrev pub AnswersPayload : ℕ → Result Answered StreamFault → Type 0
   AnswersPayload len (Ok a) = (f : Frame) × IsFrame f × (length f.body + 3 ≡ len) × Consumes left_old left_new (payload f) × IsReply limits f old new (reply_frame limits new a)
   AnswersPayload len (Err e) = ReadsPart left_old left_new len e × SameStates old new
 
--- the reply was written, or a front of it
+-- the reply was written, or only its front
 abbrev pub WritesReply : Option (List ℕ) → Option (List ℕ) → ReplyFrame → Result ℕ StreamFault → Type 0
 WritesReply old new r (Ok code) = Appends old new (reply_bytes r) × (code ≡ r.code)
 WritesReply old new r (Err e) = (e ≡ WriteFailed) × AppendsFront old new (reply_bytes r)
@@ -64,7 +64,7 @@ module _ (limits : Allowance) (left_old left_new taken_old taken_new : Option (L
   abbrev pub ServesNothing : StreamFault → Type 0
   ServesNothing e = (rest : List ℕ) × Consumes left_old left_new rest × BreaksOff e rest left_new × SameStates old new × Appends taken_old taken_new []
 
-  -- the end, a frame, or a fault
+  -- one turn: the stream had ended, a frame was served, or there was a fault
   abbrev pub Turn : Result (Option ℕ) StreamFault → Type 0
   Turn (Ok None) = Consumes left_old left_new [] × IsAtEnd left_new × SameStates old new × Appends taken_old taken_new []
   Turn (Ok (Some code)) = ServesFrame (Ok code)

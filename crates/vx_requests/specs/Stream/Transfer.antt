@@ -1,50 +1,50 @@
--- What filling a buffer, and writing all of some bytes, does.
+-- The effect of filling a buffer, and of writing all of some bytes.
 use Rattle.std.specs.Prelude.{◌≡◌, ℕ, ◌+◌, ◌<◌, ◌≤◌, List, ◌++◌, length, take, Result, Ok, Err, Option, IfErr, OnOk, OnErr}
 use Rattle.std.specs.Io.KnownBytes.{Consumes, Appends, IsAtEnd}
 use Rattle.vx_requests.specs.Stream.Calls.{failed_calls}
 use Rattle.vx_requests.specs.declared.stream.fault.StreamFault.{StreamFault}
 use Rattle.vx_requests.specs.declared.stream.fault.StreamFault.TheVariants.{ReadFailed, WriteFailed, ReaderWouldNotEnd}
 
--- one where a read failed
+-- 1 if a read failed
 abbrev pub read_failures : {T : Type 0} → Result T StreamFault → ℕ
 read_failures (Ok x) = 0
 read_failures (Err ReadFailed) = 1
 read_failures (Err e) = 0
 
--- one where a write or a flush failed
+-- 1 if a write or a flush failed
 abbrev pub write_failures : {T : Type 0} → Result T StreamFault → ℕ
 write_failures (Ok x) = 0
 write_failures (Err WriteFailed) = 1
 write_failures (Err e) = 0
 
--- a fault of the reads alone: one failed, or none was left in the budget
+-- a fault of the reads alone: a read failed, or none was left in the budget
 abbrev pub IsReadFault : StreamFault → Type 0
 IsReadFault ReadFailed = Unit {0}
 IsReadFault ReaderWouldNotEnd = Unit {0}
 IsReadFault e = ⊥
 
--- each read took one of the budget, and none was left in it where the reader would not end
+-- each read took one of the budget; after ReaderWouldNotEnd the budget is 0
 abbrev pub CountsReads : {T : Type 0} → (reads_old reads_new budget_old budget_new : ℕ) → Result T StreamFault → Type 0
 CountsReads reads_old reads_new budget_old budget_new result =
     (reads_new + budget_new ≡ reads_old + budget_old) × (budget_new ≤ budget_old) × IfErr result (λ e. e ≡ ReaderWouldNotEnd → budget_new ≡ 0)
 
--- that many bytes came into the front of the buffer, fewer than it holds only where none is left
+-- `count` bytes were read into the front of the buffer; fewer than its length only if the stream has ended
 abbrev pub Fills : Option (List ℕ) → Option (List ℕ) → List ℕ → ℕ → Type 0
 Fills old new buf count = (count ≤ length buf) × Consumes old new (take count buf) × (count < length buf → IsAtEnd new)
 
--- fewer bytes than the buffer holds came into its front
+-- fewer bytes than the buffer's length were read into its front
 abbrev pub FillsPart : Option (List ℕ) → Option (List ℕ) → List ℕ → Type 0
 FillsPart old new buf = (count : ℕ) × (count < length buf) × Consumes old new (take count buf)
 
--- a front of the bytes was taken, and not all of them
+-- some bytes from the front were taken, and not all of them
 abbrev pub AppendsPart : Option (List ℕ) → Option (List ℕ) → List ℕ → Type 0
 AppendsPart old new bytes = (front : List ℕ) × (rest : List ℕ) × (bytes ≡ front ++ rest) × (0 < length rest) × Appends old new front
 
--- a front of the bytes was taken, perhaps all of them
+-- some bytes from the front were taken, perhaps all of them
 abbrev pub AppendsFront : Option (List ℕ) → Option (List ℕ) → List ℕ → Type 0
 AppendsFront old new bytes = (front : List ℕ) × (rest : List ℕ) × (bytes ≡ front ++ rest) × Appends old new front
 
--- ---- what a sink was given: taken and failures are what a sink tells of itself
+-- ---- the bytes that a sink was given; `taken` and `failures` are the sink's own counters
 
 -- all of the bytes were written; or a write failed, and not all of them were taken
 pub record WritesAll {K T : Type 0} (taken : K → Option (List ℕ)) (failures : K → ℕ) (old new : K) (bytes : List ℕ) (result : Result T StreamFault) : Type 0 where

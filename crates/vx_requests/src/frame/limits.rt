@@ -1,16 +1,17 @@
-//! How long frames are; most requests are within these limits.
+//! The limits of a frame's length.
 ghost use Rattle.std.specs.Prelude.{◌≡◌};
 ghost use Rattle.vx_requests.specs.Frame.Frames.{fits_a_frame};
 
 use client_model::Request;
 
-/// The greatest number of bytes after a frame's length: 2^29.
+/// The most bytes after a frame's length: 2^29.
 pub const GREATEST_LENGTH: u32 = 536_870_912;
 
-/// The greatest number of bytes that a text has in a frame: 8 others stand after the length.
+/// The most bytes of a text in a frame: the client, the op and the reference before it take 8 of
+/// those after the length.
 pub const GREATEST_TEXT: usize = GREATEST_LENGTH as usize - 8;
 
-/// Returns whether a request fits a frame: all do but a text of more than 536,870,904 bytes.
+/// Returns whether a request fits a frame. Only a text of more than 536,870,904 bytes does not.
 pub fn fits_a_frame(request: &Request) -> bool
     ensures { result ≡ fits_a_frame request.now }
 {

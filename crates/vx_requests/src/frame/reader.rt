@@ -8,13 +8,13 @@ ghost use Rattle.vx_requests.specs.Frame.Reading.{KeepsCount};
 use crate::frame::limits::GREATEST_LENGTH;
 use crate::stream::{Source, StreamFault, fill};
 
-/// The least number of bytes after a frame's length: those of the client and the op.
+/// The least number of bytes after a frame's length: the client and the op.
 const LEAST_LENGTH: u32 = 3;
 
-/// How many bytes are read past at a time.
+/// The number of bytes that are skipped at a time.
 const PAST: usize = 4096;
 
-/// A source, and how often it may still be read.
+/// A source, and a budget: how many more reads it may get.
 #[derive(Drop)]
 pub struct Reader<'a, S> {
     pub source: &'a mut S,
@@ -22,8 +22,7 @@ pub struct Reader<'a, S> {
 }
 
 impl<S: Source> Reader<'_, S> {
-    /// Reads the length of the next frame. `None` is the end of the stream; no byte after the four
-    /// of the length is asked for.
+    /// Reads the length of the next frame, and no byte after it. `None`: the stream has ended.
     pub fn read_length(&mut self) -> Result<Option<u32>, StreamFault>
         requires { CanRead S.reads S.failures self.old }
         ensures read { ReadsLength
@@ -46,7 +45,7 @@ impl<S: Source> Reader<'_, S> {
         Ok(Some(length))
     }
 
-    /// Reads the buffer full, within a frame.
+    /// Fills the buffer with bytes of a frame. `Truncated`: the stream ends before.
     pub fn read_exactly(&mut self, buf: &mut [u8]) -> Result<(), StreamFault>
         requires { CanRead S.reads S.failures self.old }
         ensures ok { OnOk result (Consumes
@@ -63,7 +62,7 @@ impl<S: Source> Reader<'_, S> {
         Ok(())
     }
 
-    /// Reads past so many bytes, within a frame.
+    /// Skips `count` bytes of a frame. `Truncated`: the stream ends before.
     pub fn skip(&mut self, count: usize) -> Result<(), StreamFault>
         requires { CanRead S.reads S.failures self.old }
         ensures ok { OnOk result (ReadsSome
@@ -98,14 +97,14 @@ impl<S: Source> Reader<'_, S> {
     }
 }
 
-/// The number that the four bytes spell.
+/// Returns the number that four bytes encode, the most significant first.
 fn number_of_four(bytes: &[u8; 4]) -> u32
     ensures { to_be_bytes w32 result ≡ bytes.now }
 {
     u32::from_be_bytes(*bytes)
 }
 
-/// The number that the two bytes spell.
+/// Returns the number that two bytes encode, the most significant first.
 pub fn number_of_two(bytes: &[u8]) -> u16
     requires { length bytes.now ≡ 2 }
     ensures { to_be_bytes w16 result ≡ bytes.now }

@@ -28,14 +28,14 @@ use pgm_images::WrittenHeader;
 use vx_base::{Desc, Extremes, Samples};
 use vx_wire::{described_bytes, description_bytes, extremes_bytes};
 
-/// The most bytes that stand before the samples of a text: 8 of the frame, and 17 of the text.
+/// The most bytes before the samples of a text: 8 of the frame, and 17 of the text's header.
 const TEXT_HEAD: usize = 25;
 
-/// Writes the frame of a reply and flushes the sink.
+/// Writes the frame of a reply, and flushes the sink.
 ///
-/// `client` and `op` are those of the request. All but the samples of a picture, a text and counts
-/// is written at once. `WriteFailed`, the one fault, comes where a write or the flush failed, and a
-/// front of the frame was taken then, perhaps all of it.
+/// `client` and `op` are those of the request. One write passes everything but the samples of a
+/// picture, a text and counts. `WriteFailed`, the only fault: a write or the flush failed; part of
+/// the frame may have been written, or all of it.
 pub fn write_reply<K: Sink>(
     sink: &mut K,
     client: u16,
@@ -63,7 +63,7 @@ pub fn write_reply<K: Sink>(
     }
 }
 
-/// The code of a reply.
+/// Returns the status code of a reply.
 pub fn code_of(reply: &Reply) -> u8
     ensures { result ≡ (said_of reply.now).code }
 {
@@ -73,8 +73,8 @@ pub fn code_of(reply: &Reply) -> u8
     }
 }
 
-/// Writes the frame of the reply that is the picture of an image, and flushes the sink, as
-/// `write_reply` does. The samples are written from where they stand: no memory is taken.
+/// Writes the frame of the reply to ReadImage, and flushes the sink, as `write_reply` does. It
+/// writes the samples of the image itself, and allocates nothing.
 pub fn write_image<K: Sink>(
     sink: &mut K,
     client: u16,
@@ -89,8 +89,8 @@ pub fn write_image<K: Sink>(
     write_picture(sink, client, op, image.desc(), image.samples())
 }
 
-/// Writes the frame of the reply that is the PGM text of a U8 image, and flushes the sink, as
-/// `write_reply` does. The samples are written from where they stand: no memory is taken.
+/// Writes the frame of the reply to ReadImagePgm for a U8 image, and flushes the sink, as
+/// `write_reply` does. It writes the samples of the image itself, and allocates nothing.
 pub fn write_image_text<K: Sink>(
     sink: &mut K,
     client: u16,
@@ -111,7 +111,7 @@ pub fn write_image_text<K: Sink>(
     flush(sink)
 }
 
-/// Writes a picture's frame and flushes the sink.
+/// Writes the frame of a picture, and flushes the sink.
 fn write_picture<K: Sink>(
     sink: &mut K,
     client: u16,
@@ -132,7 +132,7 @@ fn write_picture<K: Sink>(
     flush(sink)
 }
 
-/// Writes a text's frame and flushes the sink.
+/// Writes the frame of a text, and flushes the sink.
 fn write_text<K: Sink>(sink: &mut K, client: u16, op: u8, text: &Text) -> Result<(), StreamFault>
     requires { K.failures sink.old < 2 ^ 62 }
     ensures { Sends K.taken K.failures sink.old sink.new
@@ -144,7 +144,7 @@ fn write_text<K: Sink>(sink: &mut K, client: u16, op: u8, text: &Text) -> Result
     flush(sink)
 }
 
-/// Writes the frame of counts and flushes the sink.
+/// Writes the frame of counts, and flushes the sink.
 fn write_counts<K: Sink>(
     sink: &mut K,
     client: u16,
@@ -162,7 +162,7 @@ fn write_counts<K: Sink>(
     flush(sink)
 }
 
-/// Writes all of the bytes and flushes the sink.
+/// Writes all of the bytes, and flushes the sink.
 fn write_small<K: Sink>(sink: &mut K, bytes: &[u8]) -> Result<(), StreamFault>
     requires { K.failures sink.old < 2 ^ 62 }
     ensures { Sends K.taken K.failures sink.old sink.new bytes.now result }
@@ -183,7 +183,7 @@ fn flush<K: Sink>(sink: &mut K) -> Result<(), StreamFault>
     }
 }
 
-/// What stands before a reply's body. The length is that of all that follows the length itself.
+/// Returns the bytes before a reply's body. `length` is that of everything after the length itself.
 fn head(length: u32, client: u16, op: u8, code: u8) -> [u8; 8]
     ensures { result ≡ reply_head length client op code }
 {
@@ -192,7 +192,7 @@ fn head(length: u32, client: u16, op: u8, code: u8) -> [u8; 8]
     [a, b, c, d, e, f, op, code]
 }
 
-/// The frame of a reply that is a name or the number of a node.
+/// Returns the frame of a reply that is a name or the number of a node.
 fn head_and_long(client: u16, op: u8, number: u32) -> [u8; 12]
     ensures { result ≡ reply_head 8 client op 0 ++ to_be_bytes w32 number }
 {
@@ -201,7 +201,7 @@ fn head_and_long(client: u16, op: u8, number: u32) -> [u8; 12]
     [a, b, c, d, e, f, g, h, i, j, k, l]
 }
 
-/// The frame of a reply that tells what an image is like.
+/// Returns the frame of a reply that describes an image.
 fn head_and_described(client: u16, op: u8, described: Described) -> [u8; 21]
     ensures { result ≡ reply_head 17 client op 0 ++ described_bytes described }
 {
@@ -211,7 +211,7 @@ fn head_and_described(client: u16, op: u8, described: Described) -> [u8; 21]
     bytes
 }
 
-/// The frame of a reply that is a picture, up to its samples.
+/// Returns the frame of a reply that is a picture, up to its samples.
 fn head_and_description(client: u16, op: u8, desc: Desc) -> [u8; 13]
     ensures { result ≡ reply_head (byte_count desc + 9) client op 0 ++ description_bytes desc }
 {
@@ -221,8 +221,8 @@ fn head_and_description(client: u16, op: u8, desc: Desc) -> [u8; 13]
     [a, b, c, d, e, f, g, h, i, j, k, l, m]
 }
 
-/// Puts the frame of a reply that is the PGM text of a U8 image, up to its samples, at the front of
-/// the bytes, and returns how long it is.
+/// Writes the frame of a reply that is the PGM text of a U8 image, up to its samples, to the front
+/// of `bytes`. Returns its length.
 fn put_text_head(bytes: &mut [u8; TEXT_HEAD], client: u16, op: u8, desc: Desc) -> usize
     ensures within { result ≤ 25 }
     ensures head { take result bytes.new
@@ -237,8 +237,8 @@ fn put_text_head(bytes: &mut [u8; TEXT_HEAD], client: u16, op: u8, desc: Desc) -
     end
 }
 
-/// What stands before a body of so many bytes, where nothing is refused. Of a length that has no
-/// room in four bytes the last four are written; no text or counts of an object are that long.
+/// Returns the bytes before a body of `count` bytes in a reply that isn't a refusal. A length of
+/// more than four bytes loses its upper bytes; no text and no counts of an object are that long.
 fn head_before(count: usize, client: u16, op: u8) -> [u8; 8]
     requires { count + 4 < 2 ^ 64 }
     ensures { result ≡ reply_head (count + 4) client op 0 }
@@ -248,7 +248,7 @@ fn head_before(count: usize, client: u16, op: u8) -> [u8; 8]
     [a, b, c, d, e, f, op, 0]
 }
 
-/// The frame of a reply that is counts, up to the first of them.
+/// Returns the frame of a reply that is counts, up to the first of them.
 fn head_and_number(client: u16, op: u8, count: usize) -> [u8; 10]
     requires { 4 * count + 6 < 2 ^ 64 }
     ensures { result ≡ reply_head (4 * count + 6) client op 0 ++ to_be_bytes w16 count }
@@ -258,7 +258,7 @@ fn head_and_number(client: u16, op: u8, count: usize) -> [u8; 10]
     [a, b, c, d, e, f, g, h, i, j]
 }
 
-/// The frame of a reply that tells extremes.
+/// Returns the frame of a reply that is extremes.
 fn head_and_extremes(client: u16, op: u8, extremes: Extremes) -> [u8; 28]
     ensures { result ≡ reply_head 24 client op 0 ++ extremes_bytes extremes }
 {

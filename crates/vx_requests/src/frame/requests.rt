@@ -37,12 +37,12 @@ use vx_wire::{
     range_bytes, rectangle_bytes, reference_bytes,
 };
 
-/// Writes the frame in which a client sends the request, and flushes nothing.
+/// Writes the frame in which a client sends a request. It does not flush the sink, and allocates
+/// nothing.
 ///
-/// The request fits a frame: `fits_a_frame` tells of a text that may be too long. `WriteFailed`, the
-/// one fault, comes where a write fails, and a front of the frame was taken then. No memory is
-/// taken. The request is one that the laws of requests speak of, so that what was written is read
-/// back as this request.
+/// The request fits a frame (`fits_a_frame`). `WriteFailed`, the only fault: a write failed; part
+/// of the frame may have been written. The fields are in the ranges of their types, so that the
+/// frame is read back as this request.
 pub fn write_request<K: Sink>(
     sink: &mut K,
     client: u16,
@@ -111,7 +111,7 @@ pub fn write_request<K: Sink>(
     }
 }
 
-/// Writes a frame whose body is a name, at once.
+/// Writes a frame whose body is a name, in one write.
 fn write_name<K: Sink>(sink: &mut K, client: u16, op: Op, name: u32) -> Result<(), StreamFault>
     requires { K.failures sink.old < 2 ^ 62 }
     ensures { WritesAll K.taken K.failures sink.old sink.new
@@ -121,7 +121,7 @@ fn write_name<K: Sink>(sink: &mut K, client: u16, op: Op, name: u32) -> Result<(
     write_short(sink, client, op.number(), &name.to_be_bytes())
 }
 
-/// Writes a frame whose body is a name and a field of at most 25 bytes, at once.
+/// Writes a frame whose body is a name and a field of at most 25 bytes, in one write.
 fn write_named<K: Sink>(
     sink: &mut K,
     client: u16,
@@ -144,7 +144,7 @@ fn write_named<K: Sink>(
     write_short(sink, client, op.number(), body)
 }
 
-/// Writes a name and a field into as many bytes as they take.
+/// Writes a name and a field to `body`, and fills it.
 fn spell_named(name: u32, field: &[u8], body: &mut [u8])
     requires { length body.old ≡ 4 + length field.now }
     ensures { body.new ≡ to_be_bytes w32 name ++ field.now }
@@ -153,7 +153,7 @@ fn spell_named(name: u32, field: &[u8], body: &mut [u8])
     body[4..].copy_from_slice(field);
 }
 
-/// Writes a frame whose body is a reference, at once.
+/// Writes a frame whose body is a reference, in one write.
 fn write_reference<K: Sink>(
     sink: &mut K,
     client: u16,
@@ -171,7 +171,7 @@ fn write_reference<K: Sink>(
     write_short(sink, client, op.number(), &reference_bytes(reference))
 }
 
-/// Writes a frame whose body has at most 29 bytes, at once.
+/// Writes a frame whose body has at most 29 bytes, in one write.
 fn write_short<K: Sink>(sink: &mut K, client: u16, op: u8, body: &[u8]) -> Result<(), StreamFault>
     requires failures_fit { K.failures sink.old < 2 ^ 62 }
     requires room { length body.now ≤ 29 }
@@ -184,7 +184,7 @@ fn write_short<K: Sink>(sink: &mut K, client: u16, op: u8, body: &[u8]) -> Resul
     write_all(sink, frame)
 }
 
-/// Writes a frame with a short body into as many bytes as it takes.
+/// Writes a frame with a short body to `frame`, and fills it.
 fn spell_short(client: u16, op: u8, body: &[u8], frame: &mut [u8])
     requires room { length body.now ≤ 29 }
     requires fits { length frame.old ≡ 7 + length body.now }
@@ -195,7 +195,7 @@ fn spell_short(client: u16, op: u8, body: &[u8], frame: &mut [u8])
     frame[7..].copy_from_slice(body);
 }
 
-/// What stands before the body of a frame whose length is `len`.
+/// Returns the bytes before the body of a frame whose length is `len`.
 fn frame_head(len: u32, client: u16, op: u8) -> [u8; 7]
     ensures { result ≡ frame_head len client op }
 {
@@ -204,7 +204,8 @@ fn frame_head(len: u32, client: u16, op: u8) -> [u8; 7]
     [a, b, c, d, e, f, op]
 }
 
-/// Writes the frame of a `WriteImage`: all before the samples at once, and then the samples.
+/// Writes the frame of a `WriteImage`: everything before the samples in one write, and then the
+/// samples.
 fn write_write_image<K: Sink>(
     sink: &mut K,
     client: u16,
@@ -220,7 +221,7 @@ fn write_write_image<K: Sink>(
     write_samples(sink, samples)
 }
 
-/// What stands before the samples in the frame of a `WriteImage`.
+/// Returns the bytes before the samples in the frame of a `WriteImage`.
 fn write_image_head(client: u16, image: ObjRef, desc: Desc) -> [u8; 17]
     ensures { result ≡ frame_head (13 + byte_count desc) client (op_number WriteImageOp)
         ++ (reference_bytes image ++ description_bytes desc) }
@@ -233,7 +234,8 @@ fn write_image_head(client: u16, image: ObjRef, desc: Desc) -> [u8; 17]
     bytes
 }
 
-/// Writes the frame of a `WriteImagePgm`: all before the text at once, and then the text.
+/// Writes the frame of a `WriteImagePgm`: everything before the text in one write, and then the
+/// text.
 fn write_write_image_pgm<K: Sink>(
     sink: &mut K,
     client: u16,
@@ -250,7 +252,7 @@ fn write_write_image_pgm<K: Sink>(
     write_all(sink, bytes)
 }
 
-/// What stands before the text in the frame of a `WriteImagePgm`.
+/// Returns the bytes before the text in the frame of a `WriteImagePgm`.
 fn write_image_pgm_head(client: u16, image: ObjRef, count: usize) -> [u8; 12]
     requires { count ≤ GREATEST_TEXT }
     ensures { result ≡ frame_head (8 + count) client (op_number WriteImagePgmOp)
@@ -263,7 +265,7 @@ fn write_image_pgm_head(client: u16, image: ObjRef, count: usize) -> [u8; 12]
     bytes
 }
 
-/// Writes the frame of a `SetValid`, at once.
+/// Writes the frame of a `SetValid`, in one write.
 fn write_set_valid<K: Sink>(
     sink: &mut K,
     client: u16,
@@ -280,7 +282,8 @@ fn write_set_valid<K: Sink>(
     write_short(sink, client, Op::SetValid.number(), &body)
 }
 
-/// Writes the frame of a `CreateLut`: all before the entries at once, and then the entries.
+/// Writes the frame of a `CreateLut`: everything before the entries in one write, and then the
+/// entries.
 fn write_create_lut<K: Sink>(sink: &mut K, client: u16, lut: &Lut) -> Result<(), StreamFault>
     requires { K.failures sink.old < 2 ^ 62 }
     ensures { WritesAll K.taken K.failures sink.old sink.new
@@ -294,7 +297,7 @@ fn write_create_lut<K: Sink>(sink: &mut K, client: u16, lut: &Lut) -> Result<(),
     write_samples(sink, entries)
 }
 
-/// What stands before the entries in the frame of a `CreateLut`.
+/// Returns the bytes before the entries in the frame of a `CreateLut`.
 fn create_lut_head(client: u16, format: Format, count: usize) -> [u8; 8]
     requires { IsTrue (is_full format count) }
     ensures { result ≡ frame_head (4 + count * sample_bytes format) client (op_number CreateLutOp)
@@ -305,7 +308,7 @@ fn create_lut_head(client: u16, format: Format, count: usize) -> [u8; 8]
     [a, b, c, d, e, f, op, format_number(format)]
 }
 
-/// Writes the frame of a `CreateThreshold`, at once.
+/// Writes the frame of a `CreateThreshold`, in one write.
 fn write_create_threshold<K: Sink>(
     sink: &mut K,
     client: u16,
@@ -330,8 +333,8 @@ fn write_create_threshold<K: Sink>(
     }
 }
 
-/// Writes the frame of a `CreateConvolution`: all before the coefficients at once, and then the
-/// coefficients.
+/// Writes the frame of a `CreateConvolution`: everything before the coefficients in one write, and
+/// then the coefficients.
 fn write_create_convolution<K: Sink>(
     sink: &mut K,
     client: u16,
@@ -346,7 +349,7 @@ fn write_create_convolution<K: Sink>(
     write_wide(sink, coefficients)
 }
 
-/// What stands before the coefficients in the frame of a `CreateConvolution`.
+/// Returns the bytes before the coefficients in the frame of a `CreateConvolution`.
 fn create_convolution_head(client: u16, convolution: &Convolution) -> [u8; 10]
     ensures { let c = convolution.now in
         result ≡ frame_head (6 + c.rows * c.columns * 2) client (op_number CreateConvolutionOp)
@@ -358,7 +361,7 @@ fn create_convolution_head(client: u16, convolution: &Convolution) -> [u8; 10]
     [a, b, c, d, e, f, op, columns, rows, convolution.exponent()]
 }
 
-/// Writes the frame of a `CreateDelay`, at once.
+/// Writes the frame of a `CreateDelay`, in one write.
 fn write_create_delay<K: Sink>(
     sink: &mut K,
     client: u16,

@@ -1,4 +1,4 @@
-//! The samples of pictures, the entries of tables, coefficients and counts as bytes.
+//! Samples of pictures, entries of tables, coefficients and counts, as bytes.
 ghost use Rattle.std.specs.Prelude.{◌≡◌, ◌*◌, ◌<◌, ◌≤◌, ◌^◌, length, map, take, IfOk, IfErr, OnOk};
 ghost use Rattle.std.specs.List.{flat_map};
 ghost use Rattle.vx_base.specs.Sample.{sample_bytes};
@@ -13,10 +13,10 @@ use client_contexts::FillsSamples;
 use vx_base::Samples;
 use vx_wire::{WideSample, decode_wide, encode};
 
-/// The most bytes of samples that are read at a time, where samples take several.
+/// The most bytes that are read at a time for samples of several bytes each.
 const PIECE: usize = 16_384;
 
-/// Writes samples of any format, in their order.
+/// Writes samples of any format, in order.
 pub fn write_samples<K: Sink>(sink: &mut K, samples: &Samples) -> Result<(), StreamFault>
     requires { K.failures sink.old < 2 ^ 62 }
     ensures { WritesAll K.taken K.failures sink.old sink.new
@@ -29,7 +29,7 @@ pub fn write_samples<K: Sink>(sink: &mut K, samples: &Samples) -> Result<(), Str
     }
 }
 
-/// Writes numbers that take several bytes each, as samples do, in blocks of 1024.
+/// Writes numbers of several bytes each, encoded as samples, in blocks of 1024.
 pub fn write_wide<S: WideSample, K: Sink>(sink: &mut K, samples: &[S]) -> Result<(), StreamFault>
     requires { K.failures sink.old < 2 ^ 62 }
     ensures { WritesAll K.taken K.failures sink.old sink.new
@@ -45,7 +45,7 @@ pub fn write_wide<S: WideSample, K: Sink>(sink: &mut K, samples: &[S]) -> Result
     Ok(())
 }
 
-/// Writes samples whose bytes have room in the block.
+/// Encodes samples into the block, which is long enough, and writes them.
 fn write_block<S: WideSample, K: Sink>(
     sink: &mut K,
     block: &mut [u8],
@@ -75,7 +75,7 @@ impl<S: Source> FillsSamples for Reader<'_, S> {
     }
 }
 
-/// Reads samples of any format over those that are there, within a frame.
+/// Reads samples of any format from a frame over existing ones.
 fn read_samples<S: Source>(reader: &mut Reader<S>, samples: &mut Samples) -> Result<(), StreamFault>
     requires { CanRead S.reads S.failures reader.old }
     ensures ok { OnOk result (ReadsSamples
@@ -95,7 +95,7 @@ fn read_samples<S: Source>(reader: &mut Reader<S>, samples: &mut Samples) -> Res
     }
 }
 
-/// Reads samples that take several bytes each over those that are there, piece by piece.
+/// Reads samples of several bytes each over existing ones, piece by piece.
 fn read_wide<S: WideSample, R: Source>(
     reader: &mut Reader<R>,
     samples: &mut [S],
@@ -117,8 +117,8 @@ fn read_wide<S: WideSample, R: Source>(
     Ok(())
 }
 
-/// Reads samples over the first of those that are there, as many as have room in the piece, and
-/// returns how many.
+/// Reads samples over the first of the existing ones, as many as fit in the piece. Returns how
+/// many.
 fn read_piece<S: WideSample, R: Source>(
     reader: &mut Reader<R>,
     piece: &mut [u8],

@@ -22,26 +22,26 @@ pub fn no_prefix()
         frame_bytes g ≡ frame_bytes f ++ more → more ≡ [] }
 {}
 
-/// All bytes are whole frames and a rest.
+/// Any stream of bytes is whole frames and a rest.
 pub fn splits()
     ensures { (stream : List ℕ) → All (λ byte. byte < 256) stream →
         (frames : List Frame) × (rest : List ℕ) × Splits stream frames rest }
 {}
 
-/// A stream has one split.
+/// A stream splits into frames and a rest in only one way.
 pub fn one_split()
     ensures { (stream : List ℕ) (fs gs : List Frame) (r s : List ℕ) →
         Splits stream fs r → Splits stream gs s → (fs ≡ gs) × (r ≡ s) }
 {}
 
-/// Each client's kept replies are those that it would get alone.
+/// The replies to a client's kept frames are those that it would get as the only client.
 pub fn each_alone()
     ensures { (limits : Allowance) (start : ℕ → State) (marked : List Received) (client : ℕ) →
         kept_replies client marked (served (answer limits) start marked)
         ≡ alone (answer limits) (start client) (mine client marked) }
 {}
 
-/// Where all frames are of one client and none was lost, the replies are those to these frames.
+/// If all frames are of one client and none was lost, the replies are those of that client alone.
 pub fn one_client()
     ensures { (limits : Allowance) (start : ℕ → State) (marked : List Received) (client : ℕ) →
         All (λ m. (m.frame.client ≡ client) × (m.lost ≡ false)) marked →
@@ -49,8 +49,8 @@ pub fn one_client()
         ≡ alone (answer limits) (start client) (frames_of marked) }
 {}
 
-/// Where two streams agree on a client's kept frames and it starts in the same state, it gets the
-/// same replies.
+/// If two streams have the same kept frames of a client, which starts in the same state in both,
+/// the client gets the same replies.
 pub fn isolated()
     ensures { (limits : Allowance) (start other : ℕ → State)
         (marked others : List Received) (client : ℕ) →
@@ -59,8 +59,8 @@ pub fn isolated()
         ≡ kept_replies client others (served (answer limits) other others) }
 {}
 
-/// Any number of servers may serve a stream, each of them all frames of the clients that are its
-/// own: each client gets the kept replies that one server of all clients would give it.
+/// Several servers may share a stream, each with all frames of its own clients: each client gets
+/// the replies to its kept frames that one server of all clients would give.
 pub fn over_servers()
     ensures { (limits : Allowance) (start : ℕ → State) (server : ℕ → ℕ)
         (marked : List Received) (client : ℕ) →
@@ -69,14 +69,14 @@ pub fn over_servers()
         ≡ kept_replies client marked (served (answer limits) start marked) }
 {}
 
-/// A frame was lost exactly where its reply's code is 1, NO_MEMORY.
+/// A frame was lost exactly if the code of its reply is 1, NO_MEMORY.
 pub fn lost_shows()
     ensures { (limits : Allowance) (start : ℕ → State) (marked : List Received) →
         map (λ r. r.code == 1) (served (answer limits) start marked) ≡ map (λ m. m.lost) marked }
 {}
 
-/// Where the source told its bytes and `serve` ended well, or by the stream's own fault, what it
-/// read is the split of all of the bytes.
+/// If the source knows its bytes, and `serve` succeeded or failed because of the stream's bytes,
+/// the frames and the rest that it read are the split of the stream.
 pub fn session_splits()
     ensures { (limits : Allowance) (input more : List ℕ) (taken_old taken_new : Option (List ℕ))
         (old new : ℕ → State) (result : Result Summary StreamFault) →
@@ -84,9 +84,9 @@ pub fn session_splits()
         ReadsToARest result → Splits input (frames_of session.marked) (session.rest ++ more) }
 {}
 
-/// Whatever frames a client sends, its state keeps the limits if it did before, as no context does;
-/// and each image that a cell then names is one: it has samples of its format, and is 0 outside its
-/// valid rectangle.
+/// Whatever frames a client sends, its state keeps the limits if it kept them before; no context
+/// does. Each reference then names a valid image or none: its samples are of its format, and 0
+/// outside its valid rectangle.
 pub fn states_keep()
     ensures limits { (limits : Allowance) (state : State) (frames : List Frame) →
         All IsFrame frames → IfSome state (KeepsLimits limits) →
@@ -97,8 +97,8 @@ pub fn states_keep()
         (λ c. IfOk (image_of c.objects cell) IsImage) }
 {}
 
-/// A call of `serve` that began where a client's state kept the limits, as no context does, ends
-/// where it does, however it ends.
+/// If a client's state keeps the limits before a call of `serve`, it does so after the call,
+/// however the call ends. No context keeps them.
 pub fn session_keeps()
     ensures { (limits : Allowance) (left_old left_new taken_old taken_new : Option (List ℕ))
         (old new : ℕ → State) (result : Result Summary StreamFault) (client : ℕ) →

@@ -1,4 +1,4 @@
-//! What a frame is answered, and the frame of the reply.
+//! Replies to frames, and how they are written.
 ghost use Rattle.std.specs.Prelude.{◌≡◌, ◌<◌, ◌^◌, IfOk};
 ghost use Rattle.vx_requests.specs.Stream.Transfer.{Sends};
 ghost use Rattle.vx_requests.specs.Frame.Frames.{reply_bytes};
@@ -12,19 +12,19 @@ use client_contexts::Runtime;
 use client_model::Reply;
 use vx_base::ObjRef;
 
-/// What a reply tells.
+/// The content of a reply.
 #[derive(Drop)]
 pub enum Content {
-    /// What was made for it.
+    /// A reply that was computed.
     Made(Reply),
-    /// What ReadImage of this image is answered. Nothing is made for it: the samples are written
-    /// from where they stand.
+    /// The reply to ReadImage of this image. It is not copied: the samples of the image itself are
+    /// written.
     Samples(ObjRef),
-    /// What ReadImagePgm of this image is answered, in the same way.
+    /// The reply to ReadImagePgm of this image, written in the same way.
     Text(ObjRef),
 }
 
-/// What a reply tells, with the client and the op of the frame that it answers.
+/// The content of a reply, with the client and the op of the frame that it answers.
 #[derive(Drop)]
 pub struct Answered {
     pub client: u16,
@@ -32,8 +32,8 @@ pub struct Answered {
     pub content: Content,
 }
 
-/// Writes the frame of a reply, flushes the sink and returns the reply's code. The runtime is as
-/// the request has left it.
+/// Writes the frame of a reply, flushes the sink, and returns the reply's code. The runtime is in
+/// the state that the request left.
 pub fn write_answered<K: Sink>(
     sink: &mut K,
     runtime: &Runtime,
@@ -66,7 +66,7 @@ pub fn write_answered<K: Sink>(
     }
 }
 
-/// Writes the frame of a reply that was made, and returns its code.
+/// Writes the frame of a reply that was computed, and returns its code.
 fn write_made<K: Sink>(sink: &mut K, client: u16, op: u8, reply: &Reply) -> Result<u8, StreamFault>
     requires { K.failures sink.old < 2 ^ 62 }
     ensures sent { Sends K.taken K.failures sink.old sink.new

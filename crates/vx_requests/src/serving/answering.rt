@@ -1,4 +1,4 @@
-//! A frame, once its length is known: its payload is read, and answered by the runtime.
+//! Reads the payload of a frame whose length is known, and answers it from the runtime.
 ghost use Rattle.std.specs.Prelude.{◌≡◌, ℕ, ◌<◌, ◌≤◌, ◌^◌, List, length, All, Ok, IfOk};
 ghost use Rattle.client_model.specs.Allowance.{Allowance};
 ghost use Rattle.client_model.specs.Context.{State};
@@ -20,11 +20,10 @@ use std::alloc::Global;
 use vx_base::Code;
 use vx_wire::{Op, parse};
 
-/// The bytes after the length of a frame whose body has 64 bytes. A frame of at most so many is
-/// read into a fixed buffer.
+/// The longest payload that is read into a fixed buffer: a body of 64 bytes, the client and the op.
 const SMALL: usize = 67;
 
-/// A frame that was read whole.
+/// A whole frame, borrowed from the bytes that were read.
 #[derive(Clone, Copy)]
 struct RequestFrame<'a> {
     client: u16,
@@ -32,7 +31,7 @@ struct RequestFrame<'a> {
     body: &'a [u8],
 }
 
-/// Reads so many bytes after a length and answers their frame.
+/// Reads the `length` bytes after a frame's length, and answers the frame.
 pub fn answer_payload<S: Source>(
     alloc: Global,
     reader: &mut Reader<S>,
@@ -61,7 +60,7 @@ pub fn answer_payload<S: Source>(
     })
 }
 
-/// Reads what stands after a length into the buffer, which it fills, and answers the frame.
+/// Fills the buffer with the bytes after a frame's length, and answers the frame.
 fn answer_small<S: Source>(
     alloc: Global,
     reader: &mut Reader<S>,
@@ -87,8 +86,8 @@ fn answer_small<S: Source>(
     })
 }
 
-/// Answers a frame with a body of so many bytes, which are all still to be read: into memory, or
-/// past them where there is none. The samples of an image that is written go to where they stay.
+/// Reads a body of `count` bytes, and answers its frame. If no memory can be allocated for it, the
+/// body is skipped. The samples of a WriteImage are read straight into the image's new samples.
 fn answer_large<S: Source>(
     alloc: Global,
     reader: &mut Reader<S>,
@@ -114,14 +113,14 @@ fn answer_large<S: Source>(
     }
 }
 
-/// Memory for so many bytes.
+/// Returns `count` zero bytes.
 fn zeros(alloc: Global, count: usize) -> Result<Vec<u8>, NoMemory>
     ensures { IfOk result (λ bytes. length bytes.items ≡ count) }
 {
     Ok(vec![in alloc; 0u8; count]?)
 }
 
-/// Reads a frame's body into the buffer, which it fills, and answers the frame.
+/// Fills the buffer with a frame's body, and answers the frame.
 fn answer_in<S: Source>(
     alloc: Global,
     reader: &mut Reader<S>,
@@ -141,7 +140,8 @@ fn answer_in<S: Source>(
     Ok(answer_frame(alloc, runtime, &RequestFrame { client, op, body }))
 }
 
-/// Reads past a body for which there is no memory. No client's state matters, and none changes.
+/// Skips a body for which no memory could be allocated. It reads no client's state, and changes
+/// none.
 fn lose_body<S: Source>(
     reader: &mut Reader<S>,
     client: u16,
@@ -159,7 +159,7 @@ fn lose_body<S: Source>(
     Ok(Content::Made(Reply::Refused(Code::NoMemory)))
 }
 
-/// The frame that the bytes after its length spell.
+/// Returns the frame that a payload encodes.
 fn frame_in(bytes: &[u8]) -> RequestFrame<'_>
     requires { 3 ≤ length bytes.now }
     ensures spelled { bytes.now ≡ payload (frame_of result.client result.op result.body.now) }
@@ -172,7 +172,7 @@ fn frame_in(bytes: &[u8]) -> RequestFrame<'_>
     }
 }
 
-/// What the frame is answered.
+/// Returns the reply to a frame.
 fn answer_frame(alloc: Global, runtime: &mut Runtime, frame: &RequestFrame) -> Content
     ensures replies { let f = frame_of frame.now.client frame.now.op frame.now.body.now in
         IsReply runtime.old.limits f (states_of runtime.old) (states_of runtime.new)
@@ -182,15 +182,15 @@ fn answer_frame(alloc: Global, runtime: &mut Runtime, frame: &RequestFrame) -> C
 {
     let content = content_for(alloc, runtime, frame);
     if let Content::Made(Reply::Refused(Code::NoMemory)) = content {
-        // The body may have found no memory as it was parsed. A client that asks again finds what
-        // free blocks held.
+        // Parsing may have failed for want of memory. Dropping the free blocks gives a retry of the
+        // client more.
         runtime.drop_free();
     }
     content
 }
 
-/// Why the frame's body is no request, or what its request is answered. A text that is written to
-/// an image is read where it stands.
+/// Returns the reply to a frame, or the refusal of a body that encodes no request. The text of a
+/// WriteImagePgm is parsed in place.
 fn content_for(alloc: Global, runtime: &mut Runtime, frame: &RequestFrame) -> Content
     ensures replies { let f = frame_of frame.now.client frame.now.op frame.now.body.now in
         IsReply runtime.old.limits f (states_of runtime.old) (states_of runtime.new)
@@ -208,8 +208,8 @@ fn content_for(alloc: Global, runtime: &mut Runtime, frame: &RequestFrame) -> Co
     }
 }
 
-/// The runtime's reply, or NO_MEMORY. Where an image is read, also as a text, it is named, and
-/// nothing is copied.
+/// Returns the runtime's reply, or NO_MEMORY. For ReadImage and ReadImagePgm it returns the image's
+/// reference, so that nothing is copied.
 fn answer_request(alloc: Global, runtime: &mut Runtime, client: u16, request: &Request) -> Content
     ensures replies { (op : ℕ) (body : List ℕ) → request_of op body ≡ Ok request.now →
         IsReply runtime.old.limits (frame_of client op body)

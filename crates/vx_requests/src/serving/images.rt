@@ -1,4 +1,4 @@
-//! Pictures that are written to images: their samples are read to where they stay.
+//! Answers WriteImage: the samples are read straight into the image's new samples.
 ghost use Rattle.std.specs.Prelude.{◌≡◌, ◌<◌, Some, OnOk, IfOk, IfErr};
 ghost use Rattle.client_model.specs.declared.reply.Reply.TheVariants.{Refused};
 ghost use Rattle.vx_requests.specs.declared.serving.answered.Content.TheVariants.{Made};
@@ -16,13 +16,13 @@ use client_model::Reply;
 use vx_base::Code;
 use vx_wire::{ParseFault, write_image_head};
 
-/// The bytes of a WriteImage body before the samples.
+/// The number of bytes before the samples in the body of a WriteImage.
 const HEAD: usize = 10;
 
-/// Answers a WriteImage frame, whose body has so many bytes, which are all still to be read.
+/// Reads the body of a WriteImage, of `count` bytes, and answers its frame.
 ///
-/// Its samples are read to where the image has them from then on. A body with a fault is read past,
-/// as is one whose picture the image doesn't take, and one for whose samples there is no memory.
+/// The samples are read straight into the image's new samples. The body is skipped if it encodes no
+/// request, if the request is refused, or if no memory can be allocated for the samples.
 pub fn answer_write_image<S: Source>(
     reader: &mut Reader<S>,
     runtime: &mut Runtime,
@@ -52,7 +52,7 @@ pub fn answer_write_image<S: Source>(
     }
 }
 
-/// Reads past the rest of a frame, which is answered this code.
+/// Skips the rest of a frame, and answers it with this code.
 fn refuse<S: Source>(
     reader: &mut Reader<S>,
     rest: usize,

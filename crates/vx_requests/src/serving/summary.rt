@@ -1,7 +1,7 @@
-//! What serving a stream came to.
+//! The summary of serving a stream.
 ghost use Rattle.std.specs.Prelude.{◌≡◌, ◌+◌, ◌<◌, ◌^◌, ◌==◌, if◌then◌else◌};
 
-/// How many replies there were, and how many of them with a code that isn't 0.
+/// The number of replies, and of those with a code that isn't 0.
 #[derive(Clone, Copy, Debug, PartialEq, Eq)]
 pub struct Summary {
     pub requests: u64,

@@ -1,4 +1,4 @@
-//! Texts that are written to images: their samples are read from the frame to where they stay.
+//! Answers WriteImagePgm: the samples are parsed straight into the image's new samples.
 ghost use Rattle.std.specs.Prelude.{◌≡◌, Some};
 ghost use Rattle.vx_wire.specs.declared.op.Op.TheVariants.{WriteImagePgm};
 ghost use Rattle.vx_wire.specs.Op.{op_numbered};
@@ -12,8 +12,8 @@ use client_model::Reply;
 use vx_base::Code;
 use vx_wire::{ParseFault, write_image_pgm_fields};
 
-/// Answers a WriteImagePgm frame with this body. The text isn't copied: its samples are read from
-/// the body to where the image has them from then on.
+/// Returns the reply to a WriteImagePgm with this body. The text isn't copied: its samples are
+/// parsed straight into the image's new samples.
 pub fn answer_write_image_pgm(runtime: &mut Runtime, client: u16, op: u8, body: &[u8]) -> Reply
     requires { op_numbered op ≡ Some WriteImagePgm }
     ensures replies { IsReply runtime.old.limits (frame_of client op body.now)

@@ -1,8 +1,8 @@
-//! What goes wrong on a stream.
+//! Faults of streams.
 
 use thiserror::Error;
 
-/// A read, a write or a flush failed. What is left or taken is as before the call.
+/// The fault of a read, a write or a flush. The call gave or took no bytes.
 #[derive(Clone, Copy, Debug, PartialEq, Eq, Error)]
 #[error("a read, a write or a flush failed")]
 pub struct Failed;
@@ -13,16 +13,16 @@ pub enum StreamFault {
     /// The bytes ended within a frame.
     #[error("truncated")]
     Truncated,
-    /// A frame began with a length that isn't allowed.
+    /// A frame's length is out of range.
     #[error("bad length")]
     BadLength,
     /// A read returned an error.
     #[error("read failed")]
     ReadFailed,
-    /// A write or a flush returned an error, or a write took none of a rest that wasn't empty.
+    /// A write or a flush returned an error, or a write took none of the remaining bytes.
     #[error("write failed")]
     WriteFailed,
-    /// All reads that were allowed were made, and the bytes hadn't ended.
+    /// The budget of reads is used up, and the stream has not ended.
     #[error("reader would not end")]
     ReaderWouldNotEnd,
 }

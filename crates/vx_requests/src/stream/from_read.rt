@@ -5,7 +5,7 @@ ghost use Rattle.vx_requests.specs.Stream.FromRead.{reader_of};
 use crate::stream::{Failed, Source};
 use std::io::Read;
 
-/// A source that reads a reader, and keeps the counts of its reads.
+/// A source over a reader, which counts its reads.
 #[derive(Drop)]
 pub struct FromRead<R> {
     reader: R,
@@ -14,7 +14,7 @@ pub struct FromRead<R> {
 }
 
 impl<R: Read> FromRead<R> {
-    /// A source of the bytes that the reader will give, not read yet.
+    /// Returns a source over a reader, with no reads counted.
     pub fn new(reader: R) -> Self
         ensures reader { reader_of result ≡ reader }
         ensures reads { ⟦<FromRead<R> as Source>⟧.reads result ≡ 0 }
@@ -27,7 +27,7 @@ impl<R: Read> FromRead<R> {
         }
     }
 
-    /// The reader, with the bytes that are left.
+    /// Returns the reader, with the bytes that are left.
     pub fn into_inner(self) -> R
         ensures { result ≡ reader_of self }
     {

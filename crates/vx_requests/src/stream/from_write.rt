@@ -5,7 +5,7 @@ ghost use Rattle.vx_requests.specs.Stream.FromWrite.{writer_of};
 use crate::stream::{Failed, Sink};
 use std::io::Write;
 
-/// A sink that writes to a writer, and keeps the count of its failed calls.
+/// A sink over a writer, which counts its failed calls.
 #[derive(Drop)]
 pub struct FromWrite<W> {
     writer: W,
@@ -13,7 +13,7 @@ pub struct FromWrite<W> {
 }
 
 impl<W: Write> FromWrite<W> {
-    /// A sink whose bytes go to the writer, after those that it holds.
+    /// Returns a sink over a writer, with no failures counted.
     pub fn new(writer: W) -> Self
         ensures writer { writer_of result ≡ writer }
         ensures failures { ⟦<FromWrite<W> as Sink>⟧.failures result ≡ 0 }
@@ -24,7 +24,7 @@ impl<W: Write> FromWrite<W> {
         }
     }
 
-    /// The writer, with the bytes that were taken.
+    /// Returns the writer, with the bytes that it took.
     pub fn into_inner(self) -> W
         ensures { result ≡ writer_of self }
     {

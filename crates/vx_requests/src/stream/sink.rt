@@ -6,22 +6,22 @@ ghost use Rattle.vx_requests.specs.Stream.Calls.{failed_calls, failed_writes};
 
 use crate::stream::Failed;
 
-/// What takes the bytes of a stream, and counts its failed calls.
+/// A sink takes the bytes of a stream, and counts its failed calls.
 pub trait Sink {
-    /// The bytes that were taken, where these are known.
+    /// The bytes that were taken, if they are known.
     ghost taken: { Self → Option (List ℕ) };
 
-    /// How many writes and flushes failed. A write that took none of some bytes is one of them.
+    /// How many writes and flushes failed. A write that took none of some bytes counts as failed.
     ghost failures: { Self → ℕ };
 
-    /// Takes bytes from the front of these, and returns how many. A write that fails takes none.
+    /// Takes bytes from the front of `bytes`, and returns how many. A write that fails takes none.
     fn write(&mut self, bytes: &[u8]) -> Result<usize, Failed>
         requires { failures self.old < 2 ^ 63 }
         ensures bound { WritesAtMost result bytes.now }
         ensures bytes { WriteAppends (taken self.old) (taken self.new) result bytes.now }
         ensures failed { failures self.new ≡ failures self.old + failed_writes result bytes.now };
 
-    /// Passes on what was taken and is still held back.
+    /// Passes on the bytes that are still buffered.
     fn flush(&mut self) -> Result<(), Failed>
         requires { failures self.old < 2 ^ 63 }
         ensures bytes { Keeps (taken self.old) (taken self.new) }

@@ -6,9 +6,9 @@ ghost use Rattle.vx_requests.specs.Stream.Calls.{failed_calls};
 
 use crate::stream::Failed;
 
-/// What gives the bytes of a stream, and counts its reads.
+/// A source gives the bytes of a stream, and counts its reads.
 pub trait Source {
-    /// The bytes that are left, where these are known.
+    /// The bytes that are left, if they are known.
     ghost left: { Self → Option (List ℕ) };
 
     /// How often it was read.
@@ -17,8 +17,8 @@ pub trait Source {
     /// How many of these reads failed.
     ghost failures: { Self → ℕ };
 
-    /// Reads bytes into the front of the buffer, and returns how many: none only where no byte is
-    /// left or the buffer is empty. A read that fails takes none.
+    /// Reads bytes into the front of the buffer, and returns how many. It returns 0 only if no byte
+    /// is left or the buffer is empty. A read that fails takes none.
     fn read(&mut self, buf: &mut [u8]) -> Result<usize, Failed>
         requires reads_fit { reads self.old < 2 ^ 63 }
         requires failures_fit { failures self.old < 2 ^ 63 }

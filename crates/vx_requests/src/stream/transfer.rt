@@ -1,15 +1,15 @@
-//! Whole buffers, from a source and to a sink.
+//! Transfers of whole buffers, from a source and to a sink.
 ghost use Rattle.std.specs.Prelude.{◌≡◌, ◌+◌, ◌<◌, ◌≤◌, ◌^◌, length, IfOk, IfErr, OnErr};
 ghost use Rattle.vx_requests.specs.Stream.Transfer.{read_failures, IsReadFault, CountsReads, Fills};
 ghost use Rattle.vx_requests.specs.Stream.Transfer.{FillsPart, WritesAll};
 
 use crate::stream::{Failed, Sink, Source, StreamFault};
 
-/// Fills the buffer, unless the bytes end before, and returns how many bytes came.
+/// Fills the buffer, unless the stream ends before. Returns how many bytes were read.
 ///
-/// `budget` is how many reads are still allowed; each read takes one of it. A read that fails is
-/// `ReadFailed`, and with no read left in the budget the result is `ReaderWouldNotEnd`. The bytes
-/// that came before a fault stand at the front of the buffer.
+/// `budget` is how many reads are still allowed; each read takes one of it. `ReadFailed`: a read
+/// failed. `ReaderWouldNotEnd`: no read is left in the budget. The bytes that were read before a
+/// fault are at the front of the buffer.
 pub fn fill<S: Source>(
     source: &mut S,
     budget: &mut u64,
@@ -21,7 +21,7 @@ pub fn fill<S: Source>(
     ensures err { OnErr result (FillsPart (S.left source.old) (S.left source.new) buf.new) }
     ensures fault { IfErr result IsReadFault }
 
-    // A buffer that isn't empty takes a read, and at most one for each of its bytes.
+    // A buffer that isn't empty needs a read, and at most one for each of its bytes.
     ensures counted { CountsReads (S.reads source.old) (S.reads source.new)
         budget.old budget.new result }
     ensures once { IfOk result (λ count. 0 < length buf.new → budget.new < budget.old) }
@@ -43,8 +43,8 @@ pub fn fill<S: Source>(
     Ok(count)
 }
 
-/// Writes all of the bytes. `WriteFailed`, the one fault, comes where a write fails or takes none
-/// of the rest, and a front of the bytes was taken then.
+/// Writes all of the bytes. `WriteFailed`, the only fault: a write failed, or took none of the
+/// remaining bytes; some bytes from the front may have been written.
 pub fn write_all<K: Sink>(sink: &mut K, bytes: &[u8]) -> Result<(), StreamFault>
     requires { K.failures sink.old < 2 ^ 62 }
     ensures { WritesAll K.taken K.failures sink.old sink.new bytes.now result }

@@ -1,4 +1,4 @@
-//! The bins of a distribution: how many there are, the offset and the range.
+//! The bins of a distribution: their number, the offset and the range.
 ghost use Rattle.std.specs.Prelude.{◌≡◌, ◌<◌, IfOk, IsTrue};
 ghost use Rattle.vx_wire.specs.Fields.{Takes};
 ghost use Rattle.vx_wire.specs.Bins.{is_up_to_256, take_up_to_256, take_offset, take_bins};
@@ -8,7 +8,7 @@ use crate::body_fault::BodyFault;
 use crate::fields::Fields;
 use vx_base::Bins;
 
-/// How many bins there are, or how many numbers fall into them: 1 to 256.
+/// Reads the number of bins, or their range: 1 to 256. `InvalidValue`: out of range.
 fn take_up_to_256(fields: &mut Fields) -> Result<u16, BodyFault>
     ensures taken { Takes take_up_to_256 fields.old fields.new result }
     ensures allowed { IfOk result (λ n. IsTrue (is_up_to_256 n)) }
@@ -21,7 +21,8 @@ fn take_up_to_256(fields: &mut Fields) -> Result<u16, BodyFault>
     }
 }
 
-/// The least sample that falls into a bin: 0 to 255.
+/// Reads the offset, which is the least sample that falls into a bin: 0 to 255. `InvalidValue`: out
+/// of range.
 fn take_offset(fields: &mut Fields) -> Result<u16, BodyFault>
     ensures taken { Takes take_offset fields.old fields.new result }
     ensures limit { IfOk result (λ n. n < 256) }
@@ -34,7 +35,7 @@ fn take_offset(fields: &mut Fields) -> Result<u16, BodyFault>
     }
 }
 
-/// Bins. They may end above 255.
+/// Reads bins. They may end above 255.
 pub fn take_bins(fields: &mut Fields) -> Result<Bins, BodyFault>
     ensures { Takes take_bins fields.old fields.new result }
 {
@@ -44,7 +45,7 @@ pub fn take_bins(fields: &mut Fields) -> Result<Bins, BodyFault>
     Ok(Bins::new(bins, offset, range).unwrap())
 }
 
-/// The bytes of bins.
+/// Returns the bytes of bins.
 pub fn bins_bytes(bins: Bins) -> [u8; 6]
     ensures { result ≡ bins_bytes bins }
 {

@@ -1,4 +1,4 @@
-//! Convolutions: the columns, the rows, the exponent, and the coefficients by rows from the top.
+//! Convolutions: the columns, the rows, the exponent, and the coefficients row by row from the top.
 ghost use Rattle.std.specs.Prelude.{◌≤◌, IfOk, IsTrue};
 ghost use Rattle.vx_base.specs.Convolution.{is_odd_side};
 ghost use Rattle.vx_wire.specs.Fields.{Takes};
@@ -9,7 +9,7 @@ use crate::fields::Fields;
 use crate::fields::samples::{decode_wide, take_samples};
 use vx_base::{Convolution, Format, GREATEST_COEFFICIENTS};
 
-/// How many columns or rows there are: 3, 5, 7 or 9.
+/// Reads the number of columns or rows: 3, 5, 7 or 9. `InvalidDimension`: another number.
 fn take_odd_side(fields: &mut Fields) -> Result<u8, BodyFault>
     ensures taken { Takes take_odd_side fields.old fields.new result }
     ensures allowed { IfOk result (λ n. IsTrue (is_odd_side n)) }
@@ -23,7 +23,8 @@ fn take_odd_side(fields: &mut Fields) -> Result<u8, BodyFault>
     }
 }
 
-/// The exponent of the power of two by which sums are divided: 0 to 31.
+/// Reads the exponent of the power of two by which sums are divided: 0 to 31. `InvalidValue`: above
+/// 31.
 fn take_exponent(fields: &mut Fields) -> Result<u8, BodyFault>
     ensures taken { Takes take_exponent fields.old fields.new result }
     ensures limit { IfOk result (λ n. n ≤ 31) }
@@ -36,7 +37,7 @@ fn take_exponent(fields: &mut Fields) -> Result<u8, BodyFault>
     }
 }
 
-/// A convolution. No memory is taken: there are 81 coefficients at most.
+/// Reads a convolution. It allocates nothing: there are at most 81 coefficients.
 pub fn take_convolution(fields: &mut Fields) -> Result<Convolution, BodyFault>
     ensures { Takes take_convolution fields.old fields.new result }
 {

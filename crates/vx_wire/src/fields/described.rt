@@ -1,4 +1,4 @@
-//! What is told of an image: the format, the width, the height and the valid rectangle.
+//! The reply that describes an image: the format, the width, the height and the valid rectangle.
 ghost use Rattle.std.specs.Prelude.{◌≡◌};
 ghost use Rattle.vx_wire.specs.Described.{described_bytes};
 
@@ -6,7 +6,7 @@ use crate::fields::format::open_format_number;
 use crate::fields::rectangle::rectangle_bytes;
 use client_model::Described;
 
-/// The bytes that tell what an image is like.
+/// Returns the bytes of the description of an image.
 pub fn described_bytes(described: Described) -> [u8; 13]
     ensures { result ≡ described_bytes described }
 {

@@ -9,7 +9,7 @@ use crate::fields::Fields;
 use crate::fields::format::{format_number, take_format};
 use vx_base::{Desc, GREATEST_SIDE};
 
-/// The width or the height: 1 to 8192.
+/// Reads a width or a height: 1 to 8192. `InvalidDimension`: out of range.
 fn take_side(fields: &mut Fields) -> Result<u16, BodyFault>
     ensures taken { Takes take_side fields.old fields.new result }
     ensures allowed { IfOk result (λ n. IsTrue (is_side n)) }
@@ -22,7 +22,7 @@ fn take_side(fields: &mut Fields) -> Result<u16, BodyFault>
     }
 }
 
-/// A description.
+/// Reads a description.
 pub fn take_description(fields: &mut Fields) -> Result<Desc, BodyFault>
     ensures { Takes take_description fields.old fields.new result }
 {
@@ -32,7 +32,7 @@ pub fn take_description(fields: &mut Fields) -> Result<Desc, BodyFault>
     Ok(Desc::with_sides(width, height, format))
 }
 
-/// The bytes of a description.
+/// Returns the bytes of a description.
 pub fn description_bytes(desc: Desc) -> [u8; 5]
     ensures { result ≡ description_bytes desc }
 {

@@ -1,10 +1,11 @@
-//! What is told of extremes: the samples, how many pixels have each, and the first of them.
+//! The reply for extremes: the two samples, how many pixels have each, and the first of these
+//! pixels.
 ghost use Rattle.std.specs.Prelude.{◌≡◌};
 ghost use Rattle.vx_wire.specs.Extremes.{place_bytes, extremes_bytes};
 
 use vx_base::Extremes;
 
-/// The bytes of a column and a row.
+/// Returns the bytes of a column and a row.
 fn place_bytes(place: (u16, u16)) -> [u8; 4]
     ensures { result ≡ place_bytes place }
 {
@@ -13,7 +14,7 @@ fn place_bytes(place: (u16, u16)) -> [u8; 4]
     [a, b, c, d]
 }
 
-/// The bytes of extremes.
+/// Returns the bytes of extremes.
 pub fn extremes_bytes(extremes: Extremes) -> [u8; 20]
     ensures { result ≡ extremes_bytes extremes }
 {

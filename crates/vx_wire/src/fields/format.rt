@@ -1,4 +1,4 @@
-//! The format of samples, by its number.
+//! Formats of samples, as numbers.
 ghost use Rattle.std.specs.Prelude.{◌≡◌, ◌≢◌, IfOk};
 ghost use Rattle.vx_base.specs.declared.format.Format.TheVariants.{U32 as FormatU32};
 ghost use Rattle.vx_wire.specs.Fields.{Takes};
@@ -9,7 +9,7 @@ use crate::body_fault::BodyFault;
 use crate::fields::Fields;
 use vx_base::Format;
 
-/// The format of an image: 1, 2 or 3.
+/// Reads the format of an image: 1, 2 or 3. `InvalidFormat`: another number.
 pub fn take_format(fields: &mut Fields) -> Result<Format, BodyFault>
     ensures { Takes take_format fields.old fields.new result }
 {
@@ -21,7 +21,8 @@ pub fn take_format(fields: &mut Fields) -> Result<Format, BodyFault>
     }
 }
 
-/// The format of an image that isn't there: 0 where it is open, or 1, 2 or 3.
+/// Reads the format of a partial description: 0 where it is open, or 1, 2 or 3. `InvalidFormat`:
+/// another number.
 pub fn take_open_format(fields: &mut Fields) -> Result<Option<Format>, BodyFault>
     ensures { Takes take_open_format fields.old fields.new result }
 {
@@ -34,7 +35,7 @@ pub fn take_open_format(fields: &mut Fields) -> Result<Option<Format>, BodyFault
     }
 }
 
-/// The format of the samples that a table or a threshold takes: 1 or 2.
+/// Reads the input format of a table or a threshold: 1 or 2. `InvalidFormat`: another number.
 pub fn take_input_format(fields: &mut Fields) -> Result<Format, BodyFault>
     ensures taken { Takes take_input_format fields.old fields.new result }
     ensures input { IfOk result (λ f. f ≢ FormatU32) }
@@ -46,7 +47,7 @@ pub fn take_input_format(fields: &mut Fields) -> Result<Format, BodyFault>
     }
 }
 
-/// The number of a format.
+/// Returns the number of a format.
 pub fn format_number(format: Format) -> u8
     ensures { result ≡ format_number format }
 {
@@ -57,7 +58,7 @@ pub fn format_number(format: Format) -> u8
     }
 }
 
-/// The number of a format, where 0 stands for one that is open.
+/// Returns the number of a format; an open format is 0.
 pub fn open_format_number(format: Option<Format>) -> u8
     ensures { result ≡ open_format_number format }
 {

@@ -12,7 +12,7 @@ use crate::fields::operand::{operand_bytes, take_first_input, take_operands};
 use crate::fields::reference::reference_bytes;
 use vx_base::{Border, Function, Node, NodeSpec, Parameters, Policy};
 
-/// The number of a function.
+/// Reads a function by its number. `InvalidParameters`: no function has the number.
 fn take_function(fields: &mut Fields) -> Result<Function, BodyFault>
     ensures { Takes take_function fields.old fields.new result }
 {
@@ -23,7 +23,7 @@ fn take_function(fields: &mut Fields) -> Result<Function, BodyFault>
     }
 }
 
-/// The mode of a border and its constant, which is 0 unless the mode has one.
+/// Reads the mode of a border and its constant, which is 0 unless the mode has one.
 fn take_border(fields: &mut Fields) -> Result<Border, BodyFault>
     ensures { Takes take_border fields.old fields.new result }
 {
@@ -37,7 +37,7 @@ fn take_border(fields: &mut Fields) -> Result<Border, BodyFault>
     }
 }
 
-/// The mode of a border and its constant.
+/// Returns the bytes of a border: its mode and its constant.
 fn border_bytes(border: Border) -> [u8; 2]
     ensures { result ≡ border_bytes border }
 {
@@ -48,7 +48,7 @@ fn border_bytes(border: Border) -> [u8; 2]
     }
 }
 
-/// The overflow policy, which is 0 where the function has none.
+/// Reads the overflow policy, which is 0 if the function has none.
 fn take_policy(fields: &mut Fields, parameters: Parameters) -> Result<Policy, BodyFault>
     ensures taken { Takes (take_policy parameters) fields.old fields.new result }
     ensures has { IfOk result (λ p. IsTrue (parameters.policy || is_wrap p)) }
@@ -69,7 +69,7 @@ fn policy_number(policy: Policy) -> u8
     }
 }
 
-/// The amount, which is 0 where the function has none.
+/// Reads the amount, which is 0 if the function has none.
 fn take_amount(fields: &mut Fields, parameters: Parameters) -> Result<u8, BodyFault>
     ensures taken { Takes (take_amount parameters) fields.old fields.new result }
     ensures has { IfOk result (λ n. IsTrue (nat_le n (unwrap_or parameters.greatest_amount 0))) }
@@ -83,7 +83,7 @@ fn take_amount(fields: &mut Fields, parameters: Parameters) -> Result<u8, BodyFa
     }
 }
 
-/// A node.
+/// Reads a node.
 pub fn take_node(fields: &mut Fields) -> Result<NodeSpec, BodyFault>
     ensures { Takes take_node fields.old fields.new result }
 {
@@ -106,7 +106,7 @@ pub fn take_node(fields: &mut Fields) -> Result<NodeSpec, BodyFault>
     }))
 }
 
-/// The bytes of a node.
+/// Returns the bytes of a node.
 pub fn node_bytes(node: NodeSpec) -> [u8; 25]
     ensures { result ≡ node_bytes node }
 {

@@ -1,4 +1,4 @@
-//! The operands of a node. Name 0 without a slot stands for one that is absent.
+//! The operands of a node. An operand that is absent is name 0 without a slot.
 ghost use Rattle.std.specs.Prelude.{◌≡◌, not, IfOk, IsTrue};
 ghost use Rattle.vx_base.specs.Node.{is_nothing};
 ghost use Rattle.vx_wire.specs.Fields.{Takes};
@@ -11,18 +11,19 @@ use crate::fields::Fields;
 use crate::fields::reference::{reference_bytes, take_reference};
 use vx_base::{ObjRef, Parameters};
 
-/// Whether an operand has to be there.
+/// Whether an operand is required.
 #[derive(Clone, Copy, Debug, PartialEq, Eq)]
 pub enum Presence {
-    /// The node has the operand.
+    /// The operand is required.
     Required,
-    /// The node's function lacks it.
+    /// The node's function has no such operand.
     Absent,
-    /// It may be left out.
+    /// The operand is optional.
     Free,
 }
 
-/// An operand, or `None` where it is absent.
+/// Reads an operand, or `None` if it is absent. `InvalidParameters`: a required operand is absent,
+/// or there is one that the function doesn't have.
 fn take_operand(fields: &mut Fields, presence: Presence) -> Result<Option<ObjRef>, BodyFault>
     ensures taken { Takes (take_operand presence) fields.old fields.new result }
     ensures has { IfOk result (λ o. IsTrue (is_operand presence o)) }
@@ -35,7 +36,7 @@ fn take_operand(fields: &mut Fields, presence: Presence) -> Result<Option<ObjRef
     }
 }
 
-/// The bytes of an operand.
+/// Returns the bytes of an operand.
 pub fn operand_bytes(operand: Option<ObjRef>) -> [u8; 5]
     ensures { result ≡ operand_bytes operand }
 {
@@ -65,7 +66,7 @@ fn first_output(parameters: Parameters) -> Presence
     }
 }
 
-/// Of two outputs at least one is there.
+/// Returns whether the second output is required: of two outputs, at least one has to be there.
 fn second_output(parameters: Parameters, out1: &Option<ObjRef>) -> Presence
     ensures { result ≡ second_output parameters out1.now }
 {
@@ -76,7 +77,7 @@ fn second_output(parameters: Parameters, out1: &Option<ObjRef>) -> Presence
     }
 }
 
-/// The first input.
+/// Reads the first input.
 pub fn take_first_input(fields: &mut Fields) -> Result<ObjRef, BodyFault>
     ensures taken { Takes take_first_input fields.old fields.new result }
     ensures has { IfOk result (λ cell. IsTrue (not (is_nothing cell))) }
@@ -89,7 +90,7 @@ pub fn take_first_input(fields: &mut Fields) -> Result<ObjRef, BodyFault>
     }
 }
 
-/// The second input and the outputs.
+/// Reads the second input and the outputs.
 pub fn take_operands(
     fields: &mut Fields,
     parameters: Parameters,

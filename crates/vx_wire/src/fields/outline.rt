@@ -1,5 +1,5 @@
-//! What is known of an image that isn't there: the format, the width and the height. 0 leaves one
-//! open.
+//! Partial descriptions, as virtual images have them: the format, the width and the height. 0
+//! leaves one open.
 ghost use Rattle.std.specs.Prelude.{◌≡◌, IfOk, IsTrue};
 ghost use Rattle.vx_base.specs.Outline.{may_be_side};
 ghost use Rattle.vx_wire.specs.Fields.{Takes};
@@ -10,7 +10,7 @@ use crate::fields::Fields;
 use crate::fields::format::{open_format_number, take_open_format};
 use vx_base::{GREATEST_SIDE, Outline};
 
-/// The width or the height: 0 where it is open, or 1 to 8192.
+/// Reads a width or a height: 0 where it is open, or 1 to 8192. `InvalidDimension`: out of range.
 fn take_open_side(fields: &mut Fields) -> Result<Option<u16>, BodyFault>
     ensures taken { Takes take_open_side fields.old fields.new result }
     ensures allowed { IfOk result (λ side. IsTrue (may_be_side side)) }
@@ -22,7 +22,7 @@ fn take_open_side(fields: &mut Fields) -> Result<Option<u16>, BodyFault>
     }
 }
 
-/// An outline.
+/// Reads a partial description.
 pub fn take_outline(fields: &mut Fields) -> Result<Outline, BodyFault>
     ensures { Takes take_outline fields.old fields.new result }
 {
@@ -32,7 +32,7 @@ pub fn take_outline(fields: &mut Fields) -> Result<Outline, BodyFault>
     Ok(Outline::new(width, height, format).unwrap())
 }
 
-/// The bytes of an outline.
+/// Returns the bytes of a partial description.
 pub fn outline_bytes(outline: Outline) -> [u8; 5]
     ensures { result ≡ outline_bytes outline }
 {

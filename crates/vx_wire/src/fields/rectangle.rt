@@ -7,7 +7,8 @@ use crate::body_fault::BodyFault;
 use crate::fields::Fields;
 use vx_base::Rect;
 
-/// A rectangle: four zeros, or starts that are below their ends.
+/// Reads a rectangle: four zeros, or starts that are below their ends. `InvalidValue`: other
+/// bounds.
 pub fn take_rectangle(fields: &mut Fields) -> Result<Rect, BodyFault>
     ensures { Takes take_rectangle fields.old fields.new result }
 {
@@ -21,7 +22,7 @@ pub fn take_rectangle(fields: &mut Fields) -> Result<Rect, BodyFault>
     }
 }
 
-/// The bytes of a rectangle.
+/// Returns the bytes of a rectangle.
 pub fn rectangle_bytes(rectangle: Rect) -> [u8; 8]
     ensures { result ≡ rectangle_bytes rectangle }
 {

@@ -1,4 +1,4 @@
-//! References to objects: a name and a slot, where 255 stands for none.
+//! References to objects: a name and a slot, which is 255 for none.
 ghost use Rattle.std.specs.Prelude.{◌≡◌, ◌<◌};
 ghost use Rattle.std.specs.Option.{ForSome};
 ghost use Rattle.vx_wire.specs.Fields.{Takes};
@@ -8,7 +8,7 @@ use crate::body_fault::BodyFault;
 use crate::fields::Fields;
 use vx_base::ObjRef;
 
-/// A reference.
+/// Reads a reference.
 pub fn take_reference(fields: &mut Fields) -> Result<ObjRef, BodyFault>
     ensures { Takes take_reference fields.old fields.new result }
 {
@@ -17,7 +17,7 @@ pub fn take_reference(fields: &mut Fields) -> Result<ObjRef, BodyFault>
     Ok(ObjRef::new(name, slot_numbered(slot)))
 }
 
-/// The slot with this number, if it is one.
+/// Returns the slot with this number, or `None` for 255.
 fn slot_numbered(number: u8) -> Option<u8>
     ensures value { result ≡ slot_numbered number }
     ensures limit { ForSome result (λ k. k < 255) }
@@ -25,7 +25,7 @@ fn slot_numbered(number: u8) -> Option<u8>
     if number == 255 { None } else { Some(number) }
 }
 
-/// The bytes of a reference.
+/// Returns the bytes of a reference.
 pub fn reference_bytes(reference: ObjRef) -> [u8; 5]
     ensures { result ≡ reference_bytes reference }
 {

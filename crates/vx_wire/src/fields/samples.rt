@@ -1,4 +1,4 @@
-//! Samples as bytes: each of 1, 2 or 4, the most significant first.
+//! Samples as bytes: 1, 2 or 4 for each, the most significant first.
 ghost use Rattle.std.specs.Prelude.{◌≡◌, ◌+◌, ◌*◌, ◌≤◌, ◌^◌, ℤ, pos, length, map, Ok, Err, IfOk};
 ghost use Rattle.std.specs.Prelude.{IfErr};
 ghost use Rattle.std.specs.List.{flat_map};
@@ -14,7 +14,7 @@ use crate::fields::Fields;
 use std::alloc::{AllocError, Global};
 use vx_base::{Format, Samples};
 
-/// Takes the bytes of `count` samples of a format from the fields of a body.
+/// Reads the bytes of `count` samples of a format. `InvalidParameters`: fewer are left.
 pub fn take_samples<'a>(
     fields: &mut Fields<'a>,
     format: Format,
@@ -34,19 +34,19 @@ pub trait WideSample: Copy {
     /// The format of such samples.
     ghost format: { SampleFormat };
 
-    /// The number.
+    /// The sample's value.
     ghost value: { Self → ℤ };
 
-    /// How many bytes a sample takes.
+    /// Returns the number of bytes of a sample.
     fn size() -> usize
         ensures { result ≡ sample_bytes format };
 
-    /// The sample that so many bytes encode.
+    /// Returns the sample that these bytes encode.
     fn decode(bytes: &[u8]) -> Self
         requires { length bytes.now ≡ sample_bytes format }
         ensures { value result ≡ decoded_sample format bytes.now };
 
-    /// Writes the sample into so many bytes.
+    /// Writes the bytes of the sample.
     fn encode(self, bytes: &mut [u8])
         requires { length bytes.old ≡ sample_bytes format }
         ensures { bytes.new ≡ encoded_sample format (value self) };
@@ -94,8 +94,8 @@ impl WideSample for u32 {
     }
 }
 
-/// Returns `count` samples of a format, decoded from their big-endian bytes. Takes all of its
-/// memory before it decodes any.
+/// Returns `count` samples of a format, decoded from their big-endian bytes. It allocates all of
+/// its memory before it decodes any.
 pub fn decode(
     alloc: Global,
     format: Format,
@@ -122,7 +122,7 @@ pub fn decode(
     }
 }
 
-/// Decodes bytes into `samples`, all of which they fill.
+/// Decodes bytes into `samples`, and fills all of them.
 pub fn decode_wide<S: WideSample>(bytes: &[u8], samples: &mut [S])
     requires { length bytes.now ≡ length samples.old * sample_bytes S.format }
     ensures { map S.value samples.new ≡ decoded S.format (length samples.old) bytes.now }
@@ -134,7 +134,7 @@ pub fn decode_wide<S: WideSample>(bytes: &[u8], samples: &mut [S])
     }
 }
 
-/// Writes samples that take several bytes each into as many bytes as they take.
+/// Encodes samples of several bytes each into `bytes`, and fills all of them.
 pub fn encode<S: WideSample>(samples: &[S], bytes: &mut [u8])
     requires { length bytes.old ≡ length samples.now * sample_bytes S.format }
     ensures { bytes.new ≡ flat_map (λ s. encoded_sample S.format (S.value s)) samples.now }

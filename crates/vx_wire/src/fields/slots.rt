@@ -1,4 +1,4 @@
-//! How many slots a delay has.
+//! The number of slots of a delay.
 ghost use Rattle.vx_wire.specs.Fields.{Takes};
 ghost use Rattle.vx_wire.specs.Slots.{take_slots};
 
@@ -6,7 +6,7 @@ use crate::body_fault::BodyFault;
 use crate::fields::Fields;
 use vx_base::SlotCount;
 
-/// The number of slots: 1 to 16.
+/// Reads the number of slots: 1 to 16. `InvalidValue`: out of range.
 pub fn take_slots(fields: &mut Fields) -> Result<SlotCount, BodyFault>
     ensures { Takes take_slots fields.old fields.new result }
 {

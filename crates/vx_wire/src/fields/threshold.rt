@@ -13,7 +13,7 @@ use crate::fields::format::{format_number, take_input_format};
 use crate::fields::samples::WideSample;
 use vx_base::{Format, ThresholdKind, ThresholdRule};
 
-/// Whether there is a lower and an upper limit: 0 is BINARY and 1 is RANGE.
+/// Reads whether the threshold has a lower and an upper limit: 0 is BINARY and 1 is RANGE.
 fn take_is_range(fields: &mut Fields) -> Result<bool, BodyFault>
     ensures { Takes take_is_range fields.old fields.new result }
 {
@@ -24,7 +24,7 @@ fn take_is_range(fields: &mut Fields) -> Result<bool, BodyFault>
     }
 }
 
-/// A signed number of two bytes.
+/// Reads a signed number of two bytes.
 fn take_signed(fields: &mut Fields) -> Result<i16, BodyFault>
     ensures { Takes take_signed fields.old fields.new result }
 {
@@ -32,7 +32,7 @@ fn take_signed(fields: &mut Fields) -> Result<i16, BodyFault>
     Ok(i16::decode(bytes))
 }
 
-/// A limit, which is a sample of the format.
+/// Reads a limit, which is a sample of the format. `InvalidValue`: out of the format's range.
 fn take_limit(fields: &mut Fields, format: Format) -> Result<i16, BodyFault>
     ensures taken { Takes (take_limit format) fields.old fields.new result }
     ensures sample { IfOk result (λ z. IsTrue (is_sample format z)) }
@@ -45,7 +45,8 @@ fn take_limit(fields: &mut Fields, format: Format) -> Result<i16, BodyFault>
     }
 }
 
-/// The upper limit, which is not below the lower one.
+/// Reads the upper limit. `InvalidValue`: it isn't a sample of the format, or is below the lower
+/// limit.
 fn take_upper(fields: &mut Fields, format: Format, lower: i16) -> Result<i16, BodyFault>
     ensures taken { Takes (take_upper format lower) fields.old fields.new result }
     ensures sample { IfOk result (λ z. IsTrue (is_sample format z)) }
@@ -59,7 +60,7 @@ fn take_upper(fields: &mut Fields, format: Format, lower: i16) -> Result<i16, Bo
     }
 }
 
-/// The limit of a BINARY threshold, or the two of a RANGE.
+/// Reads the limit of a BINARY threshold, or the two of a RANGE threshold.
 fn take_limits(
     fields: &mut Fields,
     is_range: bool,
@@ -77,7 +78,7 @@ fn take_limits(
     Ok(ThresholdKind::Range(lower, upper))
 }
 
-/// A threshold.
+/// Reads a threshold.
 pub fn take_threshold(fields: &mut Fields) -> Result<ThresholdRule, BodyFault>
     ensures { Takes take_threshold fields.old fields.new result }
 {
@@ -89,7 +90,7 @@ pub fn take_threshold(fields: &mut Fields) -> Result<ThresholdRule, BodyFault>
     Ok(ThresholdRule::with_limits(format, kind, true_value, false_value))
 }
 
-/// The bytes of a BINARY threshold.
+/// Returns the bytes of a BINARY threshold.
 pub fn binary_bytes(format: Format, limit: i16, true_value: u8, false_value: u8) -> [u8; 6]
     ensures { result ≡ threshold_bytes (record {
       format = format;
@@ -103,7 +104,7 @@ pub fn binary_bytes(format: Format, limit: i16, true_value: u8, false_value: u8)
     [0, format_number(format), a, b, true_value, false_value]
 }
 
-/// The bytes of a RANGE threshold.
+/// Returns the bytes of a RANGE threshold.
 pub fn range_bytes(
     format: Format,
     lower: i16,

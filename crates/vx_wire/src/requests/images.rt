@@ -53,8 +53,8 @@ pub fn write_image(alloc: Global, body: &[u8]) -> Result<Request, ParseFault>
 }
 
 /// Parses the first ten bytes of the body of WriteImage: a reference, and the description of the
-/// picture. `rest` is the number of bytes that follow. They have to be as many as the description
-/// says; their values make no difference.
+/// picture. `rest` is the number of bytes that follow. `InvalidParameters`: it isn't the number
+/// that the description requires. The values of these bytes don't matter.
 pub fn write_image_head(head: &[u8; 10], rest: usize) -> Result<(ObjRef, Desc), BodyFault>
     ensures ok { IfOk result (λ found. (samples : List ℕ) → length samples ≡ rest →
         write_image_in (head.now ++ samples) ≡ Ok (write_image_of found.0 found.1 samples)) }
@@ -72,8 +72,8 @@ pub fn write_image_head(head: &[u8; 10], rest: usize) -> Result<(ObjRef, Desc), 
     }
 }
 
-/// Splits the body of WriteImagePgm into its reference and its text: all bytes that are left, which
-/// aren't parsed here. Takes no memory.
+/// Splits the body of WriteImagePgm into its reference and its text. The text is all remaining
+/// bytes, and isn't parsed here. It allocates nothing.
 pub fn write_image_pgm_fields(body: &[u8]) -> Result<(ObjRef, &[u8]), BodyFault>
     ensures ok { IfOk result (λ found.
         write_image_pgm_in body.now ≡ Ok (WriteImagePgm found.0 found.1.now)) }
