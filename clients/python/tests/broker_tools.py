@@ -1,5 +1,5 @@
-"""What the tests of the broker share: a broker that runs, connections to it, and frames of the
-plain server (plain_server.py)."""
+"""Common tools of the broker's tests: a running broker, connections to it, and frames of the plain
+server (plain_server.py)."""
 
 import contextlib
 import json
@@ -30,7 +30,7 @@ CLIENT = 7
 
 
 class Program:
-    """A program's connection to the broker, in whole frames."""
+    """A program's connection to the broker, which sends and reads whole frames."""
 
     def __init__(self, path: str) -> None:
         self.sock = socket.socket(socket.AF_UNIX, socket.SOCK_STREAM)
@@ -48,7 +48,7 @@ class Program:
         self.sock.sendall(data)
 
     def bytes(self, count: int) -> bytes:
-        """So many bytes, or fewer where the connection ends before."""
+        """Reads this many bytes, or fewer if the connection ends before."""
         got = bytearray()
         while len(got) < count:
             try:
@@ -61,7 +61,7 @@ class Program:
         return bytes(got)
 
     def reply(self) -> bytes:
-        """The next reply, or nothing at the connection's end."""
+        """Reads the next reply, or nothing at the connection's end."""
         head = self.bytes(4)
         return head + self.bytes(int.from_bytes(head, "big"))
 
@@ -70,8 +70,7 @@ class Program:
         return self.reply()
 
     def ask_ahead(self, frames: List[bytes]) -> List[bytes]:
-        """The replies to frames that are all sent as soon as they can be, while replies are
-        read."""
+        """Sends all frames as soon as possible, while it reads replies, and returns these."""
         waiting, got, replies = memoryview(b"".join(frames)), b"", []
         while len(replies) < len(frames):
             readable, writable, _ = select.select([self.sock], [self.sock] if waiting else [], [],
@@ -92,16 +91,17 @@ class Program:
         return replies
 
     def who_asked(self) -> List[Tuple[int, int]]:
-        """The clients and ops of the frames that the plain server has had so far."""
+        """Returns the clients and ops of the frames that the plain server has received so far."""
         return [struct.unpack_from(">HB", entry)
                 for entry in cut(self.ask(plain(WHO_ASKED))[8:], 3)]
 
     def has_ended(self) -> bool:
-        """Whether the broker ends the connection, with no byte before."""
+        """Returns whether the broker ends the connection without sending a byte."""
         return self.bytes(1) == b""
 
     def is_turned_away(self) -> bool:
-        """Whether the first request is answered NO_RESOURCES, and nothing after it."""
+        """Returns whether the first request is answered NO_RESOURCES, and nothing comes after
+        it."""
         return self.ask(plain(1)) == wire.reply_frame(CLIENT, 1,
                                                       wire.NO_RESOURCES) and self.has_ended()
 
@@ -111,7 +111,7 @@ def cut(data: bytes, size: int) -> List[bytes]:
 
 
 def plain(op: int, body: bytes = b"", client: int = CLIENT) -> bytes:
-    """A request frame of the plain server."""
+    """Returns a request frame of the plain server."""
     return wire.frame(client, op, body)
 
 
@@ -120,7 +120,7 @@ def success(op: int, body: bytes = b"", client: int = CLIENT) -> bytes:
 
 
 def all_of(sock: socket.socket) -> bytes:
-    """What comes until the other side ends the connection."""
+    """Returns the bytes that come until the other side ends the connection."""
     got = b""
     while True:
         data = sock.recv(65536)
@@ -130,8 +130,8 @@ def all_of(sock: socket.socket) -> bytes:
 
 
 class Gate:
-    """A named pipe, at which a server waits until it is let go: so a test knows that a request is
-    with the server, and decides when it ends."""
+    """A named pipe at which a server waits until it is released. So a test knows that the server
+    has a request, and decides when it ends."""
 
     def __init__(self, folder: str) -> None:
         self.path = os.path.join(folder, "gate")
@@ -140,11 +140,11 @@ class Gate:
 
     @property
     def frame(self) -> bytes:
-        """The plain server's request that waits here."""
+        """Returns the request with which the plain server waits here."""
         return plain(HOLD, self.path.encode())
 
     def is_reached(self) -> bool:
-        """Whether a server has come to wait here. It does until it is let go."""
+        """Returns whether a server comes to wait here. It waits until it is released."""
         if self.writer is None:
             # Nobody reads from the pipe as long as this fails.
             with contextlib.suppress(OSError):
@@ -167,8 +167,8 @@ runpy.run_module(sys.argv.pop(1), run_name="__main__", alter_sys=True)
 
 
 class Broker:
-    """A broker that runs, in a folder of its own: of one server unless told, or of as many as the
-    broker takes by itself where `servers` is None; started by the words `before` its own."""
+    """A running broker in a folder of its own. It has one server by default, or as many as the
+    broker chooses if `servers` is None. The words `before` come before its command."""
 
     module = "feqyldan.broker"
 
@@ -203,12 +203,12 @@ class Broker:
         self.close()
 
     def words(self) -> str:
-        """What it has written to standard error so far."""
+        """Returns what it has written to standard error so far."""
         with open(self.log.name) as log:
             return log.read()
 
     def wait_for(self, condition: Callable[[], bool]) -> bool:
-        """Whether something becomes so in time, while the broker runs or right after."""
+        """Returns whether something becomes true in time, while the broker runs or right after."""
         end = time.monotonic() + LATE
         while time.monotonic() < end:
             if condition():
@@ -225,7 +225,7 @@ class Broker:
         return self.wait_for(lambda: words in self.words())
 
     def state(self) -> Dict[str, Any]:
-        """What its status socket tells."""
+        """Returns the state from its status socket."""
         with socket.socket(socket.AF_UNIX, socket.SOCK_STREAM) as sock:
             sock.settimeout(LATE)
             sock.connect(self.status_path)
@@ -233,7 +233,7 @@ class Broker:
             return dict(json.loads(all_of(sock)))
 
     def has_passed_on(self, size: int) -> bool:
-        """Whether it comes to have begun to write so many bytes of requests to its servers."""
+        """Returns whether it comes to pass on this many bytes of requests to its servers."""
         return self.wait_for(lambda: int(self.state()["bytes_in"]) == size)
 
     def program(self) -> Program:
@@ -259,7 +259,7 @@ class Broker:
 
 
 class Door(Broker):
-    """A door that runs."""
+    """A running door."""
 
     module = "feqyldan.door"
 
@@ -268,7 +268,7 @@ class Door(Broker):
 
 
 def files_of(process: int) -> int:
-    """How many files a process has open."""
+    """Returns how many files a process has open."""
     return len(os.listdir(f"/proc/{process}/fd"))
 
 
@@ -278,7 +278,7 @@ def children_of(process: int) -> List[int]:
 
 
 def runs(process: int) -> bool:
-    """Whether a process is there that hasn't ended."""
+    """Returns whether a process exists and hasn't ended."""
     try:
         with open(f"/proc/{process}/stat") as file:
             return file.read().rpartition(")")[2].split()[0] not in "ZX"
@@ -290,7 +290,7 @@ class BrokerTest(unittest.TestCase):
     kind: "type[Broker]" = Broker
 
     def begin(self, *options: str, **keywords: object) -> Broker:
-        """A broker, as soon as it listens."""
+        """Starts a broker, and returns it once it listens."""
         broker = self.begin_any(*options, **keywords)
         self.assertTrue(broker.listens(), broker.words())
         return broker
@@ -311,8 +311,8 @@ class BrokerTest(unittest.TestCase):
         return program
 
     def asked_of(self, broker: Broker, wanted: List[Tuple[int, int]]) -> bool:
-        """Whether the plain server comes to have been asked just this, beside what this program
-        asks."""
+        """Returns whether the plain server comes to have received exactly these requests, apart
+        from those of this program."""
 
         def is_so() -> bool:
             with broker.program() as program:
@@ -324,6 +324,6 @@ class BrokerTest(unittest.TestCase):
 
 
 def peak_bytes(pid: int) -> int:
-    """The most memory that a process has had at once."""
+    """Returns the peak memory of a process in bytes."""
     with open(f"/proc/{pid}/status") as status:
         return next(int(line.split()[1]) * 1024 for line in status if line.startswith("VmHWM"))

@@ -1,4 +1,4 @@
-"""The programs that stand in documents of the repository."""
+"""The programs in documents of the repository."""
 
 import os
 from typing import Dict, List
@@ -7,8 +7,8 @@ ROOT = os.path.join(os.path.dirname(os.path.abspath(__file__)), "..", "..", ".."
 
 
 def programs_in(*path: str) -> Dict[str, List[str]]:
-    """The programs in Python of a document, by the heading that they stand under; "" for those
-    before the first one but the title."""
+    """Returns the Python programs of a document by their heading; "" for those before the first
+    heading after the title."""
     found: Dict[str, List[str]] = {}
     heading, lines = "", None
     with open(os.path.join(ROOT, *path), encoding="utf-8") as file:

@@ -1,5 +1,6 @@
-"""A server for tests of the broker: answers each frame SUCCESS, and keeps who asked what. Some ops
-do what a vision server's never would.
+"""
+A server for tests of the broker: it answers each frame SUCCESS, and records who asked what. Some
+ops do what a vision server never would.
 
     plain_server.py serve
 """

@@ -1,7 +1,7 @@
 """
-Where the tests find things: the package beside them, the model in tools/checks, and the server's
-program, whose path the environment variable FEQYLDAN_PROGRAM has. Without it the tests that need
-the program are skipped.
+Paths for the tests: the package next to them, the model in tools/checks, and the server's program,
+from the environment variable FEQYLDAN_PROGRAM. Without it the tests that need the program are
+skipped.
 """
 
 import faulthandler
@@ -32,9 +32,9 @@ INTERRUPT = "interrupt"
 
 def answering(*replies, end="", said="", status=0):
     """
-    A server that reads a request for each of these replies, in bytes, and then ends. A number among
-    them has it sleep for so many seconds; INTERRUPT has it interrupt who started it, by SIGALRM,
-    once the next request begins to come and that one waits.
+    Returns a server that reads a request for each of these replies, in bytes, and then ends. For a
+    number among them it sleeps for that many seconds. For INTERRUPT it interrupts its parent by
+    SIGALRM once the next request begins to come and its sender waits.
     """
     script = (
         "import os, signal, sys, time\n"

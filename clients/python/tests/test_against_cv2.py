@@ -1,7 +1,6 @@
 """
-The tables of docs/from_opencv.md, of which each row is run: what stands there under "Here" on the
-program, what stands under "OpenCV's or NumPy's" beside it, on the same pictures. Skipped where
-OpenCV isn't installed.
+Runs each row of the tables of docs/from_opencv.md: the column "Here" on the program, and the column
+"OpenCV's or NumPy's" next to it, on the same pictures. Skipped if OpenCV isn't installed.
 """
 
 import os
@@ -34,7 +33,8 @@ def section(title):
 
 
 def rows_of(title):
-    """The rows of a table: one cell says how far they are apart, where they aren't equal."""
+    """Returns the rows of a table; one cell says by how much the two sides differ if they aren't
+    equal."""
     row = r"^\| ([^`|]*)\|? ?`([^`]+)` \| `([^`]+)` \|(.*)$"
     for cells in re.findall(row, section(title), re.M):
         what, here, there, result = cells
@@ -44,7 +44,7 @@ def rows_of(title):
 
 
 def functions_of(title):
-    """What the program text of a section defines."""
+    """Returns the definitions of a section's program."""
     defined = {"np": np}
     for text in re.findall(r"```python\n(.*?)```", section(title), re.S):
         exec(text, defined)
@@ -52,7 +52,7 @@ def functions_of(title):
 
 
 def pictures(shape):
-    """Pairs of U8 and of S16: of noise, and of extremes alone."""
+    """Returns pairs of U8 and of S16 pictures: noise, and extremes alone."""
     noise = np.random.default_rng(shape[0])
     yield ([noise.integers(0, 256, shape, np.uint8) for _ in range(2)],
            [noise.integers(-32768, 32768, shape, np.int16) for _ in range(2)])
@@ -61,13 +61,13 @@ def pictures(shape):
 
 
 def named(bytes_, shorts):
-    """The arrays of one comparison, by their names in the tables."""
+    """Returns the arrays of one comparison, by their names in the tables."""
     mask = np.where(bytes_[1] > 99, 255, 0).astype(np.uint8)
     return {"a": bytes_[0], "b": bytes_[1], "s": shorts[0], "t": shorts[1], "mask": mask}
 
 
 def shared(shape):
-    """What has one value on both sides."""
+    """Returns the names that have the same value on both sides."""
     height, width = shape
     return {"np": np, "entries": np.random.default_rng(1).permutation(256).astype(np.uint8),
             "rows": ROWS, "turned": np.array(ROWS, np.float32)[::-1, ::-1], "five": [1, 4, 6, 4, 1],
@@ -75,7 +75,7 @@ def shared(shape):
 
 
 def result_here(text, names):
-    """What the last part gives; where that is nothing, the samples of the output it names last."""
+    """Returns the result of the last part, or else the samples of the output that it names last."""
     *before, last = text.split("; ")
     for part in before:
         exec(part, names)
@@ -86,7 +86,7 @@ def result_here(text, names):
 
 
 def numbers(value):
-    """Numbers in one line, whatever they are in: an array, a number, or points among numbers."""
+    """Returns numbers in one line, from an array, a number, or points among numbers."""
     if isinstance(value, tuple):
         return np.concatenate([numbers(part) for part in value])
     return np.asarray(value, np.float64).ravel()
@@ -106,7 +106,7 @@ class TestAgainstOpenCV(ProgramTest):
             "extremes": context.min_max()}
 
     def compare(self, row, arrays):
-        """How far they are apart at most."""
+        """Returns the greatest difference of the two sides."""
         here = numbers(result_here(row.here, self.names_here(arrays)))
         there = numbers(eval(row.there, {"cv2": cv2, **shared(arrays["a"].shape), **arrays}))
         self.assertEqual(here.shape, there.shape)
@@ -116,7 +116,7 @@ class TestAgainstOpenCV(ProgramTest):
         return abs(apart).max()
 
     def compare_all(self, title):
-        """Rows that are said to be apart are so somewhere."""
+        """Checks all rows; those that are said to differ do so for some picture."""
         rows = list(rows_of(title))
         # None of the lines but the heading was taken for something else.
         self.assertEqual(len(rows), len(re.findall(r"^\| ", section(title), re.M)) - 1)

@@ -1,4 +1,4 @@
-"""Images where Python has arrays, pictures and copies: NumPy, notebooks, copy and pickle."""
+"""Images as Python's arrays, pictures and copies: NumPy, notebooks, copy and pickle."""
 
 import array
 import copy
@@ -63,7 +63,7 @@ class TestArrays(ProgramTest):
         self.assertEqual(image.read().tolist(), [[1, 2]])
 
     def test_both_signatures(self):
-        """NumPy 1 calls it with nothing or a type; NumPy 2 says too whether a copy may be made."""
+        """NumPy 1 calls it with nothing or a type; NumPy 2 also says whether a copy may be made."""
         image = self.context.image_from([[1, 2]])
         for pixels in (image.__array__(), image.__array__(None), image.__array__("int32"),
                        image.__array__(copy=True),
@@ -177,7 +177,7 @@ class TestCopies(ProgramTest):
 
 class TestManyContexts(ProgramTest):
     def test_numbers_are_found_without_a_search(self):
-        """So that a thousand contexts take a thousand steps, and no number is had twice."""
+        """A thousand contexts take a thousand steps, and no number is given twice."""
         contexts = [self.server.context() for _ in range(1000)]
         self.assertEqual({context.number for context in contexts}, set(range(1, 1001)))
         for context in contexts[::2]:

@@ -1,4 +1,4 @@
-"""What an object shows of itself: attributes that can be read, names, values, usage."""
+"""The attributes of objects: those that can be read, names, values, usage."""
 
 import gc
 import inspect
@@ -113,13 +113,14 @@ class TestUsage(ProgramTest):
         self.assertEqual(self.context.usage(), (0, 1024, 0, 1000))
 
     def test_what_is_gone_is_forgotten(self):
-        """However many objects come and go."""
+        """Usage stays small, however many objects come and go."""
         for _ in range(3000):
             self.context.min_max()
         self.assertLess(len(self.context._used._sizes), 200)
 
     def test_it_is_the_servers_count(self):
-        """What is left of the quota by this count has room, and a byte more has none."""
+        """An image of the bytes left in the quota by this count can be created, and one of a byte
+        more can't."""
         source, kept = self.context.image(vx.U8, 10, 10), self.context.image(vx.U8, 10, 10)
         graph = self.context.graph()
         graph.not_(source, kept)

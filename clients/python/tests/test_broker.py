@@ -23,7 +23,8 @@ BAD_LENGTHS = (0, 1, 2, 536_870_913, 4_294_967_295)
 
 
 class Frames(BrokerTest):
-    """Frames go in and come back whole, each connection's under a number of its own."""
+    """Frames are passed on and come back whole, those of each connection under a number of its
+    own."""
 
     def test_each_connection_has_a_number_of_its_own(self) -> None:
         broker = self.begin()
@@ -85,7 +86,8 @@ class Frames(BrokerTest):
 
 
 class Ends(BrokerTest):
-    """A connection that ends, or is ended, has its context released, and stops nobody else."""
+    """The context of a connection that ends, or is ended, is released, and other connections go
+    on."""
 
     def test_a_context_is_released_before_its_number_comes_back(self) -> None:
         broker = self.begin("--connections", "1")
@@ -116,8 +118,8 @@ class Ends(BrokerTest):
         self.assertTrue(self.asked_released(broker, 5))
 
     def asked_released(self, broker: Broker, times: int) -> bool:
-        """Whether op 1 comes to be asked so many times, each with a ReleaseContext of the same
-        number after it."""
+        """Returns whether op 1 comes to be asked this many times, each followed by a ReleaseContext
+        of the same number."""
 
         def is_so() -> bool:
             with broker.program() as program:
@@ -312,7 +314,7 @@ sys.exit(got != wanted)
 
 
 class Turns(BrokerTest):
-    """Nobody waits for more than one request of each other connection."""
+    """A connection waits for at most one request of each other connection."""
 
     def test_a_flood_gets_its_turn_and_no_more(self) -> None:
         broker = self.begin()

@@ -1,5 +1,5 @@
-"""What a hostile program, or a machine that has too little, can do to the broker and to the door:
-with a plain server (plain_server.py)."""
+"""Attacks of hostile programs, and want of resources, on the broker and the door, with a plain
+server (plain_server.py)."""
 
 import array
 import contextlib
@@ -34,13 +34,13 @@ SHORT = wire.QUERY_IMAGE
 
 
 def refusing() -> bool:
-    """Whether this Linux can have a socket refuse descriptors."""
+    """Returns whether a socket can refuse descriptors on this Linux."""
     with socket.socket(socket.AF_UNIX) as sock:
         return descriptors.refuse(sock)
 
 
 class Lingering:
-    """TCP sockets with unsent bytes, whose last close waits as long as nobody reads them."""
+    """TCP sockets with unsent bytes: the last close waits as long as nobody reads them."""
 
     def __init__(self, count: int) -> None:
         pairs = [self.pair() for _ in range(count)]
@@ -62,15 +62,15 @@ class Lingering:
         return sender, peer
 
     def send(self, sock: socket.socket, data: bytes) -> None:
-        """Sends them, so that the last copies are on their way. Raises PermissionError where they
-        are refused."""
+        """Sends the descriptors, so that the last copies are under way. Raises PermissionError if
+        they are refused."""
         numbers = array.array("i", [sender.fileno() for sender in self.senders])
         sock.sendmsg([data], [(socket.SOL_SOCKET, socket.SCM_RIGHTS, numbers)])
         for sender in self.senders:
             sender.close()
 
     def close(self) -> None:
-        """Nobody waits for them from now on."""
+        """Closes the sockets; nobody waits for them after that."""
         for sock in self.senders:
             with contextlib.suppress(OSError):
                 sock.setsockopt(socket.SOL_SOCKET, socket.SO_LINGER, struct.pack("ii", 1, 0))
@@ -79,10 +79,10 @@ class Lingering:
 
 
 class Descriptors(BrokerTest):
-    """Who sends descriptors along has nobody else wait for them to be closed."""
+    """A program that sends descriptors doesn't delay others while they are closed."""
 
     def attack(self, broker: Broker, path: str, data: bytes) -> socket.socket:
-        """Sends descriptors while the broker can't look, so that it has the last copies of them."""
+        """Sends descriptors while the broker is stopped, so that it has the last copies of them."""
         sock = socket.socket(socket.AF_UNIX, socket.SOCK_STREAM)
         self.addCleanup(sock.close)
         sock.connect(path)
@@ -107,7 +107,7 @@ class Descriptors(BrokerTest):
                     self.attack(broker, path, plain(1))
 
     def test_they_are_closed_elsewhere_where_it_cant(self) -> None:
-        """Those of a connection, of one that is turned away, of one that asks for the state and of
+        """Those of a connection, of one that is turned away, of one that asks for the state, and of
         one that is closed before it is read."""
         for self.kind in (Broker, Door):
             broker = self.begin("--connections", "3", tells_state=True, refuses_descriptors=False)
@@ -129,7 +129,7 @@ class Descriptors(BrokerTest):
             self.assertEqual(broker.stop(), 0)
 
     def test_they_wait_in_a_connection_that_was_never_accepted(self) -> None:
-        """The end of a broker or a door isn't held up by them."""
+        """They don't delay the end of a broker or a door."""
         for self.kind in (Broker, Door):
             broker = self.begin(tells_state=True, refuses_descriptors=False)
             broker.process.send_signal(signal.SIGSTOP)
@@ -152,7 +152,7 @@ class Descriptors(BrokerTest):
 
 
 class StandardError(BrokerTest):
-    """Lines wait for nobody."""
+    """Lines on standard error never wait for their reader."""
 
     def bad(self, broker: Broker) -> None:
         with broker.program() as program:
@@ -198,7 +198,7 @@ class StandardError(BrokerTest):
 
 
 class Memory(BrokerTest):
-    """Half frames and replies of all connections together."""
+    """The memory of half frames and replies, over all connections."""
 
     def test_the_one_that_has_most_is_ended_where_there_would_be_too_much(self) -> None:
         broker = self.begin("--total-held", "20000000", tells_state=True)
@@ -259,7 +259,7 @@ class Memory(BrokerTest):
 
 
 class Turns(BrokerTest):
-    """Who waits for whom."""
+    """Which connections wait for which."""
 
     def test_a_short_request_after_another_is_before_a_long_one(self) -> None:
         """One long turn for three short requests or so, and not for each."""
@@ -356,7 +356,7 @@ def listen_together(path: str, barrier: Any, heard: Any, is_over: Any) -> None:
 
 
 class Beginning(BrokerTest):
-    """Two at one path, and too few files."""
+    """Starting: two brokers at one path, and too few files."""
 
     def test_of_those_that_begin_together_one_listens(self) -> None:
         processes = multiprocessing.get_context("fork")
@@ -412,7 +412,7 @@ class Beginning(BrokerTest):
         self.assertNotIn("Too many open files", broker.words())
 
     def test_no_loop_spins_where_no_file_is_left(self) -> None:
-        """Not even where more ask for the state than there are files for."""
+        """Not even if more connections ask for the state than there are files."""
         for self.kind in (Broker, Door):
             broker = self.begin("--connections", "1", tells_state=True)
             process = broker.process.pid

@@ -1,5 +1,6 @@
-"""50 programs at once at the broker, some of them hostile, with the vision server: each reply is
-compared with the model's in tools/checks/model.
+"""
+50 programs use the broker at the same time, some of them hostile, with the vision server. Each
+reply is compared with that of the model in tools/checks/model.
 
 The program is the one that the environment variable FEQYLDAN_PROGRAM names; without it the tests
 are skipped.
@@ -35,7 +36,8 @@ TURNED_AWAY = wire.reply_frame(CLIENT, wire.OPEN_CONTEXT, wire.NO_RESOURCES)
 
 
 def well_behaved(path: str, seed: int, _: object) -> None:
-    """Random requests, good and bad, each of whose replies is the model's of this program alone."""
+    """Sends random requests, good and bad, and compares each reply with the model's for this
+    program alone."""
     from checks.streams.stream import Stream
     stream = Stream(seed, False)
     while len(stream.frames) < 150:
@@ -59,7 +61,7 @@ def write_of(side: int) -> bytes:
 
 
 def half_frame_and_end(path: str, seed: int, is_over: "multiprocessing.Event") -> None:
-    """Again and again, at any byte."""
+    """Ends the connection within a frame again and again, at any byte."""
     frames = wire.open_context(CLIENT) + wire.create_image(CLIENT, wire.U8, 8, 8) + write_of(8)
     rng = random.Random(seed)
     while not is_over.wait(0.02):
@@ -68,7 +70,7 @@ def half_frame_and_end(path: str, seed: int, is_over: "multiprocessing.Event") -
 
 
 def half_frame_and_wait(path: str, _: int, is_over: "multiprocessing.Event") -> None:
-    """It is ended by the broker's patience; then it comes again."""
+    """Waits within a frame until the broker's patience ends the connection, and connects again."""
     while not is_over.is_set():
         with Program(path) as program:
             program.send(wire.open_context(CLIENT) + write_of(200)[:-1])
@@ -89,8 +91,8 @@ def bad_lengths(path: str, _: int, is_over: "multiprocessing.Event") -> None:
 
 
 def takes_no_replies(path: str, _: int, is_over: "multiprocessing.Event") -> None:
-    """Reads an image again and again and takes none of the replies, until it is ended; then it
-    comes again."""
+    """Reads an image again and again without taking the replies, until the connection is ended, and
+    connects again."""
     is_first = True
     while is_first or not is_over.is_set():
         with contextlib.suppress(BrokenPipeError, ConnectionResetError), Program(path) as program:
@@ -103,8 +105,8 @@ def takes_no_replies(path: str, _: int, is_over: "multiprocessing.Event") -> Non
 
 
 def flood(program: Program, is_over: "multiprocessing.Event") -> float:
-    """Sends as fast as it can and takes its replies, until it is over or the broker ends it; the
-    longest time in which it took none."""
+    """Sends as fast as it can and takes its replies, until the time is over or the broker ends it.
+    Returns the longest time in which it took none."""
     waiting, longest, took_at = b"", 0.0, time.monotonic()
     while not is_over.is_set():
         waiting = waiting or wire.bitwise_not(CLIENT, 1, 1) * 1000
@@ -124,8 +126,8 @@ def flood(program: Program, is_over: "multiprocessing.Event") -> float:
 
 
 def floods(path: str, _: int, is_over: "multiprocessing.Event") -> None:
-    """A flood is ended by the broker's patience alone, where the machine left it no time to take
-    its replies; then it comes again."""
+    """Floods. Only the broker's patience ends it, when the machine left no time to take its
+    replies; then it connects again."""
     while not is_over.is_set():
         with Program(path) as program:
             program.send(wire.open_context(CLIENT))
@@ -141,15 +143,15 @@ def floods(path: str, _: int, is_over: "multiprocessing.Event") -> None:
 
 
 def comes_and_goes(path: str, _: int, is_over: "multiprocessing.Event") -> None:
-    """Ends before its replies come, as fast as it can."""
+    """Connects and ends before its replies come, as fast as it can."""
     while not is_over.is_set():
         with contextlib.suppress(BrokenPipeError, ConnectionResetError), Program(path) as program:
             program.send(wire.open_context(CLIENT) + wire.create_image(CLIENT, wire.U8, 8, 8) * 5)
 
 
 def looks_for_others(path: str, seed: int, is_over: "multiprocessing.Event") -> None:
-    """Asks under all numbers for what others may have: it finds nothing, and can release nobody's
-    context."""
+    """Asks under all client numbers for objects of others. It finds none, and can't release
+    another's context."""
     rng = random.Random(seed)
     with Program(path) as program:
         while not is_over.is_set():
@@ -164,7 +166,7 @@ def looks_for_others(path: str, seed: int, is_over: "multiprocessing.Event") -> 
 
 
 def sends_descriptors(path: str, _: int, is_over: "multiprocessing.Event") -> None:
-    """Where they aren't refused they are closed by whoever reads them."""
+    """Sends descriptors. If they aren't refused, the reader closes them."""
     reader, writer = os.pipe()
     numbers = struct.pack("i", writer) * 50
     sent = [(socket.SOL_SOCKET, socket.SCM_RIGHTS, numbers)]
@@ -181,7 +183,7 @@ HOSTILE = {
 
 
 def run_and_exit(role: Callable, *words: object) -> None:
-    """What a child process does; its status says whether it found a fault."""
+    """Runs a child process; its status says whether it found a fault."""
     try:
         role(*words)
     except BaseException:  # noqa: B902
@@ -191,7 +193,7 @@ def run_and_exit(role: Callable, *words: object) -> None:
 
 
 class Crowd(BrokerTest):
-    """50 programs at once, of which 14 are hostile."""
+    """50 programs at the same time, of which 14 are hostile."""
 
     # So many that no process can take another's: 36 of one connection, and 14 of at most 4.
     OPTIONS = ("--patience", str(PATIENCE), "--connections", "100", "--per-process", "4")
@@ -199,7 +201,7 @@ class Crowd(BrokerTest):
     def serve_all(self, *options: str, honest: Callable = well_behaved,
                   meanwhile: Callable[[Broker], None] = lambda _: None,
                   **keywords: Any) -> Broker:
-        """Has them all be served, and looks at what each says of its replies."""
+        """Serves all of them, and checks what each reports of its replies."""
         broker = self.begin_any(*self.OPTIONS, *options, command=[str(PROGRAM), "serve"],
                                 tells_state=True, **keywords)
         self.assertTrue(broker.wait_for(lambda: os.path.exists(broker.status_path)))
@@ -233,13 +235,13 @@ class Crowd(BrokerTest):
         return broker
 
     def check_hostile(self, failed: Set[str]) -> None:
-        """What those say of what became of them."""
+        """Checks the reports of the hostile programs."""
         self.assertEqual(failed, set())
 
 
 @unittest.skipUnless(PROGRAM, "FEQYLDAN_PROGRAM doesn't name the server's program")
 class ManyPrograms(Crowd):
-    """At the broker."""
+    """The crowd at the broker."""
 
     def test_each_gets_what_it_would_get_alone(self) -> None:
         self.check_after(self.serve_all())
@@ -248,14 +250,14 @@ class ManyPrograms(Crowd):
         self.check_after(self.serve_all("--servers", "4"))
 
     def check_after(self, broker: Broker) -> None:
-        """All contexts are released: a newcomer has none, whatever number it gets."""
+        """Checks that all contexts are released: a newcomer has none, whatever its number."""
         for _ in range(100):
             self.assertTrue(broker.wait_for(lambda: self.has_nothing(broker)))
         self.assertEqual(broker.stop(), 0)
 
     def has_nothing(self, broker: Broker) -> bool:
-        """Whether a newcomer finds nothing of others; not yet, where it is turned away since those
-        before it are still being released."""
+        """Returns whether a newcomer finds no objects of others; False if it is turned away because
+        earlier connections are still being released."""
         with broker.program() as program:
             code = wire.code_of(program.ask(wire.read_image(CLIENT, 1)))
             if code == wire.NO_RESOURCES:

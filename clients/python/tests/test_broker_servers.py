@@ -1,6 +1,6 @@
-"""The broker's servers, how it begins and ends, and what it tells an operator: with a plain server
-(plain_server.py), and where the environment variable FEQYLDAN_PROGRAM has the path of the server's
-program with that."""
+"""The broker's servers, its start and end, and what it reports to an operator: with a plain server
+(plain_server.py), and with the server's program if the environment variable FEQYLDAN_PROGRAM has
+its path."""
 
 import json
 import os
@@ -31,7 +31,7 @@ HasFileno = Union[socket.socket, IO[Any]]
 
 
 class TheServer(BrokerTest):
-    """A server's end is that of its connections alone."""
+    """The end of a server ends only its own connections."""
 
     def test_its_end_is_told_to_its_connections_and_another_begins(self) -> None:
         broker = self.begin()
@@ -184,7 +184,7 @@ class TheServer(BrokerTest):
             self.assertEqual(broker.stop(), 0)
 
     def test_signals_end_it_after_what_was_asked(self) -> None:
-        """A terminal and some managers send them to the whole group: the servers aren't in it."""
+        """A terminal and some service managers signal the whole group; the servers aren't in it."""
         for which in (signal.SIGTERM, signal.SIGINT):
             broker = self.begin()
             busy, idle = self.connect(broker), self.connect(broker)
@@ -241,7 +241,7 @@ class TheServer(BrokerTest):
 
 
 def address_space_of(process: int) -> str:
-    """How many bytes of addresses a process may have."""
+    """Returns the limit of a process's address space in bytes."""
     with open(f"/proc/{process}/limits") as limits:
         return next(line for line in limits if line.startswith("Max address space")).split()[3]
 
@@ -280,7 +280,7 @@ class Memory(BrokerTest):
         self.assertEqual(broker.stop(), 0)
 
     def test_the_limits_of_control_groups(self) -> None:
-        """Unless it is told, the servers have three quarters of what the least of them allows."""
+        """By default the servers have three quarters of the lowest of these limits."""
         own = "5:cpu,memory:/a/b\n1:name=systemd:/\n0::/c/d"
         for limits, least in (({}, None), ({"c/memory.max": "400000000"}, 400_000_000),
                               ({"memory.max": "max", "c/d/memory.max": "300000000"}, 300_000_000),
@@ -308,7 +308,7 @@ class Memory(BrokerTest):
             self.assertEqual(address_space_of(server["process"]), limit)
 
     def test_a_limit_on_the_broker_itself_holds_for_each_server(self) -> None:
-        """As LimitAS= of a unit and `ulimit -v` in a shell set it: no server gets more."""
+        """A limit as LimitAS= of a unit and `ulimit -v` in a shell set it: no server gets more."""
         allowed = 2**32
         before = ["sh", "-c", f'ulimit -v {allowed // 1024} && exec "$@"', "sh"]
         for words, limit in ((["--memory", str(2 * allowed)], allowed),
@@ -320,7 +320,7 @@ class Memory(BrokerTest):
 
 
 class Status(BrokerTest):
-    """What an operator is told."""
+    """What an operator can see."""
 
     def test_the_state(self) -> None:
         broker = self.begin("--servers", "2", tells_state=True)
@@ -407,8 +407,8 @@ class Status(BrokerTest):
             ("servers_ended_total", state["servers_ended"]))})
 
     def metrics(self, text: str) -> Dict[str, Dict[str, float]]:
-        """The values of each metric by its labels, as Prometheus' text format has them: first what
-        it is, then of which type, then the values."""
+        """Returns the values of each metric by its labels, in Prometheus' text format: first its
+        help, then its type, then the values."""
         found: Dict[str, Dict[str, float]] = {}
         for line in text.splitlines():
             described = re.fullmatch(r"# HELP feqyldan_([a-z_]+) (\S.*)\.", line)
@@ -496,7 +496,7 @@ class Status(BrokerTest):
 
 
 class Beginning(BrokerTest):
-    """The socket's file, the command line, and what a service manager is told."""
+    """The socket's file, the command line, and the notifications of a service manager."""
 
     def test_the_socket_is_its_owner_s_alone_unless_asked(self) -> None:
         for options, mode in (((), 0o600), (("--mode", "0660"), 0o660), (("--mode", "666"), 0o666)):
@@ -571,7 +571,8 @@ class Beginning(BrokerTest):
                 self.assertTrue(os.path.exists(path))
 
     def test_the_second_socket_that_is_handed_over_tells_the_state(self) -> None:
-        """As feqyldan.socket has them. Whoever came while there was no broker is served by it."""
+        """The sockets are as in feqyldan.socket. Programs that connected while there was no broker
+        are served by it."""
         with tempfile.TemporaryDirectory() as folder:
             held = [self.listening(os.path.join(folder, name)) for name in ("socket", "status")]
             early = [Program(os.path.join(folder, "socket")) for _ in range(3)]
@@ -607,7 +608,8 @@ class Beginning(BrokerTest):
         return held
 
     def hand_over(self, *held: HasFileno, process: str = "$$") -> "subprocess.Popen[bytes]":
-        """A broker with sockets as its descriptors from 3 on, as a service manager starts it."""
+        """Returns a broker with sockets as its descriptors from 3 on, as a service manager starts
+        it."""
         # First to places that none of them has.
         moves = [f"exec {100 + k}<&{one.fileno()}" for k, one in enumerate(held)]
         moves += [f"exec {3 + k}<&{100 + k}" for k in range(len(held))]

@@ -1,4 +1,4 @@
-"""Pictures over a local cluster of two worker processes, one of which is killed in the middle."""
+"""Pictures on a local cluster of two worker processes, one of which is killed in the middle."""
 
 import functools
 import multiprocessing
@@ -24,7 +24,7 @@ WIDTH, HEIGHT, PICTURES = 8, 6, 60
 
 
 def inverse(context, width, height):
-    """A graph that turns the bits over, by way of a virtual image."""
+    """Returns a graph that inverts the bits, through a virtual image."""
     source, target = context.image(vx.U8, width, height), context.image(vx.U8, width, height)
     graph = context.graph()
     between = graph.virtual_image()
@@ -34,14 +34,14 @@ def inverse(context, width, height):
 
 
 def held_inverse(path, context, width, height):
-    """The same; the widest are built once there is a file at a path."""
+    """The same, but the widest graphs are built only once a file exists at a path."""
     while width == WIDTH and not os.path.exists(path):
         time.sleep(0.01)
     return inverse(context, width, height)
 
 
 def looping(context, width, height):
-    """A graph that can't run."""
+    """Returns a graph that can't run."""
     image = context.image(vx.U8, width, height)
     graph = context.graph()
     graph.not_(image, image)
@@ -65,13 +65,13 @@ def worker_process():
 
 
 def servers():
-    """The processes of this worker's servers."""
+    """Returns the processes of this worker's servers."""
     from feqyldan import dask
     return [station.server._process.pid for station in dask.STATIONS.values()]
 
 
 def is_running(process):
-    """Whether a process is there, and no zombie."""
+    """Returns whether a process exists and is no zombie."""
     try:
         with open(f"/proc/{process}/stat") as file:
             return file.read().rpartition(")")[2].split()[0] != "Z"
@@ -88,7 +88,7 @@ class TestRefusals(unittest.TestCase):
 
 
 class NoClient:
-    """A client that nothing reaches."""
+    """A client that must not be used."""
 
     def map(self, *_, **__):
         raise AssertionError("something was sent")

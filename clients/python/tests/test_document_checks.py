@@ -1,4 +1,4 @@
-"""tools/check_documents finds what is planted in the documents and in its list of names."""
+"""tools/check_documents finds faults that are planted in the documents and in its list of names."""
 
 import unittest
 

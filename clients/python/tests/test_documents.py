@@ -1,5 +1,5 @@
-"""The programs in docs/python.md run, and do what stands beside them; its table of functions is
-right. Those of the other documents are in test_examples.py, test_against_cv2.py and
+"""The programs in docs/python.md run, and do what the text says; its table of functions is right.
+Programs of other documents are in test_examples.py, test_against_cv2.py and
 test_broker_programs.py."""
 
 import asyncio
@@ -47,7 +47,7 @@ class TestAll(unittest.TestCase):
 
 @needs_program
 class TestWhole(unittest.TestCase):
-    """Programs that are there from the first line to the last, each in a folder of its own."""
+    """Complete programs, each in a folder of its own."""
 
     def setUp(self):
         folder = tempfile.TemporaryDirectory()
@@ -91,7 +91,7 @@ class TestWhole(unittest.TestCase):
 
 
 class TestParts(ProgramTest):
-    """Programs that use what the text around them speaks of."""
+    """Programs that use names of the text around them."""
 
     def setUp(self):
         super().setUp()
@@ -100,7 +100,7 @@ class TestParts(ProgramTest):
                       **TYPES}
 
     def run_part(self, heading, which=0, **names):
-        """What it calls its results."""
+        """Runs a part of a document, and returns its results."""
         self.names.update(names)
         exec(PROGRAMS[heading][which], self.names)
         return self.names
@@ -189,7 +189,7 @@ class TestRecipes(ProgramTest):
                           + 50).repeat(5, 0).repeat(5, 1)
 
     def scratched(self):
-        """The reference two pixels to the right, with a bright square."""
+        """Returns the reference, moved two pixels to the right, with a bright square."""
         part = numpy.roll(self.reference, 2, 1)
         part[:, :2] = self.reference[:, :2]
         part[10:20, 12:22] = 255
@@ -230,7 +230,7 @@ class TestRecipes(ProgramTest):
             self.assertEqual(counts.read()[value // 16], 30)
 
     def test_a_part_of_a_wide_picture(self):
-        """As the text has it for S16; and the valid rectangle of the picture itself is lost."""
+        """As the text says for S16; the picture's own valid rectangle is lost."""
         camera, window = (self.context.image(vx.S16, SIDE, SIDE) for _ in range(2))
         window.fill(-32768)
         window.valid = (10, 20, 25, 22)

@@ -1,6 +1,6 @@
-"""The door: a server for each connection, its limits, its ends and what it tells, with a plain
-server (plain_server.py), and where the environment variable FEQYLDAN_PROGRAM has the path of the
-server's program with that."""
+"""The door: a server for each connection, its limits, ends and reports, with a plain server
+(plain_server.py), and with the server's program if the environment variable FEQYLDAN_PROGRAM has
+its path."""
 
 import os
 import re
@@ -30,18 +30,19 @@ class DoorTest(BrokerTest):
     kind = Door
 
     def server_of(self, door: Broker, at: int = -1) -> int:
-        """The process of a server, by default of the one that began last."""
+        """Returns the process of a server, by default of the last one."""
         process: int = door.state()["servers"][at]["process"]
         return process
 
     def has_nothing(self, door: Broker) -> bool:
-        """Whether no server is left, and the door has no more files than one that has begun."""
+        """Returns whether no server is left, and the door has no more open files than at its
+        start."""
         return door.wait_for(lambda: not children_of(door.process.pid)
                              and not door.state()["servers"])
 
 
 class Connections(DoorTest):
-    """Each has a server of its own, and the door is in nobody's way."""
+    """Each connection has a server of its own, and the door delays nobody."""
 
     def test_each_has_a_server_of_its_own(self) -> None:
         door = self.begin(tells_state=True)
@@ -101,7 +102,7 @@ class Connections(DoorTest):
 
 
 class Ends(DoorTest):
-    """A connection that ends is a server that ends, and nothing of it is left."""
+    """When a connection ends, its server ends, and nothing of it is left."""
 
     def test_nothing_is_left_of_those_that_came_and_went(self) -> None:
         door = self.begin(tells_state=True)
@@ -294,7 +295,7 @@ class Limits(DoorTest):
                          ("1234\t" * 3 + "1234", "4321\t" * 3 + "4321", ""))
 
     def test_so_many_files_as_connections(self) -> None:
-        """Under a low limit on open files it says so, or serves all of its connections."""
+        """Under a low limit on open files the door says so, or serves all of its connections."""
         low = ("prlimit", "--nofile=300:300")
         door = self.begin_any(before=low)
         self.assertEqual(door.status(), 2)
@@ -309,7 +310,7 @@ class Limits(DoorTest):
 
 
 class Programs(DoorTest):
-    """Which program is started."""
+    """The program that is started."""
 
     def write(self, path: str, text: str) -> None:
         os.makedirs(os.path.dirname(path), exist_ok=True)
@@ -350,7 +351,7 @@ class Programs(DoorTest):
             self.assertEqual(self.connect(door).ask(plain(1)), success(1))
 
     def test_a_package_s_starter_is_asked_once(self) -> None:
-        """The door starts what the starter would."""
+        """The door starts the program that the starter would start."""
         with tempfile.TemporaryDirectory() as folder:
             starter = os.path.join(folder, "bin", "feqyldan")
             self.write(starter, "#!/bin/sh\nexit 9\n")
@@ -380,7 +381,7 @@ class Programs(DoorTest):
 
 
 class Telling(DoorTest):
-    """What an operator, and a service manager, are told."""
+    """What an operator and a service manager can see."""
 
     def test_the_state(self) -> None:
         door = self.begin("--connections", "2", tells_state=True)

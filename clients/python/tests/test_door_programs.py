@@ -1,5 +1,6 @@
-"""50 programs at once at the door, some of them hostile, with the vision server: each reply is
-compared with the model's in tools/checks/model, and nothing is left over.
+"""
+50 programs use the door at the same time, some of them hostile, with the vision server. Each reply
+is compared with that of the model in tools/checks/model, and nothing is left over.
 
 The program is the one that the environment variable FEQYLDAN_PROGRAM names; without it the tests
 are skipped.
@@ -24,7 +25,7 @@ import feqyldan as vx
 
 
 def stream_of(seed: int) -> Any:
-    """Random requests, good and bad, with the model's replies to this program alone."""
+    """Returns random requests, good and bad, with the model's replies to this program alone."""
     from checks.streams.stream import Stream
     stream = Stream(seed, False)
     while len(stream.frames) < 150:
@@ -33,8 +34,8 @@ def stream_of(seed: int) -> Any:
 
 
 def until_all_are_answered(path: str, seed: int, _: object) -> None:
-    """Each reply is the model's. Where the connection ends it is made again, and asks from the
-    beginning, as a program does that builds its context again."""
+    """Sends requests until all are answered; each reply is the model's. If the connection ends, it
+    connects again and starts from the beginning, as a program does that rebuilds its context."""
     stream, answered = stream_of(seed), 0
     while answered < len(stream.frames):
         answered = 0
@@ -57,7 +58,8 @@ class ManyPrograms(Crowd):
     OPTIONS = (*Crowd.OPTIONS, "--idle", str(PATIENCE))
 
     def check_after(self, door: Broker) -> None:
-        """No process, no file, no memory: a newcomer finds what the first one found."""
+        """Checks that no process, file or memory is left: a newcomer finds what the first one
+        found."""
         process = door.process.pid
         self.assertTrue(door.wait_for(lambda: not children_of(process)))
         state = door.state()
@@ -76,7 +78,7 @@ class ManyPrograms(Crowd):
         self.check_after(self.serve_all())
 
     def test_where_no_file_is_left_over(self) -> None:
-        """As many as its connections need."""
+        """The door has only as many files as its connections need."""
         self.check_after(self.serve_all(before=("prlimit", "--nofile=356:356")))
 
     def test_where_the_disk_for_its_lines_is_full(self) -> None:
@@ -105,12 +107,12 @@ class ManyPrograms(Crowd):
         self.check_after(door)
 
     def check_hostile(self, failed: Set[str]) -> None:
-        """Their connections end where a server is killed, before what they wait for."""
+        """Checks that their connections end when a server is killed, before their replies come."""
         if "killed" not in self._testMethodName:
             super().check_hostile(failed)
 
     def test_where_the_door_is_killed(self) -> None:
-        """Programs that are there go on, each with the replies that it would get."""
+        """Running programs go on, each with the same replies."""
         door = self.begin("--connections", "36", command=[str(PROGRAM), "serve"], tells_state=True)
         streams = [stream_of(seed) for seed in range(36)]
         programs = [self.connect(door) for _ in streams]
@@ -213,7 +215,7 @@ class EachWay(Crowd):
 
     @unittest.skipUnless(shutil.which("systemd-socket-activate"), "systemd isn't there")
     def test_systemd(self) -> None:
-        """As feqyldan.socket has it start a server: Accept=yes, StandardInput=socket."""
+        """systemd starts a server as feqyldan.socket says: Accept=yes, StandardInput=socket."""
         with tempfile.TemporaryDirectory() as folder:
             path = os.path.join(folder, "socket")
             run = subprocess.Popen(["systemd-socket-activate", "--accept", "--inetd", "-l", path,

@@ -1,4 +1,4 @@
-"""What is raised: a class for each code, and the ends of servers."""
+"""Exceptions: a class for each status code, and the ends of servers."""
 
 import os
 import pickle
@@ -53,7 +53,7 @@ class TestNames(unittest.TestCase):
             self.assertIn(f"`vx.{kind.__name__}`", manual)
 
     def below(self, kind):
-        """The class and all of this package that inherit from it."""
+        """Returns the class and all of its subclasses in this package."""
         ours = (other for other in kind.__subclasses__() if other.__module__.startswith("feqyldan"))
         return {kind}.union(*map(self.below, ours))
 
@@ -90,7 +90,7 @@ class TestRefusals(ProgramTest):
             self.context.vxu.threshold(image, 24, image)
 
     def test_each_request_on_an_image_says_its_format_and_size(self):
-        """The server refuses each of them, since it has released what they name."""
+        """The server refuses each of them, because the objects were released."""
         image, deep = self.context.image(vx.U8, 2, 1), self.context.image(vx.S16, 1, 2)
         wide, delay = self.context.image(vx.U32, 3, 1), self.context.delay(deep, 2)
         graph, counts = self.context.graph(), self.context.distribution(2)

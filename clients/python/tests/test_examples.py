@@ -1,4 +1,4 @@
-"""The examples of the repository on the program, and the first program in README.md."""
+"""Runs the examples of the repository, and the first program in README.md."""
 
 import importlib
 import importlib.util
@@ -22,8 +22,8 @@ def text_of(*path):
 
 
 def picture_of(*path):
-    """Width, height, and the rows of bytes of a PNG file: one a pixel where it is grey, else
-    three."""
+    """Returns the width, the height, and the rows of bytes of a PNG file: one byte a pixel for
+    grey, three for colour."""
     with open(os.path.join(*path), "rb") as file:
         width, height, _, _, rows = decoded(file.read())
     return width, height, rows
@@ -41,7 +41,7 @@ class Examples(unittest.TestCase):
         self.folder = folder.name
 
     def run_example(self, name, *words):
-        """What it prints, run in the folder for pictures."""
+        """Runs an example in the folder for pictures, and returns its output."""
         environment = {**os.environ, "PYTHONPATH": os.path.realpath(os.path.join(HERE, "..")),
                        "PYTHONDONTWRITEBYTECODE": "1",
                        "FEQYLDAN_PROGRAM": os.path.realpath(PROGRAM)}
@@ -91,7 +91,7 @@ class Examples(unittest.TestCase):
 
     @unittest.skipUnless(importlib.util.find_spec("cv2"), "OpenCV isn't installed")
     def test_a_video_is_watched(self):
-        """How many frames are dropped is the machine's matter; each is seen or dropped."""
+        """The number of dropped frames depends on the machine; each frame is seen or dropped."""
         seen, times = self.run_example("video.py", self.folder).splitlines()
         numbers = [int(word)
                    for word in seen.replace(",", "").replace(":", "").split() if word.isdigit()]

@@ -1,4 +1,4 @@
-"""Where the server's program is found by who doesn't say where it is."""
+"""Finding the server's program if no path is given."""
 
 import os
 import stat
@@ -25,7 +25,7 @@ class TestFinding(unittest.TestCase):
         os.environ.pop(program.VARIABLE, None)
 
     def put(self, *path):
-        """A file that can be run."""
+        """Writes an executable file."""
         whole = os.path.join(self.folder, *path)
         os.makedirs(os.path.dirname(whole), exist_ok=True)
         with open(whole, "w", encoding="utf-8") as file:

@@ -106,7 +106,7 @@ CASES = (
 
 
 class Operands:
-    """What a case's call takes, and the same in the formulas' terms."""
+    """The operands of a case's call, and the same for the formulas."""
 
     def __init__(self, context, a_case):
         self.context, self.noise = context, random.Random(str(a_case))
@@ -130,7 +130,7 @@ class Operands:
 
 
 def wanted(a_case, things):
-    """What the formulas give to out1 and out2."""
+    """Returns the formulas' results for out1 and out2."""
     row = formulas.FUNCTIONS[vx.FUNCTIONS[a_case.name].number]
     node = formulas.Node(row, formulas.Border(*(a_case.border or vx.UNDEFINED)), a_case.policy,
                          a_case.amount, None)

@@ -22,7 +22,7 @@ PACKAGE = os.path.realpath(os.path.join(HERE, ".."))
 
 
 def station(context):
-    """A graph of all kinds of objects, and its input."""
+    """Returns a graph with all kinds of objects, and its input."""
     camera = context.image(vx.U8, 8, 6, name="camera")
     clean = context.image_from([[x * y for x in range(8)] for y in range(6)], name="clean")
     graph = context.graph(name="station")
@@ -134,7 +134,8 @@ class TestFiles(FolderTest, ProgramTest):
             self.assertEqual([*self.context.load_graph(self.path("a.json")).inputs], ["camera"])
 
     def test_valid_rectangles_come_back(self):
-        """Of an image that is only read, and of sums; statistics count no more than before."""
+        """Valid rectangles of an image that is only read, and of sums; statistics count the same
+        pixels as before."""
         camera, window = (self.context.image(vx.U8, 8, 6, name=name)
                           for name in ("camera", "window"))
         sums, bins = self.context.image(vx.S16, 8, 6), self.context.distribution(1, name="bins")
@@ -432,7 +433,8 @@ class TestCommandLine(FolderTest):
         self.run_command("walk", status=2)
 
     def plain(self, *outputs):
-        """A graph with these outputs in a file, and twelve pictures of two samples, also as PNG."""
+        """Writes a graph with these outputs to a file, and twelve pictures of two samples, also as
+        PNG."""
         image = {"kind": "image", "format": "U8", "width": 2, "height": 1}
         vx.write_pgm(self.path("clean.pgm"), [[0, 0]])
         self.put("plain.json", {
@@ -447,7 +449,7 @@ class TestCommandLine(FolderTest):
                 vx.write_png(self.path(f"{folder}/f{number}.png"), [[number, 0]])
 
     def contents(self, folder):
-        """Its files."""
+        """Returns the files in a folder."""
         return {name: read_bytes(self.path(f"{folder}/{name}"))
                 for name in os.listdir(self.path(folder))}
 
@@ -483,7 +485,7 @@ class TestCommandLine(FolderTest):
         self.run_command(*words)
 
     def test_natural_order(self):
-        """Folders aren't pictures; the folder of the CSV file is made."""
+        """Folders aren't pictures; the folder of the CSV file is created."""
         self.plain("marks")
         os.mkdir(self.path("a/f30.pgm"))
         self.run_command("run", "plain.json", "--in", "a/*.pgm", "--csv", "new/found.csv")

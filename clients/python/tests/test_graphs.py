@@ -18,8 +18,8 @@ class TestGraphs(ProgramTest):
         self.graph = self.context.graph()
 
     def marking(self):
-        """The nodes that mark what differs much from what is around it, as the example of
-        docs/wire.md has them."""
+        """Adds the nodes that mark pixels that differ strongly from their surroundings, as in the
+        example of docs/wire.md."""
         smooth, difference = self.graph.virtual_image(), self.graph.virtual_image(U8, 6, 1)
         return [
             self.graph.threshold(difference, self.context.threshold(U8, above=30), self.target),
@@ -88,7 +88,8 @@ class TestGraphs(ProgramTest):
             camera.age()
 
     def test_sums(self):
-        """Each run adds once, and what reads the sums reads the new ones, in either order."""
+        """Each run adds once, and a node that reads the sums reads the new ones, in either order of
+        adding."""
         for is_shown_first in (False, True):
             picture, sums = self.context.image_from([[10]]), self.context.image(S16, 1, 1)
             shown = self.context.image(U8, 1, 1)

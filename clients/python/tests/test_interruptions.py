@@ -1,8 +1,8 @@
 """
-Interruptions at any moment, as by Ctrl-C: no byte is lost, so the context goes on, or ends without
-a word.
+Interruptions at any moment, as by Ctrl-C: no byte is lost, so the context goes on, or ends
+silently.
 
-feqyldan promises that for an exception that any signal's handler raises. By hand:
+feqyldan promises this for an exception from any signal handler. By hand:
 
     FEQYLDAN_PROGRAM=PROGRAM python3 clients/python/tests/test_interruptions.py 1000
 """
@@ -33,7 +33,7 @@ TIMES, LATEST = 15, 0.004
 
 @contextlib.contextmanager
 def interrupting():
-    """A function that has SIGALRM raise KeyboardInterrupt after so many seconds."""
+    """Returns a function that lets SIGALRM raise KeyboardInterrupt after some seconds."""
     def interrupt(*_):
         raise KeyboardInterrupt
 
@@ -46,7 +46,7 @@ def interrupting():
 
 
 class Loop:
-    """What a station does, again and again."""
+    """The loop of a station."""
 
     def __init__(self, context, width, height, in_pipeline):
         self.context, self.in_pipeline = context, in_pipeline
@@ -78,7 +78,7 @@ class Loop:
 
 
 def interrupt_often(times, width, height, in_pipeline, seed=1):
-    """Interrupts a loop at random moments; each time the same context goes on."""
+    """Interrupts a loop at random moments; the same context goes on each time."""
     chance = random.Random(seed)
     with interrupting() as after, vx.Server(PROGRAM) as server, server.context() as context:
         loop = Loop(context, width, height, in_pipeline)
@@ -102,7 +102,7 @@ class TestAtRandom(unittest.TestCase):
                     interrupt_often(TIMES, width, height, in_pipeline)
 
     def test_what_is_made_is_released(self):
-        """An interruption may lose the name of an image, and not the image."""
+        """An interruption may lose the name of an image, but the image is released."""
         chance = random.Random(2)
         with interrupting() as after, vx.Server(PROGRAM, quota=500_000) as server:
             with server.context() as context:
@@ -151,7 +151,7 @@ def can_lend():
 
 
 def answer_slowly(source, target, got, size):
-    """Reads so many bytes with pauses, and then answers."""
+    """Reads this many bytes with pauses, and then answers."""
     while size:
         got.append(os.read(source, 60_000))
         size -= len(got[-1])
@@ -170,8 +170,8 @@ class TestEachLine(unittest.TestCase):
     """An exception before each line of a connection's code in turn."""
 
     def exchange(self, interrupted_at):
-        """Whether it was interrupted. Four requests of two lengths, whose replies differ, over
-        pipes that hold all requests, and a part of the replies."""
+        """Sends four requests of two lengths with different replies, over pipes that can have all
+        requests and a part of the replies. Returns whether it was interrupted."""
         (theirs, writer), (reader, ours) = os.pipe(), os.pipe()
         enlarge(writer)
         connection = Connection(writer, reader, lambda _: vx.ServerEnded("ended"), lambda: None)
@@ -217,7 +217,8 @@ class TestEachLine(unittest.TestCase):
         return is_interrupted
 
     def test_what_has_no_room_is_sent_later(self):
-        """look() sends it, and changes to what it was taken from don't."""
+        """look() sends what the pipe could not take; later changes of the caller's buffer don't
+        matter."""
         (theirs, writer), (reader, ours) = os.pipe(), os.pipe()
         fcntl.fcntl(writer, 1031, 4096)
         connection = Connection(writer, reader, lambda _: vx.ServerEnded("ended"), lambda: None)
@@ -235,8 +236,8 @@ class TestEachLine(unittest.TestCase):
             os.close(descriptor)
 
     def lend(self, interrupted_at):
-        """Whether it was interrupted, with a picture on its way whose pages are lent: then the
-        program changes it, which its reader doesn't see."""
+        """Sends a picture with lent pages, which the program changes after an interruption; its
+        reader doesn't see the change. Returns whether it was interrupted."""
         (theirs, writer), (reader, ours) = os.pipe(), os.pipe()
         connection = Connection(writer, reader, lambda _: vx.ServerEnded("ended"), lambda: None)
         picture, got, is_interrupted = bytearray(b"1" * 300_000), [], False
@@ -264,8 +265,8 @@ class TestEachLine(unittest.TestCase):
         return is_interrupted
 
     def place(self, interrupted_at):
-        """Whether a read into a place was interrupted: then nothing more comes there, and what is
-        read next is right."""
+        """Reads into a place, and returns whether it was interrupted: then nothing more comes
+        there, and the next read is right."""
         (theirs, writer), (reader, ours) = os.pipe(), os.pipe()
         connection = Connection(writer, reader, lambda _: vx.ServerEnded("ended"), lambda: None)
         place, is_interrupted = memoryview(bytearray(200_000)), False
@@ -332,8 +333,8 @@ class TestEachLine(unittest.TestCase):
 
 class TestStreams(ProgramTest):
     def interrupted(self, number):
-        """Whether a stream was, at the n-th line or return of its code or the locks that it uses.
-        It ends, and another one goes on."""
+        """Returns whether a stream was interrupted at the n-th line or return of its code or the
+        locks that it uses. The stream ends, and another one goes on."""
         loop = self.loop
         trace = Everywhere(number, ("streams.py", "threading.py"), ("line", "return"))
         stream = loop.graph.stream(iter(loop.pictures), loop.part, loop.out)
@@ -396,7 +397,7 @@ print("ended well", flush=True)
 @needs_program
 class TestPrograms(ProcessTest):
     def test_ctrl_c_in_the_plainest_loop(self):
-        """It ends well, and no server is left."""
+        """The program ends normally, and no server is left."""
         chance = random.Random(5)
         for _ in range(5):
             client = self.start(LOOP)
@@ -411,7 +412,8 @@ class TestPrograms(ProcessTest):
 
 class TestQuietEnds(ProgramTest):
     def test_a_server_that_is_gone(self):
-        """Who was told that it ended isn't told again, and who wasn't is."""
+        """A program that got the error that the server ended doesn't get it again, and one that
+        didn't gets it."""
         with self.server.context() as context, context.image(vx.U8, 1, 1):
             os.kill(self.server._process.pid, signal.SIGKILL)
             self.assertRaises(vx.ServerEnded, context.graph)

@@ -1,5 +1,5 @@
-"""Servers that answer what no server of this protocol does: each reply is looked at before memory
-is taken for it, and ends the connection."""
+"""Servers that send replies against the protocol: each reply is checked before memory is allocated
+for it, and ends the connection."""
 
 import os
 import pwd
@@ -75,7 +75,7 @@ class TestLies(unittest.TestCase):
 
 
 class TestOwner(unittest.TestCase):
-    """Who listens at a path is looked at where that is asked for."""
+    """The owner of a listening socket is checked if one is given."""
 
     def setUp(self):
         folder = tempfile.TemporaryDirectory()

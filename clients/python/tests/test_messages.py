@@ -1,4 +1,5 @@
-"""What is said of pictures that aren't any, of formats, and of things that a call doesn't take."""
+"""Messages for values that aren't pictures, for formats, and for arguments that a call doesn't
+take."""
 
 import array
 import os
@@ -60,7 +61,7 @@ class TestPictures(ProgramTest):
 
     @needs_numpy
     def test_the_recipes_are_right(self):
-        """What the messages advise gives the samples that were meant."""
+        """Following the messages' advice gives the intended samples."""
         mono12 = numpy.array([[0, 4095]], numpy.uint16)
         self.holds(self.context.image_from(mono12.astype(numpy.int16)), [[0, 4095]])
         mono16 = numpy.array([[0, 40000, 65535]], numpy.uint16)
@@ -70,7 +71,8 @@ class TestPictures(ProgramTest):
         self.holds(self.context.image_from(mask.astype(numpy.uint8) * 255), [[255, 0]])
 
     def test_one_class_for_a_wrong_frame(self):
-        """Whatever is wrong with it, and whoever says so."""
+        """The class of the exception is the same, whatever is wrong with the frame and whoever
+        finds it."""
         wrong = [[[1, 2]], b"123", None, "part.png", [[1.0] * 4] * 3,
                  array.array("h", range(12)), memoryview(bytes(24)).cast("h", [3, 4])]
         if numpy:
@@ -136,7 +138,7 @@ class TestCalls(ProgramTest):
             graph.verify()
 
     def test_a_threshold_of_another_format(self):
-        """What is advised can be followed: U8 can't be written by absdiff of S16."""
+        """The advice can be followed: U8 can't be written by absdiff of S16."""
         byte, wide = self.context.image(vx.U8, 4, 3), self.context.image(vx.S16, 4, 3)
         graph, limit = self.context.graph(), self.context.threshold(vx.U8, above=9)
         far = graph.virtual_image(name="far")
@@ -162,7 +164,8 @@ class TestCalls(ProgramTest):
             self.context.vxu.threshold(wide, limit, byte)
 
     def test_policies_and_shifts(self):
-        """Neither is taken for the other; what a policy isn't is said with its place."""
+        """Policies and shifts aren't mistaken for each other; an argument that isn't a policy is
+        reported with its position."""
         byte, wide = self.context.image(vx.U8, 4, 3), self.context.image(vx.S16, 4, 3)
         order = r"convert_depth\(input, output, policy, shift\)"
         for functions in (self.context.vxu, self.context.graph()):
@@ -261,7 +264,7 @@ class TestCalls(ProgramTest):
 
 
 class TestNames(ProgramTest):
-    """Names of other libraries and slips of the pen, in the text of the error itself."""
+    """Names of other libraries and misspelled names: the hint is in the error's text."""
 
     def hints(self, thing, name, words):
         with self.subTest(name), self.assertRaises(AttributeError) as caught:

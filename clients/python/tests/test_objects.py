@@ -1,4 +1,4 @@
-"""Objects of a context: what goes into them and comes out of them, and how they are released."""
+"""Objects of a context: writing to them, reading from them, and releasing them."""
 
 import array
 import gc
@@ -62,7 +62,7 @@ class TestSamples(ProgramTest):
             self.holds(image, rows)
 
     def test_memory_is_used_again_when_nobody_has_it(self):
-        """Not while anything of a picture is left, an array of it or a part of one."""
+        """Memory isn't reused while an array of a picture, or a part of one, is left."""
         side = 300
         image = self.context.image(U8, side, side)
         seen, kept = [], []
@@ -268,7 +268,7 @@ class TestReleases(ProgramTest):
 
 class TestThreads(ProgramTest):
     def test_threads_that_make_and_forget_objects_of_one_context(self):
-        """None releases what another one has just made."""
+        """No thread releases what another one has just created."""
         faults = []
 
         def work(shade):

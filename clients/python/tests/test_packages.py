@@ -1,5 +1,5 @@
-"""The packages that tools/package builds, installed where nothing else is: the first program runs,
-and their removal leaves nothing. And versions, which agree everywhere."""
+"""The packages that tools/package builds, installed on their own: the first program runs, and
+removing them leaves nothing. Versions agree everywhere."""
 
 import gzip
 import os
@@ -61,7 +61,7 @@ class TestStarter(unittest.TestCase):
         return path
 
     def started(self, *processors, starter=None, words=()):
-        """Which program is started where the processors have these flags."""
+        """Returns which program is started on processors with these flags."""
         self.put("cpuinfo", "".join(f"processor\t: 0\nflags\t\t: {' '.join(sorted(flags))}\n\n"
                                     for flags in processors))
         run = subprocess.run([starter or self.starter, *words], stdout=subprocess.PIPE, text=True,
@@ -137,7 +137,7 @@ class TestPackages(unittest.TestCase):
 
     @staticmethod
     def packages(folder):
-        """Their paths. The program of these tests stands for both kinds."""
+        """Returns the packages' paths. The program of these tests is used for both kinds."""
         run = subprocess.run([sys.executable, os.path.join(TOOLS, "package"), folder,
                               f"--default={PROGRAM}", f"--x86-64-v3={PROGRAM}"],
                              stdout=subprocess.PIPE, text=True, check=True)
@@ -158,14 +158,15 @@ class TestPackages(unittest.TestCase):
         return run.stdout
 
     def unpack(self):
-        """The packages for Debian in a folder of their own, found before all else."""
+        """Unpacks the packages for Debian in a folder of their own, which is searched before all
+        others."""
         for package in self.debian:
             self.run_there("dpkg", "-x", package, self.root)
         self.environment["PATH"] = f"{self.root}/usr/bin:{self.environment['PATH']}"
         self.environment["PYTHONPATH"] = f"{self.root}/usr/lib/python3/dist-packages"
 
     def first_program_runs(self, python, found):
-        """The first program draws its picture, with the server that is at this path."""
+        """Checks that the first program draws its picture, with the server at this path."""
         shutil.copy(FIRST, self.folder)
         self.run_there(python, "first.py")
         with open(os.path.join(self.folder, "outlines.png"), "rb") as file:
@@ -188,7 +189,7 @@ class TestPackages(unittest.TestCase):
         self.assertEqual(files_of(venv), before)
 
     def test_each_package_needs_what_it_says(self):
-        """The server without Python, Python without the server, the library without both."""
+        """The server works without Python, Python without the server, the library without both."""
         names = [os.path.basename(package).partition("_")[0] for package in self.debian]
         self.assertEqual(names, ["feqyldan-server", "python3-feqyldan", "feqyldan",
                                  "libfeqyldan0", "libfeqyldan-dev"])
@@ -280,7 +281,7 @@ class TestPackages(unittest.TestCase):
         self.assertEqual(said.split()[0], "vx_main")
 
     def test_the_removal_s_script_fails_nowhere(self):
-        """Not where the folder is gone, or systemd refuses."""
+        """It succeeds even if the folder is gone, or systemd refuses."""
         for number, package in enumerate(self.debian[:3]):
             self.runs_removal(package, os.path.join(self.folder, f"control{number}"))
 

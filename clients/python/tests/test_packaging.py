@@ -1,5 +1,5 @@
-"""The package as pip installs it, without a network and without a trace in the checkout; and its
-types."""
+"""The package as pip installs it, without a network and without leaving files in the checkout; and
+its types."""
 
 import importlib.util
 import os
@@ -15,12 +15,12 @@ PYTHON = os.path.realpath(os.path.join(HERE, ".."))
 
 
 def missing(*modules):
-    """Those that aren't installed."""
+    """Returns those that aren't installed."""
     return [name for name in modules if importlib.util.find_spec(name) is None]
 
 
 def files_of(folder):
-    """What stands in a folder, each file with its length; but not what Python keeps of compiled
+    """Returns the files in a folder with their lengths, without Python's caches of compiled
     tests."""
     return {os.path.join(at, name): os.lstat(os.path.join(at, name)).st_size
             for at, _, names in os.walk(folder) for name in names
@@ -99,7 +99,7 @@ class TestPackage(unittest.TestCase):
         self.assertEqual(files_of(PYTHON), before)
 
     def test_an_archive_of_the_sources(self):
-        """What is installed from it is the same wheel, byte for byte."""
+        """Building from the archive gives the same wheel, byte for byte."""
         build = ("import sys\nsys.dont_write_bytecode = True\nsys.path.insert(0, sys.argv[1])\n"
                  "import build_backend\n"
                  "print(build_backend.build_sdist('.'), build_backend.build_wheel('.'))\n")

@@ -14,7 +14,8 @@ ROWS = [[0, 10, 20], [30, 40, 255]]
 
 
 def chunks_of(png):
-    """The kind and the content of each chunk of a PNG file, whose sums are right."""
+    """Returns the kind and the content of each chunk of a PNG file, after checking the
+    checksums."""
     assert png[:8] == b"\x89PNG\r\n\x1a\n"
     at, chunks = 8, []
     while at < len(png):
@@ -28,8 +29,8 @@ def chunks_of(png):
 
 
 def decoded(png):
-    """Width, height, bits of a sample, kind of pixels, and the rows of bytes, all of them
-    unfiltered."""
+    """Returns the width, the height, the bits of a sample, the kind of pixels, and the rows of
+    bytes, all of them unfiltered."""
     (_, header), (_, content), (last, _) = chunks_of(png)
     assert last == b"IEND"
     width, height, depth, kind, *rest = struct.unpack(">IIBBBBB", header)

@@ -15,7 +15,7 @@ SIDE, PICTURES = 1024, 12
 
 class TestPipelines(ProgramTest):
     def test_many_megabytes_each_way(self):
-        """Nobody reads a result before all is sent: both pipes are full long before."""
+        """No result is read before everything is sent: both pipes are full long before."""
         image = self.context.image(vx.U8, SIDE, SIDE)
         results = []
         with self.context.pipeline() as ahead:
@@ -122,7 +122,7 @@ class TestPipelines(ProgramTest):
         self.holds(image, [[4, 5, 6]])
 
     def test_threads(self):
-        """Each with a context of its own, all on one server."""
+        """Threads, each with a context of its own, on one server."""
         faults = []
 
         def work(number):
@@ -148,7 +148,7 @@ class TestPipelines(ProgramTest):
 
 class TestInterruptions(unittest.TestCase):
     def interrupted(self, call):
-        """A call that the server interrupts by SIGALRM, as SIGINT would."""
+        """Makes a call that the server interrupts by SIGALRM, as SIGINT would."""
         def interrupt(*_):
             raise KeyboardInterrupt
 
@@ -159,7 +159,7 @@ class TestInterruptions(unittest.TestCase):
             signal.signal(signal.SIGALRM, before)
 
     def test_a_reply_that_comes_later(self):
-        """What is waited for comes after the interruption, and is taken for no other's."""
+        """The awaited reply comes after the interruption, and isn't mistaken for another one."""
         first, second = (wire.reply_frame(0, wire.CREATE_GRAPH, 0, bytes([0, 0, 0, k]))
                          for k in (1, 2))
         server = vx.Server(answering(OPENED, INTERRUPT, b"", first + second,

@@ -1,4 +1,4 @@
-"""The server and this program as processes: interruptions from a terminal, ends without a word, and
+"""The server and this program as processes: interruptions from a terminal, silent ends, and
 forks."""
 
 import contextlib
@@ -20,7 +20,7 @@ PATIENCE = 60
 
 
 def is_there(process):
-    """Whether a process runs, and isn't waited for by whoever started it."""
+    """Returns whether a process runs, and isn't a zombie."""
     try:
         with open(f"/proc/{process}/stat", encoding="utf-8") as file:
             return file.read().rpartition(")")[2].split()[0] not in "ZX"
@@ -29,15 +29,16 @@ def is_there(process):
 
 
 def heed_signals():
-    """What a program has that a shell starts at a terminal. Whoever runs these tests may ignore
-    SIGINT, as `tools/test &` in a script does, and that would be inherited."""
+    """Restores the signal handlers of a program that a shell starts at a terminal. The tests may
+    run with SIGINT ignored, as `tools/test &` in a script does, and a program would inherit
+    that."""
     for number in (signal.SIGINT, signal.SIGTERM):
         signal.signal(number, signal.SIG_DFL)
 
 
 class ProcessTest(unittest.TestCase):
     def start(self, script):
-        """A program in a process group of its own, as a shell starts one."""
+        """Starts a program in a process group of its own, as a shell does."""
         client = subprocess.Popen([sys.executable, "-c", script, PROGRAM], stdin=subprocess.PIPE,
                                   stdout=subprocess.PIPE,
                                   env={**os.environ, "PYTHONPATH": PACKAGE,
@@ -55,7 +56,7 @@ class ProcessTest(unittest.TestCase):
             os.killpg(group, signal.SIGKILL)
 
     def line_of(self, client):
-        """A line that it writes."""
+        """Returns a line that it writes."""
         self.assertTrue(select.select([client.stdout], [], [], PATIENCE)[0], "no line came")
         return client.stdout.readline().split()
 
@@ -226,7 +227,7 @@ class TestForks(ProcessTest):
         self.assertEqual(self.line_of(self.start(CLOSED_WHILE_CHILD_LIVES)), ["closed"])
 
     def test_forks_while_threads_use_the_server(self):
-        """A lock that another thread had at the fork is nobody's in the child."""
+        """A lock that another thread had at the fork belongs to nobody in the child."""
         self.assertEqual(self.line_of(self.start(THREADS)), ["{0}"])
 
     def test_sockets(self):

@@ -20,8 +20,8 @@ def text_of(*path):
 
 
 def commands():
-    """The lines of README.md that are set off by four blanks and stand in no program, without their
-    comments."""
+    """Returns the lines of README.md that are indented by four blanks and aren't part of a program,
+    without their comments."""
     text = "".join(text_of("README.md").split("```")[::2])
     return [line.partition(" #")[0].strip() for line in text.splitlines()
             if line.startswith("    ")]

@@ -1,5 +1,5 @@
-"""Clients of the server's pipes that send requests ahead, in each of the ways in which docs/wire.md
-says that it is safe, and one that isn't; and the longest reply."""
+"""Clients that send requests ahead over the server's pipes, in each of the ways that docs/wire.md
+calls safe, and in one that isn't; and the longest reply."""
 
 import os
 import select
@@ -26,7 +26,7 @@ LONGEST_REPLY = 268_435_469
 
 
 def sleeps(process: int) -> bool:
-    """Whether a process waits for something."""
+    """Returns whether a process is waiting for something."""
     with open(f"/proc/{process}/stat") as file:
         return file.read().rpartition(")")[2].split()[0] == "S"
 
@@ -44,7 +44,7 @@ class TestSendingAhead(unittest.TestCase):
         self.addCleanup(self.requests.close)
 
     def opens(self, fmt: int, side: int) -> None:
-        """A context with an image, in lock step."""
+        """Opens a context with an image, one request at a time."""
         for request in (wire.open_context(CLIENT), wire.create_image(CLIENT, fmt, side, side)):
             self.requests.write(request)
             self.assertEqual(wire.code_of(self.reply()), wire.SUCCESS)
@@ -62,14 +62,14 @@ class TestSendingAhead(unittest.TestCase):
         return head + self.bytes(int.from_bytes(head, "big"))
 
     def is_whole(self, got: bytes) -> None:
-        """Whether these are the replies to all that was asked."""
+        """Returns whether these are the replies to all requests."""
         one = got[:REPLY_BYTES]
         self.assertEqual(int.from_bytes(one[:4], "big"), REPLY_BYTES - 4)
         self.assertEqual(one[4:8], bytes([0, CLIENT, wire.READ_IMAGE, wire.SUCCESS]))
         self.assertEqual(got, one * COUNT)
 
     def takes_more(self) -> bool:
-        """Whether the server's pipe of requests has room."""
+        """Returns whether the server's pipe of requests can take more."""
         return bool(select.select([], [self.requests], [], 0)[1])
 
     def test_one_that_reads_no_reply_stops_until_it_does(self) -> None:

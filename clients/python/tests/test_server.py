@@ -46,7 +46,7 @@ class TestServers(ProgramTest):
             context.image(vx.U8, 1, 1)
 
     def test_memory_that_the_server_hasnt(self):
-        """Under a limit on its address space, as a shell's, it refuses and goes on."""
+        """Under a limit on its address space, such as a shell's, the server refuses and goes on."""
         limited = ["sh", "-c", 'ulimit -v 100000 && exec "$0" "$@"', PROGRAM]
         with vx.Server(limited) as server, server.context() as context:
             kept, images = context.image_from([[1, 2]]), []
@@ -71,7 +71,7 @@ class TestServers(ProgramTest):
 
 @needs_program
 class TestSockets(unittest.TestCase):
-    """A socket at which each connection gets a program of its own."""
+    """A socket at which each connection gets a server program of its own."""
 
     def setUp(self):
         folder = tempfile.TemporaryDirectory()

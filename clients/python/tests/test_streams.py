@@ -1,4 +1,4 @@
-"""Results that can't be of an older picture, results that are polled, and streams."""
+"""Streams, polled results, and results that can't be of an older picture."""
 
 import itertools
 import threading
@@ -15,7 +15,7 @@ PATIENCE = 60
 
 
 class StationTest(ProgramTest):
-    """A station that gives the pictures back."""
+    """A station whose outputs are its input pictures."""
 
     def setUp(self):
         super().setUp()
@@ -32,7 +32,7 @@ class StationTest(ProgramTest):
 
 class TestResultsAfterRefusals(StationTest):
     def camera(self):
-        """From the fourth picture on they have another size."""
+        """Yields pictures; from the fourth on they have another size."""
         return [self.picture(number, 6 if number < 3 else 7) for number in range(8)]
 
     def test_no_result_is_of_an_older_picture(self):
@@ -216,7 +216,7 @@ class TestStreams(StationTest):
         self.assertEqual(seen, [1])
 
     def test_a_result_comes_before_the_next_frame(self):
-        """A camera that waits until somebody has seen what came before."""
+        """A camera that waits until the previous result was seen."""
         seen = threading.Semaphore(1)
 
         def camera():
@@ -231,7 +231,7 @@ class TestStreams(StationTest):
         self.assertEqual(shades, list(range(5)))
 
     def test_an_iterator_that_uses_the_context(self):
-        """Another context of the server is its own."""
+        """The iterator can use another context of the server."""
         def camera(context):
             for number in range(5):
                 with context.image(vx.U8, 6, 4) as image:
@@ -255,7 +255,7 @@ class TestStreams(StationTest):
 
     @unittest.skipUnless(samples.numpy_module(), "NumPy isn't installed")
     def test_an_array_that_is_filled_again(self):
-        """Too early it is found out; once the result is there it may be."""
+        """Refilling an array too early is detected; once its result has come, it is allowed."""
         numpy = samples.numpy_module()
         seen, buffer = threading.Semaphore(1), numpy.zeros((4, 6), numpy.uint8)
 
@@ -278,7 +278,7 @@ class TestStreams(StationTest):
             self.assertEqual(len([*self.graph.stream(frames, self.part, self.out)]), 9)
 
     def test_a_stream_that_is_left(self):
-        """Frames without an end; the context goes on."""
+        """A stream of endless frames is left; the context goes on."""
         for take in (lambda: (self.picture(number % 256) for number in itertools.count()),):
             for _, result in self.graph.stream(take(), self.part, self.out, ahead=5):
                 break
@@ -310,7 +310,7 @@ class TestStreams(StationTest):
                                    self.graph.stream, [], camera, out)
 
     def test_what_the_graph_doesnt_use(self):
-        """Also its input and its output the wrong way round."""
+        """Also input and output in the wrong order."""
         other, frames = self.context.image(vx.U8, 6, 4), [self.picture(1)]
         for camera, out, fault in (
                 (self.out, self.part, "frames of a stream go to image 2"),
@@ -324,7 +324,7 @@ class TestStreams(StationTest):
                     next(self.graph.stream(frames, camera, out))
 
     def test_all_that_the_graph_uses(self):
-        """Inputs next to an output; slots of a delay, of which the graph may name others; sums that
+        """Inputs next to an output; slots of a delay of which the graph names others; sums that
         frames are added to; and nodes that are added after the stream was opened."""
         delay, sums = self.context.delay(self.part, 2), self.context.image(vx.S16, 6, 4)
         stream = self.graph.stream([self.picture(1)], self.part, [self.out, self.part, delay[-1]])
@@ -398,13 +398,13 @@ class TestEnds(ProcessTest):
     """Programs that end while the iterator of a stream waits for a frame."""
 
     def ended(self, seconds, how):
-        """The exit status, and what was printed."""
+        """Runs a program, and returns its exit status and output."""
         client = self.start(f"SECONDS, HOW = {seconds}, {how!r}\n{LEFT}")
         said = client.communicate(timeout=PATIENCE)[0]
         return client.returncode, sorted(said.split())
 
     def test_an_iterator_is_left_before_the_program_ends(self):
-        """What a thread does in C++ at the end would abort the program."""
+        """A thread in C++ at the end would abort the program."""
         for how, status in (("close", 0), ("fault", 1), ("nothing", 0)):
             self.assertEqual(self.ended(0.3, how), (status, ["asked", "first", "left", "taken"]))
 

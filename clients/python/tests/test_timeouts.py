@@ -1,4 +1,4 @@
-"""Requests that aren't answered in time, by a server of this program's and by one behind a
+"""Requests that aren't answered in time, by a server that this program started and by one behind a
 socket."""
 
 import os
@@ -83,8 +83,8 @@ class TestSockets(unittest.TestCase):
         self.listener.bind(self.path)
 
     def serve(self, *replies):
-        """Answers a frame by each of these; then waits until the client ends its connection, and
-        notes that."""
+        """Answers frames with these replies in turn. Then waits until the client ends its
+        connection, and notes that."""
         self.ended = threading.Event()
 
         def run():

@@ -1,4 +1,4 @@
-"""What type checkers say of programs that use the package: mypy, strict, where it is installed."""
+"""Type checks of programs that use the package, by mypy, strict, if it is installed."""
 
 import os
 import re
@@ -73,7 +73,7 @@ with vx.Server() as server, server.context() as context:
 
 
 def mypy():
-    """A command that has it."""
+    """Returns a command that runs mypy."""
     for python in (sys.executable, "/usr/bin/python3"):
         if os.path.exists(python) and subprocess.run(
                 [python, "-c", "import mypy, numpy"], stderr=subprocess.DEVNULL).returncode == 0:
@@ -99,7 +99,8 @@ class TestTypes(unittest.TestCase):
         return path
 
     def test_programs(self):
-        """The manual's and the examples' have no fault, and in the one above each is found."""
+        """The programs of the manual and the examples have no errors, and each error of the program
+        above is found."""
         examples = os.path.join(ROOT, "examples")
         paths = [self.put("program.py", PROGRAM), *self.manuals()]
         paths += [os.path.join(examples, name) for name in sorted(os.listdir(examples))
@@ -117,7 +118,7 @@ class TestTypes(unittest.TestCase):
                          run.stdout)
 
     def manuals(self):
-        """A file for each program of the manual, with what it is used among."""
+        """Writes a file for each program of the manual, with the names that it needs."""
         for heading, programs in programs_in("docs", "python.md").items():
             for number, text in enumerate(programs):
                 name = re.sub(r"\W+", "_", f"manual_{heading}_{number}.py")[:-3] + ".py"
@@ -133,7 +134,7 @@ class TestTypes(unittest.TestCase):
                                                                                       "    ")))
 
     def needed(self, heading):
-        """The recipe that another one calls."""
+        """Returns the recipe that another one calls."""
         first = "Compare with a reference, and tolerate small shifts"
         return programs_in("docs", "python.md")[first][0] if heading == (
             "Several recipes in one station") else ""

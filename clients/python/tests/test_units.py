@@ -22,7 +22,7 @@ EXPOSURE = 2.0
 
 
 def unit(name: str) -> Dict[str, List[str]]:
-    """The values of each word of a unit, in their order."""
+    """Returns the values of each key of a unit, in order."""
     found: Dict[str, List[str]] = {}
     with open(os.path.join(DEPLOY, name), encoding="utf-8") as file:
         for line in file:

@@ -1,5 +1,5 @@
-"""What is said of a graph that can't run: the node at fault, the cycle, the loose end; and that it
-is the server's."""
+"""Messages for a graph that can't run: the node at fault, the cycle, the unwritten virtual input.
+They agree with the server's verdict."""
 
 import random
 import unittest
@@ -61,7 +61,7 @@ class TestWords(ProgramTest):
                   "(U8, 3 by 1)), and written by none.")
 
     def test_a_sum_that_nothing_holds(self):
-        """What is read and not written is told before it."""
+        """A virtual image that is read but not written is reported first."""
         self.graph.accumulate(self.source, self.graph.virtual_image(S16))
         self.says(vx.InvalidLink,
                   "virtual image 4 (S16, open by open) holds nothing to which node 1, "
@@ -116,7 +116,7 @@ class TestWords(ProgramTest):
                   "(U8, 3 by 1)), and written by none.")
 
     def test_in_a_pipeline(self):
-        """The graph is another one when the reply comes."""
+        """The graph has changed when the reply comes."""
         node = self.graph.not_(self.source, self.source)
         with self.assertRaises(vx.InvalidGraph) as caught:
             with self.context.pipeline():
@@ -127,7 +127,7 @@ class TestWords(ProgramTest):
         self.assertIn("call 1 of the pipeline, test_verdicts.py", caught.exception.place)
 
     def test_in_a_pipeline_of_several_faults(self):
-        """Each says which call it was, and what is at fault in its own graph."""
+        """Each refusal says which call it was, and the fault of its own graph."""
         other = self.context.graph()
         other.not_(other.virtual_image(U8), self.target)
         self.graph.not_(self.source, self.context.image(U8, 4, 1))
@@ -160,7 +160,7 @@ class TestWords(ProgramTest):
         self.assertEqual(caught.exception.fault, "")
 
     def test_after_an_interruption(self):
-        """The reply to the call that was interrupted comes later, and says which node it added."""
+        """The reply to the interrupted call comes later, and has the number of the node."""
         with mock.patch.object(type(self.context.connection), "wait",
                                side_effect=KeyboardInterrupt):
             self.assertRaises(KeyboardInterrupt, self.graph.not_, self.source, self.source)
@@ -171,7 +171,7 @@ class TestWords(ProgramTest):
 
 
 class Maker:
-    """Random graphs of few objects, so that they meet."""
+    """Makes random graphs of few objects, so that nodes share them."""
 
     def __init__(self, context, seed):
         self.noise, self.context, self.graph = random.Random(seed), context, context.graph()
@@ -251,7 +251,7 @@ class TestRandomGraphs(ProgramTest):
         return wire.SUCCESS
 
     def test_formats_of_each_function(self):
-        """Of each function and all formats of images, alone."""
+        """Each function by itself, with all formats of images."""
         with self.server.context() as context:
             images = {fmt: context.image(fmt, 3, 1) for fmt in (U8, S16, U32)}
             graph = context.graph()

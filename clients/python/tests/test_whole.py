@@ -36,7 +36,8 @@ class TestWholeNumbers(ProgramTest):
 
     @unittest.skipUnless(numpy, "NumPy isn't installed")
     def test_a_normalised_kernel(self):
-        """As cv2.getGaussianKernel gives it: it was taken for zeros, and the picture was black."""
+        """A kernel as cv2.getGaussianKernel returns it must not become zeros, which would give a
+        black picture."""
         side = numpy.array([0.25, 0.5, 0.25])
         kernel = numpy.outer(side, side)
         for wrong in (kernel, kernel.astype("float32"), (16 * kernel)):
@@ -175,7 +176,7 @@ class TestWholeNumbers(ProgramTest):
             self.assertEqual(self.context.image(U8, numpy.int64(3), numpy.uint8(2)).shape, (2, 3))
 
     def test_a_frame_that_would_be_too_long(self):
-        """The server ends where it reads such a length, for all of its clients."""
+        """A server that reads such a length ends, for all of its clients."""
         image = self.context.image(U8, 1, 1)
         with self.assertRaisesRegex(ValueError, "a request has at most 536,870,912 bytes"):
             image.write_pgm(bytes(2**29))
