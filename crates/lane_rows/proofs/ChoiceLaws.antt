@@ -1,12 +1,11 @@
 -- Rows that are chosen of three rows.
-use Rattle.std.proofs.Common.{◌≡◌, ℕ, ℤ, pos, List, [], ◌∷◌, length, map, refl, ap, ◌∙◌, sym}
-use Rattle.lane_rows.proofs.Common.{range_with_len, zip2, length-map, put_chunk_whole}
-use Rattle.std.specs.Simd.Lanes.{put_chunk}
+use Rattle.std.proofs.Common.{◌≡◌, ℕ, ℤ, pos, List, [], ◌∷◌, map, refl, ap, ◌∙◌, sym}
+use Rattle.lane_rows.proofs.Common.{range_with_len, zip2}
 use Rattle.std.specs.Prelude.{slice_index}
 use Rattle.std.proofs.Math.ListN.{get_or-map}
 use Rattle.std.proofs.lemmas.Simd.{map-map}
 use Rattle.vx_base.specs.Image.{run}
-use Rattle.vx_base.proofs.TableLaws.{length-range, run-same}
+use Rattle.vx_base.proofs.TableLaws.{run-same}
 use Rattle.lane_rows.specs.declared.nine_rows.Three.{Three}
 use Rattle.lane_rows.specs.Ranks.{chosen_of_three}
 use Rattle.lane_rows.specs.Threes.{number_at, chosen_at}
@@ -34,14 +33,14 @@ module _ (lo : ℕ → ℕ → ℕ) (op : ℤ → ℤ → ℤ) (same : (a b : �
   by_lanes [] = refl
   by_lanes (k ∷ ks) = ap (λ l. chosen_of_three lo (a k) (b k) (c k) ∷ l) (by_lanes ks)
 
-  -- what is stored of 32 places
-  pub choice_stored : (place : ℕ) (out r p q s : List ℕ) → length out ≡ 32
+  -- at 32 places
+  pub choice_made : (place : ℕ) (out r p q s : List ℕ) → out ≡ r
       → p ≡ map a (range_with_len place 32) → q ≡ map b (range_with_len place 32) → s ≡ map c (range_with_len place 32) → r ≡ zip2 lo (zip2 lo p q) s
-      → map pos (put_chunk 0 out r) ≡ run place 32 (chosen_at op rows)
-  choice_stored place out r p q s room left middle right is =
+      → map pos out ≡ run place 32 (chosen_at op rows)
+  choice_made place out r p q s stored left middle right is =
       let ks = range_with_len place 32 in
       let lane : ℕ → ℕ = λ k. chosen_of_three lo (a k) (b k) (c k) in
       let made : r ≡ map lane ks = rw (is, left, middle, right) (by_lanes ks) in
-      ap (map pos) (put_chunk_whole out r (room ∙ sym (ap length made ∙ length-map ks lane ∙ length-range place 32)) ∙ made)
+      ap (map pos) (stored ∙ made)
       ∙ map-map pos lane ks
       ∙ run-same (λ k. pos (lane k)) (chosen_at op rows) place 32 (λ k _ _. chosen_number k)

@@ -1,10 +1,9 @@
 -- What is computed in lanes of the nine samples of windows, lane by lane.
-use Rattle.std.proofs.Common.{◌≡◌, ℕ, ℤ, pos, List, [], ◌∷◌, length, map, Bool, cond, refl, ap, ◌∙◌, sym}
-use Rattle.lane_rows.proofs.Common.{range_with_len, sel_l, zip2, length-map, put_chunk_whole}
-use Rattle.std.specs.Simd.Lanes.{put_chunk}
+use Rattle.std.proofs.Common.{◌≡◌, ℕ, ℤ, pos, List, [], ◌∷◌, map, Bool, cond, refl, ap, ◌∙◌}
+use Rattle.lane_rows.proofs.Common.{range_with_len, sel_l, zip2}
 use Rattle.std.proofs.lemmas.Simd.{map-map}
 use Rattle.vx_base.specs.Image.{run}
-use Rattle.vx_base.proofs.TableLaws.{length-range, run-same}
+use Rattle.vx_base.proofs.TableLaws.{run-same}
 use Rattle.std.specs.Prelude.{slice_index}
 use Rattle.lane_rows.specs.declared.nine_rows.Nine.{Nine}
 use Rattle.lane_rows.specs.Windows.{nine_at}
@@ -47,16 +46,16 @@ middle_by_lanes lo hi a b c d e f g h i (k ∷ ks) = ap (λ l. middle_of_nine lo
 abbrev at : List ℕ → ℕ → List ℕ
 at row place = map (slice_index row) (range_with_len place 32)
 
--- what is stored of 32 places
-pub stored : (wide : Net (List ℕ)) (net : Net ℕ) (of_nine : List ℤ → ℤ) → ByLanes wide net
+-- at 32 places
+pub nine_made : (wide : Net (List ℕ)) (net : Net ℕ) (of_nine : List ℤ → ℤ) → ByLanes wide net
     → ((a b c d e f g h i : ℕ) → pos (net a b c d e f g h i) ≡ of_nine (pos a ∷ pos b ∷ pos c ∷ pos d ∷ pos e ∷ pos f ∷ pos g ∷ pos h ∷ pos i ∷ []))
-    → (nine : Nine) (place : ℕ) (out r p q s t u v w x y : List ℕ) → length out ≡ 32
+    → (nine : Nine) (place : ℕ) (out r p q s t u v w x y : List ℕ) → out ≡ r
     → p ≡ at nine.above.left.now place → q ≡ at nine.above.middle.now place → s ≡ at nine.above.right.now place
     → t ≡ at nine.here.left.now place → u ≡ at nine.here.middle.now place → v ≡ at nine.here.right.now place
     → w ≡ at nine.below.left.now place → x ≡ at nine.below.middle.now place → y ≡ at nine.below.right.now place
     → r ≡ wide p q s t u v w x y
-    → map pos (put_chunk 0 out r) ≡ run place 32 (λ k. of_nine (nine_at nine k))
-stored wide net of_nine by_lanes law nine place out r p q s t u v w x y room pp qq ss tt1 uu vv ww xx yy is =
+    → map pos out ≡ run place 32 (λ k. of_nine (nine_at nine k))
+nine_made wide net of_nine by_lanes law nine place out r p q s t u v w x y stored pp qq ss tt1 uu vv ww xx yy is =
     let ks = range_with_len place 32 in
     let a : ℕ → ℕ = slice_index nine.above.left.now in
     let b : ℕ → ℕ = slice_index nine.above.middle.now in
@@ -69,6 +68,6 @@ stored wide net of_nine by_lanes law nine place out r p q s t u v w x y room pp 
     let i : ℕ → ℕ = slice_index nine.below.right.now in
     let lane : ℕ → ℕ = λ k. net (a k) (b k) (c k) (d k) (e k) (f k) (g k) (h k) (i k) in
     let made : r ≡ map lane ks = rw (is, pp, qq, ss, tt1, uu, vv, ww, xx, yy) (by_lanes a b c d e f g h i ks) in
-    ap (map pos) (put_chunk_whole out r (room ∙ sym (ap length made ∙ length-map ks lane ∙ length-range place 32)) ∙ made)
+    ap (map pos) (stored ∙ made)
     ∙ map-map pos lane ks
     ∙ run-same (λ k. pos (lane k)) (λ k. of_nine (nine_at nine k)) place 32 (λ k _ _. law (a k) (b k) (c k) (d k) (e k) (f k) (g k) (h k) (i k))

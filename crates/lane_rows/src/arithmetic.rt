@@ -9,6 +9,7 @@ ghost use Rattle.vx_base.specs.declared.format.Format.TheVariants.{U8, S16};
 
 use crate::item::Short;
 use crate::kernel::OfPair;
+use crate::stores::store_32_bytes;
 use std::simd::prelude::*;
 
 /// What a kernel gives of two U8 or S16 items.
@@ -50,9 +51,8 @@ impl<K: Arithmetic> OfPair<u8, u8, u8> for OfSamples<'_, K> {
     }
 
     fn lanes(&self, first: &[u8], second: &[u8], out: &mut [u8]) {
-        self.0
-            .bytes(u8x32::from_slice(first), u8x32::from_slice(second))
-            .copy_to_slice(out);
+        let (a, b) = (u8x32::from_slice(first), u8x32::from_slice(second));
+        store_32_bytes(self.0.bytes(a, b).to_array(), out);
     }
 }
 

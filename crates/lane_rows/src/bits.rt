@@ -6,6 +6,7 @@ ghost use Rattle.vx_base.specs.Pixelwise.{and_bits, or_bits, xor_bits, not_bits}
 use crate::bytes::inverted_bytes;
 use crate::kernel::{LanesOfItem, OfItem, OfPair};
 use crate::rows::{map_row, zip_rows};
+use crate::stores::store_32_bytes;
 use std::simd::prelude::*;
 
 /// The bits that both items have.
@@ -19,7 +20,8 @@ impl OfPair<u8, u8, u8> for And {
     }
 
     fn lanes(&self, first: &[u8], second: &[u8], out: &mut [u8]) {
-        (u8x32::from_slice(first) & u8x32::from_slice(second)).copy_to_slice(out);
+        let bits = u8x32::from_slice(first) & u8x32::from_slice(second);
+        store_32_bytes(bits.to_array(), out);
     }
 }
 
@@ -34,7 +36,8 @@ impl OfPair<u8, u8, u8> for Or {
     }
 
     fn lanes(&self, first: &[u8], second: &[u8], out: &mut [u8]) {
-        (u8x32::from_slice(first) | u8x32::from_slice(second)).copy_to_slice(out);
+        let bits = u8x32::from_slice(first) | u8x32::from_slice(second);
+        store_32_bytes(bits.to_array(), out);
     }
 }
 
@@ -49,7 +52,8 @@ impl OfPair<u8, u8, u8> for Xor {
     }
 
     fn lanes(&self, first: &[u8], second: &[u8], out: &mut [u8]) {
-        (u8x32::from_slice(first) ^ u8x32::from_slice(second)).copy_to_slice(out);
+        let bits = u8x32::from_slice(first) ^ u8x32::from_slice(second);
+        store_32_bytes(bits.to_array(), out);
     }
 }
 
@@ -66,7 +70,7 @@ impl OfItem<u8, u8> for Not {
 
 impl LanesOfItem<u8, u8> for Not {
     fn lanes(&self, row: &[u8], out: &mut [u8]) {
-        inverted_bytes(u8x32::from_slice(row)).copy_to_slice(out);
+        store_32_bytes(inverted_bytes(u8x32::from_slice(row)).to_array(), out);
     }
 }
 

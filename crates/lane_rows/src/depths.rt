@@ -10,6 +10,7 @@ use crate::item::shorts_of;
 use crate::kernel::{LanesOfItem, OfItem};
 use crate::overflow::{Overflow, Saturated, Wrapped, with_overflow};
 use crate::rows::map_row;
+use crate::stores::{store_32_bytes, store_32_shorts};
 use std::simd::prelude::*;
 use vx_base::Policy;
 
@@ -30,7 +31,8 @@ impl OfItem<u8, i16> for ShiftedUp {
 
 impl LanesOfItem<u8, i16> for ShiftedUp {
     fn lanes(&self, row: &[u8], out: &mut [i16]) {
-        shifted_up(u8x32::from_slice(row), self.amount).copy_to_slice(out);
+        let shorts = shifted_up(u8x32::from_slice(row), self.amount);
+        store_32_shorts(shorts.to_array(), out);
     }
 }
 
@@ -55,7 +57,8 @@ impl<P: Overflow> OfItem<i16, u8> for Narrowed<P> {
 
 impl<P: Overflow> LanesOfItem<i16, u8> for Narrowed<P> {
     fn lanes(&self, row: &[i16], out: &mut [u8]) {
-        shifted_down(shorts_of(row), self.amount, self.overflow.policy()).copy_to_slice(out);
+        let bytes = shifted_down(shorts_of(row), self.amount, self.overflow.policy());
+        store_32_bytes(bytes.to_array(), out);
     }
 }
 

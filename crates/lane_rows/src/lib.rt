@@ -9,7 +9,7 @@
 //! - `item`: the numbers that rows hold
 //! - `kernel`: what a kernel is, of one row, of two, or that updates one
 //! - `rows`: the rows that kernels write, by `blocks` and by `items`
-//! - `stores`: kernels that a processor has no lanes for
+//! - `stores`: how lanes are stored, and kernels that a processor has no lanes for
 //! - `overflow`: policies as types, so that a loop asks for none
 //! - `arithmetic`: kernels of two U8 or S16 items, at the formats that they may have
 //! - `bits`, `sums`, `products`, `distances`, `extremes`, `thresholds`, `depths`, `accumulation`:

@@ -15,6 +15,7 @@ use crate::columns::OfColumn;
 use crate::nine::{OfNine, ThreeItems, write_nine};
 use crate::nine_rows::{Nine, Three, ThreeLanes, three_lanes};
 use crate::places::{AtPlaces, write_places};
+use crate::stores::store_32_bytes;
 use std::marker::PhantomData;
 use std::simd::prelude::*;
 
@@ -112,7 +113,7 @@ impl<C: Choice> OfNine<u8> for C {
         let above = chosen_lanes::<C>(three_lanes(&nine.above, place));
         let here = chosen_lanes::<C>(three_lanes(&nine.here, place));
         let below = chosen_lanes::<C>(three_lanes(&nine.below, place));
-        chosen_lanes::<C>((above, here, below)).copy_to_slice(out);
+        store_32_bytes(chosen_lanes::<C>((above, here, below)).to_array(), out);
     }
 }
 
@@ -133,7 +134,10 @@ impl<C: Choice> AtPlaces<u8> for ChosenAt<'_, '_, C> {
     }
 
     fn lanes(&self, place: usize, out: &mut [u8]) {
-        chosen_lanes::<C>(three_lanes(self.rows, place)).copy_to_slice(out);
+        store_32_bytes(
+            chosen_lanes::<C>(three_lanes(self.rows, place)).to_array(),
+            out,
+        );
     }
 }
 
@@ -210,7 +214,7 @@ impl OfNine<u8> for Median {
         let above = three_lanes(&nine.above, place);
         let here = three_lanes(&nine.here, place);
         let below = three_lanes(&nine.below, place);
-        medians(above, here, below).copy_to_slice(out);
+        store_32_bytes(medians(above, here, below).to_array(), out);
     }
 }
 

@@ -1,9 +1,15 @@
-//! Bytes that are computed one by one and stored in lanes.
+//! How lanes are stored: one half after the other, in the order of their addresses; and bytes that
+//! are computed one by one and stored in lanes.
+//!
+//! Where a processor's registers have 16 bytes, the compiler stores the second half of 32 bytes
+//! before the first. Where a row doesn't begin with a line of the cache, the stores then go back
+//! and forth between two lines, which takes longer where the row isn't in the first cache.
 ghost use Rattle.std.specs.Prelude.{◌≡◌, pos, map, length};
 
 use crate::items::map_items;
 use crate::kernel::OfItem;
 use std::simd::prelude::*;
+use vx_base::are_shorts;
 
 /// Writes what the kernel gives of sixteen bytes.
 fn store_sixteen<K: OfItem<u8, u8>>(kernel: &K, row: &[u8], out: &mut [u8])
@@ -27,4 +33,42 @@ pub fn store_bytes<K: OfItem<u8, u8>>(kernel: &K, row: &[u8], out: &mut [u8])
     let (out, out_rest) = out.split_at_mut(16);
     store_sixteen(kernel, row, out);
     store_sixteen(kernel, row_rest, out_rest);
+}
+
+/// Stores 32 bytes: the first half, then the second.
+#[inline(always)]
+pub fn store_32_bytes(items: [u8; 32], out: &mut [u8])
+    requires { length out.old ≡ 32 }
+    ensures { out.new ≡ items }
+{
+    let lanes = u8x32::from_array(items);
+    let (out, out_rest) = out.split_at_mut(16);
+    lanes.extract::<0, 16>().copy_to_slice(out);
+    lanes.extract::<16, 16>().copy_to_slice(out_rest);
+}
+
+/// Stores 16 numbers of 16 bits: the first half, then the second.
+#[inline(always)]
+pub fn store_16_shorts(items: [i16; 16], out: &mut [i16])
+    requires { length out.old ≡ 16 }
+    ensures { out.new ≡ items }
+{
+    are_shorts(&items);
+    let lanes = i16x16::from_array(items);
+    let (out, out_rest) = out.split_at_mut(8);
+    lanes.extract::<0, 8>().copy_to_slice(out);
+    lanes.extract::<8, 8>().copy_to_slice(out_rest);
+}
+
+/// Stores 32 numbers of 16 bits, quarter after quarter.
+#[inline(always)]
+pub fn store_32_shorts(items: [i16; 32], out: &mut [i16])
+    requires { length out.old ≡ 32 }
+    ensures { out.new ≡ items }
+{
+    are_shorts(&items);
+    let lanes = i16x32::from_array(items);
+    let (out, out_rest) = out.split_at_mut(16);
+    store_16_shorts(lanes.extract::<0, 16>().to_array(), out);
+    store_16_shorts(lanes.extract::<16, 16>().to_array(), out_rest);
 }

@@ -13,6 +13,7 @@ use crate::choices::{bytes_above, bytes_between, shorts_above, shorts_between};
 use crate::item::{Item, shorts_of};
 use crate::kernel::{LanesOfItem, OfItem};
 use crate::rows::map_row;
+use crate::stores::store_32_bytes;
 use std::simd::prelude::*;
 use vx_base::{ThresholdKind, ThresholdRule};
 
@@ -130,7 +131,8 @@ impl<A: Tested> OfItem<A, u8> for Above<A> {
 
 impl<A: Tested> LanesOfItem<A, u8> for Above<A> {
     fn lanes(&self, row: &[A], out: &mut [u8]) {
-        A::above(row, self.limit, self.true_value, self.false_value).copy_to_slice(out);
+        let values = A::above(row, self.limit, self.true_value, self.false_value);
+        store_32_bytes(values.to_array(), out);
     }
 }
 
