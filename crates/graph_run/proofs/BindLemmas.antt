@@ -4,7 +4,7 @@ use Rattle.graph_run.proofs.Common.{AllPairs, Cell, same_cell, ImageValue, descr
 use Rattle.graph_steps.specs.Planes.{PlaneValue, block_image}
 use Rattle.graph_run.specs.Bind.{AreAllApart, AreFor, HoldImages, bare_images, image_plane, image_planes, plane_objects, without_samples}
 use Rattle.graph_run.proofs.ObjectLaws.{shown}
-use Rattle.graph_run.proofs.HeldLaws.{IsWrite, AreWrites, last_to, seen, seen-with_written, labels-with_written, form-with_written}
+use Rattle.graph_run.proofs.HeldLaws.{IsWrite, AreWrites, last_to, or_none, seen, seen-with_written, labels-with_written, form-with_written}
 use Rattle.graph_run.proofs.NameLaws.{Rising, rising, same_objects}
 use Rattle.graph_run.proofs.CellLemmas.{object_beside, image_beside, held_image}
 
@@ -127,9 +127,6 @@ planes_written objects (c ∷ cells) (p ∷ planes) holds are w (inr i) = planes
 -- an image that may be written to a cell may be written to it after others
 writes_after : (objects : List Named) (ws vs : List (Cell × ObjectValue)) → AreWrites objects ws → AreWrites objects vs → AreWrites (with_written objects ws) vs
 writes_after objects ws vs first second w i = let is = second w i in record { form = form-with_written ws objects first w.0 ∙ is.form; whole = is.whole }
-
-or_none : {X : Type 0} (o p : Option X) → option_or o p ≡ None → (o ≡ None) × (p ≡ None)
-or_none o p h = grind arith
 
 none_or : {X : Type 0} (o p : Option X) → o ≡ None → p ≡ None → option_or o p ≡ None
 none_or o p h k = grind arith

@@ -4,13 +4,14 @@ use Rattle.std.proofs.Common.{Bool, ◌≡◌, ◌≢◌, ℕ, zero, suc, ◌+�
 use Rattle.graph_run.specs.Slots.{rooms_for}
 use Rattle.graph_run.proofs.Common.{length-map, length-map-range_with_len, range_with_len, map-append, VirtualOutput, Node, In, Format, S16, U32, U8, IsPlan, PlanValue, slot_place, place_of, planned_rooms, Samples, values, samples_format, same_format, blocks_of, lent_of}
 use Rattle.std.specs.List.{filter}
-use Rattle.std.proofs.lemmas.List.{append-nil, drop_all, drop_more, take_all}
+use Rattle.std.proofs.lemmas.List.{append-nil, drop_all, take_all}
 use Rattle.std.proofs.lemmas.List.FromFn.{map-range_with_len_more}
 use Rattle.std.proofs.lemmas.List.Sums.{sum_by_push, sum_by-append, sum_by-cons, length-filter, count_by-le-length}
 use Rattle.buffer_plan.specs.Slots.{IsPeak, of_format}
 use Rattle.pixel_pool.specs.declared.pool.Pool.{Pool}
 use Rattle.pixel_pool.specs.Pool.{one_of, KeepsOtherFree, Lends}
 use Rattle.graph_steps.specs.Program.{halo}
+use Rattle.graph_run.proofs.ListLemmas.{rest_at}
 use Rattle.graph_run.proofs.SlotLemmas.{HasSlot, has_slot, planned_slots}
 use Rattle.graph_run.specs.Blocks.{band_samples, block_count, block_size, samples_from}
 
@@ -69,16 +70,13 @@ samples_step : (size : ℕ) (halos : List ℕ) (k : ℕ) (o : VirtualOutput) (ou
     ≡ max most (samples_from size halos k (o ∷ outs) (s ∷ slots) place)
 samples_step size halos k o outs s slots place most = grind arith
 
-front : {X : Type 0} (xs : List X) (k : ℕ) (x d : X) → k < length xs → x ≡ get_or xs k d → x ∷ drop (k + 1) xs ≡ drop k xs
-front {X = X} xs k x d below is = ap (λ y. let l : List X = y ∷ drop (k + 1) xs in l) is ∙ sym (drop_more xs k d below)
-
 pub samples_next : (size : ℕ) (halos : List ℕ) (outs : List VirtualOutput) (slots : List ℕ) (place most k : ℕ) (o : VirtualOutput) (s : ℕ) → k < length outs → k < length slots
     → o ≡ get_or outs k o → s ≡ get_or slots k 0 → max (if s == place then max most (band_samples size (halo halos k) o.desc) else most) (samples_from size halos (k + 1) (drop (k + 1) outs) (drop (k + 1) slots) place)
     ≡ max most (samples_from size halos k (drop k outs) (drop k slots) place)
 samples_next size halos outs slots place most k o s below here image slot =
     samples_step size halos k o (drop (k + 1) outs) s (drop (k + 1) slots) place most
-    ∙ ap (λ l. max most (samples_from size halos k l (s ∷ drop (k + 1) slots) place)) (front outs k o o below image)
-    ∙ ap (λ l. max most (samples_from size halos k (drop k outs) l place)) (front slots k s 0 here slot)
+    ∙ ap (λ l. max most (samples_from size halos k l (s ∷ drop (k + 1) slots) place)) (sym (rest_at outs k o o below image))
+    ∙ ap (λ l. max most (samples_from size halos k (drop k outs) l place)) (sym (rest_at slots k s 0 here slot))
 
 -- ---- one block more
 
@@ -112,15 +110,16 @@ adds_more format f k old now new more before = grind arith
 
 -- ---- blocks that come back
 
+-- a sum over what is told of items
+sum_told : {X Y : Type 0} (told_of : X → Y) (g : Y → ℕ) (xs : List X) → sum_by (λ x. g (told_of x)) xs ≡ sum_by g (map told_of xs)
+sum_told told_of g [] = refl
+sum_told told_of g (x ∷ xs) = sum_by-cons (λ y. g (told_of y)) x xs ∙ ap (λ n. g (told_of x) + n) (sum_told told_of g xs) ∙ sym (sum_by-cons g (told_of x) (map told_of xs))
+
 -- blocks of the same formats are as many
 pub counts_stay : (old new : List Samples) → map samples_format new ≡ map samples_format old → (f : Format) → block_count new f ≡ block_count old f
-counts_stay old new same f = by_format new ∙ ap (sum_by (λ (g : Format). one_of g f)) same ∙ sym (by_format old)
-  where
-    by_format : (blocks : List Samples) → block_count blocks f ≡ sum_by (λ (g : Format). one_of g f) (map samples_format blocks)
-    by_format [] = refl
-    by_format (b ∷ blocks) =
-        sum_by-cons (λ (x : Samples). one_of (samples_format x) f) b blocks ∙ ap (λ n. one_of (samples_format b) f + n) (by_format blocks)
-        ∙ sym (sum_by-cons (λ (g : Format). one_of g f) (samples_format b) (map samples_format blocks))
+counts_stay old new same f =
+    let one : Format → ℕ = λ g. one_of g f in
+    sum_told samples_format one new ∙ ap (sum_by one) same ∙ sym (sum_told samples_format one old)
 
 -- a vector that was lent as a slice holds the slice's items
 pub written_back : {X : Type 0} (old new : List X) (n : ℕ) → length new ≡ length old → n ≡ length old → take n (new ++ drop (length new) old) ≡ new
@@ -151,10 +150,6 @@ planned_sum p f =
 
 -- are as many of a format as it has slots
 pub planned_blocks : (blocks : List Samples) (p : PlanValue) → map block_size blocks ≡ planned_rooms p → (f : Format) → block_count blocks f ≡ p.slot_count f
-planned_blocks blocks p rooms f = by_room blocks ∙ ap (sum_by (λ (r : Format × ℕ). one_of r.0 f)) rooms ∙ planned_sum p f
-  where
-    by_room : (bs : List Samples) → block_count bs f ≡ sum_by (λ (r : Format × ℕ). one_of r.0 f) (map block_size bs)
-    by_room [] = refl
-    by_room (b ∷ bs) =
-        sum_by-cons (λ (x : Samples). one_of (samples_format x) f) b bs ∙ ap (λ n. one_of (samples_format b) f + n) (by_room bs)
-        ∙ sym (sum_by-cons (λ (r : Format × ℕ). one_of r.0 f) (block_size b) (map block_size bs))
+planned_blocks blocks p rooms f =
+    let one : Format × ℕ → ℕ = λ r. one_of r.0 f in
+    sum_told block_size one blocks ∙ ap (sum_by one) rooms ∙ planned_sum p f

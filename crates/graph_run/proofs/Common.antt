@@ -9,7 +9,7 @@ pub use Rattle.graph_run.specs.Slots.{place_of, planned_rooms, slot_place}
 pub use Rattle.graph_run.specs.Solution.{Solves, WritesNo, form_held, form_of, kind_in, label_of}
 pub use Rattle.graph_run.specs.Steps.{AreApart, Holds, RunsOn, RunsTo, TwoSlots, with_output}
 pub use Rattle.graph_run.specs.Turns.{CanRunNow, HoldsKind}
-pub use Rattle.graph_verify.proofs.LinkLemmas.{In-from_same, In-outputs, one_writer, same-from_In, same_cell-refl, same_cell-true, two_writers-permutation}
+pub use Rattle.graph_verify.proofs.LinkLemmas.{In-from_same, In-outputs, once_after, one_writer, same-from_In, same_cell-refl, same_cell-true, two_writers-permutation}
 pub use Rattle.graph_verify.proofs.MemberLemmas.{AllIn-permutation, AllIn-permutation_back, Contains-from_In, In-append, In-at, In-filter, In-from_any, In-from_filter, In-from_flat_map, In-from_map, In-left, In-map, In-right, any-from_In, fails-from_In}
 pub use Rattle.graph_verify.proofs.NodeVerdictLemmas.{runs_alone}
 pub use Rattle.graph_verify.proofs.VerdictLemmas.{CanRun}

@@ -1,21 +1,15 @@
 -- The blocks of virtual images: which image has the block of a slot, once some are written; after all of them that is as before.
 use Rattle.std.proofs.Common.{◌≡◌, ℕ, zero, suc, ◌+◌, ◌-◌, ◌<◌, ◌≤◌, true, false, if◌then◌else◌, List, [], ◌∷◌, ◌++◌, length, map, take, get_or, set, refl, sym, ap, subst, ◌∙◌, inl, inr, arith, Option, Some, None, eqb, eqb-true, eq-eqb, ne_eqb}
-use Rattle.std.proofs.lemmas.List.{take_more, get_or-set_same, get_or-set_other, length-set, ext_get_or, length-take, length-take-le, get_or-take, length-append, get_or-append_right}
+use Rattle.std.proofs.lemmas.List.{get_or-set_same, get_or-set_other, length-set, ext_get_or, length-take, get_or-take, length-append, get_or-append_right}
 use Rattle.std.proofs.lemmas.List.FromFn.{get_or-map-range_with_len, length-map-range_with_len}
 use Rattle.std.proofs.Math.Seq.{take-length}
 use Rattle.std.proofs.Math.ListN.{get_or-append}
 use Rattle.graph_run.proofs.Common.{cases_Bool, cases_lt, fun_ext, range_with_len, Format, U8}
 use Rattle.graph_steps.specs.Steps.{blocks_with_move, capacity}
 use Rattle.graph_run.specs.Tasks.{block_at, blocks_at, holder, is_at, last_in, taken}
+use Rattle.graph_run.proofs.ListLemmas.{last_in-more}
 
 -- ---- the last image in a slot
-
-same_self : (k : ℕ) → eqb k k ≡ true
-same_self k = eq-eqb k k refl
-
-pub last_push : (slot : ℕ) (xs : List ℕ) (y : ℕ) → last_in slot (xs ++ y ∷ []) ≡ (if eqb y slot then Some (length xs) else last_in slot xs)
-last_push slot [] y = grind arith
-last_push slot (x ∷ xs) y = grind (arith, last_push slot xs y, cases_Bool (eqb y slot))
 
 pub last_below : (slot : ℕ) (xs : List ℕ) (k d : ℕ) → last_in slot xs ≡ Some k → (k < length xs) × (get_or xs k d ≡ slot)
 last_below slot [] k d h = absurd (cc h)
@@ -37,11 +31,7 @@ last_found slot (x ∷ xs) (suc k) d below at none = last_found slot xs k d (ome
 
 module _ (slots : List ℕ) where
   pub holder_next : (slot j d : ℕ) → j < length slots → holder slots slot (j + 1) ≡ (if eqb (get_or slots j d) slot then Some j else holder slots slot j)
-  holder_next slot j d below =
-      let more : last_in slot (take (j + 1) slots) ≡ (if eqb (get_or slots j d) slot then Some (length (take j slots)) else last_in slot (take j slots)) =
-      ap (last_in slot) (take_more slots j d below) ∙ last_push slot (take j slots) (get_or slots j d) in
-      let size : length (take j slots) ≡ j = length-take-le j slots (omega (arith, below)) in
-      grind (arith, more, size, cases_Bool (eqb (get_or slots j d) slot))
+  holder_next slot j d below = grind (arith, last_in-more slot slots j d below, cases_Bool (eqb (get_or slots j d) slot))
 
   pub holder_is : (slot j k d : ℕ) → holder slots slot j ≡ Some k → (k < length slots) × (get_or slots k d ≡ slot)
   holder_is slot j k d h = found (last_in slot (take j slots)) refl
@@ -122,7 +112,7 @@ module _ (slots : List ℕ) (rooms : ℕ → Format × ℕ) (clients : List (For
 
     -- the block that is taken is that of the slot
     pub takes_room : capacity (blocks k) t ≡ rooms s
-    takes_room = virtual_block k t in_slot.0 ∙ grind (arith, in_slot.1, taker.1, same_self t)
+    takes_room = virtual_block k t in_slot.0 ∙ grind (arith, in_slot.1, taker.1, eq-eqb t t refl)
 
     -- the block of each plane, once the image is written
     next_at : (i : ℕ) → i < length slots → block_at slots rooms (k + 1) i ≡ (if eqb i k then rooms s else (if eqb i t then ((rooms s).0, 0) else block_at slots rooms k i))

@@ -16,7 +16,7 @@ use Rattle.graph_steps.specs.declared.step.Task.TheVariants.{Write, Reduce}
 use Rattle.graph_steps.specs.Program.{AreFree, IsStepOf, KeepsBlock, IsLive}
 use Rattle.graph_steps.specs.Steps.{ReadsPlane}
 use Rattle.graph_run.specs.Cells.{images_named, index_of, node_images, with_cells}
-use Rattle.graph_run.specs.Tasks.{AreNamed, AreReadAfter, AreUntaken, TakeTurns, WriteImages, holder, step_for, taken, tally_after, tasks_by, tasks_from, write_given}
+use Rattle.graph_run.specs.Tasks.{AreNamed, AreReadAfter, AreReadWithin, AreUntaken, TakeTurns, WriteImages, holder, step_for, taken, tally_after, tasks_by, tasks_from, write_given}
 use Rattle.graph_run.proofs.IndexLemmas.{added_behind, at_index, index_at, index_below, index_left}
 use Rattle.graph_run.proofs.CycleLemmas.{holder_is}
 use Rattle.graph_run.proofs.SlotLemmas.{HasSlots, one_home}
@@ -41,6 +41,15 @@ live_read cells nodes kept (Write s ∷ later) k by (inl read) = inr (by.0 k rea
 live_read cells nodes kept (Write s ∷ later) k by (inr live) = live_read cells nodes kept later k by.1 live.1
 live_read cells nodes kept (Reduce r ∷ later) k by (inl e) = inr (subst (IsReadBy cells nodes) e by.0)
 live_read cells nodes kept (Reduce r ∷ later) k by (inr live) = live_read cells nodes kept later k by.1 live
+
+-- it is there
+plane_there : (cells : List Cell) (nodes : List Node) (k : ℕ) → IsReadBy cells nodes k → k < length cells
+plane_there cells nodes k by = subst (λ (n : ℕ). n < length cells) (sym by.2.3) (index_below cells by.2.0 by.2.2)
+
+pub read_there : (cells : List Cell) (nodes : List Node) (tasks : List Task) → AreReadBy cells nodes tasks → AreReadWithin (length cells) tasks
+read_there cells nodes [] by = tt
+read_there cells nodes (Write s ∷ later) by = ((λ k read. plane_there cells nodes k (by.0 k read)), read_there cells nodes later by.1)
+read_there cells nodes (Reduce r ∷ later) by = (plane_there cells nodes r.input by.0, read_there cells nodes later by.1)
 
 -- ---- images in one slot
 
@@ -146,14 +155,7 @@ module _ (cells : List Cell) (slots : List ℕ) (radius : Node → ℕ) where
         let one : List Task = write_given cells slots radius at n First n.out1 in
         let two : List Task = write_given cells slots radius at n Second n.out2 in
         subst (AreReadBy cells (n ∷ nodes)) (sym (append_assoc one two later)) (by_given at First n.out1 (two ++ later) (by_given at Second n.out2 later by))
-    by_by at tally kind.Lut later by = ((n, inl refl, (n.in1, inl refl, named n.in1 (inl refl), refl)), by)
-    by_by at tally kind.Threshold later by = ((n, inl refl, (n.in1, inl refl, named n.in1 (inl refl), refl)), by)
-    by_by at tally kind.Delay later by = ((n, inl refl, (n.in1, inl refl, named n.in1 (inl refl), refl)), by)
-    by_by at tally kind.Convolution later by = ((n, inl refl, (n.in1, inl refl, named n.in1 (inl refl), refl)), by)
-    by_by at tally kind.Distribution later by = ((n, inl refl, (n.in1, inl refl, named n.in1 (inl refl), refl)), by)
-    by_by at tally kind.Extremes later by = ((n, inl refl, (n.in1, inl refl, named n.in1 (inl refl), refl)), by)
-    by_by at tally kind.Graph later by = ((n, inl refl, (n.in1, inl refl, named n.in1 (inl refl), refl)), by)
-    by_by at tally kind.VirtualImage later by = ((n, inl refl, (n.in1, inl refl, named n.in1 (inl refl), refl)), by)
+    by_by at tally other later by = ((n, inl refl, (n.in1, inl refl, named n.in1 (inl refl), refl)), by)
 
   pub by_all : (nodes : List Node) (at tally : ℕ) → AreNamed cells nodes → AreReadBy cells nodes (tasks_from cells slots radius at tally nodes)
   by_all [] at tally named = tt
@@ -243,14 +245,7 @@ module _ (steps : List Node) (outs : List VirtualOutput) (p : PlanValue) (plan :
         (free_given at First n.out1 (two ++ later) k (λ c i. let j = In-left c (given n.out1) (given n.out2) i in (j, there c refl j))
         (subst (TakeTurns places k) parts turns) (subst AreReadAfter parts turned) (by_given all_cells places radius n after named at Second n.out2 later by)
         (λ j then now. free_given at Second n.out2 later j (λ c i. let r = In-right c (given n.out1) (given n.out2) i in (r, there c refl r)) then now by next))
-    free_by at tally kind.Lut later k there turns turned by next = next k turns turned.1
-    free_by at tally kind.Threshold later k there turns turned by next = next k turns turned.1
-    free_by at tally kind.Delay later k there turns turned by next = next k turns turned.1
-    free_by at tally kind.Convolution later k there turns turned by next = next k turns turned.1
-    free_by at tally kind.Distribution later k there turns turned by next = next k turns turned.1
-    free_by at tally kind.Extremes later k there turns turned by next = next k turns turned.1
-    free_by at tally kind.Graph later k there turns turned by next = next k turns turned.1
-    free_by at tally kind.VirtualImage later k there turns turned by next = next k turns turned.1
+    free_by at tally other later k there turns turned by next = next k turns turned.1
 
   -- each block is free when it is taken
   pub free_all : (before nodes : List Node) (at tally k : ℕ) → steps ≡ before ++ nodes → AreNamed all_cells nodes → TakeTurns places k (tasks_from all_cells places radius at tally nodes)

@@ -15,6 +15,9 @@ map-or f y p = grind arith
 pub or_assoc : {X : Type 0} (o p q : Option X) → option_or (option_or o p) q ≡ option_or o (option_or p q)
 or_assoc x p q = grind arith
 
+pub or_none : {X : Type 0} (o p : Option X) → option_or o p ≡ None → (o ≡ None) × (p ≡ None)
+or_none o p h = grind arith
+
 pub form-seen : (o : Option ObjectValue) → option_map form_of (option_map shown o) ≡ option_map form_of o
 form-seen z0 = grind arith
 

@@ -1,22 +1,16 @@
 -- The cells of the planes of a graph, each once, and their indices.
-use Rattle.std.proofs.Common.{◌≡◌, ◌≢◌, ℕ, zero, suc, ◌+◌, ◌<◌, ◌≤◌, Bool, false, List, [], ◌∷◌, ◌++◌, length, map, drop, get_or, refl, sym, ap, subst, ◌∙◌, inl, inr, arith, cond, Option, Some, None, position, option_map, option_and_then, ◌⊎◌}
+use Rattle.std.proofs.Common.{◌≡◌, ◌≢◌, ℕ, zero, suc, ◌+◌, ◌<◌, ◌≤◌, false, List, [], ◌∷◌, ◌++◌, length, map, drop, get_or, refl, sym, ap, subst, ◌∙◌, inl, inr, arith, cond, Option, Some, None, position, option_map, option_and_then, ◌⊎◌}
 use Rattle.std.specs.List.{position_or_len}
 use Rattle.std.proofs.lemmas.List.Recursion.{is_position_or_len}
 use Rattle.std.proofs.lemmas.List.{append_assoc, append-nil, length-map}
 use Rattle.std.proofs.Math.Seq.{drop-append_seam}
 use Rattle.graph_verify.proofs.MemberLemmas.{position-None}
-use Rattle.graph_run.proofs.Common.{In-at, list_any, list_any-append, cases_Bool, or_parts, Cell, same_cell, has_twice, In, In-append, In-left, In-right, In-from_any, any-from_In, same_cell-true, same_cell-refl, AreApart, TwoSlots, HoldsImage, Named, ObjectValue, object_kind, object_held, in_slot, Node, VirtualOutput}
+use Rattle.graph_run.proofs.Common.{In-at, fails-from_In, list_any, list_any-append, cases_Bool, or_parts, Cell, same_cell, has_twice, In, In-append, In-left, In-right, In-from_any, any-from_In, same_cell-true, same_cell-refl, AreApart, TwoSlots, HoldsImage, Named, ObjectValue, object_kind, object_held, in_slot, Node, VirtualOutput}
 use Rattle.vx_base.specs.declared.kind.Kind.TheVariants as kind
 use Rattle.graph_run.specs.Bind.{AreAllApart, HoldImages}
 use Rattle.graph_run.specs.Cells.{images_named, index_of, with_cell, with_cells}
 use Rattle.graph_run.specs.Program.{client_cells}
 use Rattle.graph_run.specs.Tasks.{graph_cells}
-
--- ---- lists
-
-pub with_cells-append : (cells xs ys : List Cell) → with_cells cells (xs ++ ys) ≡ with_cells (with_cells cells xs) ys
-with_cells-append cells [] ys = refl
-with_cells-append cells (x ∷ xs) ys = with_cells-append (with_cell cells x) xs ys
 
 -- ---- indices
 
@@ -142,7 +136,7 @@ images_apart objects a b one other differ same =
     (subst (λ (name : ℕ). option_map object_kind (option_and_then (in_slot a.slot) (object_held objects name)) ≡ Some kind.Image) same one) other
     (λ slot. differ (grind (arith, same, slot)))
 
-once_differ : (c : Cell) (cells : List Cell) (x : Cell) → list_any (same_cell c) cells ≡ false → In x cells → x ≢ c
+pub once_differ : (c : Cell) (cells : List Cell) (x : Cell) → list_any (same_cell c) cells ≡ false → In x cells → x ≢ c
 once_differ c cells x none i e = grind (arith, none, any-from_In (same_cell c) x cells i (ap (same_cell c) e ∙ same_cell-refl c))
 
 -- so are all of a list, each once
@@ -181,14 +175,8 @@ index_at (x ∷ cells) (suc k) d once below =
     let parts = or_parts (list_any (same_cell x) cells) (has_twice cells) once in
     let within : k < length cells = omega (arith, below) in
     let later = index_at cells k d parts.1 within in
-    let other : same_cell x (get_or cells k d) ≡ false = fails_in (same_cell x) (get_or cells k d) cells parts.0 (In-at cells k d within) in
+    let other : same_cell x (get_or cells k d) ≡ false = fails-from_In (same_cell x) (get_or cells k d) cells parts.0 (In-at cells k d within) in
     grind (arith, later, other)
-  where
-    fails_in : (p : Cell → Bool) (c : Cell) (cs : List Cell) → list_any p cs ≡ false → In c cs → p c ≡ false
-    fails_in p c cs none i = elim (cases_Bool (p c)) [
-      | inl passes ↦ (let any = any-from_In p c cs i passes in absurd (grind (arith, any, none)))
-      | inr fails ↦ fails
-    ]
 
 pub index_left : (xs ys : List Cell) (c : Cell) → In c xs → index_of (xs ++ ys) c ≡ index_of xs c
 index_left [] ys c i = elim i [ ]
@@ -200,9 +188,13 @@ index_left (x ∷ xs) ys c i = elim (cases_Bool (same_cell x c)) [
   ]
 ]
 
-pub index_right : (xs ys : List Cell) (c : Cell) → (In c xs → ⊥) → length xs ≤ index_of (xs ++ ys) c
-index_right [] ys c none = omega arith
-index_right (x ∷ xs) ys c none = elim (cases_Bool (same_cell x c)) [
+-- the index of a cell that is behind others
+pub index_behind : (xs ys : List Cell) (c : Cell) → (In c xs → ⊥) → index_of (xs ++ ys) c ≡ length xs + index_of ys c
+index_behind [] ys c none = omega arith
+index_behind (x ∷ xs) ys c none = elim (cases_Bool (same_cell x c)) [
   | inl e ↦ absurd (none (inl (sym (same_cell-true x c e))))
-  | inr e ↦ (let later = index_right xs ys c (λ i. none (inr i)) in grind (arith, e, later))
+  | inr e ↦ (let later = index_behind xs ys c (λ i. none (inr i)) in grind (arith, e, later))
 ]
+
+pub index_right : (xs ys : List Cell) (c : Cell) → (In c xs → ⊥) → length xs ≤ index_of (xs ++ ys) c
+index_right xs ys c none = omega (arith, index_behind xs ys c none)

@@ -1,5 +1,5 @@
 -- A scheduled graph that runs over planes: what its images and tallies need on their way out of a table and back.
-use Rattle.std.proofs.Common.{◌≡◌, ℕ, ◌+◌, ◌<◌, ◌≤◌, List, ◌++◌, length, map, drop, get_or, All, sym, ap, subst, ◌∙◌, arith, length-append}
+use Rattle.std.proofs.Common.{◌≡◌, ℕ, ◌<◌, ◌≤◌, List, ◌++◌, length, map, drop, get_or, All, Some, None, sym, ap, subst, ◌∙◌, arith, length-append}
 use Rattle.std.proofs.lemmas.List.{get_or-map, length-map}
 use Rattle.graph_run.proofs.Common.{IsStrictlyIncreasing, names_of, Node, Cell, IsObject, Named, with_written, VirtualOutput, Verified, IsReady, IsPlan, PlanValue, place_of, planned_rooms, Samples, samples_format, second_object, IsDescription, resolved, operand_held, run_of_graph, Format, U8}
 use Rattle.image_core.specs.declared.second.Second.{Second}
@@ -8,7 +8,7 @@ use Rattle.graph_steps.specs.declared.tally.Tally.{Tally}
 use Rattle.graph_steps.specs.Planes.{PlaneValue, no_plane, plane}
 use Rattle.graph_steps.specs.Program.{IsProgram}
 use Rattle.graph_steps.specs.Runs.{CanReduceBand}
-use Rattle.graph_steps.specs.Steps.{capacities}
+use Rattle.graph_steps.specs.Steps.{capacities, capacity}
 use Rattle.graph_run.specs.declared.schedule.Schedule.{Schedule}
 use Rattle.graph_run.specs.Bind.{AreAllApart, AreFor, HoldImages, bare_images, image_planes, plane_objects}
 use Rattle.graph_run.specs.Blocks.{band_plan, block_size, room_at}
@@ -16,14 +16,14 @@ use Rattle.graph_run.specs.Bound.{AreTalliesFor, LendTables}
 use Rattle.graph_run.specs.Program.{client_cells, first_blocks, planes_of, radius_of, tables_of, tallies_of}
 use Rattle.graph_run.specs.Results.{Leaves, tally_objects}
 use Rattle.graph_run.specs.Schedule.{IsSchedule}
-use Rattle.graph_run.specs.Tasks.{graph_tasks}
+use Rattle.graph_run.specs.Tasks.{graph_tasks, last_in}
 use Rattle.graph_run.proofs.HoldSteps.{slots_within}
 use Rattle.graph_run.proofs.ReadyLemmas.{clients_apart, clients_hold}
 use Rattle.graph_run.proofs.ScheduleLemmas.{virtuals_below}
 use Rattle.graph_run.proofs.ScheduleSteps.{scheduled, scheduled_reduces}
-use Rattle.graph_run.proofs.SizeSteps.{virtual_format}
+use Rattle.graph_run.proofs.SizeSteps.{virtual_capacity, virtual_format}
 use Rattle.graph_run.proofs.SolutionStepsTaken.{back_for, back_images, back_tallies, tables_lent, tables_same, value}
-use Rattle.graph_run.proofs.VirtualLemmas.{same_format_at}
+use Rattle.graph_run.proofs.VirtualLemmas.{rooms_back, same_format_at}
 
 -- planes of the same sizes have the same formats
 same_formats : (xs ys : List PlaneValue) (k : ℕ) → capacities xs ≡ capacities ys → k < length xs → (plane xs k).format ≡ (plane ys k).format
@@ -99,6 +99,19 @@ module _ (objects : List Named) (nodes : List Node) (v : Verified) (ready : IsRe
         subst (λ (l : List Tally). CanReduceBand 0 s.tasks.items planes l) (sym new)
         (subst (λ (l : List PlaneValue). CanReduceBand 0 s.tasks.items l (tallies_of objects steps)) (sym all_planes) (scheduled_reduces objects nodes v p s virtuals are ready plan schedule descs))
 
+    virtual_count : length virtuals ≡ count
+    virtual_count = omega (arith, length-map virtuals (λ (q : PlaneValue). q.desc), ap length descs, length-map outs (λ (o : VirtualOutput). o.desc))
+
+    -- blocks that planes of the same sizes give back are as long as they were
+    pub rooms_return : (after : List PlaneValue) → capacities after ≡ capacities planes → (between new : List Samples) → length new ≡ length blocks
+        → ((x : ℕ) → last_in x s.slots.items ≡ None → room_at between x ≡ room_at blocks x) → ((x k : ℕ) → last_in x s.slots.items ≡ Some k → room_at new x ≡ capacity (capacities after) k)
+        → ((x : ℕ) → last_in x s.slots.items ≡ None → room_at new x ≡ room_at between x) → map block_size new ≡ map block_size blocks
+    rooms_return after kept between new long unused back left =
+        rooms_back s.slots.items blocks between new (capacities after) long
+        (λ k below. ap (λ (l : List (Format × ℕ)). capacity l k) (kept ∙ ap capacities planes_are)
+        ∙ virtual_capacity virtuals (image_planes objects clients) s.slots.items (room_at blocks) k first (omega (arith, virtual_count, slot_count)) below)
+        unused back left
+
     module _ (tallies : List Tally) (new : tallies ≡ tallies_of objects steps) (lent : List Second) (made : map second_object lent ≡ tables_of bare steps)
         (after : List PlaneValue) (counted : List Tally) (leaves : Leaves lent s.tasks.items planes tallies after counted) where
       all_leaves : Leaves lent (graph_tasks steps outs p (radius_of objects s.high)) (planes_of objects steps outs virtuals) (tallies_of objects steps) after counted
@@ -106,9 +119,6 @@ module _ (objects : List Named) (nodes : List Node) (v : Verified) (ready : IsRe
           subst (λ (l : List Task). Leaves lent l (planes_of objects steps outs virtuals) (tallies_of objects steps) after counted) schedule.tasks
           (subst (λ (l : List PlaneValue). Leaves lent s.tasks.items l (tallies_of objects steps) after counted) all_planes
           (subst (λ (l : List Tally). Leaves lent s.tasks.items planes l after counted) new leaves))
-
-      virtual_count : length virtuals ≡ count
-      virtual_count = omega (arith, length-map virtuals (λ (q : PlaneValue). q.desc), ap length descs, length-map outs (λ (o : VirtualOutput). o.desc))
 
       pub planes_enough : count ≤ length after
       planes_enough = omega (arith, leaves.planes_count, ap length planes_are, length-append virtuals (image_planes objects clients), virtual_count)

@@ -6,16 +6,17 @@ use Rattle.image_core.specs.declared.second.Second.{Second}
 use Rattle.graph_steps.specs.declared.step.Step.{Step}
 use Rattle.graph_steps.specs.declared.step.Task.{Task}
 use Rattle.graph_steps.specs.Planes.{PlaneValue, no_plane, plane}
-use Rattle.graph_steps.specs.Program.{AreFilled, AreFree, AreInOrder, HaveRoom, HoldsRows, IsClient, IsLive, IsProgram, IsStepOf, IsUnwritten, KeepsBlock, NamesPlanes, blocks_after_tasks, halo}
+use Rattle.graph_steps.specs.Program.{AreFree, HaveRoom, HoldsRows, IsClient, IsLive, IsProgram, IsStepOf, IsUnwritten, KeepsBlock, NamesPlanes, blocks_after_tasks, halo}
 use Rattle.graph_steps.specs.Steps.{capacities}
 use Rattle.graph_run.specs.Bind.{image_plane, image_planes}
 use Rattle.graph_run.specs.Program.{IsBound, client_cells, planes_of}
 use Rattle.graph_run.specs.Tasks.{HaveTasks, SlotsHold, TakeTurns, blocks_at, graph_cells, graph_tasks}
 use Rattle.graph_run.proofs.CellLemmas.{held_image}
-use Rattle.graph_run.proofs.ProgramPlanes.{plane_count, steps_suit, virtual_count, virtual_desc}
+use Rattle.graph_run.proofs.SizeSteps.{plane_count, virtual_count}
+use Rattle.graph_run.proofs.ProgramPlanes.{steps_suit, virtual_desc}
 use Rattle.graph_run.proofs.ReadyLemmas.{clients_hold, have_tasks}
 use Rattle.graph_run.proofs.TaskLemmas.{kept_turns, turns_again, turns_room}
-use Rattle.graph_run.proofs.WithinLemmas.{begins, client_planes, filled, free, one_writer, ordered, steps_within, turns, written}
+use Rattle.graph_run.proofs.WithinLemmas.{begins, client_planes, free, one_writer, steps_within, turns, written}
 
 module _ (objects : List Named) (nodes : List Node) (v : Verified) (p : PlanValue) (tables : List Second) (radius : Node → ℕ) (high size : ℕ) (halos : List ℕ) (virtuals : List PlaneValue) (rooms : ℕ → Format × ℕ)
     (bound : IsBound objects nodes v p tables radius high size halos virtuals rooms) where
@@ -44,7 +45,7 @@ module _ (objects : List Named) (nodes : List Node) (v : Verified) (p : PlanValu
   have = have_tasks objects nodes v bound.ready p bound.plan
 
   same_count : length planes ≡ length (graph_cells steps outs)
-  same_count = plane_count objects bound.objects_are nodes v bound.ready p bound.plan virtuals bound.descs
+  same_count = plane_count objects steps outs virtuals bound.descs
 
   in_turn : TakeTurns slots 0 tasks
   in_turn = turns steps outs p found_virtual have radius
@@ -65,7 +66,7 @@ module _ (objects : List Named) (nodes : List Node) (v : Verified) (p : PlanValu
   kept_client : (c : ℕ) → KeepsBlock (length planes) tasks c → IsClient (plane planes c)
   kept_client c kept =
       client_planes virtuals objects (client_cells steps outs) client_image c
-      (omega (arith, kept_turns slots tasks in_turn (length planes) c kept, length-map outs (place_of p), virtual_count objects bound.objects_are nodes v bound.ready p bound.plan virtuals bound.descs))
+      (omega (arith, kept_turns slots tasks in_turn (length planes) c kept, length-map outs (place_of p), virtual_count virtuals outs bound.descs))
       (omega (arith, kept.0, length-append virtuals (image_planes objects (client_cells steps outs)), length-map (client_cells steps outs) (λ (x : Cell). image_plane (image_held objects x))))
 
   -- ---- blocks
@@ -102,9 +103,3 @@ module _ (objects : List Named) (nodes : List Node) (v : Verified) (p : PlanValu
         room = subst (λ (b : List (Format × ℕ)). HaveRoom size halos (λ c. (plane planes c).desc) tasks b) (sym blocks_are) (turns_room size halos (λ c. (plane planes c).desc) slots rooms clients hold 0 tasks in_turn);
         again = subst (λ (b : List (Format × ℕ)). blocks_after_tasks tasks b ≡ b) (sym blocks_are) (turns_again slots rooms clients tasks in_turn);
       }
-
-  pub in_order : AreInOrder tasks
-  in_order = ordered steps outs p found_virtual have radius
-
-  pub all_filled : AreFilled (length planes) tasks
-  all_filled = subst (λ (k : ℕ). AreFilled k tasks) (sym same_count) (filled steps outs p found_virtual have radius)

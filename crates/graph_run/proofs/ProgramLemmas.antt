@@ -1,7 +1,8 @@
 -- The tasks of a graph: which node each is of, which planes it reads and writes, and in which order.
-use Rattle.std.proofs.Common.{◌≡◌, ◌≢◌, ℕ, ◌+◌, ◌<◌, true, false, List, [], ◌∷◌, ◌++◌, length, refl, sym, ap, subst, ◌∙◌, inl, inr, arith, Option, Some, None, ◌⊎◌}
+use Rattle.std.proofs.Common.{◌≡◌, ◌≢◌, ℕ, suc, ◌+◌, ◌<◌, true, false, List, [], ◌∷◌, ◌++◌, length, refl, sym, ap, subst, ◌∙◌, inl, inr, arith, Option, Some, None, ◌⊎◌}
+use Rattle.std.specs.List.{slice_get}
 use Rattle.std.proofs.lemmas.List.{append_assoc}
-use Rattle.graph_run.proofs.Common.{cases_lt, or_parts, list_any, flat_map, Kind, Node, Cell, given, inputs, outputs, parameters, has_twice, second_kind, feeds, same_cell, In, In-left, In-right, any-from_In, same-from_In, Output, First, Second}
+use Rattle.graph_run.proofs.Common.{cases_lt, or_parts, list_any, flat_map, Kind, Node, Cell, given, inputs, outputs, parameters, has_twice, once_after, second_kind, feeds, same_cell, In, In-left, In-right, any-from_In, same-from_In, Output, First, Second}
 use Rattle.graph_verify.proofs.MemberLemmas.{In-flat_map}
 use Rattle.graph_verify.specs.Links.{reads}
 use Rattle.graph_verify.specs.Order.{InTurn}
@@ -14,7 +15,7 @@ use Rattle.graph_steps.specs.Program.{HaveOneWriter, IsStepOf, KeepsBlock, IsLiv
 use Rattle.graph_steps.specs.Steps.{ReadsPlane}
 use Rattle.graph_run.specs.Cells.{image_given, images_named, index_of, node_images, with_cells}
 use Rattle.graph_run.specs.Tasks.{AreNamed, AreReadAfter, AreReadWithin, TakeTurns, source, step_for, tally_after, tasks_by, tasks_from, write_given}
-use Rattle.graph_run.proofs.IndexLemmas.{in_more, index_below, indices_differ}
+use Rattle.graph_run.proofs.IndexLemmas.{in_more, indices_differ, once_differ}
 use Rattle.graph_run.proofs.TaskLemmas.{turns_kept, turns_written}
 
 -- ---- live planes
@@ -65,51 +66,69 @@ tasks-right s [] ys i = i
 tasks-right s (Write w ∷ xs) ys i = inr (tasks-right s xs ys i)
 tasks-right s (Reduce r ∷ xs) ys i = tasks-right s xs ys i
 
+abbrev pub out_at : Node → Output → Option Cell
+out_at n First = n.out1
+out_at n Second = n.out2
+
+pub in_outputs_at : (n : Node) (which : Output) (c : Cell) → out_at n which ≡ Some c → In c (outputs n)
+in_outputs_at n First c e = In-left c (given n.out1) (given n.out2) (subst (λ (o : Option Cell). In c (given o)) (sym e) (inl refl))
+in_outputs_at n Second c e = In-right c (given n.out1) (given n.out2) (subst (λ (o : Option Cell). In c (given o)) (sym e) (inl refl))
+
 module _ (cells : List Cell) (slots : List ℕ) (radius : Node → ℕ) where
-  -- a step writes an output, which is an image, of one of the nodes
-  pub record IsOf (s : Step) (nodes : List Node) : Type 0 where
+  -- a step writes an output, which is an image, of the node at a place among these, the first of which is at an index
+  pub record IsStepFor (s : Step) (first : ℕ) (nodes : List Node) : Type 0 where
     pub node : Node
+    pub place : ℕ
+    pub there : slice_get nodes place ≡ Some node
     pub inside : In node nodes
-    pub at : ℕ
     pub which : Output
     pub cell : Cell
+    pub output : out_at node which ≡ Some cell
     pub written : In cell (outputs node)
     pub image : (parameters node.function).output ≡ kind.Image
+    pub at : ℕ
+    pub same : at ≡ first + place
     pub is : s ≡ step_for cells slots radius at node which cell
 
-  of_given : (at : ℕ) (n : Node) (which : Output) (output : Option Cell) (s : Step) → IsStepOf s (write_given cells slots radius at n which output)
-      → (c : Cell) × In c (given output) × (s ≡ step_for cells slots radius at n which c)
-  of_given at n which None s i = elim i [ ]
-  of_given at n which (Some c) s (inl e) = (c, inl refl, e)
-  of_given at n which (Some c) s (inr i) = elim i [ ]
+  for_given : (at : ℕ) (n : Node) (which : Output) (o : Option Cell) (s : Step) → IsStepOf s (write_given cells slots radius at n which o)
+      → (c : Cell) × (o ≡ Some c) × (s ≡ step_for cells slots radius at n which c)
+  for_given at n which None s i = elim i [ ]
+  for_given at n which (Some c) s (inl e) = (c, refl, e)
+  for_given at n which (Some c) s (inr i) = elim i [ ]
 
-  of_by : (at tally : ℕ) (n : Node) (wanted : Kind) (s : Step) → IsStepOf s (tasks_by cells slots radius at tally n wanted)
-      → (wanted ≡ kind.Image) × ((which : Output) × (c : Cell) × In c (outputs n) × (s ≡ step_for cells slots radius at n which c))
-  of_by at tally n kind.Image s i = (
+  for_by : (at tally : ℕ) (n : Node) (wanted : Kind) (s : Step) → IsStepOf s (tasks_by cells slots radius at tally n wanted)
+      → (wanted ≡ kind.Image) × ((which : Output) × (c : Cell) × (out_at n which ≡ Some c) × (s ≡ step_for cells slots radius at n which c))
+  for_by at tally n kind.Image s i = (
     refl,
     elim (tasks-append s (write_given cells slots radius at n First n.out1) (write_given cells slots radius at n Second n.out2) i) [
-      | inl one ↦ (let r = of_given at n First n.out1 s one in (First, r.0, In-left r.0 (given n.out1) (given n.out2) r.1, r.2))
-      | inr two ↦ (let r = of_given at n Second n.out2 s two in (Second, r.0, In-right r.0 (given n.out1) (given n.out2) r.1, r.2))
+      | inl one ↦ (let r = for_given at n First n.out1 s one in (First, r.0, r.1, r.2))
+      | inr two ↦ (let r = for_given at n Second n.out2 s two in (Second, r.0, r.1, r.2))
     ],
   )
-  of_by at tally n kind.Lut s i = elim i [ ]
-  of_by at tally n kind.Threshold s i = elim i [ ]
-  of_by at tally n kind.Delay s i = elim i [ ]
-  of_by at tally n kind.Convolution s i = elim i [ ]
-  of_by at tally n kind.Distribution s i = elim i [ ]
-  of_by at tally n kind.Extremes s i = elim i [ ]
-  of_by at tally n kind.Graph s i = elim i [ ]
-  of_by at tally n kind.VirtualImage s i = elim i [ ]
+  for_by at tally n other s i = elim i [ ]
 
-  pub step_of : (nodes : List Node) (at tally : ℕ) (s : Step) → IsStepOf s (tasks_from cells slots radius at tally nodes) → IsOf s nodes
-  step_of [] at tally s i = elim i [ ]
-  step_of (n ∷ nodes) at tally s i = elim (tasks-append s (tasks_by cells slots radius at tally n (parameters n.function).output) (tasks_from cells slots radius (at + 1) (tally_after tally (parameters n.function).output) nodes) i) [
+  pub step_node : (nodes : List Node) (first tally : ℕ) (s : Step) → IsStepOf s (tasks_from cells slots radius first tally nodes) → IsStepFor s first nodes
+  step_node [] first tally s i = elim i [ ]
+  step_node (n ∷ nodes) first tally s i = elim (tasks-append s (tasks_by cells slots radius first tally n (parameters n.function).output) (tasks_from cells slots radius (first + 1) (tally_after tally (parameters n.function).output) nodes) i) [
     | inl own ↦
-        (let r = of_by at tally n (parameters n.function).output s own in
-        record { node = n; inside = inl refl; at = at; which = r.1.0; cell = r.1.1; written = r.1.2; image = r.0; is = r.1.3 })
+        (let r = for_by first tally n (parameters n.function).output s own in
+        record { node = n; place = 0; there = refl; inside = inl refl; which = r.1.0; cell = r.1.1; output = r.1.2; written = in_outputs_at n r.1.0 r.1.1 r.1.2; image = r.0; at = first; same = omega arith; is = r.1.3 })
     | inr later ↦
-        (let r = step_of nodes (at + 1) (tally_after tally (parameters n.function).output) s later in
-        record { node = r.node; inside = inr r.inside; at = r.at; which = r.which; cell = r.cell; written = r.written; image = r.image; is = r.is })
+        (let r = step_node nodes (first + 1) (tally_after tally (parameters n.function).output) s later in
+        record {
+          node = r.node;
+          place = suc r.place;
+          there = r.there;
+          inside = inr r.inside;
+          which = r.which;
+          cell = r.cell;
+          output = r.output;
+          written = r.written;
+          image = r.image;
+          at = r.at;
+          same = omega (arith, r.same);
+          is = r.is;
+        })
   ]
 
 -- ---- the planes that a step reads
@@ -122,14 +141,7 @@ image_named n c image i =
 source_plane : (cells : List Cell) (at k : ℕ) (wanted : Kind) (o : Option Cell) → source cells at wanted o ≡ Plane k → (c : Cell) × In c (given o) × In c (image_given wanted o) × (k ≡ index_of cells c)
 source_plane cells at k wanted None e = absurd (cc e)
 source_plane cells at k kind.Image (Some c) e = let same : k ≡ index_of cells c = cc in (c, inl refl, inl refl, same)
-source_plane cells at k kind.Lut (Some c) e = absurd (cc e)
-source_plane cells at k kind.Threshold (Some c) e = absurd (cc e)
-source_plane cells at k kind.Delay (Some c) e = absurd (cc e)
-source_plane cells at k kind.Convolution (Some c) e = absurd (cc e)
-source_plane cells at k kind.Distribution (Some c) e = absurd (cc e)
-source_plane cells at k kind.Extremes (Some c) e = absurd (cc e)
-source_plane cells at k kind.Graph (Some c) e = absurd (cc e)
-source_plane cells at k kind.VirtualImage (Some c) e = absurd (cc e)
+source_plane cells at k other (Some c) e = absurd (cc e)
 
 -- a node that doesn't feed another writes none of the cells that that reads
 unfed : (m n : Node) (o c : Cell) → feeds m n ≡ false → In o (outputs m) → In c (inputs n) → o ≢ c
@@ -148,11 +160,11 @@ module _ (cells : List Cell) (slots : List ℕ) (radius : Node → ℕ) where
       (r.0, inr r.1, inr (In-left r.0 (image_given (second_kind n) n.in2) _ r.2), r.3)
 
   -- steps of these nodes write none of the planes that this node reads
-  module _ (n : Node) (nodes : List Node) (named : AreNamed cells (n ∷ nodes)) (turn : (m : Node) → In m (n ∷ nodes) → feeds m n ≡ false) where
+  module _ (first : ℕ) (n : Node) (nodes : List Node) (named : AreNamed cells (n ∷ nodes)) (turn : (m : Node) → In m (n ∷ nodes) → feeds m n ≡ false) where
     abbrev AreTheirs : List Task → Type 0
-    AreTheirs tasks = (s : Step) → IsStepOf s tasks → IsOf cells slots radius s (n ∷ nodes)
+    AreTheirs tasks = (s : Step) → IsStepOf s tasks → IsStepFor cells slots radius s first (n ∷ nodes)
 
-    unwritten_by : (c : Cell) → In c (inputs n) → In c (node_images n) → (s : Step) → IsOf cells slots radius s (n ∷ nodes) → s.output ≢ index_of cells c
+    unwritten_by : (c : Cell) → In c (inputs n) → In c (node_images n) → (s : Step) → IsStepFor cells slots radius s first (n ∷ nodes) → s.output ≢ index_of cells c
     unwritten_by c i j s of same =
         indices_differ cells of.cell c (named of.node of.inside of.cell (image_named of.node of.cell of.image of.written)) (named n (inl refl) c j)
         (unfed of.node n of.cell c (turn of.node of.inside) of.written i) (sym (ap (λ (x : Step). x.output) of.is) ∙ same)
@@ -179,32 +191,18 @@ module _ (cells : List Cell) (slots : List ℕ) (radius : Node → ℕ) where
         subst AreReadAfter (sym (append_assoc one two later))
         (after_given at First n.out1 (two ++ later) all
         (after_given at Second n.out2 later (λ s i. all s (tasks-right s one (two ++ later) i)) after))
-    after_by at tally kind.Lut later theirs after = after_reduce tally later theirs after
-    after_by at tally kind.Threshold later theirs after = after_reduce tally later theirs after
-    after_by at tally kind.Delay later theirs after = after_reduce tally later theirs after
-    after_by at tally kind.Convolution later theirs after = after_reduce tally later theirs after
-    after_by at tally kind.Distribution later theirs after = after_reduce tally later theirs after
-    after_by at tally kind.Extremes later theirs after = after_reduce tally later theirs after
-    after_by at tally kind.Graph later theirs after = after_reduce tally later theirs after
-    after_by at tally kind.VirtualImage later theirs after = after_reduce tally later theirs after
+    after_by at tally other later theirs after = after_reduce tally later theirs after
 
   -- where the nodes stand in their order, no task reads what a later one writes
   pub read_after : (nodes : List Node) (at tally : ℕ) → InTurn feeds nodes → AreNamed cells nodes → AreReadAfter (tasks_from cells slots radius at tally nodes)
   read_after [] at tally turn named = tt
   read_after (n ∷ nodes) at tally turn named =
-      after_by n nodes named turn.0 at tally (parameters n.function).output
+      after_by at n nodes named turn.0 at tally (parameters n.function).output
       (tasks_from cells slots radius (at + 1) (tally_after tally (parameters n.function).output) nodes)
-      (λ s i. step_of cells slots radius (n ∷ nodes) at tally s i)
+      (λ s i. step_node cells slots radius (n ∷ nodes) at tally s i)
       (read_after nodes (at + 1) (tally_after tally (parameters n.function).output) turn.1 (λ m i. named m (inr i)))
 
 -- ---- one writer, and planes that are there
-
-once_ends : (c : Cell) (cs : List Cell) → has_twice (c ∷ cs) ≡ false → (x : Cell) → In x cs → x ≢ c
-once_ends c cs once x i e =
-    let none : list_any (same_cell c) cs ≡ false = (or_parts (list_any (same_cell c) cs) (has_twice cs) once).0 in
-    let there : list_any (same_cell c) cs ≡ true = same-from_In c cs (subst (λ (y : Cell). In y cs) e i) in
-    let clash : false ≡ true = sym none ∙ there in
-    cc
 
 module _ (cells : List Cell) (slots : List ℕ) (radius : Node → ℕ) where
   -- steps that write these cells, which have indices
@@ -216,12 +214,9 @@ module _ (cells : List Cell) (slots : List ℕ) (radius : Node → ℕ) where
   one_write at n which c left later there once these one = (
     (λ s i same.
         let o = these s i in
-        indices_differ cells o.0 c o.2 there (once_ends c left once o.0 o.1) (sym o.3 ∙ same)),
+        indices_differ cells o.0 c o.2 there (once_differ c left o.0 (or_parts (list_any (same_cell c) left) (has_twice left) once).0 o.1) (sym o.3 ∙ same)),
     one,
   )
-
-  once_tail : (c : Cell) (left : List Cell) → has_twice (c ∷ left) ≡ false → has_twice left ≡ false
-  once_tail c left once = (or_parts (list_any (same_cell c) left) (has_twice left) once).1
 
   one_given : (at : ℕ) (n : Node) (which : Output) (o : Option Cell) (left : List Cell) (later : List Task) → ((c : Cell) → In c (given o) → In c cells) → has_twice (given o ++ left) ≡ false → WriteThese left later
       → HaveOneWriter later → HaveOneWriter (write_given cells slots radius at n which o ++ later) × WriteThese (given o ++ left) (write_given cells slots radius at n which o ++ later)
@@ -235,16 +230,8 @@ module _ (cells : List Cell) (slots : List ℕ) (radius : Node → ℕ) where
       write_these s (inl e) = (c, inl refl, there c (inl refl), ap (λ (x : Step). x.output) e)
       write_these s (inr i) = let o = these s i in (o.0, inr o.1, o.2, o.3)
 
-  once_given : (o : Option Cell) (left : List Cell) → has_twice (given o ++ left) ≡ false → has_twice left ≡ false
-  once_given None left once = once
-  once_given (Some c) left once = once_tail c left once
-
   keep_these : (o : List Cell) (left : List Cell) (tasks : List Task) → WriteThese left tasks → WriteThese (o ++ left) tasks
   keep_these o left tasks these s i = let r = these s i in (r.0, In-right r.0 o left r.1, r.2, r.3)
-
-  once_right : (xs ys : List Cell) → has_twice (xs ++ ys) ≡ false → has_twice ys ≡ false
-  once_right [] ys once = once
-  once_right (x ∷ xs) ys once = once_right xs ys (once_tail x (xs ++ ys) once)
 
   one_by : (at tally : ℕ) (n : Node) (wanted : Kind) (left : List Cell) (later : List Task) → ((c : Cell) → wanted ≡ kind.Image → In c (outputs n) → In c cells) → has_twice (outputs n ++ left) ≡ false → WriteThese left later
       → HaveOneWriter later → HaveOneWriter (tasks_by cells slots radius at tally n wanted ++ later) × WriteThese (outputs n ++ left) (tasks_by cells slots radius at tally n wanted ++ later)
@@ -252,58 +239,22 @@ module _ (cells : List Cell) (slots : List ℕ) (radius : Node → ℕ) where
       let first : List Task = write_given cells slots radius at n First n.out1 in
       let second : List Task = write_given cells slots radius at n Second n.out2 in
       let parted : has_twice (given n.out1 ++ (given n.out2 ++ left)) ≡ false = ap has_twice (sym (append_assoc (given n.out1) (given n.out2) left)) ∙ once in
-      let two = one_given at n Second n.out2 left later (λ c i. there c refl (In-right c (given n.out1) (given n.out2) i)) (once_right (given n.out1) (given n.out2 ++ left) parted) these one in
+      let two = one_given at n Second n.out2 left later (λ c i. there c refl (In-right c (given n.out1) (given n.out2) i)) (once_after (given n.out1) (given n.out2 ++ left) parted) these one in
       let both = one_given at n First n.out1 (given n.out2 ++ left) (second ++ later) (λ c i. there c refl (In-left c (given n.out1) (given n.out2) i)) parted two.1 two.0 in (
         subst HaveOneWriter (sym (append_assoc first second later)) both.0,
         subst (WriteThese (outputs n ++ left)) (sym (append_assoc first second later))
             (subst (λ (l : List Cell). WriteThese l (first ++ (second ++ later))) (sym (append_assoc (given n.out1) (given n.out2) left)) both.1),
       )
-  one_by at tally n kind.Lut left later there once these one = (one, keep_these (outputs n) left later these)
-  one_by at tally n kind.Threshold left later there once these one = (one, keep_these (outputs n) left later these)
-  one_by at tally n kind.Delay left later there once these one = (one, keep_these (outputs n) left later these)
-  one_by at tally n kind.Convolution left later there once these one = (one, keep_these (outputs n) left later these)
-  one_by at tally n kind.Distribution left later there once these one = (one, keep_these (outputs n) left later these)
-  one_by at tally n kind.Extremes left later there once these one = (one, keep_these (outputs n) left later these)
-  one_by at tally n kind.Graph left later there once these one = (one, keep_these (outputs n) left later these)
-  one_by at tally n kind.VirtualImage left later there once these one = (one, keep_these (outputs n) left later these)
+  one_by at tally n other left later there once these one = (one, keep_these (outputs n) left later these)
 
   -- where no cell has two writers, neither has a plane
   pub one_writer_each : (nodes : List Node) (at tally : ℕ) → AreNamed cells nodes → has_twice (flat_map outputs nodes) ≡ false
       → HaveOneWriter (tasks_from cells slots radius at tally nodes) × WriteThese (flat_map outputs nodes) (tasks_from cells slots radius at tally nodes)
   one_writer_each [] at tally named once = (tt, λ s i. elim i [ ])
   one_writer_each (n ∷ nodes) at tally named once =
-      let rest = one_writer_each nodes (at + 1) (tally_after tally (parameters n.function).output) (λ m i. named m (inr i)) (once_right (outputs n) (flat_map outputs nodes) once) in
+      let rest = one_writer_each nodes (at + 1) (tally_after tally (parameters n.function).output) (λ m i. named m (inr i)) (once_after (outputs n) (flat_map outputs nodes) once) in
       one_by at tally n (parameters n.function).output (flat_map outputs nodes) (tasks_from cells slots radius (at + 1) (tally_after tally (parameters n.function).output) nodes)
       (λ c image i. named n (inl refl) c (image_named n c image i)) once rest.1 rest.0
-
-  -- each plane that a task reads is there
-  within_given : (at : ℕ) (n : Node) (which : Output) (o : Option Cell) (later : List Task) → ((c : Cell) → In c (node_images n) → In c cells) → AreReadWithin (length cells) later
-      → AreReadWithin (length cells) (write_given cells slots radius at n which o ++ later)
-  within_given at n which None later named rest = rest
-  within_given at n which (Some o) later named rest =
-      ((λ k read. let r = read_cell cells slots radius n at which o k read in subst (λ (x : ℕ). x < length cells) (sym r.3) (index_below cells r.0 (named r.0 r.2))), rest)
-
-  within_by : (at tally : ℕ) (n : Node) (wanted : Kind) (later : List Task) → ((c : Cell) → In c (node_images n) → In c cells) → AreReadWithin (length cells) later
-      → AreReadWithin (length cells) (tasks_by cells slots radius at tally n wanted ++ later)
-  within_by at tally n kind.Image later named rest =
-      let one : List Task = write_given cells slots radius at n First n.out1 in
-      let two : List Task = write_given cells slots radius at n Second n.out2 in
-      subst (AreReadWithin (length cells)) (sym (append_assoc one two later))
-      (within_given at n First n.out1 (two ++ later) named (within_given at n Second n.out2 later named rest))
-  within_by at tally n kind.Lut later named rest = (index_below cells n.in1 (named n.in1 (inl refl)), rest)
-  within_by at tally n kind.Threshold later named rest = (index_below cells n.in1 (named n.in1 (inl refl)), rest)
-  within_by at tally n kind.Delay later named rest = (index_below cells n.in1 (named n.in1 (inl refl)), rest)
-  within_by at tally n kind.Convolution later named rest = (index_below cells n.in1 (named n.in1 (inl refl)), rest)
-  within_by at tally n kind.Distribution later named rest = (index_below cells n.in1 (named n.in1 (inl refl)), rest)
-  within_by at tally n kind.Extremes later named rest = (index_below cells n.in1 (named n.in1 (inl refl)), rest)
-  within_by at tally n kind.Graph later named rest = (index_below cells n.in1 (named n.in1 (inl refl)), rest)
-  within_by at tally n kind.VirtualImage later named rest = (index_below cells n.in1 (named n.in1 (inl refl)), rest)
-
-  pub read_within : (nodes : List Node) (at tally : ℕ) → AreNamed cells nodes → AreReadWithin (length cells) (tasks_from cells slots radius at tally nodes)
-  read_within [] at tally named = tt
-  read_within (n ∷ nodes) at tally named =
-      within_by at tally n (parameters n.function).output (tasks_from cells slots radius (at + 1) (tally_after tally (parameters n.function).output) nodes) (named n (inl refl))
-      (read_within nodes (at + 1) (tally_after tally (parameters n.function).output) (λ m i. named m (inr i)))
 
 -- ---- the cells of a graph
 

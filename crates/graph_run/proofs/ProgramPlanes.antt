@@ -23,9 +23,9 @@ use Rattle.graph_run.proofs.CellLemmas.{held_image}
 use Rattle.graph_run.proofs.IndexLemmas.{at_index, cells_parts, index_below}
 use Rattle.graph_run.proofs.LinkLaws.{In-from_All}
 use Rattle.graph_run.proofs.OperandLaws.{known_kept, no_fault}
-use Rattle.graph_run.proofs.ProgramLemmas.{all_named, image_named}
-use Rattle.graph_run.proofs.ReadyLemmas.{clients_hold, own}
-use Rattle.graph_run.proofs.SolutionStepsTasks.{in_outputs_at, step_node}
+use Rattle.graph_run.proofs.SizeSteps.{virtual_count}
+use Rattle.graph_run.proofs.ProgramLemmas.{all_named, image_named, step_node}
+use Rattle.graph_run.proofs.ReadyLemmas.{in_with_kind, clients_hold, own}
 use Rattle.graph_run.proofs.SuitsSteps.{step_suits}
 use Rattle.graph_run.proofs.VerifiedLemmas.{named_by_input, output_known}
 
@@ -48,14 +48,8 @@ each_given : (Q : Cell → Type 0) (cell : Option Cell) → ((c : Cell) → In c
 each_given Q None h = tt
 each_given Q (Some c) h = h c (inl refl)
 
-in_with_kind : (k : Kind) (c : Cell) (cell : Option Cell) → In c (given cell) → In (c, k) (with_kind k cell)
-in_with_kind k c None i = elim i [ ]
-in_with_kind k c (Some d) (inl e) = inl (ap (λ (x : Cell). let pair : Cell × Kind = (x, k) in pair) e)
-in_with_kind k c (Some d) (inr i) = elim i [ ]
-
 in_image_given : (k : Kind) (c : Cell) (cell : Option Cell) → k ≡ kind.Image → In c (given cell) → In c (image_given k cell)
-in_image_given k c None e i = elim i [ ]
-in_image_given k c (Some d) e i = subst (λ (x : Kind). In c (image_given x (Some d))) (sym e) i
+in_image_given k c cell e i = subst (λ (x : Kind). In c (image_given x cell)) (sym e) i
 
 -- an image is no matrix
 no_matrix : (found : Option ObjectValue) (operand : Operand) → option_map operand_of found ≡ Some operand → StandsFor operand kind.Image → None ≡ matrix_in found
@@ -152,17 +146,10 @@ module _ (objects : List Named) (are : All (λ o. IsObject o.object) objects) (n
   abbrev clients : List Cell
   clients = client_cells steps outs
 
-  pub virtual_count : length virtuals ≡ length outs
-  virtual_count = sym (length-map virtuals (λ (q : PlaneValue). q.desc)) ∙ ap length descs ∙ length-map outs (λ (o : VirtualOutput). o.desc)
-
-  pub plane_count : length planes ≡ length cells
-  plane_count =
-      omega (arith, length-append virtuals (image_planes objects clients), length-map clients (λ (c : Cell). image_plane (image_held objects c)), ap length (cells_parts steps outs), length-append virtual clients, length-map outs (λ (o : VirtualOutput). o.cell), virtual_count)
-
   -- the plane of a virtual image
   pub virtual_desc : (k : ℕ) → k < length outs → (plane planes k).desc ≡ virtual_description outs k
   virtual_desc k below =
-      ap (λ (q : PlaneValue). q.desc) (get_or-append virtuals (image_planes objects clients) no_plane k (omega (arith, virtual_count, below)))
+      ap (λ (q : PlaneValue). q.desc) (get_or-append virtuals (image_planes objects clients) no_plane k (omega (arith, virtual_count virtuals outs descs, below)))
       ∙ sym (get_or-map_default (λ (q : PlaneValue). q.desc) virtuals k no_plane)
       ∙ ap (λ (l : List Description). get_or l k no_plane.desc) descs
 
@@ -188,13 +175,13 @@ module _ (objects : List Named) (are : All (λ o. IsObject o.object) objects) (n
       let at : ℕ = k - length virtuals in
       let size : length cells ≡ length virtual + length clients = ap length (cells_parts steps outs) ∙ length-append virtual clients in
       let mapped : length virtual ≡ length outs = length-map outs (λ (o : VirtualOutput). o.cell) in
-      let small : at < length clients = omega (arith, size, mapped, virtual_count, above, below) in
+      let small : at < length clients = omega (arith, size, mapped, virtual_count virtuals outs descs, above, below) in
       let c : Cell = get_or clients at d in
       let cell : get_or cells k d ≡ c =
       ap (λ (l : List Cell). get_or l k d) (cells_parts steps outs)
-      ∙ get_or-append_right virtual clients (length virtuals) k d (mapped ∙ sym virtual_count) (omega (arith, virtual_count, above)) in
+      ∙ get_or-append_right virtual clients (length virtuals) k d (mapped ∙ sym (virtual_count virtuals outs descs)) (omega (arith, virtual_count virtuals outs descs, above)) in
       let one : plane planes k ≡ image_plane (image_held objects c) =
-      get_or-append_right virtuals (image_planes objects clients) (length virtuals) k no_plane refl (omega (arith, virtual_count, above))
+      get_or-append_right virtuals (image_planes objects clients) (length virtuals) k no_plane refl (omega (arith, virtual_count virtuals outs descs, above))
       ∙ get_or-map (λ (x : Cell). image_plane (image_held objects x)) clients at d no_plane small in
       let holds : HoldsImage objects c = clients_hold objects nodes v ready p plan c (In-at clients at d small) in
       ap known cell ∙ known_image c holds ∙ ap (λ (q : PlaneValue). Image q.desc) (sym one)
@@ -232,7 +219,7 @@ module _ (objects : List Named) (are : All (λ o. IsObject o.object) objects) (n
             stands =
                 In-from_All (λ (o : Cell × Kind). StandsFor (is o.0) o.1) (operands n)
                 (In-from_All (λ (m : Node). All (λ (o : Cell × Kind). StandsFor (is o.0) o.1) (operands m)) nodes ready.kinds n (own objects nodes v ready n inside)) (c, wanted)
-                (inr (In-left (c, wanted) (with_kind wanted n.in2) _ (in_with_kind wanted c n.in2 i)));
+                (inr (In-left (c, wanted) (with_kind wanted n.in2) _ (in_with_kind c wanted n.in2 i)));
             is_held = ready.cells.found n c (own objects nodes v ready n inside) (named_by_input n c (inr i));
             kept = λ real. known_kept (is c) (outlines is nodes c) real;
             is_plane = λ image. plane_known c (named n inside c (inr (In-left c (image_given wanted n.in2) _ (in_image_given wanted c n.in2 image i))));
@@ -263,4 +250,4 @@ module _ (objects : List Named) (are : All (λ o. IsObject o.object) objects) (n
         let r = step_node cells slots radius steps 0 0 s i in
         let place : r.at ≡ r.place = omega (arith, r.same) in
         subst (λ (x : Step). SuitsPlanes tables high x planes) (sym (r.is ∙ ap (λ (k : ℕ). step_for cells slots radius k r.node r.which r.cell) place))
-        (node_suits r.node r.place (slice_get_within steps r.place r.node r.there) (get_or_from_slice_get steps r.place r.node r.node r.there) slots r.which r.cell (in_outputs_at r.node r.which r.cell r.output) r.image)
+        (node_suits r.node r.place (slice_get_within steps r.place r.node r.there) (get_or_from_slice_get steps r.place r.node r.node r.there) slots r.which r.cell r.written r.image)

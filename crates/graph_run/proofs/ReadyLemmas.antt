@@ -1,13 +1,13 @@
 -- A verified graph that is ready to run, with a plan, has tasks.
-use Rattle.std.proofs.Common.{◌≡◌, ◌≢◌, Bool, true, false, List, [], ◌∷◌, ◌++◌, map, All, option_map, refl, sym, ap, subst, ◌∙◌, inl, inr, arith, Option, Some, None}
+use Rattle.std.proofs.Common.{◌≡◌, ◌≢◌, Bool, true, false, List, [], ◌∷◌, ◌++◌, map, All, refl, sym, ap, subst, ◌∙◌, inl, inr, Option, Some, None}
 use Rattle.std.specs.List.{filter}
-use Rattle.graph_run.proofs.Common.{cases_Bool, AllIn-permutation_back, CanRun, Kind, Node, Cell, Named, Operand, Verified, IsPlan, IsReady, PlanValue, accumulates, outputs, parameters, operand_held, In, same-from_In, two_writers-permutation, VirtualOutput, ObjectValue, object_kind, operand_of, operand_kind, held, HoldsImage, names_cell, operands, second_kind, In-append, In-left, In-right, In-map, In-from_flat_map, has_twice, or_parts, list_any, same_cell}
+use Rattle.graph_run.proofs.Common.{cases_Bool, false_from_ne_true, AllIn-permutation_back, CanRun, once_after, Kind, Node, Cell, Named, Operand, Verified, IsPlan, IsReady, PlanValue, accumulates, given, outputs, parameters, operand_held, In, same-from_In, two_writers-permutation, VirtualOutput, held, HoldsImage, names_cell, operands, second_kind, In-append, In-left, In-right, In-map, In-from_flat_map, has_twice}
 use Rattle.vx_base.specs.Node.{with_kind}
 use Rattle.graph_verify.proofs.LinkLemmas.{once_across}
 use Rattle.graph_run.specs.Bind.{AreAllApart, HoldImages}
 use Rattle.graph_run.specs.Cells.{image_given, images_named, node_images}
 use Rattle.graph_run.proofs.LinkLaws.{In-from_All}
-use Rattle.graph_run.proofs.VerifiedLemmas.{in_outputs, operand_named}
+use Rattle.graph_run.proofs.VerifiedLemmas.{in_outputs, kind_found, operand_named, real_kind}
 use Rattle.graph_run.proofs.IndexLemmas.{all_apart, cells_parts, in_either, once_all}
 use Rattle.vx_base.specs.declared.kind.Kind.TheVariants as kind
 use Rattle.graph_verify.specs.Operand.{is_virtual}
@@ -21,18 +21,14 @@ none_pass : (test : Cell → Bool) (cs : List Cell) → ((c : Cell) → In c cs 
 none_pass test [] fails = refl
 none_pass test (c ∷ cs) fails = rw (fails c (inl refl)) (none_pass test cs (λ d i. fails d (inr i)))
 
+pub in_with_kind : (c : Cell) (k : Kind) (o : Option Cell) → In c (given o) → In (c, k) (with_kind k o)
+in_with_kind c k None i = elim i [ ]
+in_with_kind c k (Some d) (inl e) = inl (ap (λ (x : Cell). let pair : Cell × Kind = (x, k) in pair) e)
+in_with_kind c k (Some d) (inr i) = elim i [ ]
+
 in_given : (c : Cell) (wanted : Kind) (o : Option Cell) → In c (image_given wanted o) → In (c, kind.Image) (with_kind wanted o)
-in_given c kind.Image None i = elim i [ ]
-in_given c kind.Image (Some d) (inl e) = inl (ap (λ (x : Cell). let pair : Cell × Kind = (x, kind.Image) in pair) e)
-in_given c kind.Image (Some d) (inr i) = elim i [ ]
-in_given c kind.Lut o i = elim i [ ]
-in_given c kind.Threshold o i = elim i [ ]
-in_given c kind.Delay o i = elim i [ ]
-in_given c kind.Convolution o i = elim i [ ]
-in_given c kind.Distribution o i = elim i [ ]
-in_given c kind.Extremes o i = elim i [ ]
-in_given c kind.Graph o i = elim i [ ]
-in_given c kind.VirtualImage o i = elim i [ ]
+in_given c kind.Image o i = in_with_kind c kind.Image o i
+in_given c other o i = elim i [ ]
 
 -- an image that a node names is one of its operands
 pub image_operand : (n : Node) (c : Cell) → In c (node_images n) → In (c, kind.Image) (operands n)
@@ -44,10 +40,6 @@ image_operand n c (inr i) = elim (In-append c (image_given (second_kind n) n.in2
     | inr two ↦ In-right (c, kind.Image) (with_kind (parameters n.function).output n.out1) _ (in_given c (parameters n.function).output n.out2 two)
   ]))
 ]
-
-once_behind : (xs ys : List Cell) → has_twice (xs ++ ys) ≡ false → has_twice ys ≡ false
-once_behind [] ys once = once
-once_behind (x ∷ xs) ys once = once_behind xs ys (or_parts (list_any (same_cell x) (xs ++ ys)) (has_twice (xs ++ ys)) once).1
 
 module _ (objects : List Named) (nodes : List Node) (v : Verified) (ready : IsReady objects nodes v) where
   abbrev steps : List Node
@@ -64,22 +56,16 @@ module _ (objects : List Named) (nodes : List Node) (v : Verified) (ready : IsRe
 
   -- a cell that a node writes, of which it writes something else than an image, is no virtual image
   plain : (n : Node) → In n steps → (parameters n.function).output ≢ kind.Image → (c : Cell) → In c (outputs n) → virtual c ≡ false
-  plain n i other c j = elim (cases_Bool (virtual c)) [
-    | inr real ↦ real
-    | inl yes_virtual ↦
-        (let outline = outline_of_virtual (operand_held objects c) yes_virtual in
-        let stands : StandsFor (operand_held objects c) (parameters n.function).output = ready.cells.kinds n c (own n i) (same-from_In c (outputs n) j) in
-        absurd (other (subst (λ (o : Operand). StandsFor o (parameters n.function).output) outline.1 stands)))
-  ]
+  plain n i other c j = false_from_ne_true (virtual c) (λ yes_virtual.
+      let outline = outline_of_virtual (operand_held objects c) yes_virtual in
+      let stands : StandsFor (operand_held objects c) (parameters n.function).output = ready.cells.kinds n c (own n i) (same-from_In c (outputs n) j) in
+      other (subst (λ (o : Operand). StandsFor o (parameters n.function).output) outline.1 stands))
 
   adds : (n : Node) → In n steps → accumulates n.function ≡ true → (c : Cell) → In c (outputs n) → virtual c ≡ false
-  adds n i accumulates_there c j = elim (cases_Bool (virtual c)) [
-    | inr real ↦ real
-    | inl yes_virtual ↦
-        (let none = adds_to_none ready.runs.0 (operand_held objects) nodes can n c (own n i) (same-from_In c (outputs n) j) yes_virtual in
-        let clash : true ≡ false = sym accumulates_there ∙ none in
-        cc)
-  ]
+  adds n i accumulates_there c j = false_from_ne_true (virtual c) (λ yes_virtual.
+      let none = adds_to_none ready.runs.0 (operand_held objects) nodes can n c (own n i) (same-from_In c (outputs n) j) yes_virtual in
+      let clash : true ≡ false = sym accumulates_there ∙ none in
+      cc)
 
   pub have_tasks : (p : PlanValue) → IsPlan steps v.virtual_outputs.items p → HaveTasks steps v.virtual_outputs.items p virtual
   have_tasks p plan =
@@ -93,12 +79,6 @@ module _ (objects : List Named) (nodes : List Node) (v : Verified) (ready : IsRe
       }
 
   -- ---- the clients' images
-
-  operand_kinds : (operand : Operand) (wanted : Kind) → is_virtual operand ≡ false → StandsFor operand wanted → operand_kind operand ≡ wanted
-  operand_kinds other wanted real stands = grind arith
-
-  kind_found : (found : Option ObjectValue) (operand : Operand) (wanted : Kind) → option_map operand_of found ≡ Some operand → operand_kind operand ≡ wanted → option_map object_kind found ≡ Some wanted
-  kind_found x operand wanted e is_kind = grind arith
 
   abbrev outs : List VirtualOutput
   outs = v.virtual_outputs.items
@@ -116,7 +96,7 @@ module _ (objects : List Named) (nodes : List Node) (v : Verified) (ready : IsRe
             (let by_node = virtual_written ready.runs.0 (operand_held objects) nodes can n c (own n i) names yes_virtual in
             let o = in_outputs (operand_held objects) nodes v ready.verified c by_node yes_virtual in
             absurd (outside (subst (λ (x : Cell). In x (map (λ (q : VirtualOutput). q.cell) outs)) (sym o.2) (In-map (λ (q : VirtualOutput). q.cell) o.0 outs o.1))))
-        | inr real ↦ kind_found (held objects c) (operand_held objects c) kind.Image (ready.cells.found n c (own n i) names) (operand_kinds (operand_held objects c) kind.Image real stands)
+        | inr real ↦ kind_found (held objects c) (operand_held objects c) kind.Image (ready.cells.found n c (own n i) names) (real_kind (operand_held objects c) kind.Image real stands)
       ]
 
   -- the cells behind those of the virtual images hold images, and are apart
@@ -140,4 +120,4 @@ module _ (objects : List Named) (nodes : List Node) (v : Verified) (ready : IsRe
         ]
 
     pub clients_apart : AreAllApart clients
-    clients_apart = all_apart objects clients (once_behind virtual_ones clients each_once) clients_hold
+    clients_apart = all_apart objects clients (once_after virtual_ones clients each_once) clients_hold

@@ -1,6 +1,6 @@
 -- Nodes on what their cells hold, and what they write.
 use Rattle.std.proofs.Common.{◌≡◌, ◌≢◌, Bool, true, false, List, [], ◌∷◌, ◌++◌, Option, Some, None, refl, sym, ap, subst, ◌∙◌, arith, rules, All, ◌&&◌, is_some, is_none, unwrap_or, if◌then◌else◌, IfSome, option_to_list, option_map, option_and_then, eq-eqb}
-use Rattle.graph_run.proofs.Common.{list_any, list_all, IsStrictlyIncreasing, list_any-append, and_parts, or_parts, Function, Output, First, Second, Kind, Node, Cell, same_cell, parameters, accumulates, ImageValue, IsImage, IsNode, is_node, given, outputs, second_kind, ObjectValue, ImageObject, IsObject, object_kind, object_format, DistributionObject, node_image, beside_first, node_output, written_in, written_by, SecondHasSize, Operands, Operand, has_twice, operand_of, operands_of, operand_format, are_of_one_size, writes_twice, reads_own_output, node_fault, Named, held, with_object, with_written, cell_object, names_of, held_is, lasting, Lasts, operand_held, Holds, AreApart, RunsOn, RunsTo, with_output, HoldsKind, CanRunNow, node_image_is, accumulated_image_is}
+use Rattle.graph_run.proofs.Common.{list_any, list_all, IsStrictlyIncreasing, list_any-append, and_parts, or_parts, Function, Output, First, Second, Kind, Node, Cell, same_cell, parameters, accumulates, ImageValue, IsImage, IsNode, is_node, given, outputs, second_kind, ObjectValue, ImageObject, IsObject, object_kind, object_format, DistributionObject, node_image, beside_first, node_output, written_in, written_by, SecondHasSize, Operands, has_twice, operand_of, operands_of, operand_format, are_of_one_size, writes_twice, reads_own_output, node_fault, Named, held, with_object, with_written, cell_object, names_of, held_is, lasting, Lasts, operand_held, Holds, AreApart, RunsOn, RunsTo, with_output, HoldsKind, CanRunNow, node_image_is, accumulated_image_is}
 use Rattle.graph_run.specs.Steps.{output_of}
 use Rattle.std.proofs.lemmas.List.Folds.{list_all-append}
 use Rattle.vx_base.specs.declared.kind.Kind.TheVariants as kind
@@ -96,9 +96,6 @@ module _ (n : Node) where
 
     if_there : (cell : Option Cell) (k : Kind) → IfSome cell (λ c. HoldsKind objects (c, k)) → option_map (operand_held objects) cell ≡ option_map operand_of (option_map (cell_object objects) cell)
     if_there z0 k held = grind arith
-
-    abbrev made : Operand → Option Operand → Option Operand → Option Operand → Operands
-    made a b c d = record { in1 = a; in2 = b; out1 = c; out2 = d }
 
     there : operands_of (operand_held objects) n ≡ operands_there objects n
     there =

@@ -14,8 +14,7 @@ use Rattle.graph_run.specs.Schedule.{IsSchedule}
 use Rattle.graph_run.proofs.HoldSteps.{slots_hold}
 use Rattle.graph_run.proofs.NearSteps.{radii_near}
 use Rattle.graph_run.proofs.ProgramLaws.{graph_program}
-use Rattle.graph_run.proofs.ProgramPlanes.{plane_count}
-use Rattle.graph_run.proofs.SizeSteps.{all_low}
+use Rattle.graph_run.proofs.SizeSteps.{plane_count, all_low}
 use Rattle.graph_run.proofs.TallySteps.{graph_reduces}
 
 module _ (objects : List Named) (nodes : List Node) (v : Verified) (p : PlanValue) (s : Schedule) (virtuals : List PlaneValue) (blocks : List Samples) (lent : List Second)
@@ -42,7 +41,7 @@ module _ (objects : List Named) (nodes : List Node) (v : Verified) (p : PlanValu
         descs = descs;
         blocks = first ∙ ap (λ (l : List ℕ). first_blocks l (room_at blocks)) schedule.slots;
         hold = slots_hold steps outs p plan s.size s.halos.items (map block_size blocks) (planned ∙ ap (λ (l : List ℕ). planned_rooms (band_plan s.size s.halos.items outs l p)) schedule.slots);
-        halo_count = schedule.halo_count ∙ sym (plane_count objects are nodes v ready p plan virtuals descs);
+        halo_count = schedule.halo_count ∙ sym (plane_count objects steps outs virtuals descs);
         enough = subst (Suffice s.high s.halos.items) schedule.tasks schedule.enough;
         once = subst (AddOnce s.high s.size s.halos.items) schedule.tasks schedule.once;
       }

@@ -1,14 +1,35 @@
 -- Heights and formats of the planes of a graph.
-use Rattle.std.proofs.Common.{◌≡◌, ℕ, ◌<◌, ◌≤◌, List, ◌++◌, length, map, get_or, All, sym, ap, subst, ◌∙◌, arith}
+use Rattle.std.proofs.Common.{◌≡◌, ℕ, ◌<◌, ◌≤◌, List, ◌++◌, length, map, get_or, All, length-append, sym, ap, subst, ◌∙◌, arith}
+use Rattle.std.proofs.lemmas.List.{length-map}
 use Rattle.std.proofs.lemmas.List.Elements.{All-append, All-map}
 use Rattle.std.proofs.lemmas.List.FromFn.{get_or-map-range_with_len}
 use Rattle.std.proofs.Math.ListN.{get_or-append, get_or-map as get_or-map_default}
-use Rattle.graph_run.proofs.Common.{All-from_map, Format, U8, Cell, Description, Named, image_held, VirtualOutput}
+use Rattle.graph_run.proofs.Common.{All-from_map, map-append, Format, U8, Cell, Node, Description, Named, image_held, VirtualOutput}
 use Rattle.graph_steps.specs.Planes.{PlaneValue, no_plane, plane}
-use Rattle.graph_steps.specs.Steps.{capacities}
+use Rattle.graph_steps.specs.Steps.{capacities, capacity}
 use Rattle.graph_run.specs.Bind.{image_plane, image_planes}
-use Rattle.graph_run.specs.Program.{first_blocks}
-use Rattle.graph_run.specs.Tasks.{block_at}
+use Rattle.graph_run.specs.Program.{client_cells, first_blocks, planes_of}
+use Rattle.graph_run.specs.Tasks.{block_at, graph_cells}
+use Rattle.graph_run.proofs.IndexLemmas.{cells_parts}
+
+-- as many planes as cells: those of the virtual images, and then the clients'
+pub virtual_count : (virtuals : List PlaneValue) (outs : List VirtualOutput) → map (λ (q : PlaneValue). q.desc) virtuals ≡ map (λ (o : VirtualOutput). o.desc) outs → length virtuals ≡ length outs
+virtual_count virtuals outs descs = sym (length-map virtuals (λ (q : PlaneValue). q.desc)) ∙ ap length descs ∙ length-map outs (λ (o : VirtualOutput). o.desc)
+
+pub plane_count : (objects : List Named) (steps : List Node) (outs : List VirtualOutput) (virtuals : List PlaneValue) → map (λ (q : PlaneValue). q.desc) virtuals ≡ map (λ (o : VirtualOutput). o.desc) outs
+    → length (planes_of objects steps outs virtuals) ≡ length (graph_cells steps outs)
+plane_count objects steps outs virtuals descs =
+    let clients : List Cell = client_cells steps outs in
+    let virtual : List Cell = map (λ (o : VirtualOutput). o.cell) outs in
+    omega (
+      arith,
+      length-append virtuals (image_planes objects clients),
+      length-map clients (λ (c : Cell). image_plane (image_held objects c)),
+      ap length (cells_parts steps outs),
+      length-append virtual clients,
+      length-map outs (λ (o : VirtualOutput). o.cell),
+      virtual_count virtuals outs descs,
+    )
 
 -- the planes of images are no higher than these
 pub all_low : (objects : List Named) (high : ℕ) (cells : List Cell) (virtuals : List PlaneValue) (outs : List VirtualOutput) → map (λ (q : PlaneValue). q.desc) virtuals ≡ map (λ (o : VirtualOutput). o.desc) outs
@@ -29,3 +50,13 @@ virtual_format virtuals rest slots rooms k blocks count below =
     (sym (get_or-map_default (λ (q : PlaneValue). let b : Format × ℕ = (q.format, length q.samples) in b) virtuals k no_plane)
     ∙ ap (λ (l : List (Format × ℕ)). get_or l k (U8, 0)) blocks
     ∙ get_or-map-range_with_len (block_at slots rooms 0) 0 (length slots) k k (U8, 0) below (omega arith))
+
+-- the block of a virtual plane is that of its slot, or an empty one
+pub virtual_capacity : (virtuals rest : List PlaneValue) (slots : List ℕ) (rooms : ℕ → Format × ℕ) (k : ℕ) → capacities virtuals ≡ first_blocks slots rooms → length virtuals ≡ length slots → k < length slots
+    → capacity (capacities (virtuals ++ rest)) k ≡ block_at slots rooms 0 k
+virtual_capacity virtuals rest slots rooms k blocks count below =
+    let size : PlaneValue → Format × ℕ = λ q. (q.format, length q.samples) in
+    ap (λ (l : List (Format × ℕ)). get_or l k (U8, 0)) (map-append size virtuals rest)
+    ∙ get_or-append (map size virtuals) (map size rest) (U8, 0) k (omega (arith, length-map virtuals size, count, below))
+    ∙ ap (λ (l : List (Format × ℕ)). get_or l k (U8, 0)) blocks
+    ∙ get_or-map-range_with_len (block_at slots rooms 0) 0 (length slots) k k (U8, 0) below (omega arith)

@@ -1,8 +1,8 @@
 -- The images that a graph leaves are a solution of its steps.
-use Rattle.std.proofs.Common.{◌≡◌, ◌≢◌, ℕ, ◌+◌, ◌<◌, ◌≤◌, Bool, true, false, List, [], ◌∷◌, ◌++◌, map, length, drop, get_or, refl, sym, ap, subst, ◌∙◌, inl, inr, arith, All, Option, Some, None, ◌⊎◌, IfSome, nat_lt, if◌then◌else◌, unwrap_or, option_map, option_and_then}
+use Rattle.std.proofs.Common.{◌≡◌, ◌≢◌, ℕ, ◌+◌, ◌<◌, ◌≤◌, Bool, true, false, List, [], map, length, drop, get_or, refl, sym, ap, subst, ◌∙◌, inl, inr, arith, All, Option, Some, None, ◌⊎◌, IfSome, nat_lt, if◌then◌else◌, unwrap_or, option_map, option_and_then}
 use Rattle.std.specs.List.{slice_get}
-use Rattle.std.proofs.lemmas.List.{get_or-append-add, get_or_append_left, get_or-map, length-append, length-map}
-use Rattle.graph_run.proofs.Common.{accumulates, beside_first, cases_Bool, cases_lt, Cell, cell_of, Description, false_from_ne_true, flat_map, Function, given, held, held_is, HoldsImage, HoldsKind, image_held, Image, ImageObject, ImageValue, In, In-append, In-at, In-filter, In-from_any, In-from_filter, In-from_flat_map, In-from_map, In-from_same, In-left, In-right, IsDescription, IsImage, IsObject, IsPlan, IsReady, is_virtual, is_virtual_object, is_written, IsStrictlyIncreasing, Kind, Named, names_cell, names_of, Node, node_image, node_output, object_held, object_kind, ObjectValue, operands, Output, First, Second, outputs, parameters, place_of, PlanValue, same_cell, same_cell-true, second_kind, in_slot, has_twice, slice_get-map, image_value, new_image, U8, description_of, Operand, operand_of, kind_in, Verified, VirtualOutput, written_from, written_in, writes}
+use Rattle.std.proofs.lemmas.List.{get_or-append-add, get_or_append_left, get_or-map, length-map}
+use Rattle.graph_run.proofs.Common.{accumulates, beside_first, cases_lt, Cell, cell_of, Description, false_from_ne_true, flat_map, Function, given, held, held_is, HoldsImage, HoldsKind, image_held, Image, ImageObject, ImageValue, In, In-append, In-at, In-filter, In-from_any, In-from_filter, In-from_flat_map, In-from_map, In-from_same, In-left, In-right, IsDescription, IsImage, IsObject, IsPlan, IsReady, is_virtual, is_virtual_object, is_written, IsStrictlyIncreasing, Kind, Named, names_cell, names_of, Node, node_image, node_output, object_held, object_kind, ObjectValue, operands, Output, First, Second, outputs, parameters, place_of, PlanValue, second_kind, in_slot, has_twice, slice_get-map, image_value, new_image, U8, description_of, Operand, operand_of, kind_in, Verified, VirtualOutput, written_from, written_in, writes}
 use Rattle.vx_base.specs.declared.kind.Kind.TheVariants as kind
 use Rattle.vx_base.specs.Node.{with_kind}
 use Rattle.image_core.specs.declared.second.Second.{Second as SecondValue}
@@ -18,26 +18,19 @@ use Rattle.graph_run.specs.Program.{node_table, planes_of, table_by, tables_of}
 use Rattle.graph_run.specs.Results.{images_in}
 use Rattle.graph_run.specs.Tasks.{HaveTasks, graph_cells, graph_tasks, source, step_for}
 use Rattle.graph_run.proofs.CellLemmas.{held_image}
-use Rattle.graph_run.proofs.IndexLemmas.{at_index, cells_parts, in_either, index_at, index_below, index_left, once_all}
+use Rattle.graph_run.proofs.IndexLemmas.{index_behind, at_index, cells_parts, in_either, index_at, index_below, index_left, once_all}
 use Rattle.graph_verify.proofs.LinkLemmas.{once_across}
 use Rattle.graph_run.proofs.LinkLaws.{In-from_All}
 use Rattle.graph_run.proofs.OperandLaws.{virtual_written}
-use Rattle.graph_run.proofs.ProgramLemmas.{all_named, image_named}
-use Rattle.graph_run.proofs.ReadyLemmas.{clients_hold, have_tasks, image_operand}
+use Rattle.graph_run.proofs.ProgramLemmas.{IsStepFor, all_named, image_named, in_outputs_at, out_at, step_node}
+use Rattle.graph_run.proofs.SizeSteps.{plane_count, virtual_count}
+use Rattle.graph_run.proofs.ReadyLemmas.{clients_hold, have_tasks, image_operand, in_with_kind}
 use Rattle.graph_run.proofs.RunLemmas.{second_no_delay}
 use Rattle.graph_run.proofs.SolutionStepsEnds.{first, first_kinds, first_real, first_stands, graph_can, in_nodes, in_steps, is, known, last, last_kinds, last_lasts, named_real, outs, solves, steps}
-use Rattle.graph_run.proofs.SolutionStepsTasks.{IsStepFor, image_or, in_outputs_at, out_at, outputs_at, step_node, step_there}
+use Rattle.graph_run.proofs.SolutionStepsTasks.{image_or, outputs_at, step_there}
 use Rattle.graph_run.proofs.VerifiedLemmas.{named_by_output, operand_named, output_known}
 
 -- ---- indices
-
--- the index of a cell that is behind others
-pub index_behind : (xs ys : List Cell) (c : Cell) → (In c xs → ⊥) → index_of (xs ++ ys) c ≡ length xs + index_of ys c
-index_behind [] ys c none = omega arith
-index_behind (x ∷ xs) ys c none = elim (cases_Bool (same_cell x c)) [
-  | inl e ↦ absurd (none (inl (sym (same_cell-true x c e))))
-  | inr e ↦ (let later = index_behind xs ys c (λ i. none (inr i)) in grind (arith, e, later))
-]
 
 picked : {X : Type 0} (k n : ℕ) (a b : X) → k < n → (if nat_lt k n then a else b) ≡ a
 picked k n a b below = grind arith
@@ -59,11 +52,6 @@ output_kinds f = grind arith
 
 pub second_kinds : (f : Function) → unwrap_or (parameters f).second_input kind.Image ≢ kind.Image → written_kind (unwrap_or (parameters f).second_input kind.Image) ≡ false
 second_kinds f other = grind arith
-
-in_with_kind : (c : Cell) (k : Kind) (o : Option Cell) → In c (given o) → In (c, k) (with_kind k o)
-in_with_kind c k None i = elim i [ ]
-in_with_kind c k (Some d) (inl e) = inl (ap (λ (x : Cell). let pair : Cell × Kind = (x, k) in pair) e)
-in_with_kind c k (Some d) (inr i) = elim i [ ]
 
 -- an output of a node is one of its operands, and so is its second input
 pub output_operand : (n : Node) (c : Cell) → In c (outputs n) → In (c, (parameters n.function).output) (operands n)
@@ -263,16 +251,13 @@ module _ (objects : List Named) (nodes : List Node) (v : Verified) (h : IsReady 
     pub format : (c : Cell) → In c virtual → (block_images planes (index_of cells c)).format ≡ (image_held starts c).format
 
   module _ (virtuals : List PlaneValue) (descs : map (λ (q : PlaneValue). q.desc) virtuals ≡ map (λ (o : VirtualOutput). o.desc) (outs objects nodes v h)) where
-    virtual_count : length virtuals ≡ length (outs objects nodes v h)
-    virtual_count = sym (length-map virtuals (λ (q : PlaneValue). q.desc)) ∙ ap length descs ∙ length-map (outs objects nodes v h) (λ (o : VirtualOutput). o.desc)
-
     pub client_plane : (c : Cell) → In c clients → plane (planes_of objects order (outs objects nodes v h) virtuals) (index_of cells c) ≡ image_plane (image_held objects c)
     client_plane c i =
         let k : ℕ = index_of clients c in
         let at : index_of cells c ≡ length virtuals + k =
         ap (λ (l : List Cell). index_of l c) (cells_parts order (outs objects nodes v h))
         ∙ index_behind virtual clients c (client_outside c i)
-        ∙ ap (λ (m : ℕ). m + k) (length-map (outs objects nodes v h) (λ (o : VirtualOutput). o.cell) ∙ sym virtual_count) in
+        ∙ ap (λ (m : ℕ). m + k) (length-map (outs objects nodes v h) (λ (o : VirtualOutput). o.cell) ∙ sym (virtual_count virtuals (outs objects nodes v h) descs)) in
         ap (plane (planes_of objects order (outs objects nodes v h) virtuals)) at
         ∙ get_or-append-add virtuals (image_planes objects clients) k no_plane
         ∙ get_or-map (λ (x : Cell). image_plane (image_held objects x)) clients k c no_plane (index_below clients c i)
@@ -285,7 +270,7 @@ module _ (objects : List Named) (nodes : List Node) (v : Verified) (h : IsReady 
         let k : ℕ = index_of virtual c in
         let at : index_of cells c ≡ k = ap (λ (l : List Cell). index_of l c) (cells_parts order os) ∙ index_left virtual clients c i in
         let below : k < length os = omega (arith, index_below virtual c i, length-map os (λ (x : VirtualOutput). x.cell)) in
-        let within : k < length virtuals = omega (arith, below, virtual_count) in
+        let within : k < length virtuals = omega (arith, below, virtual_count virtuals (outs objects nodes v h) descs) in
         let own : VirtualOutput = get_or os k o.0 in
         let cell : own.cell ≡ c = sym (get_or-map (λ (x : VirtualOutput). x.cell) os k o.0 c below) ∙ at_index virtual c c i in
         let inside : In own os = In-at os k o.0 below in
@@ -305,12 +290,7 @@ module _ (objects : List Named) (nodes : List Node) (v : Verified) (h : IsReady 
     pub show_images : ShowImages (planes_of objects order (outs objects nodes v h) virtuals)
     show_images =
         record {
-          count =
-              length-append virtuals (image_planes objects clients)
-              ∙ ap (λ (m : ℕ). m + length (image_planes objects clients)) (virtual_count ∙ sym (length-map (outs objects nodes v h) (λ (o : VirtualOutput). o.cell)))
-              ∙ ap (λ (m : ℕ). length virtual + m) (length-map clients (λ (c : Cell). image_plane (image_held objects c)))
-              ∙ sym (length-append virtual clients)
-              ∙ ap length (sym (cells_parts order (outs objects nodes v h)));
+          count = plane_count objects order (outs objects nodes v h) virtuals descs;
           client = λ c i. ap block_image (client_plane c i);
           format = shown_format;
         }
@@ -379,7 +359,7 @@ module _ (objects : List Named) (nodes : List Node) (v : Verified) (h : IsReady 
         let f : IsStepFor cells slots radius s 0 order = step_node cells slots radius order 0 0 s i in
         let n : Node = f.node in
         let c : Cell = f.cell in
-        let among = cell_there n f.inside c (image_named n c f.image (in_outputs_at n f.which c f.output)) in
+        let among = cell_there n f.inside c (image_named n c f.image f.written) in
         let place : f.at ≡ f.place = omega (arith, f.same) in
         let first_at : whole (index_of cells n.in1) ≡ image_held ends n.in1 = whole_at n.in1 (cell_there n f.inside n.in1 (inl refl)) in
         let second_at = second_same n f.inside f.at (subst (λ (k : ℕ). slice_get order k ≡ Some n) (sym place) f.there) in

@@ -9,7 +9,7 @@ use Rattle.graph_steps.specs.Tallies.{IsNew, tally_at, tally_of}
 use Rattle.graph_run.specs.Bind.{plane_objects}
 use Rattle.graph_run.specs.Program.{tally_by}
 use Rattle.graph_run.specs.Results.{tally_object, tally_objects}
-use Rattle.graph_run.proofs.HeldLaws.{last_to}
+use Rattle.graph_run.proofs.HeldLaws.{last_to, or_none}
 use Rattle.graph_run.proofs.BegunLaws.{begun_stays, kept_virtual}
 use Rattle.graph_run.proofs.LastingLemmas.{Lasting}
 use Rattle.graph_run.proofs.LinkLaws.{All-from_In, In-from_All}
@@ -62,15 +62,12 @@ last_none c ws each = elim (last_known c None ws (λ w i e. absurd (each w i e))
   | inr some ↦ (let clash : ◌≡◌ {A = Option ObjectValue} None (Some some.0) = some.2 in absurd (cc clash))
 ]
 
-some_or : {X : Type 0} (o p : Option X) → option_or o p ≡ None → (o ≡ None) × (p ≡ None)
-some_or o p h = grind arith
-
 pub last_some : (c : Cell) (x : ObjectValue) (ws : List (Cell × ObjectValue)) → In (c, x) ws → last_to c ws ≡ None → ⊥
 last_some c x [] i none = elim i [ ]
-last_some c x (w ∷ ws) (inr i) none = last_some c x ws i (some_or (last_to c ws) _ none).0
+last_some c x (w ∷ ws) (inr i) none = last_some c x ws i (or_none (last_to c ws) _ none).0
 last_some c x (w ∷ ws) (inl e) none =
     let own : same_cell c w.0 ≡ true = ap (λ (y : Cell × ObjectValue). same_cell c y.0) (sym e) ∙ same_cell-refl c in
-    let parts = some_or (last_to c ws) (if same_cell c w.0 then Some w.1 else None) none in
+    let parts = or_none (last_to c ws) (if same_cell c w.0 then Some w.1 else None) none in
     let clash : ◌≡◌ {A = Option ObjectValue} (Some w.1) None = (rw own at parts.1) in
     cc
 

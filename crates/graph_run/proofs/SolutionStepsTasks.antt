@@ -1,7 +1,6 @@
 -- The tasks of a graph: of which node, which output and which place in the order each step is, and of which node each reduction.
 use Rattle.std.proofs.Common.{◌≡◌, ◌≢◌, ℕ, zero, suc, ◌+◌, ◌<◌, Bool, true, false, ◌||◌, List, [], ◌∷◌, ◌++◌, length, get_or, refl, sym, ap, subst, ◌∙◌, inl, inr, arith, Option, Some, None, ◌⊎◌, is_some, is_none, ◌&&◌, if◌then◌else◌, unwrap_or}
-use Rattle.std.specs.List.{slice_get}
-use Rattle.graph_run.proofs.Common.{and_parts, Cell, Function, In, In-append, In-left, In-right, Kind, Node, Output, First, Second, given, ObjectValue, Named, cell_object, distribution_value, is_node, outputs, parameters}
+use Rattle.graph_run.proofs.Common.{and_parts, Cell, Function, In, In-append, Kind, Node, Output, First, Second, given, ObjectValue, Named, cell_object, distribution_value, is_node, outputs, parameters}
 use Rattle.graph_verify.proofs.MemberLemmas.{In-flat_map}
 use Rattle.std.proofs.lemmas.List.{length-append}
 use Rattle.vx_base.specs.declared.kind.Kind.TheVariants as kind
@@ -17,18 +16,10 @@ use Rattle.graph_steps.specs.Program.{IsStepOf, Reduces}
 use Rattle.graph_run.specs.Cells.{index_of}
 use Rattle.graph_run.specs.Results.{tally_cell, tally_cells}
 use Rattle.graph_run.specs.Tasks.{step_for, tally_after, tasks_by, tasks_from, write_given}
-use Rattle.graph_run.proofs.ProgramLemmas.{tasks-append, tasks-right}
+use Rattle.graph_run.proofs.ProgramLemmas.{out_at, tasks-right}
 use Rattle.graph_run.proofs.RunLemmas.{has_of_node}
 
 -- ---- outputs of nodes
-
-abbrev pub out_at : Node → Output → Option Cell
-out_at n First = n.out1
-out_at n Second = n.out2
-
-pub in_outputs_at : (n : Node) (which : Output) (c : Cell) → out_at n which ≡ Some c → In c (outputs n)
-in_outputs_at n First c e = In-left c (given n.out1) (given n.out2) (subst (λ (o : Option Cell). In c (given o)) (sym e) (inl refl))
-in_outputs_at n Second c e = In-right c (given n.out1) (given n.out2) (subst (λ (o : Option Cell). In c (given o)) (sym e) (inl refl))
 
 in_given : (o : Option Cell) (c : Cell) → In c (given o) → o ≡ Some c
 in_given None c i = elim i [ ]
@@ -43,14 +34,7 @@ outputs_at n c i = elim (In-append c (given n.out1) (given n.out2) i) [
 
 pub image_or : (k : Kind) → (k ≡ kind.Image) ⊎ (k ≢ kind.Image)
 image_or kind.Image = inl refl
-image_or kind.Lut = inr (λ e. cc)
-image_or kind.Threshold = inr (λ e. cc)
-image_or kind.Delay = inr (λ e. cc)
-image_or kind.Convolution = inr (λ e. cc)
-image_or kind.Distribution = inr (λ e. cc)
-image_or kind.Extremes = inr (λ e. cc)
-image_or kind.Graph = inr (λ e. cc)
-image_or kind.VirtualImage = inr (λ e. cc)
+image_or other = inr (λ e. cc)
 
 -- a node that writes no image has one output
 pair_of_images : (f : Function) → (parameters f).output ≢ kind.Image → (parameters f).output_pair ≡ false
@@ -89,67 +73,6 @@ one_cell : (wanted : Kind) (n : Node) → wanted ≢ kind.Image → tally_cell w
 one_cell wanted n other = grind arith
 
 module _ (cells : List Cell) (slots : List ℕ) (radius : Node → ℕ) where
-  -- a step writes an output, which is an image, of the node at a place among these, the first of which is at an index
-  pub record IsStepFor (s : Step) (first : ℕ) (nodes : List Node) : Type 0 where
-    pub node : Node
-    pub place : ℕ
-    pub there : slice_get nodes place ≡ Some node
-    pub inside : In node nodes
-    pub which : Output
-    pub cell : Cell
-    pub output : out_at node which ≡ Some cell
-    pub image : (parameters node.function).output ≡ kind.Image
-    pub at : ℕ
-    pub same : at ≡ first + place
-    pub is : s ≡ step_for cells slots radius at node which cell
-
-  for_given : (at : ℕ) (n : Node) (which : Output) (o : Option Cell) (s : Step) → IsStepOf s (write_given cells slots radius at n which o)
-      → (c : Cell) × (o ≡ Some c) × (s ≡ step_for cells slots radius at n which c)
-  for_given at n which None s i = elim i [ ]
-  for_given at n which (Some c) s (inl e) = (c, refl, e)
-  for_given at n which (Some c) s (inr i) = elim i [ ]
-
-  for_by : (at tally : ℕ) (n : Node) (wanted : Kind) (s : Step) → IsStepOf s (tasks_by cells slots radius at tally n wanted)
-      → (wanted ≡ kind.Image) × ((which : Output) × (c : Cell) × (out_at n which ≡ Some c) × (s ≡ step_for cells slots radius at n which c))
-  for_by at tally n kind.Image s i = (
-    refl,
-    elim (tasks-append s (write_given cells slots radius at n First n.out1) (write_given cells slots radius at n Second n.out2) i) [
-      | inl one ↦ (let r = for_given at n First n.out1 s one in (First, r.0, r.1, r.2))
-      | inr two ↦ (let r = for_given at n Second n.out2 s two in (Second, r.0, r.1, r.2))
-    ],
-  )
-  for_by at tally n kind.Lut s i = elim i [ ]
-  for_by at tally n kind.Threshold s i = elim i [ ]
-  for_by at tally n kind.Delay s i = elim i [ ]
-  for_by at tally n kind.Convolution s i = elim i [ ]
-  for_by at tally n kind.Distribution s i = elim i [ ]
-  for_by at tally n kind.Extremes s i = elim i [ ]
-  for_by at tally n kind.Graph s i = elim i [ ]
-  for_by at tally n kind.VirtualImage s i = elim i [ ]
-
-  pub step_node : (nodes : List Node) (first tally : ℕ) (s : Step) → IsStepOf s (tasks_from cells slots radius first tally nodes) → IsStepFor s first nodes
-  step_node [] first tally s i = elim i [ ]
-  step_node (n ∷ nodes) first tally s i = elim (tasks-append s (tasks_by cells slots radius first tally n (parameters n.function).output) (tasks_from cells slots radius (first + 1) (tally_after tally (parameters n.function).output) nodes) i) [
-    | inl own ↦
-        (let r = for_by first tally n (parameters n.function).output s own in
-        record { node = n; place = 0; there = refl; inside = inl refl; which = r.1.0; cell = r.1.1; output = r.1.2; image = r.0; at = first; same = omega arith; is = r.1.3 })
-    | inr later ↦
-        (let r = step_node nodes (first + 1) (tally_after tally (parameters n.function).output) s later in
-        record {
-          node = r.node;
-          place = suc r.place;
-          there = r.there;
-          inside = inr r.inside;
-          which = r.which;
-          cell = r.cell;
-          output = r.output;
-          image = r.image;
-          at = r.at;
-          same = omega (arith, r.same);
-          is = r.is;
-        })
-  ]
-
   -- each output that is an image has its step
   there_given : (at : ℕ) (n : Node) (which : Output) (o : Option Cell) (c : Cell) → o ≡ Some c → IsStepOf (step_for cells slots radius at n which c) (write_given cells slots radius at n which o)
   there_given at n which None c e = absurd (cc e)
@@ -178,14 +101,7 @@ module _ (cells : List Cell) (slots : List ℕ) (radius : Node → ℕ) where
   module _ (objects : List Named) where
     reduction_by : (at tally : ℕ) (n : Node) (wanted : Kind) → wanted ≢ kind.Image → Reduces (record { input = index_of cells n.in1; tally = tally }) (tasks_by cells slots radius at tally n wanted)
     reduction_by at tally n kind.Image other = absurd (other refl)
-    reduction_by at tally n kind.Lut other = inl refl
-    reduction_by at tally n kind.Threshold other = inl refl
-    reduction_by at tally n kind.Delay other = inl refl
-    reduction_by at tally n kind.Convolution other = inl refl
-    reduction_by at tally n kind.Distribution other = inl refl
-    reduction_by at tally n kind.Extremes other = inl refl
-    reduction_by at tally n kind.Graph other = inl refl
-    reduction_by at tally n kind.VirtualImage other = inl refl
+    reduction_by at tally n wanted other = inl refl
 
     -- the node of the tally at an index, of tallies the first of which has another
     pub record IsReduced (nodes : List Node) (first tally t : ℕ) : Type 0 where

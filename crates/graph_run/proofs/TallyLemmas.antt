@@ -1,5 +1,6 @@
 -- Tallies that are written to the objects of a table.
-use Rattle.std.proofs.Common.{◌≡◌, ℕ, ◌+◌, ◌≤◌, Bool, true, false, List, [], ◌∷◌, length, drop, refl, sym, ap, subst, ◌∙◌, arith, Option, Some, None, option_map, option_and_then, unwrap_or, eqb, eqb-true, if◌then◌else◌}
+use Rattle.std.proofs.Common.{◌≡◌, ℕ, ◌+◌, ◌≤◌, Bool, true, false, List, [], ◌∷◌, length, drop, refl, sym, ap, subst, ◌∙◌, arith, Option, Some, option_map, option_and_then, unwrap_or, eqb, eqb-true, if◌then◌else◌}
+use Rattle.std.proofs.lemmas.Iterator.Adapters.{option_map_id}
 use Rattle.graph_run.proofs.Common.{U8, new_image, Cell, ObjectValue, ImageObject, object_kind, in_slot, with_slot, Named, object_held, with_object, with_written, distribution_value}
 use Rattle.vx_base.specs.declared.kind.Kind.TheVariants as kind
 use Rattle.graph_steps.specs.declared.tally.Tally.{Tally}
@@ -19,9 +20,7 @@ IsForSlot (tally.Extremes e) slot x = option_map object_kind (option_and_then (i
 
 pub written_slot : (t u : Tally) (j k : Option ℕ) (x : Option ObjectValue) → IsForSlot t j x → IsForSlot u k x → IsForSlot u k (option_map (λ o. with_slot j (tally_object t) o) x)
 written_slot (tally.Histogram d) (tally.Histogram e) j k x a b = grind arith
-written_slot (tally.Histogram d) (tally.Extremes e) j k x a b = grind arith
-written_slot (tally.Extremes d) (tally.Histogram e) j k x a b = grind arith
-written_slot (tally.Extremes d) (tally.Extremes e) j k x a b = grind arith
+written_slot other another j k x a b = grind arith
 
 to_slot : (objects : List Named) (d : Cell) (u : Tally) → IsTallyFor objects d u → IsForSlot u d.slot (object_held objects d.name)
 to_slot objects d (tally.Histogram h) is = is
@@ -30,10 +29,6 @@ to_slot objects d (tally.Extremes e) is = is
 from_slot : (objects : List Named) (d : Cell) (u : Tally) → IsForSlot u d.slot (object_held objects d.name) → IsTallyFor objects d u
 from_slot objects d (tally.Histogram h) is = is
 from_slot objects d (tally.Extremes e) is = is
-
-map_same : (x : Option ObjectValue) → option_map (λ o. o) x ≡ x
-map_same None = refl
-map_same (Some o) = refl
 
 module _ (objects : List Named) (c : Cell) (t : Tally) (first : IsTallyFor objects c t) where
   -- an object in which a tally is written keeps what other tallies need
@@ -47,7 +42,7 @@ module _ (objects : List Named) (c : Cell) (t : Tally) (first : IsTallyFor objec
           let here : IsForSlot t c.slot (object_held objects d.name) =
           subst (λ (n : ℕ). IsForSlot t c.slot (object_held objects n)) (sym (eqb-true d.name c.name e)) (to_slot objects c t first) in
           written_slot t u c.slot d.slot (object_held objects d.name) here (to_slot objects d u is)
-      by_name false e = subst (IsForSlot u d.slot) (sym (map_same (object_held objects d.name))) (to_slot objects d u is)
+      by_name false e = subst (IsForSlot u d.slot) (sym (option_map_id (object_held objects d.name))) (to_slot objects d u is)
 
   pub stay_for : (cells : List Cell) (tallies : List Tally) → AreTalliesFor objects cells tallies → AreTalliesFor (with_object objects c (tally_object t)) cells tallies
   stay_for [] tallies are = tt

@@ -1,10 +1,10 @@
 -- The reductions of a graph's tasks: each has a tally of its own, which takes the format of its plane.
-use Rattle.std.proofs.Common.{◌≡◌, ◌≢◌, ℕ, ◌+◌, ◌*◌, ◌<◌, true, List, [], ◌∷◌, ◌++◌, length, map, get_or, All, Option, Some, None, IfSome, refl, sym, ap, subst, ◌∙◌, inl, inr, arith, is_some, option_map, option_and_then, unwrap_or, slice_index, replicate}
-use Rattle.std.proofs.lemmas.List.{append_assoc, get_or-append_right, get_or-replicate, get_or_past, length-append, length-replicate}
-use Rattle.graph_run.proofs.Common.{cases_lt, Format, U8, U32, Function, Kind, Node, Cell, Output, First, Second, Description, IsNode, parameters, ObjectValue, IsObject, takes_formats, operand_format, operands_of, Operand, Image, Named, cell_object, distribution_value, operand_held, VirtualOutput, Verified, IsReady, IsPlan, PlanValue, place_of, In, runs_alone}
+use Rattle.std.proofs.Common.{◌≡◌, ◌≢◌, ℕ, ◌+◌, ◌*◌, ◌<◌, true, List, [], ◌∷◌, ◌++◌, length, map, get_or, All, Option, Some, None, IfSome, refl, sym, ap, subst, ◌∙◌, inl, inr, arith, is_some, option_map, option_and_then, unwrap_or}
+use Rattle.std.proofs.lemmas.List.{append_assoc, get_or-append_right, length-append}
+use Rattle.graph_run.proofs.Common.{Format, U8, U32, Function, Kind, Node, Cell, Output, First, Second, Description, IsNode, parameters, ObjectValue, IsObject, takes_formats, operand_format, operands_of, Operand, Image, Named, cell_object, operand_held, VirtualOutput, Verified, IsReady, IsPlan, PlanValue, place_of, In, runs_alone}
 use Rattle.vx_base.specs.declared.kind.Kind.TheVariants as kind
 use Rattle.vx_base.specs.Node.{has_operands}
-use Rattle.vx_base.specs.Object.{new_distribution, no_extremes}
+use Rattle.vx_base.specs.Object.{no_extremes}
 use Rattle.graph_verify.proofs.SuitLemmas.{Suits as SuitsOutput, no_fault_suits}
 use Rattle.graph_steps.specs.declared.step.Reduction.{Reduction}
 use Rattle.graph_steps.specs.declared.step.Task.{Task}
@@ -22,9 +22,12 @@ use Rattle.graph_run.proofs.IndexLemmas.{index_below}
 use Rattle.graph_run.proofs.LinkLaws.{In-from_All}
 use Rattle.graph_run.proofs.OperandLaws.{no_fault}
 use Rattle.graph_run.proofs.ProgramLemmas.{all_named}
-use Rattle.graph_run.proofs.ProgramPlanes.{can, known, plane_count, plane_known}
+use Rattle.graph_run.proofs.ProgramPlanes.{can, known, plane_known}
 use Rattle.graph_run.proofs.ReadyLemmas.{own}
 use Rattle.graph_run.proofs.RunLemmas.{has_of_node}
+use Rattle.graph_run.proofs.SizeSteps.{plane_count}
+use Rattle.graph_run.proofs.SolutionStepsReturns.{tally_is_new}
+use Rattle.graph_steps.proofs.TallyLaws.{new_bounded}
 
 -- ---- the reductions of nodes
 
@@ -132,23 +135,9 @@ takes_small function first second out k h e = grind arith
 has_first : (n : Node) → (parameters n.function).output ≢ kind.Image → has_operands (parameters n.function) n ≡ true → is_some n.out1 ≡ true
 has_first n other h = grind arith
 
--- a new tally
+-- what a new tally takes
 takes_format : (wanted : Kind) (object : ObjectValue) (t : Tally) (format : Format) → wanted ≢ kind.Image → tally_by wanted object ≡ t ∷ [] → (wanted ≡ kind.Distribution → format ≡ U8) → format ≢ U32 → TakesFormat format t
 takes_format wanted object t format other same bytes small = grind arith
-
-zero_at : (n k : ℕ) → slice_index (replicate n 0) k ≡ 0
-zero_at n k = elim (cases_lt k n) [
-  | inl below ↦ get_or-replicate n k 0 0 below
-  | inr past ↦ get_or_past (replicate n 0) k 0 (omega (arith, length-replicate {A = ℕ} n 0, past))
-]
-
-new_bounded : (wanted : Kind) (object : ObjectValue) (t : Tally) → tally_by wanted object ≡ t ∷ [] → IsBounded (0 * 8192) t
-new_bounded kind.Image object t same = absurd (cc same)
-new_bounded kind.Distribution object t same =
-    let d = new_distribution (distribution_value object).bins in
-    let is : tally.Histogram d ≡ t = cc in
-    subst (IsBounded (0 * 8192)) is (length-replicate d.bins.bins 0, λ k. omega (arith, zero_at d.bins.bins k))
-new_bounded other object t same = let is : tally.Extremes no_extremes ≡ t = cc in subst (IsBounded (0 * 8192)) is (omega arith, omega arith)
 
 -- ---- a graph
 
@@ -195,7 +184,7 @@ module _ (objects : List Named) (are : All (λ o. IsObject o.object) objects) (n
       can_reduce r t =
           let cells : List Cell = graph_cells steps outs in
           let there : In t.node.in1 cells = all_named (map (λ (o : VirtualOutput). o.cell) outs) steps t.node t.inside t.node.in1 (inl refl) in
-          let count = plane_count objects are nodes v ready p plan virtuals descs in
+          let count = plane_count objects steps outs virtuals descs in
           let found : tally_at (tallies_of objects steps) r.tally ≡ t.tally =
           ap (λ (k : ℕ). tally_at (tallies_of objects steps) k) (omega (arith, t.is)) ∙ t.there (tally.Extremes no_extremes) in
           let takes = node_takes t.node t.inside t.other (plane planes (index_of cells t.node.in1)).desc (plane_known objects are nodes v ready p plan virtuals descs t.node.in1 there) in
@@ -209,5 +198,5 @@ module _ (objects : List Named) (are : All (λ o. IsObject o.object) objects) (n
                 (takes_format (parameters t.node.function).output object t.tally (plane planes (index_of cells t.node.in1)).desc.format t.other t.tally_is
                 (λ bytes. takes_bytes t.node.function (plane planes (index_of cells t.node.in1)).desc.format takes.0 takes.1 bytes takes.2)
                 (takes_small t.node.function (plane planes (index_of cells t.node.in1)).desc.format takes.0 takes.1 t.other takes.2)));
-            bounded = subst (IsBounded (0 * 8192)) (sym found) (new_bounded (parameters t.node.function).output object t.tally t.tally_is);
+            bounded = subst (IsBounded (0 * 8192)) (sym found) (new_bounded t.tally (tally_is_new (parameters t.node.function).output object t.tally t.tally_is));
           }

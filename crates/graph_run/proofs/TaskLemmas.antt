@@ -162,14 +162,7 @@ module _ (is_virtual : Cell → Bool) (virtual rest : List Cell) (slots : List �
       (turn_given at k n First n.out1 (given n.out2 ++ left) (write_given cells slots radius at n Second n.out2 ++ later)
       (subst (Remain k) (append_assoc (given n.out1) (given n.out2) left) now)
       (λ j then. turn_given at j n Second n.out2 left later then next))
-  turn_by at tally k n left later kind.Lut plain now next = next k (skip k n left (plain (λ e. cc)) now)
-  turn_by at tally k n left later kind.Threshold plain now next = next k (skip k n left (plain (λ e. cc)) now)
-  turn_by at tally k n left later kind.Delay plain now next = next k (skip k n left (plain (λ e. cc)) now)
-  turn_by at tally k n left later kind.Convolution plain now next = next k (skip k n left (plain (λ e. cc)) now)
-  turn_by at tally k n left later kind.Distribution plain now next = next k (skip k n left (plain (λ e. cc)) now)
-  turn_by at tally k n left later kind.Extremes plain now next = next k (skip k n left (plain (λ e. cc)) now)
-  turn_by at tally k n left later kind.Graph plain now next = next k (skip k n left (plain (λ e. cc)) now)
-  turn_by at tally k n left later kind.VirtualImage plain now next = next k (skip k n left (plain (λ e. cc)) now)
+  turn_by at tally k n left later other plain now next = next k (skip k n left (plain (λ e. cc)) now)
 
   turn_all : (nodes : List Node) (at tally k : ℕ) → WriteImages is_virtual nodes → Remain k (flat_map outputs nodes) → TakeTurns slots k (tasks_from cells slots radius at tally nodes)
   turn_all [] at tally k plain now =

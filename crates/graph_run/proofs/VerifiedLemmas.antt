@@ -1,11 +1,10 @@
 -- A graph that is found able to run: how it runs.
 use Rattle.std.proofs.Common.{◌≡◌, ℕ, ◌<◌, true, false, List, Option, Some, None, inl, inr, sym, ap, subst, ◌∙◌, arith, All, unwrap_or, option_map}
-use Rattle.graph_run.proofs.Common.{AllPairs, flat_map, IsStrictlyIncreasing, cases_Bool, or_left, or_right, length-map, get_or-map, Kind, Node, Cell, IsNode, inputs, outputs, operands, ObjectValue, object_kind, Named, held, VirtualOutput, Operand, Image, Delay, Verified, writes, is_written, In, operand_of, operand_kind, operands_of, resolved, outlines, verdict, verdict_on, IsVerified, same-from_In, In-outputs, In-left, In-right, In-from_any, In-filter, In-from_filter, In-map, In-from_map, AllIn-permutation, CanRun, HoldsOperand, names_cell, CellsStand, operand_held, HoldsKind, CanRunNow, names_of}
+use Rattle.graph_run.proofs.Common.{AllPairs, flat_map, IsStrictlyIncreasing, cases_Bool, or_left, or_right, length-map, get_or-map, Kind, Node, Cell, IsNode, inputs, outputs, operands, ObjectValue, object_kind, Named, held, VirtualOutput, Operand, Image, Delay, Verified, writes, is_written, In, operand_of, operand_kind, operands_of, resolved, outlines, verdict, verdict_on, IsVerified, same-from_In, In-outputs, In-left, In-right, In-from_any, In-filter, In-from_map, AllIn-permutation, CanRun, HoldsOperand, names_cell, CellsStand, operand_held, HoldsKind, CanRunNow, names_of}
 use Rattle.graph_verify.specs.Links.{reads}
 use Rattle.graph_verify.proofs.VerdictLemmas.{can_run}
 use Rattle.graph_run.specs.Operands.{StandsFor}
 use Rattle.std.proofs.lemmas.List.Kept.{AllPairs-from_increasing}
-use Rattle.vx_base.specs.declared.kind.Kind.TheVariants as kind
 use Rattle.graph_verify.specs.Operand.{is_virtual as is_virtual_operand}
 use Rattle.graph_run.proofs.LinkLaws.{All-from_In, In-from_All}
 use Rattle.graph_run.proofs.OperandLaws.{outline_of_virtual, known_kept, virtual_written}
@@ -28,18 +27,20 @@ module _ (n : Node) where
       → operands_of one n ≡ operands_of other n
   same_operands one other same = grind (arith, named_by_input, named_by_output, In-left, In-right)
 
+-- ---- operands and kinds
+
+pub real_kind : (operand : Operand) (wanted : Kind) → is_virtual_operand operand ≡ false → StandsFor operand wanted → operand_kind operand ≡ wanted
+real_kind other wanted real stands = grind arith
+
+pub kind_found : (found : Option ObjectValue) (operand : Operand) (wanted : Kind) → option_map operand_of found ≡ Some operand → operand_kind operand ≡ wanted → option_map object_kind found ≡ Some wanted
+kind_found x operand wanted e is_kind = grind arith
+
 -- ---- the virtual images that nodes write
 
 -- the virtual images that the nodes of a verified graph write
 module _ (is : Cell → Operand) (nodes : List Node) (v : Verified) (how : IsVerified is nodes v) where
   abbrev written : List VirtualOutput
   written = v.virtual_outputs.items
-
-  -- an output is a virtual image that the nodes write, of which all is known
-  output_in : (o : VirtualOutput) → In o written → In o.cell (flat_map outputs v.steps.items) × (is_virtual_operand (is o.cell) ≡ true)
-  output_in o i =
-      In-from_filter (λ cell. is_virtual_operand (is cell)) o.cell (flat_map outputs v.steps.items)
-      (subst (λ l. In o.cell l) how.cells (In-map (λ (p : VirtualOutput). p.cell) o written i))
 
   pub output_known : (o : VirtualOutput) → In o written → resolved is nodes o.cell ≡ Image o.desc
   output_known o i = In-from_All (λ (p : VirtualOutput). resolved is nodes p.cell ≡ Image p.desc) written how.descriptions o i
@@ -80,14 +81,6 @@ module _ (objects : List Named) (nodes : List Node) (v : Verified) (work : ℕ) 
           ap operand_kind (ap known output.2 ∙ output_known is nodes v how output.0 output.1) ∙ sym (subst (λ o. StandsFor o wanted) outline.1 stands))
       | inr real ↦ ap operand_kind (known_kept (is cell) (outlines is nodes cell) real) ∙ real_kind (is cell) wanted real stands
     ]
-      where
-        real_kind : (operand : Operand) (wanted : Kind) → is_virtual_operand operand ≡ false → StandsFor operand wanted
-            → operand_kind operand ≡ wanted
-        real_kind other wanted real stands = grind arith
-
-    kind_found : (found : Option ObjectValue) (operand : Operand) (wanted : Kind) → option_map operand_of found ≡ Some operand
-        → operand_kind operand ≡ wanted → option_map object_kind found ≡ Some wanted
-    kind_found x operand wanted e is_kind = grind arith
 
     pub can_run_now : (n : Node) (now : List Named) → In n nodes → IsNode n → All (λ operand. StandsFor (is operand.0) operand.1) (operands n)
         → ((cell : Cell) → names_cell n cell ≡ true → HoldsOperand now cell (known cell)) → CanRunNow now n

@@ -1,12 +1,13 @@
 -- Blocks that planes of virtual images have, and that they leave to their slots.
-use Rattle.std.proofs.Common.{Bool, true, false, zero, suc, eqb-true, ◌≡◌, ◌≢◌, ℕ, ◌+◌, ◌-◌, ◌≤◌, ◌<◌, ◌==◌, List, [], ◌∷◌, ◌++◌, length, map, take, get_or, slice_set, refl, sym, ap, ◌∙◌, arith, if◌then◌else◌, Option, Some, None}
-use Rattle.std.proofs.lemmas.List.{map-set, get_or-map, get_or-set_other, take_more}
+use Rattle.std.proofs.Common.{Bool, true, false, zero, suc, eqb-true, eq-eqb, ◌≡◌, ◌≢◌, ℕ, ◌+◌, ◌≤◌, ◌<◌, ◌==◌, List, [], ◌∷◌, ◌++◌, length, map, take, get_or, slice_set, refl, sym, ap, ◌∙◌, arith, if◌then◌else◌, Option, Some, None}
+use Rattle.std.proofs.lemmas.List.{map-set, ext_get_or, get_or_default, get_or-map, get_or-set_other, get_or-set_same, length-map, take_more}
 use Rattle.std.proofs.lemmas.List.FromFn.{map-range_with_len_more}
-use Rattle.graph_run.proofs.Common.{range_with_len, map-append, nat_tests, Format, U8, Samples, samples_format, VirtualOutput}
+use Rattle.graph_run.proofs.Common.{range_with_len, map-append, nat_tests, Format, U8, Samples, samples_format, values, VirtualOutput}
 use Rattle.graph_steps.specs.Planes.{PlaneValue, no_plane, plane}
-use Rattle.graph_steps.specs.Steps.{capacities}
+use Rattle.graph_steps.specs.Steps.{capacities, capacity}
 use Rattle.graph_run.specs.Blocks.{block_size, room_at}
 use Rattle.graph_run.specs.Tasks.{block_at, is_at, last_in}
+use Rattle.graph_run.proofs.CycleLemmas.{last_below}
 
 -- ---- blocks of slots
 
@@ -14,6 +15,12 @@ use Rattle.graph_run.specs.Tasks.{block_at, is_at, last_in}
 pub other_room : (blocks : List Samples) (s t : ℕ) (b : Samples) → s ≢ t → room_at (slice_set blocks t b) s ≡ room_at blocks s
 other_room blocks s t b differ =
     ap (λ (l : List (Format × ℕ)). get_or l s (U8, 0)) (map-set block_size blocks t b) ∙ get_or-set_other (map block_size blocks) t s (block_size b) (U8, 0) differ
+
+-- the block of the slot itself
+own_room : (blocks : List Samples) (t : ℕ) (b : Samples) → t < length blocks → room_at (slice_set blocks t b) t ≡ block_size b
+own_room blocks t b inside =
+    ap (λ (l : List (Format × ℕ)). get_or l t (U8, 0)) (map-set block_size blocks t b)
+    ∙ get_or-set_same (map block_size blocks) t (block_size b) (U8, 0) (omega (arith, inside, length-map blocks block_size))
 
 -- the format of a slot's block
 room_format : (blocks : List Samples) (s : ℕ) → (room_at blocks s).0 ≡ get_or (map samples_format blocks) s U8
@@ -24,20 +31,32 @@ room_format (b ∷ blocks) (suc s) = room_format blocks s
 pub same_format_at : (old now : List Samples) (s : ℕ) → map samples_format now ≡ map samples_format old → (room_at now s).0 ≡ (room_at old s).0
 same_format_at old now s same = room_format now s ∙ ap (λ l. get_or l s U8) same ∙ sym (room_format old s)
 
-any_default : {X : Type 0} (xs : List X) (k : ℕ) (a b : X) → k < length xs → get_or xs k a ≡ get_or xs k b
-any_default [] k a b below = absurd (omega (arith, below))
-any_default (x ∷ xs) zero a b below = refl
-any_default (x ∷ xs) (suc k) a b below = any_default xs k a b (omega (arith, below))
-
 -- the samples that a plane gives back are of the format of the block in its slot
 pub returned_format : (old now : List Samples) (start planes : List PlaneValue) (k s : ℕ) (b x : Samples) (r : PlaneValue) → samples_format b ≡ (get_or planes k r).format → k < length planes
     → plane planes k ≡ plane start k → (plane start k).format ≡ (room_at old s).0 → map samples_format now ≡ map samples_format old → s < length now
     → samples_format b ≡ samples_format (get_or now s x)
 returned_format old now start planes k s b x r gives below here is same inside =
-    gives ∙ ap (λ (p : PlaneValue). p.format) (any_default planes k r no_plane below ∙ here) ∙ is ∙ sym (same_format_at old now s same)
+    gives ∙ ap (λ (p : PlaneValue). p.format) (get_or_default planes k r no_plane below ∙ here) ∙ is ∙ sym (same_format_at old now s same)
     ∙ room_format now s ∙ get_or-map samples_format now s x U8 inside
 
+-- the samples that a plane gives back are those of its block
+pub returned_size : (start planes : List PlaneValue) (k : ℕ) (b : Samples) (r : PlaneValue) → samples_format b ≡ (get_or planes k r).format → values b ≡ (get_or planes k r).samples → k < length planes
+    → plane planes k ≡ plane start k → length planes ≡ length start → block_size b ≡ capacity (capacities start) k
+returned_size start planes k b r format value below here count =
+    let size : PlaneValue → Format × ℕ = λ q. (q.format, length q.samples) in
+    let same : get_or planes k r ≡ plane start k = get_or_default planes k r no_plane below ∙ here in
+    ap (λ (f : Format). (f, length (values b))) (format ∙ ap (λ (p : PlaneValue). p.format) same)
+    ∙ ap (λ (n : ℕ). ((plane start k).format, n)) (ap length (value ∙ ap (λ (p : PlaneValue). p.samples) same))
+    ∙ sym (get_or-map size start k no_plane (U8, 0) (omega (arith, below, count)))
+
 -- ---- the last images in slots
+
+last_is : (slots : List ℕ) (s k : ℕ) → is_at k (last_in s slots) ≡ true → last_in s slots ≡ Some k
+last_is slots s k is = by_last (last_in s slots) is
+  where
+    by_last : (last : Option ℕ) → is_at k last ≡ true → last ≡ Some k
+    by_last None e = absurd (cc e)
+    by_last (Some j) e = ap Some (eqb-true j k e)
 
 pub last_differs : (slots : List ℕ) (s t j k : ℕ) → is_at k (last_in t slots) ≡ true → last_in s slots ≡ Some j → k < j → s ≢ t
 last_differs slots s t j k is there later same =
@@ -61,6 +80,72 @@ same_block slots old now k formats others =
         by_test : (here : Bool) → (j == k) ≡ here → of_room (Some j) (room_at now (get_or slots k 0)) ≡ of_room (Some j) (room_at old (get_or slots k 0))
         by_test true is = ap (of_room (Some j)) (others (get_or slots k 0) j e (omega (arith, eqb-true j k is)))
         by_test false is = simp is (ap (λ f. (f, 0)) (same_format_at old now (get_or slots k 0) formats))
+
+-- the block of a slot without images
+pub unused_more : (slots : List ℕ) (blocks : List Samples) (k s : ℕ) (b : Samples) → is_at k (last_in (get_or slots k 0) slots) ≡ true → last_in s slots ≡ None
+    → room_at (slice_set blocks (get_or slots k 0) b) s ≡ room_at blocks s
+unused_more slots blocks k s b is none = other_room blocks s (get_or slots k 0) b differ
+  where
+    differ : s ≢ get_or slots k 0
+    differ same = let last = last_is slots (get_or slots k 0) k is in let there = ap (λ x. last_in x slots) same in grind (arith, last, there, none)
+
+-- ---- blocks that come back
+
+-- the last image in a slot gives its block back
+pub back_more : (slots : List ℕ) (blocks : List Samples) (sizes : List (Format × ℕ)) (k : ℕ) (b : Samples) → is_at k (last_in (get_or slots k 0) slots) ≡ true → get_or slots k 0 < length blocks
+    → block_size b ≡ capacity sizes k → ((s j : ℕ) → last_in s slots ≡ Some j → j < k → room_at blocks s ≡ capacity sizes j)
+    → (s j : ℕ) → last_in s slots ≡ Some j → j < k + 1 → room_at (slice_set blocks (get_or slots k 0) b) s ≡ capacity sizes j
+back_more slots blocks sizes k b is inside size before s j there below = by_test (s == get_or slots k 0) refl
+  where
+    t : ℕ
+    t = get_or slots k 0
+
+    last : last_in t slots ≡ Some k
+    last = last_is slots t k is
+
+    by_test : (here : Bool) → (s == get_or slots k 0) ≡ here → room_at (slice_set blocks (get_or slots k 0) b) s ≡ capacity sizes j
+    by_test true same =
+        let at : s ≡ t = eqb-true s t same in
+        let one : last_in s slots ≡ Some k = ap (λ x. last_in x slots) at ∙ last in
+        let here : k ≡ j = grind (arith, there, one) in
+        ap (room_at (slice_set blocks t b)) at ∙ own_room blocks t b inside ∙ size ∙ ap (capacity sizes) here
+    by_test false other =
+        let differ : s ≢ t = grind (arith, nat_tests, other) in
+        let later : j ≢ k = λ same. differ (sym (last_below s slots j 0 there).1 ∙ ap (λ n. get_or slots n 0) same) in
+        other_room blocks s t b differ ∙ before s j there (omega (arith, below, later))
+
+-- another image gives none
+pub back_stays : (slots : List ℕ) (blocks : List Samples) (sizes : List (Format × ℕ)) (k : ℕ) → is_at k (last_in (get_or slots k 0) slots) ≡ false
+    → ((s j : ℕ) → last_in s slots ≡ Some j → j < k → room_at blocks s ≡ capacity sizes j)
+    → (s j : ℕ) → last_in s slots ≡ Some j → j < k + 1 → room_at blocks s ≡ capacity sizes j
+back_stays slots blocks sizes k other before s j there below = before s j there (omega (arith, below, later))
+  where
+    later : j ≢ k
+    later same =
+        let at : get_or slots k 0 ≡ s = ap (λ n. get_or slots n 0) (sym same) ∙ (last_below s slots j 0 there).1 in
+        let last : last_in (get_or slots k 0) slots ≡ Some j = ap (λ x. last_in x slots) at ∙ there in
+        let is : is_at k (last_in (get_or slots k 0) slots) ≡ true = ap (is_at k) last ∙ eq-eqb j k same in
+        grind (arith, is, other)
+
+-- before a run the last image in a slot has its block
+full_block : (slots : List ℕ) (rooms : ℕ → Format × ℕ) (s k : ℕ) → last_in s slots ≡ Some k → block_at slots rooms 0 k ≡ rooms s
+full_block slots rooms s k last =
+    let t = get_or slots k 0 in
+    let at : t ≡ s = (last_below s slots k 0 last).1 in
+    let is : is_at k (last_in t slots) ≡ true = ap (λ x. is_at k (last_in x slots)) at ∙ ap (is_at k) last ∙ eq-eqb k k refl in
+    ap (λ (here : Bool). ((rooms t).0, (if here then (rooms t).1 else 0))) is ∙ ap rooms at
+
+-- once all have, each slot has its block again
+pub rooms_back : (slots : List ℕ) (old between new : List Samples) (sizes : List (Format × ℕ)) → length new ≡ length old
+    → ((k : ℕ) → k < length slots → capacity sizes k ≡ block_at slots (room_at old) 0 k) → ((s : ℕ) → last_in s slots ≡ None → room_at between s ≡ room_at old s)
+    → ((s k : ℕ) → last_in s slots ≡ Some k → room_at new s ≡ capacity sizes k) → ((s : ℕ) → last_in s slots ≡ None → room_at new s ≡ room_at between s)
+    → map block_size new ≡ map block_size old
+rooms_back slots old between new sizes count first unused back left =
+    ext_get_or (U8, 0) (map block_size new) (map block_size old) (omega (arith, count, length-map new block_size, length-map old block_size)) (λ s below. by_last s (last_in s slots) refl)
+  where
+    by_last : (s : ℕ) (last : Option ℕ) → last_in s slots ≡ last → room_at new s ≡ room_at old s
+    by_last s None e = left s e ∙ unused s e
+    by_last s (Some k) e = back s k e ∙ first k (last_below s slots k 0 e).0 ∙ full_block slots (room_at old) s k e
 
 -- ---- one plane more
 

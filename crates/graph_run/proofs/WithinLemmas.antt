@@ -1,22 +1,22 @@
 -- The tasks of a graph: the fields of a program that its plan and its order give.
 use Rattle.std.proofs.Common.{◌≡◌, ◌≢◌, ℕ, ◌<◌, ◌≤◌, Bool, true, false, List, [], ◌∷◌, length, map, refl, sym, ap, subst, ◌∙◌, inl, inr, arith, Option, Some, None, ◌+◌, ◌-◌, ◌++◌, get_or}
 use Rattle.std.proofs.lemmas.List.{get_or-append_right, get_or-map, length-append, length-map}
-use Rattle.graph_run.proofs.Common.{cases_lt, flat_map, ImageValue, IsImage, Node, Cell, VirtualOutput, PlanValue, place_of, accumulates, outputs, In, In-from_filter}
+use Rattle.graph_run.proofs.Common.{flat_map, ImageValue, IsImage, Node, Cell, VirtualOutput, PlanValue, place_of, accumulates, outputs, In, In-from_filter}
 use Rattle.graph_steps.specs.declared.step.Step.{Step}
 use Rattle.graph_steps.specs.declared.step.Task.{Task}
 use Rattle.graph_steps.specs.declared.step.Task.TheVariants.{Write, Reduce}
 use Rattle.graph_steps.specs.Planes.{PlaneValue, no_plane, plane}
 use Rattle.graph_run.proofs.Common.{In-at, Named, image_held}
-use Rattle.graph_steps.specs.Program.{AreFilled, AreFree, AreInOrder, HaveOneWriter, IsClient, IsStepOf, KeepsBlock, IsLive, IsUnwritten, NamesPlanes}
+use Rattle.graph_steps.specs.Program.{AreFree, AreInOrder, HaveOneWriter, IsClient, IsStepOf, KeepsBlock, IsLive, IsUnwritten, NamesPlanes}
 use Rattle.graph_steps.specs.Steps.{ReadsPlane}
 use Rattle.graph_run.specs.Bind.{image_plane, image_planes}
 use Rattle.graph_run.specs.Cells.{images_named, index_of}
 use Rattle.graph_run.specs.Tasks.{AreNamed, AreReadAfter, AreReadWithin, AreUntaken, HaveTasks, TakeTurns, graph_cells, graph_tasks, taken}
 use Rattle.graph_run.proofs.IndexLemmas.{added_behind, index_below, index_right}
 use Rattle.graph_run.proofs.SlotLemmas.{planned_slots}
-use Rattle.graph_run.proofs.TaskLemmas.{turns_kept, turns_take, turns_written}
-use Rattle.graph_run.proofs.ProgramLemmas.{all_named, image_named, one_writer_each, read_after, read_within, step_of, turns_begin}
-use Rattle.graph_run.proofs.FreeLemmas.{graph_free, graph_turns}
+use Rattle.graph_run.proofs.TaskLemmas.{turns_kept, turns_take}
+use Rattle.graph_run.proofs.ProgramLemmas.{all_named, image_named, one_writer_each, read_after, step_node, turns_begin}
+use Rattle.graph_run.proofs.FreeLemmas.{by_all, graph_free, graph_turns, read_there}
 
 -- ---- one of the tasks
 
@@ -60,7 +60,7 @@ module _ (steps : List Node) (outs : List VirtualOutput) (p : PlanValue) (is_vir
   after = read_after (graph_cells steps outs) (map (place_of p) outs) radius steps 0 0 have.turn named
 
   within : AreReadWithin count tasks
-  within = read_within (graph_cells steps outs) (map (place_of p) outs) radius steps 0 0 named
+  within = read_there (graph_cells steps outs) steps tasks (by_all (graph_cells steps outs) (map (place_of p) outs) radius steps 0 0 named)
 
   both_free : AreFree (KeepsBlock count tasks) tasks × AreUntaken tasks
   both_free = graph_free steps outs p (planned_slots steps outs p have.plan) is_virtual have.order have.plan.once radius have.images have.turn count
@@ -83,7 +83,7 @@ module _ (steps : List Node) (outs : List VirtualOutput) (p : PlanValue) (is_vir
   -- what accumulates takes no block
   adds_whole : (s : Step) → IsStepOf s tasks → accumulates s.node.function ≡ true → s.takes ≡ None
   adds_whole s i adds =
-      let of = step_of (graph_cells steps outs) (map (place_of p) outs) radius steps 0 0 s i in
+      let of = step_node (graph_cells steps outs) (map (place_of p) outs) radius steps 0 0 s i in
       let behind = added_behind virtual (images_named steps) in
       let adds_there : accumulates of.node.function ≡ true = ap (λ (x : Step). accumulates x.node.function) (sym of.is) ∙ adds in
       let client : is_virtual of.cell ≡ false = have.adds of.node of.inside adds_there of.cell of.written in
@@ -96,7 +96,7 @@ module _ (steps : List Node) (outs : List VirtualOutput) (p : PlanValue) (is_vir
 
   pub steps_within : (s : Step) → IsStepOf s tasks → NamesPlanes count s
   steps_within s i =
-      let of = step_of (graph_cells steps outs) (map (place_of p) outs) radius steps 0 0 s i in
+      let of = step_node (graph_cells steps outs) (map (place_of p) outs) radius steps 0 0 s i in
       record {
         output = subst (λ (x : Step). x.output < count) (sym of.is) (index_below (graph_cells steps outs) of.cell (named of.node of.inside of.cell (image_named of.node of.cell of.image of.written)));
         reads = λ c read. (reads_in count tasks s within i c read, reads_other tasks s after i c read, reads_untaken tasks s both_free.1 i c read);
@@ -120,12 +120,6 @@ module _ (steps : List Node) (outs : List VirtualOutput) (p : PlanValue) (is_vir
 
   pub ordered : AreInOrder tasks
   ordered = in_order tasks after
-
-  pub filled : AreFilled count tasks
-  filled c below = elim (cases_lt c (length (map (place_of p) outs))) [
-    | inl virtual_one ↦ inr (turns_written (map (place_of p) outs) 0 tasks turns c (omega arith) virtual_one)
-    | inr client ↦ inl (turns_kept (map (place_of p) outs) tasks turns count c client below)
-  ]
 
 -- ---- the planes of clients' images
 

@@ -1,22 +1,17 @@
 -- Results: what a run over planes leaves, and the objects of a table that this is.
-use Rattle.std.specs.Prelude.{ℕ, ◌≡◌, nat_lt, if◌then◌else◌, List, [], ◌∷◌, All, length, map, slice_index_or, unwrap_or}
+use Rattle.std.specs.Prelude.{ℕ, ◌≡◌, nat_lt, if◌then◌else◌, List, [], ◌∷◌, length, map, slice_index_or, unwrap_or}
 use Rattle.std.specs.List.{flat_map}
-use Rattle.std.specs.List.Sorted.{IsStrictlyIncreasing}
 use Rattle.vx_base.specs.declared.kind.Kind.{Kind}
 use Rattle.vx_base.specs.declared.kind.Kind.TheVariants as kind
 use Rattle.vx_base.specs.declared.node.Node.{Node}
 use Rattle.vx_base.specs.Cell.{Cell, cell_of}
-use Rattle.vx_base.specs.Description.{IsDescription}
 use Rattle.vx_base.specs.Function.{parameters}
 use Rattle.vx_base.specs.Image.{ImageValue}
-use Rattle.vx_base.specs.Object.{ObjectValue, IsObject, DistributionObject, ExtremesObject}
+use Rattle.vx_base.specs.Object.{ObjectValue, DistributionObject, ExtremesObject}
 use Rattle.image_core.specs.declared.second.Second.{Second}
-use Rattle.image_core.specs.Second.{second_object}
 use Rattle.object_table.specs.Named.{Named}
 use Rattle.object_table.specs.Table.{image_held}
-use Rattle.graph_verify.specs.declared.verified.Verified.{Verified}
 use Rattle.graph_verify.specs.Outlines.{resolved}
-use Rattle.buffer_plan.specs.Plan.{IsPlan, PlanValue}
 use Rattle.graph_steps.specs.declared.step.Reduction.{Reduction}
 use Rattle.graph_steps.specs.declared.step.Task.{Task}
 use Rattle.graph_steps.specs.declared.tally.Tally.{Tally}
@@ -25,9 +20,7 @@ use Rattle.graph_steps.specs.Planes.{PlaneValue, plane, block_image, block_image
 use Rattle.graph_steps.specs.Program.{KeepsBlock, Reduces, SolvesSteps}
 use Rattle.graph_steps.specs.Tallies.{IsNew, tally_at, tally_of}
 use Rattle.graph_run.specs.Graph.{begun, rounds_of_nodes}
-use Rattle.graph_run.specs.Operands.{IsReady, operand_held}
-use Rattle.graph_run.specs.Program.{planes_of, tables_of, tallies_of}
-use Rattle.graph_run.specs.Tasks.{graph_tasks}
+use Rattle.graph_run.specs.Operands.{operand_held}
 
 -- ---- images
 
@@ -76,14 +69,3 @@ pub record Leaves (tables : List Second) (tasks : List Task) (planes : List Plan
   pub descs : (c : ℕ) → (plane after c).desc ≡ (plane planes c).desc
   pub planes_count : length after ≡ length planes
   pub tallies_count : length counted ≡ length tallies
-
--- a graph that has run over planes: what its run took, and what it left
-pub record HasRun (objects : List Named) (nodes : List Node) (v : Verified) (p : PlanValue) (tables : List Second) (radius : Node → ℕ) (virtuals after : List PlaneValue) (counted : List Tally) : Type 0 where
-  pub ready : IsReady objects nodes v
-  pub names : IsStrictlyIncreasing (map (λ o. o.name) objects)
-  pub objects_are : All (λ o. IsObject o.object) objects
-  pub described : All (λ o. IsDescription o.desc) v.virtual_outputs.items
-  pub plan : IsPlan v.steps.items v.virtual_outputs.items p
-  pub tables_are : map second_object tables ≡ tables_of objects v.steps.items
-  pub descs : map (λ q. q.desc) virtuals ≡ map (λ o. o.desc) v.virtual_outputs.items
-  pub leaves : Leaves tables (graph_tasks v.steps.items v.virtual_outputs.items p radius) (planes_of objects v.steps.items v.virtual_outputs.items virtuals) (tallies_of objects v.steps.items) after counted

@@ -1,13 +1,11 @@
 //! Images that leave a table for planes while a graph runs, and come back.
-ghost use Rattle.std.specs.Prelude.{◌≡◌, ◌<◌, ◌+◌, ◌≤◌, ◌++◌, List, length, vec_capacity};
-ghost use Rattle.std.specs.List.{AllPairs};
-ghost use Rattle.vx_base.specs.Cell.{Cell};
+ghost use Rattle.std.specs.Prelude.{◌≡◌, ◌+◌, ◌≤◌, ◌++◌, length, vec_capacity};
 ghost use Rattle.vx_base.specs.Image.{description_of};
 ghost use Rattle.vx_base.specs.Object.{ImageObject};
 ghost use Rattle.object_table.specs.Context.{with_objects};
-ghost use Rattle.object_table.specs.Named.{Named, with_object, with_written};
+ghost use Rattle.object_table.specs.Named.{with_object, with_written};
 ghost use Rattle.object_table.specs.Table.{HoldsImage, image_held};
-ghost use Rattle.graph_steps.specs.Planes.{PlaneValue, block_image};
+ghost use Rattle.graph_steps.specs.Planes.{block_image};
 ghost use Rattle.graph_run.specs.Bind.{AreAllApart, HoldImages, bare_images, image_plane};
 ghost use Rattle.graph_run.specs.Bind.{AreFor, image_planes, plane_objects, without_samples};
 
@@ -71,14 +69,3 @@ pub fn put_image(table: &mut Table, cell: ObjRef, plane: &mut Plane)
     let valid = plane.valid();
     table.put(cell, plane.give(), valid);
 }
-
-/// Images whose samples were taken out, and that the images of planes replace, are as if their
-/// samples had stayed until then.
-pub fn out_and_back()
-    ensures { (objects : List Named) (cells : List Cell) (planes : List PlaneValue) →
-        AllPairs (λ a b. a.name < b.name) objects → HoldImages objects cells →
-        AreFor objects cells planes →
-        with_written (with_written objects (bare_images objects cells))
-        (plane_objects cells planes)
-        ≡ with_written objects (plane_objects cells planes) }
-{}

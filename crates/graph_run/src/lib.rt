@@ -17,7 +17,6 @@
 //! - `bind`: images of clients that leave a table for planes, and come back
 //! - `tables`: tables, thresholds and matrices, lent to its steps
 //! - `tallies`: its histograms and extremes
-//! - `tasks`, `program`, `solution`: laws: its tasks are a program, whose solution is the run
 //! - `laws`: what the definitions of runs mean
 //! - `examples`: runs of small graphs
 #![tactic(auto)]
@@ -29,15 +28,12 @@ pub mod examples;
 pub mod laws;
 mod once;
 mod operand;
-mod program;
 mod runs;
 mod schedule;
 mod sizes;
-mod solution;
 mod tables;
 mod tallies;
 mod task_list;
-mod tasks;
 mod verify;
 mod virtual_planes;
 

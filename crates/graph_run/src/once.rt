@@ -1,5 +1,5 @@
 //! A node by itself: it runs on what its cells hold in a table.
-ghost use Rattle.std.specs.Prelude.{◌≡◌, ◌≢◌, ◌∷◌, [], map, All, IfSome, Some};
+ghost use Rattle.std.specs.Prelude.{◌≡◌, ◌≢◌, map, All, IfSome, Some};
 ghost use Rattle.std.specs.List.Sorted.{IsStrictlyIncreasing};
 ghost use Rattle.std.specs.Option.{option_map};
 ghost use Rattle.vx_base.specs.declared.kind.Kind.TheVariants as kind;
@@ -13,16 +13,14 @@ ghost use Rattle.object_table.specs.Named.{held, with_written};
 ghost use Rattle.object_table.specs.Table.{cell_object, image_held};
 ghost use Rattle.graph_steps.specs.Planes.{block_image, IsWhole};
 ghost use Rattle.graph_steps.specs.Steps.{CanMake, lent_step};
-ghost use Rattle.graph_run.specs.Bound.{KeepsTally};
 ghost use Rattle.graph_run.specs.Lasting.{Lasts};
-ghost use Rattle.graph_run.specs.Program.{tally_by};
 ghost use Rattle.graph_run.specs.Steps.{CanRead, RunsTo, with_output};
 ghost use Rattle.graph_run.specs.Turns.{CanRunNow};
 
 use crate::bind::{put_image, take_image};
 use crate::tables::table_of;
-use crate::tallies::{bins_of, no_extremes, set_tally};
-use graph_steps::{Histogram, Kernel, Plane, Step, Tally};
+use crate::tallies::{set_tally, tally_for};
+use graph_steps::{Kernel, Plane, Step};
 use image_core::Second;
 use object_table::Table;
 use vx_base::{Kind, Node, ObjRef, Output};
@@ -113,16 +111,4 @@ fn reduce_to(table: &mut Table, node: &Node, wanted: Kind, output: ObjRef)
     let mut tally = tally_for(table, wanted, output);
     tally.add_all(&table.image(node.in1).image());
     set_tally(table, output, &tally);
-}
-
-/// Returns the tally for an object of this kind, in which no sample is counted.
-fn tally_for(table: &Table, wanted: Kind, cell: ObjRef) -> Tally
-    requires keeps { KeepsTally table.now.objects wanted cell }
-    requires other { wanted ≢ kind.Image }
-    ensures { tally_by wanted (cell_object table.now.objects cell) ≡ result ∷ [] }
-{
-    match wanted {
-        Kind::Distribution => Tally::Histogram(Histogram::new(bins_of(table, cell))),
-        _ => Tally::Extremes(no_extremes()),
-    }
 }

@@ -1,7 +1,7 @@
 //! A graph that runs over planes: the samples of its images leave the table of objects for planes,
 //! its tasks run, and images and tallies come back.
 ghost use Rattle.std.specs.Prelude.{◌≡◌, ◌≤◌, ◌<◌, ◌+◌, ◌++◌, ℕ, [], List, drop, length, map};
-ghost use Rattle.std.specs.Prelude.{slice_index_or, vec_capacity, All, OnErr, OnOk};
+ghost use Rattle.std.specs.Prelude.{slice_index_or, vec_capacity, All, None, OnErr, OnOk, Some};
 ghost use Rattle.std.specs.List.Sorted.{IsStrictlyIncreasing};
 ghost use Rattle.vx_base.specs.declared.format.Format.{Format as SampleFormat};
 ghost use Rattle.vx_base.specs.declared.node.Node.{Node as NodeFields};
@@ -23,7 +23,7 @@ ghost use Rattle.object_table.specs.Named.{with_written};
 ghost use Rattle.graph_steps.specs.Planes.{PlaneValue, plane};
 ghost use Rattle.graph_steps.specs.Program.{IsProgram};
 ghost use Rattle.graph_steps.specs.Runs.{CanReduceBand};
-ghost use Rattle.graph_steps.specs.Steps.{capacities};
+ghost use Rattle.graph_steps.specs.Steps.{capacities, capacity};
 ghost use Rattle.graph_run.specs.Bind.{AreAllApart, AreFor, HoldImages, bare_images};
 ghost use Rattle.graph_run.specs.Bind.{image_planes, plane_objects};
 ghost use Rattle.graph_run.specs.Blocks.{band_plan, block_size, room_at};
@@ -32,6 +32,7 @@ ghost use Rattle.graph_run.specs.Program.{first_blocks, tables_of, tallies_of};
 ghost use Rattle.graph_run.specs.Results.{Leaves, tally_objects};
 ghost use Rattle.graph_run.specs.Schedule.{IsSchedule, schedule_clients, schedule_objects};
 ghost use Rattle.graph_run.specs.Slots.{planned_rooms};
+ghost use Rattle.graph_run.specs.Tasks.{last_in};
 
 use crate::bind::{put_back, take_out};
 use crate::blocks::{blocks_for, give_back};
@@ -128,6 +129,7 @@ fn run_schedule(
     ensures lasts { Lasts table.old.objects table.new.objects }
     ensures err { OnErr result (table.new ≡ table.old) }
     ensures formats { map samples_format blocks.new.items ≡ map samples_format blocks.old.items }
+    ensures rooms { map block_size blocks.new.items ≡ map block_size blocks.old.items }
 {
     are_described(verified);
     let tables = Vec::with_capacity(alloc, verified.steps.len())?;
@@ -207,6 +209,8 @@ fn take(
         (planes.new.items ≡ virtuals ++ image_planes table.old.objects
         (schedule_clients verified.now schedule.now)) }
     ensures formats { map samples_format blocks.new ≡ map samples_format blocks.old }
+    ensures unused { (s : ℕ) → last_in s schedule.now.slots.items ≡ None →
+        room_at blocks.new s ≡ room_at blocks.old s }
     ensures left { table.new ≡ with_objects table.old (with_written table.old.objects
         (bare_images table.old.objects
         (schedule_clients verified.now schedule.now))) }
@@ -245,6 +249,10 @@ fn give(
         (with_written table.old.objects
         (schedule_objects verified.now schedule.now planes.old))
         (tally_objects schedule.now.tally_cells.items tallies.now)) }
+    ensures back { (s k : ℕ) → last_in s schedule.now.slots.items ≡ Some k →
+        room_at blocks.new s ≡ capacity (capacities planes.old) k }
+    ensures unused { (s : ℕ) → last_in s schedule.now.slots.items ≡ None →
+        room_at blocks.new s ≡ room_at blocks.old s }
     ensures formats { map samples_format blocks.new ≡ map samples_format blocks.old }
 {
     return_blocks(&schedule.slots, blocks, planes);

@@ -1,5 +1,5 @@
 //! Tallies of the histograms and extremes of a graph: from a table of objects, and back into it.
-ghost use Rattle.std.specs.Prelude.{◌≡◌, ◌++◌, unwrap_or, IfOk, OnOk};
+ghost use Rattle.std.specs.Prelude.{◌≡◌, ◌≢◌, ◌∷◌, ◌++◌, [], unwrap_or, IfOk, OnOk};
 ghost use Rattle.vx_base.specs.declared.kind.Kind.TheVariants as kind;
 ghost use Rattle.vx_base.specs.Function.{parameters};
 ghost use Rattle.vx_base.specs.Object.{no_extremes, object_kind};
@@ -8,7 +8,7 @@ ghost use Rattle.object_table.specs.Named.{with_object, with_written};
 ghost use Rattle.object_table.specs.Object.{distribution_value};
 ghost use Rattle.object_table.specs.Table.{cell_object};
 ghost use Rattle.graph_run.specs.Bound.{AreTalliesFor, IsTallyFor, KeepTallies, KeepsTally};
-ghost use Rattle.graph_run.specs.Program.{node_tallies, tallies_of};
+ghost use Rattle.graph_run.specs.Program.{node_tallies, tallies_of, tally_by};
 ghost use Rattle.graph_run.specs.Results.{tally_cell, tally_cells, tally_object, tally_objects};
 ghost use Rattle.graph_run.specs.Turns.{HoldsKind};
 
@@ -62,22 +62,30 @@ fn add_tally(tallies: &mut Vec<Tally>, table: &Table, node: &Node) -> Result<(),
     ensures { OnOk result (tallies.new.items
         ≡ tallies.old.items ++ node_tallies table.now.objects node.now) }
 {
+    let cell = node.out1.unwrap_or(node.in1);
     match node.function.parameters().output {
         Kind::Image => Ok(()),
-        Kind::Distribution => {
-            let bins = bins_of(table, node.out1.unwrap_or(node.in1));
-            tallies.push(Tally::Histogram(Histogram::new(bins)))?;
-            Ok(())
-        }
-        _ => {
-            tallies.push(Tally::Extremes(no_extremes()))?;
+        wanted => {
+            tallies.push(tally_for(table, wanted, cell))?;
             Ok(())
         }
     }
 }
 
+/// Returns the tally for an object of this kind, in which no sample is counted.
+pub fn tally_for(table: &Table, wanted: Kind, cell: ObjRef) -> Tally
+    requires keeps { KeepsTally table.now.objects wanted cell }
+    requires other { wanted ≢ kind.Image }
+    ensures { tally_by wanted (cell_object table.now.objects cell) ≡ result ∷ [] }
+{
+    match wanted {
+        Kind::Distribution => Tally::Histogram(Histogram::new(bins_of(table, cell))),
+        _ => Tally::Extremes(no_extremes()),
+    }
+}
+
 /// Returns the bins of the distribution that a cell holds.
-pub fn bins_of(table: &Table, cell: ObjRef) -> Bins
+fn bins_of(table: &Table, cell: ObjRef) -> Bins
     requires { HoldsKind table.now.objects (cell, kind.Distribution) }
     ensures { result ≡ (distribution_value (cell_object table.now.objects cell)).bins }
 {
@@ -99,7 +107,7 @@ fn distribution_of(object: &Object) -> &Distribution
 }
 
 /// Returns the extremes of no samples.
-pub fn no_extremes() -> Extremes
+fn no_extremes() -> Extremes
     ensures { result ≡ no_extremes }
 {
     Extremes {

@@ -167,11 +167,11 @@ in_halo more height band y some from to low =
     let b : y - min (band.start - more) height < min (band.start + band.count + more) height - min (band.start - more) height = omega arith in
     grind (arith, nat_tests)
 
-pub halo_below : (more height : ℕ) (band : Band) (y : ℕ) → has_row (with_halo more height band) y ≡ true → y < height
-halo_below more height band y there =
+pub halo_has : (more height : ℕ) (band : Band) (y : ℕ) → has_row (with_halo more height band) y ≡ true → (band.start - more ≤ y) × (y < height) × (y < band.start + band.count + more)
+halo_has more height band y there =
     let a : min (band.start - more) height ≤ y = grind (arith, nat_tests) in
     let b : y - min (band.start - more) height < min (band.start + band.count + more) height - min (band.start - more) height = grind (arith, nat_tests) in
-    omega arith
+    (omega arith, omega arith, omega arith)
 
 -- ---- one step
 

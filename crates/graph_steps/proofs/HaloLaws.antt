@@ -130,8 +130,9 @@ one_more high before after (Reduce r) later order grows raised others enough = �
     no_step u e = cc
 
 -- the tasks from one on, and the one before them
-pub from_one_before : (tasks : List Task) (k : ℕ) (d : Task) → k < length tasks → drop (length tasks - (k + 1)) tasks ≡ get_or tasks (length tasks - 1 - k) d ∷ drop (length tasks - k) tasks
-from_one_before tasks k d below =
+pub from_one_before : (tasks : List Task) (k : ℕ) (t : Task) → k < length tasks → t ≡ get_or tasks (length tasks - 1 - k) t → drop (length tasks - (k + 1)) tasks ≡ t ∷ drop (length tasks - k) tasks
+from_one_before tasks k t below is =
     let i : length tasks - (k + 1) ≡ length tasks - 1 - k = omega arith in
     let j : suc (length tasks - 1 - k) ≡ length tasks - k = omega arith in
-    ap (λ n. drop n tasks) i ∙ drop-cons tasks (length tasks - 1 - k) d (omega arith) ∙ ap (λ n. get_or tasks (length tasks - 1 - k) d ∷ drop n tasks) j
+    ap (λ n. drop n tasks) i ∙ drop-cons tasks (length tasks - 1 - k) t (omega arith)
+    ∙ ap (λ n. get_or tasks (length tasks - 1 - k) t ∷ drop n tasks) j ∙ ap (λ u. u ∷ drop (length tasks - k) tasks) (sym is)

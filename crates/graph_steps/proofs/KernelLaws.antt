@@ -1,5 +1,6 @@
 -- What a kernel writes is the step's image.
-use Rattle.std.proofs.Common.{◌≡◌, ℕ, ℤ, ◌*◌, ◌+◌, ◌-◌, ◌<◌, zero, suc, true, false, List, length, Option, Some, None, IfSome, refl, ap, ◌∙◌, sym, arith, cond, ◌==◌, eqb-true, add-zero}
+use Rattle.std.proofs.Common.{◌≡◌, ℕ, ℤ, ◌*◌, ◌+◌, ◌-◌, ◌<◌, zero, suc, true, List, length, map, take, drop, Option, Some, None, IfSome, refl, ap, ◌∙◌, sym, arith, cond, ◌==◌, eqb-true, add-zero}
+use borrow.Rule.Slice.PartMut.{put_mid}
 use Rattle.std.proofs.lemmas.Bool.{and_parts}
 use Rattle.std.proofs.lemmas.Bool.Decides.{nat_tests}
 use Rattle.vx_base.specs.declared.format.Format.{Format}
@@ -9,7 +10,7 @@ use Rattle.vx_base.specs.declared.function.Function.TheVariants.{Integral, Sobel
 use Rattle.vx_base.specs.declared.node.Node.{Node}
 use Rattle.vx_base.specs.declared.output.Output.{Output}
 use Rattle.vx_base.specs.Description.{Description, same_size}
-use Rattle.vx_base.specs.Rectangle.{Rectangle}
+use Rattle.vx_base.specs.Rectangle.{Rectangle, empty}
 use Rattle.vx_base.specs.Formats.{takes_formats}
 use Rattle.vx_base.specs.Function.{parameters, accumulates}
 use Rattle.vx_base.specs.Image.{ImageValue, description_of, image_over, band, at}
@@ -23,14 +24,16 @@ use Rattle.image_core.specs.declared.band.Band.{Band}
 use Rattle.image_core.specs.declared.image_mut.ImageMut.{ImageMut}
 use Rattle.image_core.specs.Bands.{IsInRows, has_row, image_over_rows, rows_in}
 use Rattle.image_core.specs.Rows.{sample_at}
+use Rattle.image_core.specs.Second.{second_object}
 use Rattle.image_core.specs.Target.{written, IsTarget, Writes}
 use Rattle.image_core.proofs.BandLaws.{written_same}
 use Rattle.image_core.proofs.HeldRows.{at_held}
 use Rattle.node_rows.proofs.RowLaws.{node_description}
 use Rattle.graph_steps.specs.declared.step.Step.{Step}
 use Rattle.graph_steps.specs.declared.kernel.Kernel.{Kernel}
-use Rattle.graph_steps.specs.Planes.{PlaneValue}
+use Rattle.graph_steps.specs.Planes.{PlaneValue, rows_of_block, written_among}
 use Rattle.graph_steps.specs.Steps.{CanMake, image_from_inputs, is_integral, kernel_image, held_image, scan_image}
+use Rattle.graph_steps.proofs.PlaneLaws.{lent_rows, rows_among}
 
 -- ---- by the function
 
@@ -132,6 +135,35 @@ rows_written k d valid rows samples old new before same is =
     ∙ ap (λ (r : Band). rows_in r (kernel_image k (held_image old))) same
     ∙ ap (λ (a : ImageValue). rows_in rows (kernel_image k (image_over_rows (description_of a) a.valid old.rows a.samples))) before
     ∙ ap (λ (r : Band). rows_in rows (kernel_image k (image_over_rows d valid r samples))) same
+
+-- what a kernel writes to exactly these samples
+pub rows_made : (k : Kernel) (d : Description) (valid : Rectangle) (rows : Band) (samples : List ℤ) (of old new : ImageMut) → CanMake k.step.now k.first.now (second_object k.second.now) d
+    → written of ≡ image_over d empty samples → written old ≡ image_over of.desc valid (written of).samples → old.rows ≡ rows → Writes (kernel_image k (held_image old)) old new
+    → (new.desc.format ≡ d.format) × ((written new).samples ≡ (rows_in rows (kernel_image k (image_over_rows d valid rows samples))).samples)
+rows_made k d valid rows samples of old new can of_is old_is same is =
+    let before = old_is ∙ ap (λ (v : ImageValue). image_over (description_of v) valid v.samples) of_is in
+    let made = rows_written k d valid rows samples old new before same is in (
+      ap (λ (v : ImageValue). v.format) made
+          ∙ ap (λ (e : Description). e.format) (made_description k.step.now k.first.now (second_object k.second.now) d (image_over_rows d valid rows samples) can refl),
+      ap (λ (v : ImageValue). v.samples) made,
+    )
+
+-- and what it writes to these rows of a block, in samples of any type
+pub block_written : {T : Type 0} (value : T → ℤ) (k : Kernel) (d : Description) (valid : Rectangle) (top : ℕ) (rows : Band) (from n w : ℕ) (out part : List T) (samples lent : List ℤ) (after : Rectangle)
+    → from ≡ rows.start - top → n ≡ rows.count → w ≡ d.width → map value out ≡ samples → CanMake k.step.now k.first.now (second_object k.second.now) d
+    → lent ≡ map value (take (from * w + n * w - from * w) (drop (from * w) out))
+    → map value part ≡ (rows_in rows (kernel_image k (image_over_rows d valid rows lent))).samples → after ≡ (kernel_image k (image_over_rows d valid rows lent)).valid
+    → (map value (put_mid (from * w) (from * w + n * w - from * w) out part) ≡ written_among top rows (kernel_image k (image_over_rows d valid rows (rows_of_block d.width top rows samples))) samples)
+    × (after ≡ (kernel_image k (image_over_rows d valid rows (rows_of_block d.width top rows samples))).valid)
+block_written value k d valid top rows from n w out part samples lent after start count wide is can lent_is made valid_is =
+    let own = image_over_rows d valid rows (rows_of_block d.width top rows samples) in
+    let same = lent_is ∙ lent_rows value d.width top rows from n w out out samples start count wide refl is in
+    let desc = made_description k.step.now k.first.now (second_object k.second.now) d own can refl in (
+      rows_among value (kernel_image k own) top rows from n w _ _ out part start count (wide ∙ sym (ap (λ (e : Description). e.width) desc)) refl refl
+          (made ∙ ap (λ l. (rows_in rows (kernel_image k (image_over_rows d valid rows l))).samples) same)
+          ∙ ap (written_among top rows (kernel_image k own)) is,
+      valid_is ∙ ap (λ l. (kernel_image k (image_over_rows d valid rows l)).valid) same,
+    )
 
 pub same_sides : (a b : Description) → same_size a b ≡ true → (a.width ≡ b.width) × (a.height ≡ b.height)
 same_sides a b h = let p = and_parts (a.width == b.width) (a.height == b.height) h in (eqb-true a.width b.width p.0, eqb-true a.height b.height p.1)

@@ -19,7 +19,7 @@ use Rattle.graph_steps.specs.Runs.{CanReduceBand, CanRunBand}
 use Rattle.graph_steps.specs.Tallies.{TakesFormat, IsBounded, with_rows_added, tally_at, after_reduction, tallies_after, all_tallies_after}
 use Rattle.graph_steps.proofs.StepLaws.{after_count, after_desc}
 use Rattle.graph_steps.proofs.BandLaws.{step_fits, task_next}
-use Rattle.graph_steps.proofs.AgreeLaws.{Known, Knows, known_next, known_skip}
+use Rattle.graph_steps.proofs.AgreeLaws.{Known, known_next, known_skip}
 
 -- ---- one reduction
 
@@ -81,89 +81,73 @@ module _ (tables : List Second) (high : ℕ) (halos : List ℕ) (band : Band) (k
       untouched later planes (after_reduction band planes r tallies) k (λ q i. other q (inr i))
       ∙ get_or-set_other tallies r.tally k _ (tally.Extremes no_extremes) (λ e. other r (inl refl) (sym e))
 
-  -- the band's rows of an image are added to each tally
-  pub record Adds (planes : List PlaneValue) (tallies after : List Tally) (r : Reduction) : Type 0 where
+  -- the band's rows of an image are added to a tally
+  pub record Adds (Is : ℕ → ImageValue → Type 0) (planes : List PlaneValue) (tallies after : List Tally) (r : Reduction) : Type 0 where
     pub image : ImageValue
-    pub is_image : IsImage image
+    pub holds : Is r.input image
+    pub height : image.height ≡ (plane planes r.input).desc.height
     pub is : tally_at after r.tally ≡ with_rows_added (with_halo 0 (plane planes r.input).desc.height band) image (tally_at tallies r.tally)
 
+  -- where what is known as tasks begin says this of each image that a reduction reads
+  module _ (Is : ℕ → ImageValue → Type 0) (IsKnown : List Task → List PlaneValue → Type 0) (can : (tasks : List Task) (planes : List PlaneValue) → IsKnown tasks planes → CanRunBand tables high halos band kept tasks planes)
+      (next : (t : Task) (later : List Task) (planes : List PlaneValue) → IsKnown (t ∷ later) planes → IsKnown later (after_task tables halos band t planes))
+      (reads : (q : Reduction) (later : List Task) (planes : List PlaneValue) → IsKnown (Reduce q ∷ later) planes → Is q.input (plane_image (plane planes q.input))) where
+    pub adds_each : (tasks : List Task) (planes : List PlaneValue) (tallies : List Tally) → IsKnown tasks planes → CanReduceBand band.start tasks planes tallies
+        → (r : Reduction) → Reduces r tasks → Adds Is planes tallies (all_tallies_after tables halos band tasks planes tallies) r
+    adds_each [] planes tallies k reduces r i = absurd i
+    adds_each (Write s ∷ later) planes tallies k reduces r i =
+        let rows : Band = band_rows planes halos band s.output in
+        let now = can (Write s ∷ later) planes k in
+        let desc = after_desc tables high s rows planes (step_fits tables high halos band kept s later planes now) r.input in
+        let rest = adds_each later (after_step tables s rows planes) tallies (next (Write s) later planes k) (reduces_next (Write s) later planes tallies now reduces) r i in
+        record {
+          image = rest.image;
+          holds = rest.holds;
+          height = rest.height ∙ ap (λ (d : Description). d.height) desc;
+          is = rest.is ∙ ap (λ (d : Description). with_rows_added (with_halo 0 d.height band) rest.image (tally_at tallies r.tally)) desc;
+        }
+    adds_each (Reduce q ∷ later) planes tallies k reduces r i =
+        let there = (reduces.reduces q (inl refl)).tally in
+        let after = after_reduction band planes q tallies in
+        elim i [
+          | inl e ↦
+              let P : Reduction → Type 0 = λ x. Adds Is planes tallies (all_tallies_after tables halos band later planes after) x in
+              subst P (sym e) (record {
+                image = plane_image (plane planes q.input);
+                holds = reads q later planes k;
+                height = refl;
+                is = untouched later planes after q.tally reduces.apart.0 ∙ reduced_there band planes q tallies there;
+              })
+          | inr j ↦
+              let rest = adds_each later planes after (next (Reduce q) later planes k) (reduces_next (Reduce q) later planes tallies (can (Reduce q ∷ later) planes k) reduces) r j in
+              record {
+                image = rest.image;
+                holds = rest.holds;
+                height = rest.height;
+                is = rest.is ∙ ap (with_rows_added (with_halo 0 (plane planes r.input).desc.height band) rest.image) (reduced_beside band planes q tallies there r.tally (reduces.apart.0 r j));
+              }
+        ]
+
   pub band_adds : (tasks : List Task) (planes : List PlaneValue) (tallies : List Tally) → CanRunBand tables high halos band kept tasks planes → CanReduceBand band.start tasks planes tallies
-      → (r : Reduction) → Reduces r tasks → Adds planes tallies (all_tallies_after tables halos band tasks planes tallies) r
-  band_adds [] planes tallies can reduces r i = absurd i
-  band_adds (Write s ∷ later) planes tallies can reduces r i =
-      let rows : Band = band_rows planes halos band s.output in
-      let fits = step_fits tables high halos band kept s later planes can in
-      let after : List PlaneValue = after_step tables s rows planes in
-      let rest = band_adds later after tallies (task_next tables high halos band kept (Write s) later planes can) (reduces_next (Write s) later planes tallies can reduces) r i in
-      record {
-        image = rest.image;
-        is_image = rest.is_image;
-        is = rest.is ∙ ap (λ (d : Description). with_rows_added (with_halo 0 d.height band) rest.image (tally_at tallies r.tally)) (after_desc tables high s rows planes fits r.input);
-      }
-  band_adds (Reduce q ∷ later) planes tallies can reduces r i =
-      let there = (reduces.reduces q (inl refl)).tally in
-      let next = after_reduction band planes q tallies in
-      elim i [
-        | inl e ↦
-            let P : Reduction → Type 0 = λ x. Adds planes tallies (all_tallies_after tables halos band later planes next) x in
-            subst P (sym e) (record {
-              image = plane_image (plane planes q.input);
-              is_image = (can.reads q.input (inl refl)).image;
-              is = untouched later planes next q.tally reduces.apart.0 ∙ reduced_there band planes q tallies there;
-            })
-        | inr j ↦
-            let rest = band_adds later planes next (task_next tables high halos band kept (Reduce q) later planes can) (reduces_next (Reduce q) later planes tallies can reduces) r j in
-            record {
-              image = rest.image;
-              is_image = rest.is_image;
-              is = rest.is ∙ ap (with_rows_added (with_halo 0 (plane planes r.input).desc.height band) rest.image) (reduced_beside band planes q tallies there r.tally (reduces.apart.0 r j));
-            }
-      ]
+      → (r : Reduction) → Reduces r tasks → Adds (λ c image. IsImage image) planes tallies (all_tallies_after tables halos band tasks planes tallies) r
+  band_adds =
+      adds_each (λ c image. IsImage image) (λ tasks planes. CanRunBand tables high halos band kept tasks planes) (λ tasks planes now. now) (task_next tables high halos band kept)
+      (λ q later planes now. (now.reads q.input (inl refl)).image)
 
 -- ---- a solution
 
 module _ (tables : List Second) (high : ℕ) (halos : List ℕ) (band : Band) (some : 1 ≤ band.count) (below : band.start < high) (kept : ℕ → Type 0) (origin whole : ℕ → ImageValue) (count : ℕ) (are : (c : ℕ) → c < count → IsImage (whole c)) where
-  -- the band's rows of the solution's image are added to a tally
-  pub record AddsWhole (planes : List PlaneValue) (tallies after : List Tally) (r : Reduction) : Type 0 where
-    pub image : ImageValue
-    pub agrees : AgreeInRows (band.start - halo halos r.input) (band.start + band.count - 1 + halo halos r.input) image (whole r.input)
-    pub height : (whole r.input).height ≡ (plane planes r.input).desc.height
-    pub is : tally_at after r.tally ≡ with_rows_added (with_halo 0 (plane planes r.input).desc.height band) image (tally_at tallies r.tally)
+  -- the band's rows of an image that agrees with the solution's are
+  abbrev pub AgreesWith : ℕ → ImageValue → Type 0
+  AgreesWith c image = AgreeInRows (band.start - halo halos c) (band.start + band.count - 1 + halo halos c) image (whole c)
 
-  pub band_adds_whole : (tasks : List Task) (planes : List PlaneValue) (tallies : List Tally) → Known tables high halos band some below kept origin whole count are tasks planes → CanReduceBand band.start tasks planes tallies
-      → (r : Reduction) → Reduces r tasks → AddsWhole planes tallies (all_tallies_after tables halos band tasks planes tallies) r
-  band_adds_whole [] planes tallies k reduces r i = absurd i
-  band_adds_whole (Write s ∷ later) planes tallies k reduces r i =
-      let rows : Band = band_rows planes halos band s.output in
-      let fits = step_fits tables high halos band kept s later planes k.can in
-      let after : List PlaneValue = after_step tables s rows planes in
-      let desc = after_desc tables high s rows planes fits r.input in
-      let rest = band_adds_whole later after tallies (known_next tables high halos band some below kept origin whole count are s later planes k) (reduces_next tables high halos band kept (Write s) later planes tallies k.can reduces) r i in
-      record {
-        image = rest.image;
-        agrees = rest.agrees;
-        height = rest.height ∙ ap (λ (d : Description). d.height) desc;
-        is = rest.is ∙ ap (λ (d : Description). with_rows_added (with_halo 0 d.height band) rest.image (tally_at tallies r.tally)) desc;
-      }
-  band_adds_whole (Reduce q ∷ later) planes tallies k reduces r i =
-      let there = (reduces.reduces q (inl refl)).tally in
-      let next = after_reduction band planes q tallies in
-      elim i [
-        | inl e ↦
-            let P : Reduction → Type 0 = λ x. AddsWhole planes tallies (all_tallies_after tables halos band later planes next) x in
-            let known : Knows tables high halos band some below kept origin whole count are planes q.input = k.known q.input (inl refl) in
-            subst P (sym e) (record {
-              image = plane_image (plane planes q.input);
-              agrees = known.agrees;
-              height = sym (ap (λ (d : Description). d.height) known.agrees.alike.description);
-              is = untouched tables high halos band kept later planes next q.tally reduces.apart.0 ∙ reduced_there band planes q tallies there;
-            })
-        | inr j ↦
-            let rest = band_adds_whole later planes next (known_skip tables high halos band some below kept origin whole count are q later planes k) (reduces_next tables high halos band kept (Reduce q) later planes tallies k.can reduces) r j in
-            record {
-              image = rest.image;
-              agrees = rest.agrees;
-              height = rest.height;
-              is = rest.is ∙ ap (with_rows_added (with_halo 0 (plane planes r.input).desc.height band) rest.image) (reduced_beside band planes q tallies there r.tally (reduces.apart.0 r j));
-            }
-      ]
+  abbrev IsKnown : List Task → List PlaneValue → Type 0
+  IsKnown tasks planes = Known tables high halos band some below kept origin whole count are tasks planes
+
+  known_task : (t : Task) (later : List Task) (planes : List PlaneValue) → IsKnown (t ∷ later) planes → IsKnown later (after_task tables halos band t planes)
+  known_task (Write s) later planes k = known_next tables high halos band some below kept origin whole count are s later planes k
+  known_task (Reduce q) later planes k = known_skip tables high halos band some below kept origin whole count are q later planes k
+
+  pub band_adds_whole : (tasks : List Task) (planes : List PlaneValue) (tallies : List Tally) → IsKnown tasks planes → CanReduceBand band.start tasks planes tallies
+      → (r : Reduction) → Reduces r tasks → Adds tables high halos band kept AgreesWith planes tallies (all_tallies_after tables halos band tasks planes tallies) r
+  band_adds_whole = adds_each tables high halos band kept AgreesWith IsKnown (λ tasks planes k. k.can) known_task (λ q later planes k. (k.known q.input (inl refl)).agrees)

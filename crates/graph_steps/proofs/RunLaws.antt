@@ -25,10 +25,10 @@ use Rattle.graph_steps.specs.declared.tally.Tally.{Tally}
 use Rattle.graph_steps.specs.Tallies.{IsNew, TakesFormat, IsBounded, with_rows_added, tally_of, tally_at, all_tallies_after}
 use Rattle.graph_steps.specs.Runs.{CanReduceBand, CanRunBand}
 use Rattle.graph_steps.proofs.TallyLaws.{tally_above, added_above, none_above, all_above, bounded_more, bounded_less, format_kept}
-use Rattle.graph_steps.proofs.ReduceLaws.{band_adds, tallies_length, AddsWhole, band_adds_whole}
+use Rattle.graph_steps.proofs.ReduceLaws.{Adds, AgreesWith, band_adds, band_adds_whole, tallies_length}
 use Rattle.graph_steps.proofs.PlaneLaws.{read_at, all_read}
 use Rattle.graph_steps.proofs.BandLaws.{room_same, halo_within, band_next, band_count, band_desc, band_capacities, band_leaves, band_keeps}
-use Rattle.graph_steps.proofs.AgreeLaws.{agree_same, halo_below, HasRowAbove, Known, Knows, IsOwn, band_knows}
+use Rattle.graph_steps.proofs.AgreeLaws.{agree_same, halo_has, HasRowAbove, Known, Knows, IsOwn, band_knows}
 
 -- a client's image can be read
 pub client_readable : (p : PlaneValue) → IsClient p → IsReadable p
@@ -159,7 +159,7 @@ module _ (tables : List Second) (high size : ℕ) (halos : List ℕ) (steps : Li
               bounded =
                   subst (IsBounded ((band.start + band.count) * 8192)) (sym a.is)
                   (bounded_less (band.start * 8192 + rows.count * 8192) ((band.start + band.count) * 8192) (with_rows_added rows a.image (tally_at tallies q.tally)) (more band.start rows.count band.count (few (plane planes q.input).desc.height))
-                  (bounded_more (band.start * 8192) rows a.image (tally_at tallies q.tally) a.is_image c.bounded));
+                  (bounded_more (band.start * 8192) rows a.image (tally_at tallies q.tally) a.holds c.bounded));
             };
       }
     where
@@ -213,15 +213,9 @@ module _ (tables : List Second) (high size : ℕ) (halos : List ℕ) (steps : Li
       -- a step that accumulates writes no row above the band, and none below it
       once_from : (s : Step) → IsStepOf s steps → accumulates s.node.function ≡ true → (height y : ℕ) → has_row (with_halo (halo halos s.output) height band) y ≡ true → band.start ≤ y
       once_from s i e height y near = elim (program.once s i (reads_own s.node.function e)) [
-        | inl (none, own) ↦ from_first (halo halos s.output) none near
+        | inl (none, own) ↦ omega (arith, none, (halo_has (halo halos s.output) height band y near).0)
         | inr one ↦ (let z = alone one in omega arith)
       ]
-        where
-          from_first : (n : ℕ) → n ≡ 0 → has_row (with_halo n height band) y ≡ true → band.start ≤ y
-          from_first n none h =
-              let a : min (band.start - n) height ≤ y = grind (arith, nat_tests) in
-              let b : y - min (band.start - n) height < min (band.start + band.count + n) height - min (band.start - n) height = grind (arith, nat_tests) in
-              omega arith
 
       once_below : (s : Step) → IsStepOf s steps → accumulates s.node.function ≡ true → (height y : ℕ) → height ≤ high → y < height → band.start + band.count ≤ y → has_row (with_halo (halo halos s.output) height band) y ≡ false
       once_below s i e height y tall low from = elim (program.once s i (reads_own s.node.function e)) [
@@ -241,7 +235,7 @@ module _ (tables : List Second) (high size : ℕ) (halos : List ℕ) (steps : Li
           let h : (plane planes s.output).desc.height ≡ (plane origin s.output).desc.height = ap (λ (d : Description). d.height) d in
           record {
             row = λ x y across near.
-                let low = halo_below (halo halos s.output) (plane planes s.output).desc.height band y near in
+                let low = (halo_has (halo halos s.output) (plane planes s.output).desc.height band y near).1 in
                 let from = once_from s i e (plane planes s.output).desc.height y near in
                 stands.own s i e x y (omega arith) from (omega arith);
             valid = stands.own_valid s i e;
@@ -270,7 +264,7 @@ module _ (tables : List Second) (high size : ℕ) (halos : List ℕ) (steps : Li
             agrees = agree_same (band.start - halo halos c) (band.start + band.count - 1 + halo halos c) (read_images planes c) (whole c)
                 (ap plane_image same ∙ all_read (plane origin c) client.whole client.rows ∙ sym (solves.others c b.0));
             covers = λ y there.
-                let low = halo_below (halo halos c) (plane planes c).desc.height band y there in
+                let low = (halo_has (halo halos c) (plane planes c).desc.height band y there).1 in
                 let h : (plane planes c).desc.height ≡ (plane origin c).desc.height = ap (λ (p : PlaneValue). p.desc.height) same in
                 let all : (plane planes c).rows ≡ all_rows (plane origin c).desc.height = ap (λ (p : PlaneValue). p.rows) same ∙ client.rows in
                 subst (λ (b : Band). has_row b y ≡ true) (sym all) (in_all (plane origin c).desc.height y (omega arith));
@@ -317,8 +311,9 @@ module _ (tables : List Second) (high size : ℕ) (halos : List ℕ) (steps : Li
               | inl near ↦
                   let k2 = solved c k in
                   let readable = ends_with.reads c k in
+                  let has = halo_has (halo halos c) (plane next c).desc.height band y near in
                   sym (read_at (plane next c) (ends_with.whole c k) (plane next c).rows readable.rows x y (omega arith) (k2.covers y near))
-                  ∙ k2.agrees.samples x y (omega arith) (omega arith) (in_first (halo halos c) (plane next c).desc.height y near) (in_last (halo halos c) (plane next c).desc.height y near)
+                  ∙ k2.agrees.samples x y (omega arith) (omega arith) has.0 (omega (arith, has.2))
               | inr beside ↦
                   let before = subst (λ (e : Description). has_row (with_halo (halo halos c) e.height band) y ≡ false) (desc_next c) beside in
                   band_keeps tables high halos band kept steps planes runs c k x y (omega arith) (omega arith) before
@@ -337,17 +332,6 @@ module _ (tables : List Second) (high size : ℕ) (halos : List ℕ) (steps : Li
         where
           alike_block : (p : PlaneValue) (image : ImageValue) → AreAlike (plane_image p) image → AreAlike (block_image p) image
           alike_block p image a = record { description = a.description; valid = a.valid }
-
-          in_first : (more height y : ℕ) → has_row (with_halo more height band) y ≡ true → band.start - more ≤ y
-          in_first more height y near =
-              let a : min (band.start - more) height ≤ y = grind (arith, nat_tests) in
-              let b : y - min (band.start - more) height < min (band.start + band.count + more) height - min (band.start - more) height = grind (arith, nat_tests) in
-              omega arith
-
-          in_last : (more height y : ℕ) → has_row (with_halo more height band) y ≡ true → y ≤ band.start + band.count - 1 + more
-          in_last more height y near =
-              let b : y - min (band.start - more) height < min (band.start + band.count + more) height - min (band.start - more) height = grind (arith, nat_tests) in
-              omega arith
 
           above_first : (more height y : ℕ) → has_row (with_halo more height band) y ≡ false → y < band.start + band.count → y < height → y < band.start
           above_first more height y beside below low = elim (cases_Bool (nat_lt y band.start)) [
@@ -377,23 +361,26 @@ module _ (tables : List Second) (high size : ℕ) (halos : List ℕ) (steps : Li
         (begun : (band.start ≡ 0) ⊎ (min size high ≤ band.start)) (r : Remains planes) (stands : Stands band.start planes) where
       pub tallied_next : (old tallies : List Tally) → CanReduceBand band.start steps planes tallies → Tallied band.start old tallies → Tallied (band.start + band.count) old (all_tallies_after tables halos band steps planes tallies)
       tallied_next old tallies reduces before = record {
-        height = λ q i. inr ((adds q i).height ∙ ap (λ (d : Description). d.height) (r.desc q.input));
+        height = λ q i. inr (tall q i);
         is = λ q i new.
             let a = adds q i in
             let height = (plane origin q.input).desc.height in
             let rows : Band = with_halo 0 height band in
             let same = ap (λ (d : Description). with_halo 0 d.height band) (r.desc q.input) in
-            let tall : (whole q.input).height ≡ height = a.height ∙ ap (λ (d : Description). d.height) (r.desc q.input) in
             a.is
             ∙ ap (λ b. with_rows_added b a.image (tally_at tallies q.tally)) same
             ∙ ap (with_rows_added rows a.image) (before.is q i new ∙ ap (λ n. tally_above n (whole q.input) (tally_at old q.tally)) (starts height))
             ∙ added_above rows (band.start - halo halos q.input) (band.start + band.count - 1 + halo halos q.input) a.image (whole q.input) (tally_at old q.tally)
-            (solves.images q.input (let k = (reduces.reduces q i).input in let n = r.count in omega arith)) a.agrees (near (halo halos q.input) height) (subst (λ n. IsInRows n rows) (sym tall) (halo_within 0 height band))
+            (solves.images q.input (let k = (reduces.reduces q i).input in let n = r.count in omega arith)) a.holds (near (halo halos q.input) height) (subst (λ n. IsInRows n rows) (sym (tall q i)) (halo_within 0 height band))
             ∙ ap (λ n. tally_above n (whole q.input) (tally_at old q.tally)) (lasts height);
       }
         where
-          adds : (q : Reduction) → Reduces q steps → AddsWhole tables high halos band some (below band planes fits less some ends wide begun r stands) kept (block_images origin) whole (length origin) solves.images planes tallies (all_tallies_after tables halos band steps planes tallies) q
+          adds : (q : Reduction) → Reduces q steps
+              → Adds tables high halos band kept (AgreesWith tables high halos band some (below band planes fits less some ends wide begun r stands) kept (block_images origin) whole (length origin) solves.images) planes tallies (all_tallies_after tables halos band steps planes tallies) q
           adds q i = band_adds_whole tables high halos band some (below band planes fits less some ends wide begun r stands) kept (block_images origin) whole (length origin) solves.images steps planes tallies (known band planes fits less some ends wide begun r stands) reduces q i
+
+          tall : (q : Reduction) → Reduces q steps → (whole q.input).height ≡ (plane origin q.input).desc.height
+          tall q i = let a = adds q i in sym (ap (λ (d : Description). d.height) a.holds.alike.description) ∙ a.height ∙ ap (λ (d : Description). d.height) (r.desc q.input)
 
           starts : (height : ℕ) → min band.start height ≡ (with_halo 0 height band).start
           starts height = omega arith

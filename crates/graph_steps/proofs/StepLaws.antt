@@ -184,15 +184,26 @@ plane_read planes c p below is = is ∙ get_or_default planes c p no_plane below
 pub image_read : (planes : List PlaneValue) (c : ℕ) (p : PlaneValue) (image : ImageValue) → c < length planes → p ≡ get_or planes c p → image ≡ plane_image p → image ≡ read_images planes c
 image_read planes c p image below is image_is = image_is ∙ ap plane_image (plane_read planes c p below is)
 
--- a step's image and premise, by inputs that are read
-pub inputs_read : (s : Step) (a b : ImageValue) (o q : Option ObjectValue) (own : ImageValue) → a ≡ b → o ≡ q → image_from_inputs s a o own ≡ image_from_inputs s b q own
-inputs_read s a b o q own first second = ap (λ i. image_from_inputs s i o own) first ∙ ap (λ k. image_from_inputs s b k own) second
+-- a step's second input, as it is lent
+pub plane_lent : (planes : List PlaneValue) (tables : List Second) (source : Source) (c : ℕ) (p : PlaneValue) (image : ImageValue) → source ≡ Plane c → c < length planes → p ≡ get_or planes c p → image ≡ plane_image p
+    → Some (ImageObject image) ≡ second_in tables (read_images planes) source
+plane_lent planes tables source c p image is below there made =
+    ap (λ i. Some (ImageObject i)) (image_read planes c p image below there made) ∙ ap (second_in tables (read_images planes)) (sym is)
+
+pub table_lent : (tables : List Second) (images : ℕ → ImageValue) (source : Source) (k : ℕ) (t : Second) → source ≡ Table k → k < length tables → t ≡ get_or tables k t
+    → second_object t ≡ second_in tables images source
+table_lent tables images source k t is below there =
+    sym (ap (second_in tables images) is ∙ ap (option_and_then (λ u. second_object u)) (slice_get_read tables (length tables) k t refl below there))
+
+-- a step's rows and premise, by inputs that are read
+pub rows_read : (s : Step) (a b : ImageValue) (o q : Option ObjectValue) (rows : Band) (out : PlaneValue) → a ≡ b → o ≡ q
+    → with_rows rows (image_from_inputs s a o (plane_image (with_read_rows rows out))) out ≡ with_rows rows (image_from_inputs s b q (plane_image (with_read_rows rows out))) out
+rows_read s a b o q rows out first second =
+    ap (λ i. with_rows rows (image_from_inputs s i o (plane_image (with_read_rows rows out))) out) first
+    ∙ ap (λ k. with_rows rows (image_from_inputs s b k (plane_image (with_read_rows rows out))) out) second
 
 pub can_read : (s : Step) (a b : ImageValue) (o q : Option ObjectValue) (out : Description) → a ≡ b → o ≡ q → CanMake s b q out → CanMake s a o out
 can_read s a b o q out first second can = subst (λ k. CanMake s a k out) (sym second) (subst (λ i. CanMake s i q out) (sym first) can)
-
-pub table_read : (tables : List Second) (images : ℕ → ImageValue) (k : ℕ) (t : Second) → k < length tables → t ≡ get_or tables k t → second_in tables images (Table k) ≡ second_object t
-table_read tables images k t below is = ap (option_and_then (λ u. second_object u)) (slice_get_read tables (length tables) k t refl below is)
 
 -- ---- blocks
 

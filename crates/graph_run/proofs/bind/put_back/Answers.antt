@@ -1,12 +1,10 @@
-use Rattle.std.proofs.Common.{◌≡◌, ◌+◌, ◌∷◌, List, length, drop, get_or, slice_set, ◌<◌, sym, ap, ◌∙◌, arith}
+use Rattle.std.proofs.Common.{◌≡◌, ◌+◌, ◌∷◌, length, drop, get_or, slice_set, ◌<◌, ap, ◌∙◌, arith}
 use Rattle.std.proofs.lemmas.List.{drop_more, drop-set-lt, length-set}
 use Rattle.graph_run.proofs.Common.{Context, with_written}
 use Rattle.graph_run.specs.Bind.{plane_objects}
+use Rattle.graph_run.proofs.ListLemmas.{rest_at}
 use Rattle.graph_run.proofs.BindLemmas.{next_context, for_length, first_can, next_can, next_written}
 use Rattle.graph_run.proofs.bind.put_back.Goals as goal
-
-front : {X : Type 0} (a b : X) (l : List X) → a ≡ b → ◌≡◌ {A = List X} (a ∷ l) (b ∷ l)
-front a b l e = cc
 
 pub loop-at-preserved : goal.loop-at-preserved
 loop-at-preserved c =
@@ -18,11 +16,9 @@ loop-at-preserved c =
     let plane = get_or planes k c.index-planes-at.result in
     let after : Context = c.put_image.new.table in
     let inv = c.loop-at.invariant in
-    let cell_at : drop k cells ≡ cell ∷ drop (k + 1) cells = drop_more cells k cell c.loop-at-test.true ∙ front _ cell _ (sym c.index-cells-at.is)
-    in
+    let cell_at : drop k cells ≡ cell ∷ drop (k + 1) cells = rest_at cells k cell cell c.loop-at-test.true c.index-cells-at.is in
     let below : k < length planes = omega (arith, c.loop-at-test.true, c.loop-at.auto.planes, for_length _ _ _ c.requires.planes) in
-    let plane_at : drop k planes ≡ plane ∷ drop (k + 1) planes = drop_more planes k c.index-planes-at.result below
-    in
+    let plane_at : drop k planes ≡ plane ∷ drop (k + 1) planes = drop_more planes k c.index-planes-at.result below in
     let can = first_can t.objects cells planes k cell plane cell_at plane_at inv.can in
     let left : after.objects ≡ _ = ap (λ (x : Context). x.objects) c.put_image.ensures in
     let others = drop (k + 1) cells in

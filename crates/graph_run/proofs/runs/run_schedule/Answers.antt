@@ -5,7 +5,7 @@ use Rattle.graph_run.specs.Results.{tally_objects}
 use Rattle.graph_run.specs.Schedule.{schedule_objects}
 use Rattle.graph_run.proofs.SolutionStepsObjects.{run_lasts}
 use Rattle.graph_run.proofs.BlockLemmas.{written_back}
-use Rattle.graph_run.proofs.OverLemmas.{cells_enough, clients_are_apart, clients_are_images, formats_back, images_back, lends, planes_back, planes_enough, reduces, run_value, runs, slot_count, slot_within, tallies_back}
+use Rattle.graph_run.proofs.OverLemmas.{cells_enough, clients_are_apart, clients_are_images, formats_back, images_back, lends, planes_back, planes_enough, reduces, rooms_return, run_value, runs, slot_count, slot_within, tallies_back}
 use Rattle.graph_run.proofs.runs.run_schedule.Goals as goal
 
 pub take-requires-clause-count : goal.take-requires-clause-count
@@ -121,3 +121,16 @@ returns-clause-formats c =
     let long : length new ≡ length old = omega (arith, c.give.auto.blocks, c.take.auto.blocks, ap length c.as_mut_slice-blocks.ensures.value) in
     ap (map samples_format) (written_back old new c.args.blocks.now.len long (omega (arith, c.args.blocks.now.ok.0)))
     ∙ c.give.ensures.formats ∙ c.take.ensures.formats ∙ ap (map samples_format) c.as_mut_slice-blocks.ensures.value
+
+pub returns-clause-rooms : goal.returns-clause-rooms
+returns-clause-rooms c =
+    let old = c.args.blocks.now.items in
+    let new = c.give.new.blocks in
+    let counted : length new ≡ length c.as_mut_slice-blocks.result.now = omega (arith, c.give.auto.blocks, c.take.auto.blocks) in
+    let long : length new ≡ length old = omega (arith, counted, ap length c.as_mut_slice-blocks.ensures.value) in
+    ap (map block_size) (written_back old new c.args.blocks.now.len long (omega (arith, c.args.blocks.now.ok.0)))
+    ∙ rooms_return c.args.table.now.objects c.requires.ready.0 c.args.verified.now c.requires.ready.1 c.requires.schedule.0 c.requires.schedule.1 c.args.schedule.now c.requires.schedule.2
+    c.requires.objects c.requires.names c.are_described.ensures c.as_mut_slice-blocks.result.now (ap (map block_size) c.as_mut_slice-blocks.ensures.value ∙ c.requires.schedule.3) c.take.ensures.planes.0 c.as_mut_slice-planes.result.now c.take.ensures.planes.1 c.take.ensures.planes.2
+    (c.as_mut_slice-planes.ensures.value ∙ c.take.ensures.planes.3) c.take.new.table.objects (ap (λ (x : Context). x.objects) c.take.ensures.left)
+    c.run_tasks.new.planes c.run_tasks.ensures.blocks c.take.new.blocks new counted c.take.ensures.unused c.give.ensures.back c.give.ensures.unused
+    ∙ ap (map block_size) c.as_mut_slice-blocks.ensures.value

@@ -1,12 +1,9 @@
-use Rattle.std.proofs.Common.{◌≡◌, ◌+◌, ◌∷◌, ◌<◌, List, length, drop, sym, ap, ◌∙◌, arith}
-use Rattle.std.proofs.lemmas.List.{drop_more}
+use Rattle.std.proofs.Common.{◌≡◌, ◌+◌, ◌∷◌, ◌<◌, length, drop, ap, ◌∙◌, arith}
 use Rattle.graph_run.proofs.Common.{Context}
+use Rattle.graph_run.proofs.ListLemmas.{rest_at}
 use Rattle.graph_run.proofs.BindLemmas.{next_context}
 use Rattle.graph_run.proofs.TallyLemmas.{enough, next_for, next_set}
 use Rattle.graph_run.proofs.tallies.set_tallies.Goals as goal
-
-front : {X : Type 0} (a b : X) (l : List X) → a ≡ b → ◌≡◌ {A = List X} (a ∷ l) (b ∷ l)
-front a b l e = cc
 
 pub loop-at-preserved : goal.loop-at-preserved
 loop-at-preserved c =
@@ -18,9 +15,9 @@ loop-at-preserved c =
     let tally = c.index-tallies-at.result in
     let after : Context = c.set_tally.new.table in
     let inv = c.loop-at.invariant in
-    let cell_at : drop k cells ≡ cell ∷ drop (k + 1) cells = drop_more cells k cell c.loop-at-test.true ∙ front _ cell _ (sym c.index-cells-at.is) in
+    let cell_at : drop k cells ≡ cell ∷ drop (k + 1) cells = rest_at cells k cell cell c.loop-at-test.true c.index-cells-at.is in
     let below : k < length tallies = omega (arith, c.loop-at-test.true, enough _ _ _ c.requires) in
-    let tally_at : drop k tallies ≡ tally ∷ drop (k + 1) tallies = drop_more tallies k tally below ∙ front _ tally _ (sym c.index-tallies-at.is) in
+    let tally_at : drop k tallies ≡ tally ∷ drop (k + 1) tallies = rest_at tallies k tally tally below c.index-tallies-at.is in
     let left : after.objects ≡ _ = ap (λ (x : Context). x.objects) c.set_tally.ensures in
     record {
       fit = next_for t.objects cells tallies k cell tally cell_at tally_at inv.fit after.objects left;

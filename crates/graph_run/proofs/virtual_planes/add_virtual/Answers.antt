@@ -26,4 +26,5 @@ loop-k-preserved c =
       blocks = ap capacities pushed ∙ capacities_more planes p (block_at slots (room_at c.args.blocks.now) 0) k inv.blocks size;
       formats = block.ensures.formats ∙ inv.formats;
       others = λ s j there later. block.ensures.others s j there (omega (arith, later)) ∙ inv.others s j there (omega (arith, later));
+      unused = λ s none. block.ensures.unused s none ∙ inv.unused s none;
     }

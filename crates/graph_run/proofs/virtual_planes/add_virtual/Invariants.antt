@@ -1,4 +1,4 @@
-use Rattle.std.proofs.Common.{◌≡◌, ◌+◌, ◌-◌, ◌≤◌, ℕ, Some, length, map, take, vec_capacity}
+use Rattle.std.proofs.Common.{◌≡◌, ◌+◌, ◌-◌, ◌≤◌, ℕ, None, Some, length, map, take, vec_capacity}
 use Rattle.std.specs.List.{range_with_len}
 use Rattle.graph_run.proofs.Common.{samples_format, VirtualOutput}
 use Rattle.graph_steps.specs.Planes.{PlaneValue}
@@ -16,4 +16,5 @@ invariant-loop-k l =
       blocks : capacities l.planes.items ≡ map (block_at l.slots (room_at l.fn.blocks) 0) (range_with_len 0 l.k);
       formats : map samples_format l.blocks ≡ map samples_format l.fn.blocks;
       others : (s j : ℕ) → last_in s l.slots ≡ Some j → l.k ≤ j → room_at l.blocks s ≡ room_at l.fn.blocks s;
+      unused : (s : ℕ) → last_in s l.slots ≡ None → room_at l.blocks s ≡ room_at l.fn.blocks s;
     }

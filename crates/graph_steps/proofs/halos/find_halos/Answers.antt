@@ -1,11 +1,7 @@
-use Rattle.std.proofs.Common.{◌≡◌, ◌+◌, ◌-◌, ◌<◌, ◌∷◌, ◌∙◌, sym, subst, arith, length, List, get_or, drop}
-use Rattle.graph_steps.specs.declared.step.Task.{Task}
+use Rattle.std.proofs.Common.{◌≡◌, ◌+◌, ◌-◌, ◌<◌, ◌∷◌, ◌∙◌, sym, subst, arith, length, drop}
 use Rattle.graph_steps.specs.Program.{AreInOrder, Suffice}
 use Rattle.graph_steps.proofs.HaloLaws.{in_read, later_in_order, one_more, from_one_before}
 use Rattle.graph_steps.proofs.halos.find_halos.Goals as goal
-
-front : (a b : Task) (l : List Task) → a ≡ b → ◌≡◌ {A = List Task} (a ∷ l) (b ∷ l)
-front a b l e = cc
 
 pub raise_for-requires-clause-reads : goal.raise_for-requires-clause-reads
 raise_for-requires-clause-reads c = λ s is k reads.
@@ -27,8 +23,7 @@ loop-k-preserved c =
     let k = c.loop-k.k in
     let t = c.index-tasks-tasks.result in
     let below : length tasks - 1 - k < length tasks = omega (arith, c.loop-k-test.true) in
-    let e : drop (length tasks - (k + 1)) tasks ≡ t ∷ drop (length tasks - k) tasks =
-    from_one_before tasks k t c.loop-k-test.true ∙ front (get_or tasks (length tasks - 1 - k) t) t (drop (length tasks - k) tasks) (sym c.index-tasks-tasks.is) in
+    let e : drop (length tasks - (k + 1)) tasks ≡ t ∷ drop (length tasks - k) tasks = from_one_before tasks k t c.loop-k-test.true c.index-tasks-tasks.is in
     let r = c.raise_for.ensures in
     record {
       enough = subst (Suffice c.args.high c.raise_for.new.halos) (sym e) (one_more c.args.high c.loop-k.halos c.raise_for.new.halos t (drop (length tasks - k) tasks)

@@ -1,24 +1,14 @@
-use Rattle.std.proofs.Common.{◌≡◌, ◌∙◌, refl, ap, map-id, rules}
+use Rattle.std.proofs.Common.{◌≡◌, ◌∙◌, ap, map-id, rules}
 use Rattle.vx_base.specs.declared.format.Format.TheVariants.{S16}
-use Rattle.vx_base.specs.Description.{Description}
-use Rattle.vx_base.specs.Image.{ImageValue, description_of, image_over}
-use Rattle.image_core.specs.Bands.{image_over_rows, rows_in}
-use Rattle.image_core.specs.Second.{second_object}
-use Rattle.image_core.specs.Target.{written}
-use Rattle.graph_steps.specs.Steps.{kernel_image}
-use Rattle.graph_steps.proofs.KernelLaws.{made_description, rows_written}
+use Rattle.vx_base.specs.Image.{image_over}
+use Rattle.vx_base.specs.Rectangle.{empty}
+use Rattle.graph_steps.proofs.KernelLaws.{rows_made}
 use Rattle.graph_steps.proofs.rows.make_shorts.Goals as goal
 
 pub returns-clause-samples : goal.returns-clause-samples
 returns-clause-samples c =
-    let k = c.args.kernel.now in
-    let d = c.args.desc in
-    let before : written c.set_valid.new.self ≡ image_over d c.args.valid c.args.samples.now =
-    c.set_valid.ensures.value ∙ ap (λ (v : ImageValue). image_over (description_of v) c.args.valid v.samples) c.of_rows-output.ensures.value ∙ ap (image_over d c.args.valid) (map-id c.args.samples.now) in
-    let is : written c.run.new.output ≡ rows_in c.args.rows (kernel_image k (image_over_rows d c.args.valid c.args.rows c.args.samples.now)) =
-    rows_written k d c.args.valid c.args.rows c.args.samples.now c.set_valid.new.self c.run.new.output before
-    (c.set_valid.ensures.slices.rows ∙ c.of_rows-output.ensures.rows) c.run.ensures in
-    let known : c.run.new.output.desc.format ≡ S16 = ap (λ (v : ImageValue). v.format) is
-    ∙ ap (λ (e : Description). e.format) (made_description k.step.now k.first.now (second_object k.second.now) d (image_over_rows d c.args.valid c.args.rows c.args.samples.now) c.requires.can refl) ∙ c.requires.format in
-    let made = ap (λ (v : ImageValue). v.samples) is in
+    let made = rows_made c.args.kernel.now c.args.desc c.args.valid c.args.rows c.args.samples.now c.of_rows-output.result c.set_valid.new.self c.run.new.output c.requires.can
+    (c.of_rows-output.ensures.value ∙ ap (image_over c.args.desc empty) (map-id c.args.samples.now)) c.set_valid.ensures.value (c.set_valid.ensures.slices.rows ∙ c.of_rows-output.ensures.rows) c.run.ensures in
+    let known : c.run.new.output.desc.format ≡ S16 = made.0 ∙ c.requires.format in
+    let samples = made.1 in
     search rules
