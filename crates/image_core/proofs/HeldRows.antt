@@ -139,7 +139,7 @@ module _ (a : ImageValue) (rows : Band) (room : IsInRows a.height rows) where
   held_in_is is = record {
     sides = is.sides;
     size = held_size (description_of a) a.valid rows (band a.width rows.start rows.count (at a)) room size;
-    ordered = is.ordered;
+    canonical = is.canonical;
     room = is.room;
     sampled = (λ x y across low. elim (cases_Bool (has_row rows y)) [
       | inl e ↦ subst (IsSample a.format) (sym (at_held_in x y across e)) (is.sampled x y across low)

@@ -33,7 +33,6 @@ pub use Rattle.std.specs.Option.{option_map}
 pub use Rattle.std.specs.Ordering.{nat_cmp}
 pub use Rattle.std.specs.Vec.Iter.{into_iter_items}
 pub use Rattle.vx_base.proofs.ImageLaws.{new_image_is}
-pub use Rattle.vx_base.proofs.PictureLaws.{side}
 pub use Rattle.vx_base.specs.Cell.{Cell}
 pub use Rattle.vx_base.specs.Description.{Description}
 pub use Rattle.vx_base.specs.Graph.{GraphValue, can_add, with_delays, with_node, without_node}

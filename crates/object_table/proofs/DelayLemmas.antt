@@ -4,9 +4,8 @@ use Rattle.object_table.proofs.Common.{AllPairs, and_parts, length-map, get_or-m
 use Rattle.std.proofs.lemmas.List.{length-replicate}
 use Rattle.std.proofs.lemmas.List.Elements.{All-replicate}
 use Rattle.std.proofs.lemmas.List.Sums.{sum_by-take-drop}
-use Rattle.vx_base.specs.Description.{byte_count}
+use Rattle.vx_base.specs.Description.{IsDescription, byte_count}
 use Rattle.vx_base.specs.Slots.{is_slot_count}
-use Rattle.vx_base.specs.declared.desc.TheConstants.{GREATEST_SIDE}
 
 -- images of one description take as many bytes as one of them, times their number
 pub bytes_alike : (d : Description) (images : List ImageValue) → All (λ image. description_of image ≡ d) images → sum_by image_bytes images ≡ length images * byte_count d
@@ -29,12 +28,12 @@ pub count_is : (n : ℕ) → IsTrue (is_slot_count n) → (1 ≤ n) × (n ≤ 16
 count_is n h = let both = and_parts (nat_le 1 n) (nat_le n 16) h in (leb-true 1 n both.0, leb-true n 16 both.1)
 
 -- a new delay is one
-pub new_delay_is : (d : Description) (slots : ℕ) → d.width ≤ GREATEST_SIDE → d.height ≤ GREATEST_SIDE → 1 ≤ slots → slots ≤ 16 → IsDelay (new_delay d slots)
-new_delay_is d slots wide high least greatest =
+pub new_delay_is : (d : Description) (slots : ℕ) → IsDescription d → 1 ≤ slots → slots ≤ 16 → IsDelay (new_delay d slots)
+new_delay_is d slots sides least greatest =
     let new = new_image d.width d.height d.format in
     record {
       least = omega (arith, least, length-replicate slots new);
       greatest = omega (arith, greatest, length-replicate slots new);
-      each = All-replicate IsImage slots new (new_image_is d.width d.height d.format wide high);
+      each = All-replicate IsImage slots new (new_image_is d.width d.height d.format sides.width sides.height);
       alike = alike d (new_delay d slots) (All-replicate (λ image. description_of image ≡ d) slots new refl);
     }

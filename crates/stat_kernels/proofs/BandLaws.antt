@@ -1,6 +1,6 @@
 -- The samples of bands of rows, and what is counted of them.
 use Rattle.std.proofs.Common.{Bool, ◌≡◌, set, ℕ, zero, suc, ℤ, ◌+◌, ◌-◌, ◌*◌, ◌<◌, ◌≤◌, List, [], ◌++◌, length, map, slice_index, cond, replicate, inl, inr, refl, ap, sym, ◌∙◌, arith, ◌&&◌, nat_le, nat_lt, if◌then◌else◌, min, max, unsigned_abs, length-append, append-nil, append_assoc, get_or-set_same, get_or-set_other, length-set}
-use Rattle.stat_kernels.proofs.Common.{int_min, int_max, cases_Bool, cases_eq, cases_lt, nat_tests, length-map, map-append, get_or_past, length-replicate, get_or-replicate, length-map-range_with_len, get_or-map-range_with_len, fill_by_all, count_by-le-length, sum_by-append, ImageValue, IsImage, at, Rectangle, BinsValue, bin_of, is_bin, histogram, samples_in, tallies, valid_samples, places, row_places, extremes, Band, all_rows, added, band_of, valid_in, extremes_of, found_in}
+use Rattle.stat_kernels.proofs.Common.{int_min, int_max, cases_Bool, cases_eq, cases_lt, nat_tests, side, rectangle_ordered, length-map, map-append, get_or_past, length-replicate, get_or-replicate, length-map-range_with_len, get_or-map-range_with_len, fill_by_all, count_by-le-length, sum_by-append, ImageValue, IsImage, at, Rectangle, BinsValue, bin_of, is_bin, histogram, samples_in, tallies, valid_samples, places, row_places, extremes, Band, all_rows, added, band_of, valid_in, extremes_of, found_in}
 use Rattle.std.specs.List.{count_by}
 use Rattle.stat_kernels.proofs.PlaceLaws.{area_fits, length-samples, places_more, places_none}
 use Rattle.vx_base.specs.Object.{no_extremes}
@@ -77,7 +77,7 @@ samples_after r image start first second =
 pub all_valid : (image : ImageValue) → IsImage image → valid_in (all_rows image.height) image ≡ image
 all_valid image is =
     let r = image.valid in
-    let bottom : max (max r.y0 0) (min r.y1 (0 + image.height)) ≡ r.y1 = grind (arith, nat_tests, is.ordered.rows, is.room.rows) in
+    let bottom : max (max r.y0 0) (min r.y1 (0 + image.height)) ≡ r.y1 = grind (arith, nat_tests, (rectangle_ordered r is.canonical).rows, is.room.rows) in
     let top : max r.y0 0 ≡ r.y0 = grind (arith, nat_tests) in
     rw (bottom, top) refl
 
@@ -150,22 +150,22 @@ bands_fit image is start count =
     let all = band_of (rows_at 0 (start + count)) r in
     let one = samples_in (band_of (rows_at 0 start) r) image in
     let here : 0 + start ≡ start = omega arith in
-    let high : all.y1 - all.y0 ≤ 8192 = grind (arith, nat_tests, is.sides.1, is.room.rows, is.ordered.rows) in
+    let high : all.y1 - all.y0 ≤ 8192 = grind (arith, nat_tests, is.sides.height, is.room.rows, (rectangle_ordered image.valid is.canonical).rows) in
     omega (
       arith,
       ap (λ y. length (samples_in (band_of (rows_at y count) r) image)) here,
       ap length (samples_after r image 0 start count),
       length-append one (samples_in (band_of (rows_at (0 + start) count) r) image),
       length-samples all image,
-      area_fits (all.y1 - all.y0) (r.x1 - r.x0) (omega (arith, high)) (omega (arith, is.sides.0, is.room.columns)),
+      area_fits (all.y1 - all.y0) (r.x1 - r.x0) (omega (arith, high)) (omega (arith, side image.width is.sides.width, is.room.columns)),
     )
 
 -- no rows of an image have more valid samples than an image has at most
 pub few_samples : (image : ImageValue) → IsImage image → (rows : Band) → length (valid_samples (valid_in rows image)) ≤ 67108864
 few_samples image is rows =
     let r = band_of rows image.valid in
-    let high : r.y1 - r.y0 ≤ 8192 = grind (arith, nat_tests, is.sides.1, is.room.rows, is.ordered.rows) in
-    omega (arith, length-samples r image, all_few (r.y1 - r.y0) (r.x1 - r.x0) high (omega (arith, is.sides.0, is.room.columns)))
+    let high : r.y1 - r.y0 ≤ 8192 = grind (arith, nat_tests, is.sides.height, is.room.rows, (rectangle_ordered image.valid is.canonical).rows) in
+    omega (arith, length-samples r image, all_few (r.y1 - r.y0) (r.x1 - r.x0) high (omega (arith, side image.width is.sides.width, is.room.columns)))
   where
     all_few : (m k : ℕ) → m ≤ 8192 → k ≤ 8192 → m * k ≤ 67108864
     all_few m k rows columns = grind arith

@@ -20,6 +20,8 @@ pub use Rattle.std.proofs.lemmas.Simd.{length-chunk}
 pub use Rattle.std.specs.Int.{int_max, int_min}
 pub use Rattle.std.specs.List.{All, flat_map, fold, range_with_len, sum, sum_by}
 pub use Rattle.std.specs.Ordering.{int_eq}
+pub use Rattle.vx_base.proofs.PictureLaws.{side}
+pub use Rattle.vx_base.proofs.RectangleLaws.{rectangle_ordered}
 pub use Rattle.vx_base.proofs.TableLaws.{band-more, get_or-run, length-range, range-append, row_fits, run-same}
 pub use Rattle.vx_base.proofs.ZeroLaws.{map-replicate}
 pub use Rattle.vx_base.specs.Description.{Description}

@@ -1,6 +1,6 @@
 -- Rows of an integral image from the row above them.
 use Rattle.std.proofs.Common.{false, true, ◌%◌, ◌≡◌, ◌⊎◌, inl, inr, ℕ, pos, zero, suc, ◌+◌, ◌-◌, ◌*◌, ◌<◌, ◌≤◌, List, ◌++◌, length, map, take, drop, get_or, replicate, Option, Some, None, IfSome, subst, ap, ◌∙◌, sym, refl, arith, unwrap_or, option_map, Bool, if◌then◌else◌, ◌==◌, Bor, option_copied, unsigned_abs, drop_at, get_or-drop, get_or-take, append-nil}
-use Rattle.stat_kernels.proofs.Common.{cases_Bool, sum_by, range_with_len, flat_map, cases_lt, nat_tests, drop-map, get_or-map, get_or-replicate, length-replicate, map-append, map-replicate, length-chunk, Rectangle, ImageValue, IsImage, at, band, run, within, row_places, sum_to, band-more, get_or-run, run-same, Part, IsValidPart, AreSums, IsRowAbove, sum_before, sums_below, sums_row, last_row}
+use Rattle.stat_kernels.proofs.Common.{cases_Bool, sum_by, range_with_len, flat_map, cases_lt, nat_tests, side, rectangle_ordered, drop-map, get_or-map, get_or-replicate, length-replicate, map-append, map-replicate, length-chunk, Rectangle, ImageValue, IsImage, at, band, run, within, row_places, sum_to, band-more, get_or-run, run-same, Part, IsValidPart, AreSums, IsRowAbove, sum_before, sums_below, sums_row, last_row}
 use Rattle.std.specs.Option.{option_or}
 use Rattle.vx_base.specs.Rectangle.{inside}
 use Rattle.vx_base.proofs.TableLaws.{band-append, length-band, run-constant, within_beside, within_inside}
@@ -71,17 +71,18 @@ module _ (whole : ImageValue) (is : IsImage whole) where
 
   valid_part : IsValidPart whole its_part
   valid_part =
+      let ordered = rectangle_ordered whole.valid is.canonical in
       record {
         x = refl;
         count = refl;
         top = refl;
         bottom = refl;
-        columns = is.ordered.columns;
-        ordered = is.ordered.rows;
-        in_columns = omega (arith, is.ordered.columns, is.room.columns);
+        columns = ordered.columns;
+        ordered = ordered.rows;
+        in_columns = omega (arith, ordered.columns, is.room.columns);
         in_rows = is.room.rows;
-        columns_fit = omega (arith, is.ordered.columns, is.room.columns, is.sides.0);
-        rows_fit = omega (arith, is.room.rows, is.sides.1);
+        columns_fit = omega (arith, ordered.columns, is.room.columns, side whole.width is.sides.width);
+        rows_fit = omega (arith, is.room.rows, side whole.height is.sides.height);
       }
 
   -- above the first valid row there are none

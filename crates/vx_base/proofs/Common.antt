@@ -10,7 +10,7 @@ pub use Rattle.vx_base.specs.Function.{accumulates, parameters}
 pub use Rattle.vx_base.specs.Image.{ImageValue, IsImage, at, band, made, new_image, run, table, within}
 pub use Rattle.vx_base.specs.Node.{has_amount}
 pub use Rattle.vx_base.specs.Pixelwise.{formula_of_one, formula_of_two, from_one}
-pub use Rattle.vx_base.specs.Rectangle.{IsOrdered, IsWithin, Rectangle, empty, inside, meet_of, whole}
+pub use Rattle.vx_base.specs.Rectangle.{IsCanonical, IsOrdered, IsWithin, Rectangle, empty, inside, meet_of, whole}
 pub use Rattle.vx_base.specs.Sample.{IsSample, least, wrap}
 pub use Rattle.vx_base.specs.Window.{from_nine}
 pub use Rattle.vx_base.specs.declared.desc.TheConstants.{GREATEST_SIDE}

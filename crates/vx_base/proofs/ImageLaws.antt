@@ -1,10 +1,11 @@
 -- Images as functions of places.
-use Rattle.std.proofs.Common.{◌≡◌, ℕ, ℤ, pos, ◌+◌, ◌*◌, ◌/◌, ◌%◌, ◌<◌, ◌≤◌, ◌⊎◌, inl, inr, List, ◌++◌, length, get_or, ap, ◌∙◌, sym, arith, true, false, Bool, zero, suc, add-one, cond, refl, subst, ext_get_or, div-add-mod'}
-use Rattle.vx_base.proofs.Common.{nat_tests, GREATEST_SIDE, Format, IsSample, Rectangle, inside, whole, IsOrdered, IsWithin, ImageValue, IsImage, run, band, table, within, at, made, new_image}
+use Rattle.std.proofs.Common.{◌≡◌, ℕ, ℤ, pos, ◌+◌, ◌*◌, ◌/◌, ◌%◌, ◌<◌, ◌≤◌, ◌⊎◌, inl, inr, List, ◌++◌, length, get_or, ap, ◌∙◌, sym, arith, true, false, Bool, IsTrue, zero, suc, add-one, cond, refl, subst, ext_get_or, div-add-mod'}
+use Rattle.vx_base.proofs.Common.{nat_tests, Format, IsSample, Rectangle, inside, whole, IsCanonical, IsWithin, ImageValue, IsImage, run, band, table, within, at, made, new_image}
 use Rattle.std.proofs.lemmas.List.{get_or-append_right}
 use Rattle.std.proofs.Math.ListN.{get_or-append}
 use Rattle.std.proofs.Math.Nat.{div-lt_iff_lt-mul}
 use Rattle.vx_base.proofs.ResultLaws.{zero_sample}
+use Rattle.vx_base.specs.Description.{is_side}
 use Rattle.vx_base.specs.Image.{with_valid}
 use Rattle.vx_base.proofs.TableLaws.{table-more, length-table, get_or-run, band-same}
 
@@ -67,9 +68,9 @@ module _ (width height : ℕ) (format : Format) (valid : Rectangle) (f : ℕ →
       cases (inl e) = let Q : ℤ → Type 0 = λ z. IsSample format z in subst Q (sym (at-made x y a b e)) (sampled x y e)
       cases (inr e) = let Q : ℤ → Type 0 = λ z. IsSample format z in subst Q (sym (at-made_outside x y a b e)) (zero_sample format)
 
-  pub made_image : width ≤ GREATEST_SIDE → height ≤ GREATEST_SIDE → IsOrdered valid → IsWithin valid width height → ((x y : ℕ) → inside valid x y ≡ true → IsSample format (f x y)) → IsImage (made width height format valid f)
-  made_image wide high ordered room sampled =
-      record { sides = (wide, high); size = length-table width height (within valid f); ordered = ordered; room = room; sampled = made_sampled sampled; outside = at-made_outside }
+  pub made_image : IsTrue (is_side width) → IsTrue (is_side height) → IsCanonical valid → IsWithin valid width height → ((x y : ℕ) → inside valid x y ≡ true → IsSample format (f x y)) → IsImage (made width height format valid f)
+  made_image wide high canonical room sampled =
+      record { sides = record { width = wide; height = high }; size = length-table width height (within valid f); canonical = canonical; room = room; sampled = made_sampled sampled; outside = at-made_outside }
 
 -- every index is the one of a place
 pub index_of_place : (width height k : ℕ) → k < height * width → (x : ℕ) × (y : ℕ) × (x < width) × (y < height) × (y * width + x ≡ k)
@@ -121,7 +122,7 @@ valid_sampled a x y h e = h.sampled x y (column_inside a.valid a.width a.height 
 
 pub made_of_itself : (a : ImageValue) → IsImage a → made a.width a.height a.format a.valid (at a) ≡ a
 made_of_itself a h =
-    places_decide (made a.width a.height a.format a.valid (at a)) a (made_image a.width a.height a.format a.valid (at a) h.sides.0 h.sides.1 h.ordered h.room (λ x y e. valid_sampled a x y h e)) h refl refl refl refl
+    places_decide (made a.width a.height a.format a.valid (at a)) a (made_image a.width a.height a.format a.valid (at a) h.sides.width h.sides.height h.canonical h.room (λ x y e. valid_sampled a x y h e)) h refl refl refl refl
     (λ x y i j. cases x y i j (true_or_false (inside a.valid x y)))
   where
     cases : (x y : ℕ) → x < a.width → y < a.height → (inside a.valid x y ≡ true) ⊎ (inside a.valid x y ≡ false) → at (made a.width a.height a.format a.valid (at a)) x y ≡ at a x y
@@ -129,17 +130,21 @@ made_of_itself a h =
     cases x y i j (inr e) = at-made_outside a.width a.height a.format a.valid (at a) x y i j e ∙ sym (h.outside x y i j e)
 
 -- an image with another valid rectangle is one
-pub with_valid_is : (a : ImageValue) (valid : Rectangle) → IsImage a → IsOrdered valid → IsWithin valid a.width a.height → IsImage (with_valid valid a)
-with_valid_is a valid h ordered room =
-    made_image a.width a.height a.format valid (at a) h.sides.0 h.sides.1 ordered room (λ x y e. h.sampled x y (column_inside valid a.width a.height x y room e) (row_inside valid a.width a.height x y room e))
+pub with_valid_is : (a : ImageValue) (valid : Rectangle) → IsImage a → IsCanonical valid → IsWithin valid a.width a.height → IsImage (with_valid valid a)
+with_valid_is a valid h canonical room =
+    made_image a.width a.height a.format valid (at a) h.sides.width h.sides.height canonical room (λ x y e. h.sampled x y (column_inside valid a.width a.height x y room e) (row_inside valid a.width a.height x y room e))
 
 pub inside_whole : (width height x y : ℕ) → x < width → y < height → inside (whole width height) x y ≡ true
 inside_whole width height x y a b = grind (arith, nat_tests)
 
-pub new_image_is : (width height : ℕ) (format : Format) → width ≤ GREATEST_SIDE → height ≤ GREATEST_SIDE → IsImage (new_image width height format)
+-- all places of an image are a rectangle in canonical form
+pub whole_canonical : (width height : ℕ) → IsTrue (is_side width) → IsTrue (is_side height) → IsCanonical (whole width height)
+whole_canonical width height wide high = grind (arith, nat_tests)
+
+pub new_image_is : (width height : ℕ) (format : Format) → IsTrue (is_side width) → IsTrue (is_side height) → IsImage (new_image width height format)
 new_image_is width height format wide high =
     made_image width height format (whole width height) (λ _ _. pos 0) wide high
-    (record { columns = omega arith; rows = omega arith }) (record { columns = omega arith; rows = omega arith })
+    (whole_canonical width height wide high) (record { columns = omega arith; rows = omega arith })
     (λ x y e. zero_sample format)
 
 pub at-new_image : (width height : ℕ) (format : Format) (x y : ℕ) → x < width → y < height → at (new_image width height format) x y ≡ pos 0

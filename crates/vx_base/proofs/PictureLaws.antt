@@ -2,10 +2,9 @@
 use Rattle.std.proofs.Common.{ℕ, IsTrue, ◌≤◌, pos, ◌+◌, ◌*◌, ◌<◌, length, get_or, arith, subst}
 use Rattle.vx_base.proofs.Common.{nat_tests, All-from_get_or, GREATEST_SIDE, IsSample, ImageValue, IsImage}
 use Rattle.std.proofs.lemmas.List.Elements.{All-get_or}
-use Rattle.vx_base.specs.Description.{IsDescription, is_side}
-use Rattle.vx_base.specs.Image.{description_of}
+use Rattle.vx_base.specs.Description.{is_side}
 use Rattle.vx_base.specs.Picture.{PictureValue, IsPicture, picture_of, pictured}
-use Rattle.vx_base.proofs.ImageLaws.{above, index_of_place, inside_whole}
+use Rattle.vx_base.proofs.ImageLaws.{above, index_of_place, inside_whole, whole_canonical}
 
 pub side : (n : ℕ) → IsTrue (is_side n) → n ≤ GREATEST_SIDE
 side n h = grind (arith, nat_tests)
@@ -13,9 +12,9 @@ side n h = grind (arith, nat_tests)
 pub pictured_image : (p : PictureValue) → IsPicture p → IsImage (pictured p)
 pictured_image p h =
     record {
-      sides = (side p.description.width h.description.width, side p.description.height h.description.height);
+      sides = h.description;
       size = h.size;
-      ordered = record { columns = omega arith; rows = omega arith };
+      canonical = whole_canonical p.description.width p.description.height h.description.width h.description.height;
       room = record { columns = omega arith; rows = omega arith };
       sampled = λ x y a b.
           let below : y * p.description.width + x < length p.samples = omega (arith, h.size, above p.description.width p.description.height x y a b) in
@@ -23,9 +22,9 @@ pictured_image p h =
       outside = λ x y a b e. let i = inside_whole p.description.width p.description.height x y a b in cc;
     }
 
-pub picture_of_image : (a : ImageValue) → IsDescription (description_of a) → IsImage a → IsPicture (picture_of a)
-picture_of_image a d h =
-    record { description = d; size = h.size; sampled = All-from_get_or (IsSample a.format) a.samples (pos 0) each }
+pub picture_of_image : (a : ImageValue) → IsImage a → IsPicture (picture_of a)
+picture_of_image a h =
+    record { description = h.sides; size = h.size; sampled = All-from_get_or (IsSample a.format) a.samples (pos 0) each }
   where
     each : (k : ℕ) → k < length a.samples → IsSample a.format (get_or a.samples k (pos 0))
     each k below =

@@ -1,13 +1,13 @@
 -- Pixel formulas over whole images.
 use Rattle.std.proofs.Common.{◌≡◌, ℕ, ℤ, ◌≤◌, true, arith, min, max}
-use Rattle.vx_base.proofs.Common.{Format, IsSample, inside, meet_of, IsOrdered, IsWithin, ImageValue, IsImage, at, from_one}
+use Rattle.vx_base.proofs.Common.{Format, IsSample, inside, meet_of, IsCanonical, IsWithin, ImageValue, IsImage, at, from_one}
 use Rattle.vx_base.specs.Pixelwise.{from_two}
-use Rattle.vx_base.proofs.RectangleLaws.{bounded_ordered, bounded_within, inside_meet, both_inside}
+use Rattle.vx_base.proofs.RectangleLaws.{bounded_canonical, bounded_within, inside_meet, both_inside}
 use Rattle.vx_base.proofs.ImageLaws.{made_image, at-made, column_inside, row_inside, valid_sampled}
 
 pub from_one_is : (format : Format) (f : ℤ → ℤ) (a : ImageValue) → IsImage a → ((z : ℤ) → IsSample a.format z → IsSample format (f z)) → IsImage (from_one format f a)
 from_one_is format f a h gives =
-    made_image a.width a.height format a.valid (λ x y. f (at a x y)) h.sides.0 h.sides.1 h.ordered h.room (λ x y e. gives (at a x y) (valid_sampled a x y h e))
+    made_image a.width a.height format a.valid (λ x y. f (at a x y)) h.sides.width h.sides.height h.canonical h.room (λ x y e. gives (at a x y) (valid_sampled a x y h e))
 
 pub at-from_one : (format : Format) (f : ℤ → ℤ) (a : ImageValue) (x y : ℕ) → IsImage a → inside a.valid x y ≡ true → at (from_one format f a) x y ≡ f (at a x y)
 at-from_one format f a x y h e =
@@ -16,11 +16,11 @@ at-from_one format f a x y h e =
 
 pub from_two_is : (format : Format) (f : ℤ → ℤ → ℤ) (a b : ImageValue) → IsImage a → IsImage b → ((y z : ℤ) → IsSample a.format y → IsSample b.format z → IsSample format (f y z)) → IsImage (from_two format f a b)
 from_two_is format f a b h k gives =
-    made_image a.width a.height format (meet_of a.valid b.valid) (λ x y. f (at a x y) (at b x y)) h.sides.0 h.sides.1 ordered room
+    made_image a.width a.height format (meet_of a.valid b.valid) (λ x y. f (at a x y) (at b x y)) h.sides.width h.sides.height canonical room
     (λ x y e. let p = both_inside a.valid b.valid x y e in gives (at a x y) (at b x y) (valid_sampled a x y h p.0) (valid_sampled b x y k p.1))
   where
-    ordered : IsOrdered (meet_of a.valid b.valid)
-    ordered = bounded_ordered (max a.valid.x0 b.valid.x0) (max a.valid.y0 b.valid.y0) (min a.valid.x1 b.valid.x1) (min a.valid.y1 b.valid.y1)
+    canonical : IsCanonical (meet_of a.valid b.valid)
+    canonical = bounded_canonical (max a.valid.x0 b.valid.x0) (max a.valid.y0 b.valid.y0) (min a.valid.x1 b.valid.x1) (min a.valid.y1 b.valid.y1)
 
     room : IsWithin (meet_of a.valid b.valid) a.width a.height
     room =

@@ -1,7 +1,7 @@
 -- Rectangles as sets of places.
 use Rattle.std.proofs.Common.{◌≡◌, ℕ, ◌+◌, ◌-◌, ◌<◌, ◌≤◌, ◌⊎◌, inl, inr, ap, ◌∙◌, sym, arith, true, false, Bool, IsTrue, ◌↔◌, ◌||◌, ◌==◌, ◌&&◌, nat_lt, min, max}
-use Rattle.vx_base.proofs.Common.{nat_tests, Rectangle, inside, meet_of, empty, IsOrdered, IsWithin}
-use Rattle.vx_base.specs.Rectangle.{is_rectangle, bounded, shrunk}
+use Rattle.vx_base.proofs.Common.{nat_tests, Rectangle, inside, meet_of, empty, IsCanonical, IsOrdered, IsWithin}
+use Rattle.vx_base.specs.Rectangle.{bounded, shrunk}
 
 -- the bounds decide
 same_bounds : (r s : Rectangle) → r.x0 ≡ s.x0 → r.y0 ≡ s.y0 → r.x1 ≡ s.x1 → r.y1 ≡ s.y1 → r ≡ s
@@ -36,7 +36,7 @@ either : (a b : Bool) → (a || b) ≡ true → (a ≡ true) ⊎ (b ≡ true)
 either true b h = inl (grind arith)
 either false b h = inr h
 
-empty_or_proper : (r : Rectangle) → IsTrue (is_rectangle r.x0 r.y0 r.x1 r.y1) → (r ≡ empty) ⊎ IsProper r
+empty_or_proper : (r : Rectangle) → IsCanonical r → (r ≡ empty) ⊎ IsProper r
 empty_or_proper r h = cases (either _ _ h)
   where
     cases : ((((r.x0 == 0) && (r.y0 == 0)) && ((r.x1 == 0) && (r.y1 == 0))) ≡ true) ⊎ ((nat_lt r.x0 r.x1 && nat_lt r.y0 r.y1) ≡ true) → (r ≡ empty) ⊎ IsProper r
@@ -65,7 +65,7 @@ same_proper r s p q there back =
 nothing_between : (x y : ℕ) → Between empty x y → ⊥
 nothing_between x y h = omega arith
 
-pub places_decide : (r s : Rectangle) → IsTrue (is_rectangle r.x0 r.y0 r.x1 r.y1) → IsTrue (is_rectangle s.x0 s.y0 s.x1 s.y1) → ((x y : ℕ) → inside r x y ≡ inside s x y) → r ≡ s
+pub places_decide : (r s : Rectangle) → IsCanonical r → IsCanonical s → ((x y : ℕ) → inside r x y ≡ inside s x y) → r ≡ s
 places_decide r s p q same = cases (empty_or_proper r p) (empty_or_proper s q)
   where
     there : (x y : ℕ) → Between r x y → Between s x y
@@ -84,12 +84,12 @@ bounded_inside : (x0 y0 x1 y1 x y : ℕ) → inside (bounded x0 y0 x1 y1) x y �
 bounded_inside x0 y0 x1 y1 x y = grind (arith, nat_tests)
 
 -- the starts of a rectangle in canonical form are not above its ends
-pub rectangle_ordered : (r : Rectangle) → IsTrue (is_rectangle r.x0 r.y0 r.x1 r.y1) → IsOrdered r
+pub rectangle_ordered : (r : Rectangle) → IsCanonical r → IsOrdered r
 rectangle_ordered r h = record { columns = grind (arith, nat_tests); rows = grind (arith, nat_tests) }
 
--- the same for a rectangle made from bounds; and it does not exceed the bounds
-pub bounded_ordered : (x0 y0 x1 y1 : ℕ) → IsOrdered (bounded x0 y0 x1 y1)
-bounded_ordered x0 y0 x1 y1 = record { columns = grind (arith, nat_tests); rows = grind (arith, nat_tests) }
+-- a rectangle made from bounds is in canonical form, and it does not exceed the bounds
+pub bounded_canonical : (x0 y0 x1 y1 : ℕ) → IsCanonical (bounded x0 y0 x1 y1)
+bounded_canonical x0 y0 x1 y1 = grind (arith, nat_tests)
 
 pub bounded_within : (x0 y0 x1 y1 width height : ℕ) → x1 ≤ width → y1 ≤ height → IsWithin (bounded x0 y0 x1 y1) width height
 bounded_within x0 y0 x1 y1 width height p q = record { columns = grind (arith, nat_tests); rows = grind (arith, nat_tests) }

@@ -12,4 +12,4 @@ sum_sample a x y =
     record { at_least = omega (arith, ints); at_most = omega (arith, ints) }
 
 pub sums_image : (a : ImageValue) → IsImage a → (format : Format) → U32 ≡ format → IsImage (sums_in format a)
-sums_image a h format e = rw (← e) (made_image a.width a.height U32 a.valid (sum_to a) h.sides.0 h.sides.1 h.ordered h.room (λ x y e. sum_sample a x y))
+sums_image a h format e = rw (← e) (made_image a.width a.height U32 a.valid (sum_to a) h.sides.width h.sides.height h.canonical h.room (λ x y e. sum_sample a x y))

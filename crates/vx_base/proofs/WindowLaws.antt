@@ -1,6 +1,6 @@
 -- The inputs and results of window functions.
 use Rattle.std.proofs.Common.{◌≡◌, ℕ, ℤ, pos, negsuc, ◌+◌, ◌-◌, ◌*◌, ◌/◌, ◌<◌, ◌≤◌, ◌+ℤ◌, ◌-ℤ◌, ◌≤ℤ◌, Bool, true, false, ◌&&◌, cond, List, [], ◌∷◌, ◌++◌, length, map, take, set, zero, suc, nat_lt, refl, ap, ◌∙◌, sym, subst, arith, rules, add-zero, Some, unsigned_abs, unwrap_or, int_div, ◌^◌}
-use Rattle.vx_base.proofs.Common.{int_div_euclid, Each1, ints, nat_tests, take_more_set, Format, U8, S16, IsSample, Rectangle, inside, empty, IsOrdered, IsWithin, ImageValue, IsImage, run, at, made, from_nine}
+use Rattle.vx_base.proofs.Common.{int_div_euclid, Each1, ints, nat_tests, take_more_set, Format, U8, S16, IsSample, Rectangle, inside, empty, IsCanonical, IsWithin, ImageValue, IsImage, run, at, made, from_nine}
 use Rattle.std.specs.Int.{int_min, int_max}
 use Rattle.std.specs.List.{find, fold}
 use Rattle.std.proofs.lemmas.List.{map_push}
@@ -12,6 +12,7 @@ use Rattle.vx_base.specs.Window.{holds, nearest, beside, look, nine_around, tota
 use Rattle.vx_base.proofs.TableLaws.{run-more}
 use Rattle.vx_base.proofs.ResultLaws.{zero_sample, clamp_sample}
 use Rattle.vx_base.proofs.ImageLaws.{made_image}
+use Rattle.vx_base.proofs.RectangleLaws.{bounded_canonical}
 
 -- ---- runs
 
@@ -162,10 +163,10 @@ area_some Undefined rx ry valid x y h = shrunk_some valid rx ry x y (nat_lt (val
 area_some (Constant value) rx ry valid x y h = (grind (arith, nat_tests), grind (arith, nat_tests))
 area_some Replicate rx ry valid x y h = (grind (arith, nat_tests), grind (arith, nat_tests))
 
-area_ordered : (border : Border) (rx ry : ℕ) (valid : Rectangle) → IsOrdered valid → IsOrdered (window_valid border rx ry valid)
-area_ordered Undefined rx ry valid h = record { columns = grind (arith, nat_tests); rows = grind (arith, nat_tests) }
-area_ordered (Constant value) rx ry valid h = h
-area_ordered Replicate rx ry valid h = h
+area_canonical : (border : Border) (rx ry : ℕ) (valid : Rectangle) → IsCanonical valid → IsCanonical (window_valid border rx ry valid)
+area_canonical Undefined rx ry valid h = bounded_canonical (valid.x0 + rx) (valid.y0 + ry) (valid.x1 - rx) (valid.y1 - ry)
+area_canonical (Constant value) rx ry valid h = h
+area_canonical Replicate rx ry valid h = h
 
 area_within : (border : Border) (rx ry : ℕ) (valid : Rectangle) (w l : ℕ) → IsWithin valid w l → IsWithin (window_valid border rx ry valid) w l
 area_within Undefined rx ry valid w l h = record { columns = grind (arith, nat_tests, h.columns); rows = grind (arith, nat_tests, h.rows) }
@@ -176,8 +177,8 @@ area_within Replicate rx ry valid w l h = h
 windows_image : (format : Format) (border : Border) (rx ry : ℕ) (f : ℕ → ℕ → ℤ) (a : ImageValue) → IsImage a → ((x y : ℕ) → a.valid.x0 < a.valid.x1 → a.valid.y0 < a.valid.y1 → IsSample format (f x y))
     → IsImage (made a.width a.height format (window_valid border rx ry a.valid) f)
 windows_image format border rx ry f a h gives =
-    made_image a.width a.height format (window_valid border rx ry a.valid) f h.sides.0 h.sides.1
-    (area_ordered border rx ry a.valid h.ordered) (area_within border rx ry a.valid a.width a.height h.room)
+    made_image a.width a.height format (window_valid border rx ry a.valid) f h.sides.width h.sides.height
+    (area_canonical border rx ry a.valid h.canonical) (area_within border rx ry a.valid a.width a.height h.room)
     (λ x y e. let some = area_some border rx ry a.valid x y e in gives x y some.0 some.1)
 
 -- for a formula that maps nine U8 samples to a sample

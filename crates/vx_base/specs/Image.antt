@@ -1,11 +1,10 @@
 -- An image value: a size, a format, a valid rectangle, and a sample for each pixel.
-use Rattle.std.specs.Prelude.{ℕ, ℤ, pos, ◌+◌, ◌*◌, ◌<◌, ◌≤◌, ◌≡◌, false, List, map, length, slice_index_or, if◌then◌else◌}
+use Rattle.std.specs.Prelude.{ℕ, ℤ, pos, ◌+◌, ◌*◌, ◌<◌, ◌≡◌, false, List, map, length, slice_index_or, if◌then◌else◌}
 use Rattle.std.specs.List.{range_with_len, flat_map}
 use Rattle.vx_base.specs.declared.format.Format.{Format}
 use Rattle.vx_base.specs.Sample.{IsSample}
-use Rattle.vx_base.specs.Rectangle.{Rectangle, inside, whole, IsOrdered, IsWithin}
-use Rattle.vx_base.specs.Description.{Description}
-use Rattle.vx_base.specs.declared.desc.TheConstants.{GREATEST_SIDE}
+use Rattle.vx_base.specs.Rectangle.{Rectangle, inside, whole, IsCanonical, IsWithin}
+use Rattle.vx_base.specs.Description.{Description, IsDescription}
 
 -- the n values f x, f (x + 1), ..
 abbrev pub run : ℕ → ℕ → (ℕ → ℤ) → List ℤ
@@ -42,11 +41,12 @@ image_over d valid samples = record { width = d.width; height = d.height; format
 abbrev pub at : ImageValue → ℕ → ℕ → ℤ
 at image x y = slice_index_or image.samples (y * image.width + x) (pos 0)
 
--- an image within the size limits, with a sample of its format for each pixel; the samples outside the valid rectangle are 0
+-- an image of allowed size, whose valid rectangle is canonical and within the image, with a sample of its format for each
+-- pixel; the samples outside the valid rectangle are 0
 pub record IsImage (image : ImageValue) : Type 0 where
-  pub sides : (image.width ≤ GREATEST_SIDE) × (image.height ≤ GREATEST_SIDE)
+  pub sides : IsDescription (description_of image)
   pub size : length image.samples ≡ image.height * image.width
-  pub ordered : IsOrdered image.valid
+  pub canonical : IsCanonical image.valid
   pub room : IsWithin image.valid image.width image.height
   pub sampled : (x y : ℕ) → x < image.width → y < image.height → IsSample image.format (at image x y)
   pub outside : (x y : ℕ) → x < image.width → y < image.height → inside image.valid x y ≡ false → at image x y ≡ pos 0

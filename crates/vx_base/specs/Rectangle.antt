@@ -41,9 +41,13 @@ meet_of r s = bounded (max r.x0 s.x0) (max r.y0 s.y0) (min r.x1 s.x1) (min r.y1 
 abbrev pub shrunk : Rectangle → ℕ → ℕ → Rectangle
 shrunk r rx ry = bounded (r.x0 + rx) (r.y0 + ry) (r.x1 - rx) (r.y1 - ry)
 
+-- a rectangle in canonical form: all bounds 0, or each start below its end
+abbrev pub IsCanonical : Rectangle → Type 0
+IsCanonical r = IsTrue (is_rectangle r.x0 r.y0 r.x1 r.y1)
+
 -- a rectangle in canonical form, whose bounds have 16 bits
 pub record IsRectangle (r : Rectangle) : Type 0 where
-  pub bounds : IsTrue (is_rectangle r.x0 r.y0 r.x1 r.y1)
+  pub bounds : IsCanonical r
   pub columns : r.x1 < 2 ^ 16
   pub rows : r.y1 < 2 ^ 16
 

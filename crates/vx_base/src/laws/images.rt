@@ -1,13 +1,12 @@
 //! Laws of image values.
-ghost use Rattle.std.specs.Prelude.{◌≡◌, ◌<◌, ◌≤◌, ◌*◌, ◌+◌, ◌++◌, ℕ, ℤ, pos, true, false, length};
+ghost use Rattle.std.specs.Prelude.{◌≡◌, ◌<◌, ◌*◌, ◌+◌, ◌++◌, ℕ, ℤ, pos, true, false, length, IsTrue};
 ghost use Rattle.vx_base.specs.Sample.{IsSample};
 ghost use Rattle.vx_base.specs.declared.format.Format.{Format};
-ghost use Rattle.vx_base.specs.Rectangle.{Rectangle, inside, IsOrdered, IsWithin};
-ghost use Rattle.vx_base.specs.Description.{IsDescription};
-ghost use Rattle.vx_base.specs.Image.{ImageValue, IsImage, description_of, band, table, at, made};
+ghost use Rattle.vx_base.specs.Rectangle.{Rectangle, inside, IsCanonical, IsWithin};
+ghost use Rattle.vx_base.specs.Description.{is_side};
+ghost use Rattle.vx_base.specs.Image.{ImageValue, IsImage, band, table, at, made};
 ghost use Rattle.vx_base.specs.Image.{new_image};
 ghost use Rattle.vx_base.specs.Picture.{PictureValue, IsPicture, picture_of, pictured};
-ghost use Rattle.vx_base.specs.declared.desc.TheConstants.{GREATEST_SIDE};
 
 /// A table has a sample for each pixel.
 pub fn table_size()
@@ -27,7 +26,7 @@ pub fn bands()
 /// well-formed if its sides are permitted and the function's values are samples of the format.
 pub fn made_samples()
     ensures image { (width height : ℕ) (format : Format) (valid : Rectangle) (f : ℕ → ℕ → ℤ) →
-        width ≤ GREATEST_SIDE → height ≤ GREATEST_SIDE → IsOrdered valid →
+        IsTrue (is_side width) → IsTrue (is_side height) → IsCanonical valid →
         IsWithin valid width height →
         ((x y : ℕ) → inside valid x y ≡ true → IsSample format (f x y)) →
         IsImage (made width height format valid f) }
@@ -44,8 +43,7 @@ pub fn made_samples()
 /// A picture is a well-formed image, and an image's samples are a well-formed picture.
 pub fn pictures()
     ensures image { (p : PictureValue) → IsPicture p → IsImage (pictured p) }
-    ensures picture { (a : ImageValue) → IsDescription (description_of a) → IsImage a →
-        IsPicture (picture_of a) }
+    ensures picture { (a : ImageValue) → IsImage a → IsPicture (picture_of a) }
 {}
 
 /// Two images of the same description and valid rectangle are equal if they agree at each pixel.
@@ -62,8 +60,8 @@ pub fn made_of_itself()
 
 /// A new image is well-formed, and 0 at each pixel.
 pub fn new_is_zero()
-    ensures image { (width height : ℕ) (format : Format) → width ≤ GREATEST_SIDE →
-        height ≤ GREATEST_SIDE → IsImage (new_image width height format) }
+    ensures image { (width height : ℕ) (format : Format) → IsTrue (is_side width) →
+        IsTrue (is_side height) → IsImage (new_image width height format) }
     ensures zero { (width height : ℕ) (format : Format) (x y : ℕ) → x < width → y < height →
         at (new_image width height format) x y ≡ pos 0 }
 {}

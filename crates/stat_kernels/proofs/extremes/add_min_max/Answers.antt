@@ -1,5 +1,5 @@
 use Rattle.std.proofs.Common.{◌+◌, ◌-◌, ◌≤◌, ap, arith, ℤ}
-use Rattle.stat_kernels.proofs.Common.{int_min, int_max, nat_tests, ImageValue, IsImage, at, chosen, places, samples_in, first_of, Band, band_of, Found}
+use Rattle.stat_kernels.proofs.Common.{int_min, int_max, nat_tests, rectangle_ordered, ImageValue, IsImage, at, chosen, places, samples_in, first_of, Band, band_of, Found}
 use Rattle.image_core.specs.Bands.{IsInRows}
 use Rattle.stat_kernels.proofs.LocatedLaws.{first_within}
 use Rattle.stat_kernels.proofs.extremes.add_min_max.Goals as goal
@@ -8,7 +8,7 @@ use Rattle.stat_kernels.proofs.extremes.add_min_max.Goals as goal
 first_in : (image : ImageValue) (rows : Band) (v : ℤ) → IsImage image → IsInRows image.height rows → (first_of (at image) v (places (band_of rows image.valid))).1 ≤ image.height
 first_in image rows v is within =
     let r = band_of rows image.valid in
-    let ends : r.y0 + (r.y1 - r.y0) ≤ image.height = grind (arith, nat_tests, is.ordered.rows, is.room.rows, within) in
+    let ends : r.y0 + (r.y1 - r.y0) ≤ image.height = grind (arith, nat_tests, (rectangle_ordered image.valid is.canonical).rows, is.room.rows, within) in
     omega (arith, first_within (at image) v r, ends)
 
 pub lowered-found-requires-clause-least : goal.lowered-found-requires-clause-least

@@ -1,5 +1,5 @@
 use Rattle.std.proofs.Common.{ℕ, List, ◌≡◌, ◌+◌, ◌-◌, ◌∙◌, length, take, drop, replicate, ap, subst, arith, unwrap_or, option_copied, option_map, IfSome}
-use Rattle.stat_kernels.proofs.Common.{at, run, run-same, sums_below}
+use Rattle.stat_kernels.proofs.Common.{at, run, run-same, rectangle_ordered, sums_below}
 use Rattle.stat_kernels.proofs.NextRowLaws.{lent_long, next_row, same_columns}
 use Rattle.stat_kernels.specs.Sums.{row_sums, sum_on}
 use Rattle.stat_kernels.proofs.ScanLaws.{row_is, sums_are}
@@ -26,7 +26,7 @@ returns-clause-whole c = λ whole line is same is_above.
     (c.part_of_row-row.ensures.value
     ∙ ap (λ x. run x part.count (λ k. at image k c.args.y)) x_is ∙ ap (λ n. run whole.valid.x0 n (λ k. at image k c.args.y)) count_is
     ∙ run-same (λ k. at image k c.args.y) (λ k. at whole k line) whole.valid.x0 (whole.valid.x1 - whole.valid.x0)
-    (λ k a b. same.samples k (omega (arith, b, is.ordered.columns, is.room.columns))))
+    (λ k a b. same.samples k (omega (arith, b, (rectangle_ordered whole.valid is.canonical).columns, is.room.columns))))
     wide
     (c.write_part.ensures
     ∙ ap (λ f. sums_below (unwrap_or (option_map f copied) (replicate (length row) 0)) row) cut_is

@@ -1,5 +1,5 @@
 use Rattle.std.proofs.Common.{subst, sym, rules}
-use Rattle.object_table.proofs.Common.{IsImage, new_image_is, side}
+use Rattle.object_table.proofs.Common.{IsImage, new_image_is}
 use Rattle.object_table.proofs.StoredLemmas.{zeros_are_new}
 use Rattle.object_table.proofs.stored.Stored.new.Goals as goal
 
@@ -10,7 +10,7 @@ returns c =
     let new = zeros_are_new d c.whole.result c.in_ok-block.block c.sample_count.result c.whole.ensures c.sample_count.ensures.value (search rules) in
     record {
       value = new;
-      image = subst IsImage (sym new) (new_image_is d.width d.height d.format (side d.width c.has_sides.ensures.width) (side d.height c.has_sides.ensures.height));
+      image = subst IsImage (sym new) (new_image_is d.width d.height d.format c.has_sides.ensures.width c.has_sides.ensures.height);
       lends = search rules;
       err = tt;
     }
