@@ -1,4 +1,4 @@
--- The rows that a band makes agree with whole images that solve the steps' equations.
+-- The rows that a band writes agree with whole images that solve the steps' equations.
 use Rattle.std.proofs.Common.{◌≡◌, ◌≢◌, ℕ, ℤ, ◌+◌, ◌-◌, ◌<◌, ◌≤◌, min, max, true, List, [], ◌∷◌, length, Option, Some, None, IfSome, refl, sym, ◌∙◌, pos, ◌*◌, ◌==◌, false, get_or, unsigned_abs, ap, subst, inl, inr, arith, cond, nat_lt, ◌&&◌}
 use Rattle.std.specs.Prelude.{◌⊎◌}
 use Rattle.std.proofs.lemmas.Bool.{cases_Bool}
@@ -98,7 +98,7 @@ made_same width height format r f g x y i j same = elim (cases_Bool (inside r x 
   | inr e ↦ at-made_outside width height format r f x y i j e ∙ sym (at-made_outside width height format r g x y i j e)
 ]
 
--- sums agree where the images and what was there do
+-- sums agree in the rows in which the images and the old sums agree
 sums_agree : (format : Format) (f : ℤ → ℤ → ℤ) (a b own other : ImageValue) (first last : ℕ) → AgreeInRows first last a b → meet_of a.valid own.valid ≡ meet_of b.valid other.valid
     → ((x y : ℕ) → x < a.width → y < a.height → first ≤ y → y ≤ last → at own x y ≡ at other x y) → AgreeInRows first last (from_two format f a own) (from_two format f b other)
 sums_agree format f a b own other first last agree meets same =
@@ -151,7 +151,7 @@ scans_agree format a b start above first last agree starts none some =
       ];
     }
 
--- the definition's image of an integral image's step
+-- the image of a step with an integral image, by its definition
 integral_image : (n : Node) (which : Output) (format : Format) (a : ImageValue) (second own : Option ObjectValue) → is_integral n.function ≡ true → second ≡ None
     → node_image n which format a (cond (accumulates n.function) own second) ≡ sums_in format a
 integral_image n which format a second own scans none =
@@ -187,19 +187,19 @@ module _ (tables : List Second) (high : ℕ) (halos : List ℕ) (band : Band) (s
     pub agrees : AgreeInRows (band.start - halo halos c) (band.start + band.count - 1 + halo halos c) (read_images planes c) (whole c)
     pub covers : (y : ℕ) → has_row (band_rows planes halos band c) y ≡ true → has_row (plane planes c).rows y ≡ true
 
-  -- of an output that accumulates, the rows that are written are as before the run, and the valid rectangle is that or already the solution's
+  -- if the step accumulates, the rows to be written are as before the run; the valid rectangle is as before or already the solution's
   pub record IsOwn (planes : List PlaneValue) (s : Step) : Type 0 where
     pub row : (x y : ℕ) → x < (plane planes s.output).desc.width → has_row (band_rows planes halos band s.output) y ≡ true → at (block_images planes s.output) x y ≡ at (origin s.output) x y
     pub valid : ((plane planes s.output).valid ≡ (origin s.output).valid) ⊎ ((plane planes s.output).valid ≡ (whole s.output).valid)
 
-  -- of an output that follows from the row above, that row is the solution's, if there is one
+  -- if the output continues from the row above, that row is the solution's, if there is one
   abbrev pub HasRowAbove : List PlaneValue → Step → Type 0
   HasRowAbove planes s =
       (first_row s.output ≡ 0)
       ⊎ ((s.takes ≡ None)
       × ((x y : ℕ) → x < (plane planes s.output).desc.width → y < first_row s.output → y < (plane planes s.output).desc.height → at (block_images planes s.output) x y ≡ at (whole s.output) x y))
 
-  -- planes as a band comes to a step
+  -- the planes when a band comes to a step
   pub record Meets (planes : List PlaneValue) : Type 0 where
     pub length_is : length planes ≡ count
     pub desc : (c : ℕ) → description_of (origin c) ≡ (plane planes c).desc
@@ -253,7 +253,7 @@ module _ (tables : List Second) (high : ℕ) (halos : List ℕ) (band : Band) (s
     input_image : (c : ℕ) → ReadsPlane s c → IsImage (read_images planes c)
     input_image c reads = (fits.reads c reads).3.image
 
-    -- where a function looks at all rows, its inputs are those of the solution
+    -- if a function reads all rows, its inputs are those of the solution
     all_same : high ≤ s.radius → (c : ℕ) → ReadsPlane s c → read_images planes c ≡ whole c
     all_same far c reads =
         let h = meets.tall c in
@@ -450,7 +450,7 @@ module _ (tables : List Second) (high : ℕ) (halos : List ℕ) (band : Band) (s
 
   -- ---- all tasks of a band
 
-  -- planes as a band comes to these tasks
+  -- the planes when a band comes to these tasks
   pub record Known (tasks : List Task) (planes : List PlaneValue) : Type 0 where
     pub can : CanRunBand tables high halos band kept tasks planes
     pub meets : Meets planes

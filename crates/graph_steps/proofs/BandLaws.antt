@@ -1,4 +1,4 @@
--- The steps of a band, one after the other: each can run, and what they leave of descriptions, blocks and client images.
+-- The steps of a band, one after the other: each can run; descriptions, blocks and other client images stay.
 use Rattle.std.proofs.Common.{◌≡◌, ◌≢◌, ℕ, ◌+◌, ◌*◌, ◌<◌, ◌≤◌, min, false, List, [], ◌∷◌, length, Some, None, refl, sym, ◌∙◌, ap, subst, inl, inr, arith}
 use Rattle.vx_base.specs.declared.format.Format.{Format}
 use Rattle.vx_base.specs.Description.{Description}
@@ -27,7 +27,7 @@ halo_rows more height band = omega arith
 
 -- ---- one step
 
--- the descriptions of planes decide what blocks have to hold
+-- the descriptions of planes decide the sizes of blocks
 pub room_same : (size : ℕ) (halos : List ℕ) (a b : ℕ → Description) (steps : List Task) (blocks : List (Format × ℕ)) → ((c : ℕ) → a c ≡ b c) → HaveRoom size halos a steps blocks → HaveRoom size halos b steps blocks
 room_same size halos a b [] blocks same room = room
 room_same size halos a b (Reduce r ∷ later) blocks same room = room_same size halos a b later blocks same room
@@ -167,7 +167,7 @@ module _ (tables : List Second) (high : ℕ) (halos : List ℕ) (band : Band) (k
       band_leaves later (after_step tables s (rows_of planes s) planes) (step_next s later planes can) c k (λ t i. unwritten t (inr i))
       ∙ after_others tables high s (rows_of planes s) planes (step_fits s later planes can) c (λ e. unwritten s (inl refl) (sym e)) (untaken s later planes can c k)
 
-  -- of a client's image, the rows that the band doesn't write stay
+  -- the rows of a client's image that the band doesn't write stay
   pub band_keeps : (steps : List Task) (planes : List PlaneValue) → Can steps planes → (c : ℕ) → kept c → (x y : ℕ) → x < (plane planes c).desc.width → y < (plane planes c).desc.height
       → has_row (band_rows planes halos band c) y ≡ false → at (block_images (after_tasks tables halos band steps planes) c) x y ≡ at (block_images planes c) x y
   band_keeps [] planes can c k x y across low beside = refl

@@ -9,7 +9,7 @@ use Rattle.graph_steps.specs.Steps.{ReadsPlane}
 use Rattle.graph_steps.specs.Program.{IsStepOf, AreInOrder, halo, Suffice}
 use Rattle.graph_steps.proofs.StepLaws.{same_or_other}
 
--- ---- one halo that is raised
+-- ---- raising one halo
 
 pub raised_grows : (halos : List ℕ) (c rows k : ℕ) → c < length halos → halo halos k ≤ halo (set halos c (max (halo halos c) rows)) k
 raised_grows halos c rows k below = elim (same_or_other k c) [
@@ -25,7 +25,7 @@ raised_beside halos c rows k other = get_or-set_other halos c k (max (halo halos
 
 -- ---- the inputs of a step
 
--- the halos once those of a step's inputs are raised
+-- the halos after those of a step's inputs are raised
 pub record Raised (s : Step) (rows : ℕ) (old new : List ℕ) : Type 0 where
   pub grows : (c : ℕ) → halo old c ≤ halo new c
   pub enough : (c : ℕ) → ReadsPlane s c → rows ≤ halo new c

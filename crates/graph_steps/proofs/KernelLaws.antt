@@ -1,4 +1,4 @@
--- What a kernel writes is the step's image.
+-- A kernel writes the step's image.
 use Rattle.std.proofs.Common.{◌≡◌, ℕ, ℤ, ◌*◌, ◌+◌, ◌-◌, ◌<◌, zero, suc, true, List, length, map, take, drop, Option, Some, None, IfSome, refl, ap, ◌∙◌, sym, arith, cond, ◌==◌, eqb-true, add-zero}
 use borrow.Rule.Slice.PartMut.{put_mid}
 use Rattle.std.proofs.lemmas.Bool.{and_parts}
@@ -58,7 +58,7 @@ gradient_written n which output a old new is which_is known =
 pub accumulate_format : (function : Function) (a : Format) (second : Option Format) (out : Format) → accumulates function ≡ true → takes_formats function a second (Some out) ≡ true → out ≡ S16
 accumulate_format other a second out h t = grind arith
 
--- the step's image is what such a function adds to the output
+-- the step's image is the output with the function's result added
 pub sum_written : (s : Step) (first : ImageValue) (second : Option ObjectValue) (own : ImageValue) (old new : ImageMut) → accumulates s.node.function ≡ true
     → Writes (node_image s.node s.which own.format first (Some (ImageObject own))) old new → Writes (image_from_inputs s first second own) old new
 sum_written s first second own old new sums is =
@@ -127,7 +127,7 @@ rows_held d valid rows samples room size =
 pub held_rows : (out : ImageMut) → IsTarget out → rows_in out.rows (held_image out) ≡ written out
 held_rows out target = rows_held out.desc out.valid out.rows (written out).samples target.rows target.size
 
--- what a kernel writes to these samples of an output
+-- the result of a kernel in these samples of an output
 pub rows_written : (k : Kernel) (d : Description) (valid : Rectangle) (rows : Band) (samples : List ℤ) (old new : ImageMut) → written old ≡ image_over d valid samples → old.rows ≡ rows
     → Writes (kernel_image k (held_image old)) old new → written new ≡ rows_in rows (kernel_image k (image_over_rows d valid rows samples))
 rows_written k d valid rows samples old new before same is =
@@ -136,7 +136,7 @@ rows_written k d valid rows samples old new before same is =
     ∙ ap (λ (a : ImageValue). rows_in rows (kernel_image k (image_over_rows (description_of a) a.valid old.rows a.samples))) before
     ∙ ap (λ (r : Band). rows_in rows (kernel_image k (image_over_rows d valid r samples))) same
 
--- what a kernel writes to exactly these samples
+-- the result of a kernel in exactly these samples
 pub rows_made : (k : Kernel) (d : Description) (valid : Rectangle) (rows : Band) (samples : List ℤ) (of old new : ImageMut) → CanMake k.step.now k.first.now (second_object k.second.now) d
     → written of ≡ image_over d empty samples → written old ≡ image_over of.desc valid (written of).samples → old.rows ≡ rows → Writes (kernel_image k (held_image old)) old new
     → (new.desc.format ≡ d.format) × ((written new).samples ≡ (rows_in rows (kernel_image k (image_over_rows d valid rows samples))).samples)
@@ -148,7 +148,7 @@ rows_made k d valid rows samples of old new can of_is old_is same is =
       ap (λ (v : ImageValue). v.samples) made,
     )
 
--- and what it writes to these rows of a block, in samples of any type
+-- the result of a kernel in these rows of a block, with samples of any type
 pub block_written : {T : Type 0} (value : T → ℤ) (k : Kernel) (d : Description) (valid : Rectangle) (top : ℕ) (rows : Band) (from n w : ℕ) (out part : List T) (samples lent : List ℤ) (after : Rectangle)
     → from ≡ rows.start - top → n ≡ rows.count → w ≡ d.width → map value out ≡ samples → CanMake k.step.now k.first.now (second_object k.second.now) d
     → lent ≡ map value (take (from * w + n * w - from * w) (drop (from * w) out))
@@ -168,7 +168,7 @@ block_written value k d valid top rows from n w out part samples lent after star
 pub same_sides : (a b : Description) → same_size a b ≡ true → (a.width ≡ b.width) × (a.height ≡ b.height)
 same_sides a b h = let p = and_parts (a.width == b.width) (a.height == b.height) h in (eqb-true a.width b.width p.0, eqb-true a.height b.height p.1)
 
--- the step's image has a sample for each place
+-- the step's image has a sample for each pixel
 pub sized_image : (s : Step) (first : ImageValue) (second : Option ObjectValue) (own : ImageValue) → length (image_from_inputs s first second own).samples ≡ first.height * first.width
 sized_image s first second own = sized (cond (accumulates s.node.function) (Some (ImageObject own)) second)
   where

@@ -37,7 +37,7 @@ module _ (tables : List Second) where
       others_stay later (next s images) c (λ t i. u t (inr i)) ∙ elsewhere s.output c (step_image tables s images (images s.output)) images (λ e. u s (inl refl) (sym e))
   others_stay (Reduce r ∷ later) images c u = others_stay later images c u
 
-  -- each output is the step's image of what is there in the end
+  -- each output is the step's image of the final images
   written_is : (tasks : List Task) (images : ℕ → ImageValue) → AreInOrder tasks → HaveOneWriter tasks → (t : Step) → IsStepOf t tasks
       → steps_in_turn tables tasks images t.output ≡ step_image tables t (steps_in_turn tables tasks images) (images t.output)
   written_is [] images order one t i = absurd i

@@ -52,7 +52,7 @@ rows_among value image top rows from n width start count out part a b w at_start
     both : (k m w : ℕ) → k * w + m * w ≡ (k + m) * w
     both k m w = grind arith
 
--- the image of which rows of this plane are read
+-- the image whose rows are read from this plane
 module _ (p : PlaneValue) (rows : Band) (image : ImageValue) (desc : p.desc ≡ description_of image) (room : (rows.start - p.top + rows.count) * p.desc.width ≤ length p.samples) where
   abbrev made : List ℤ
   made = band image.width rows.start rows.count (at image)
@@ -97,7 +97,7 @@ module _ (p : PlaneValue) (rows : Band) (image : ImageValue) (desc : p.desc ≡ 
       ap (image_over_rows p.desc image.valid rows) rows_are
       ∙ ap (λ d. image_over_rows d image.valid rows made) desc
 
--- in the rows that are held it agrees with the whole image
+-- it agrees with the whole image in the plane's rows
 pub held_agrees : (image : ImageValue) (rows : Band) (first last : ℕ) → IsInRows image.height rows → rows.start ≤ first → min (last + 1) image.height ≤ rows.start + rows.count → AgreeInRows first last (held_in rows image) image
 held_agrees image rows first last room from to = record {
   alike = record { description = refl; valid = refl };
@@ -109,7 +109,7 @@ held_agrees image rows first last room from to = record {
 
 -- ---- client images
 
--- a sample of a row that may be read is that of the block
+-- a sample of a readable row is that of the block
 module _ (p : PlaneValue) (whole : IsWhole p) (rows : Band) (room : IsInRows p.desc.height rows) where
   abbrev width : ℕ
   width = p.desc.width
@@ -189,7 +189,7 @@ module _ (image : ImageValue) (top : ℕ) (rows : Band) (old : List ℤ) (room :
       let same = from_top in
       length-take-le ((rows.start - top) * columns) old (omega (arith, size, same)) ∙ same
 
-  -- the sample at a place of a row that wasn't written stays
+  -- the samples of a row that isn't written stay
   pub among_beside : (x y : ℕ) → x < columns → y < image.height → has_row rows y ≡ false → get_or (written_among top rows image old) (y * columns + x) (pos 0) ≡ get_or old (y * columns + x) (pos 0)
   among_beside x y across low absent = elim (cases_Bool (ltb y rows.start)) [
     | inl e ↦
@@ -209,7 +209,7 @@ module _ (image : ImageValue) (top : ℕ) (rows : Band) (old : List ℤ) (room :
         ∙ ap (λ n. get_or old n (pos 0)) (omega arith)
   ]
 
--- of a client's image to which rows are written, the other rows stay
+-- after rows of a client's image are written, its other rows are as before
 pub written_beside : (p : PlaneValue) (rows : Band) (image : ImageValue) → p.desc ≡ description_of image → IsWhole p → IsInRows p.desc.height rows → (x y : ℕ) → x < p.desc.width → y < p.desc.height → has_row rows y ≡ false
     → at (block_image (with_rows rows image p)) x y ≡ at (block_image p) x y
 written_beside p rows image desc whole room x y across low beside =

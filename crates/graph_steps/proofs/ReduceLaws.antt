@@ -34,7 +34,7 @@ module _ (rows : Band) (planes : List PlaneValue) (r : Reduction) (tallies : Lis
   reduced_beside k other = get_or-set_other tallies r.tally k _ (tally.Extremes no_extremes) other
 
 module _ (tables : List Second) (high : ℕ) (halos : List ℕ) (band : Band) (kept : ℕ → Type 0) where
-  -- after a task, the other reductions can add the band
+  -- after a task, the other reductions can still add the band
   pub reduces_next : (t : Task) (later : List Task) (planes : List PlaneValue) (tallies : List Tally) → CanRunBand tables high halos band kept (t ∷ later) planes → CanReduceBand band.start (t ∷ later) planes tallies
       → CanReduceBand band.start later (after_task tables halos band t planes) (tallies_after band t planes tallies)
   reduces_next (Write s) later planes tallies can reduces =
@@ -88,7 +88,7 @@ module _ (tables : List Second) (high : ℕ) (halos : List ℕ) (band : Band) (k
     pub height : image.height ≡ (plane planes r.input).desc.height
     pub is : tally_at after r.tally ≡ with_rows_added (with_halo 0 (plane planes r.input).desc.height band) image (tally_at tallies r.tally)
 
-  -- where what is known as tasks begin says this of each image that a reduction reads
+  -- each image that a reduction reads has a property that follows from an invariant of the tasks
   module _ (Is : ℕ → ImageValue → Type 0) (IsKnown : List Task → List PlaneValue → Type 0) (can : (tasks : List Task) (planes : List PlaneValue) → IsKnown tasks planes → CanRunBand tables high halos band kept tasks planes)
       (next : (t : Task) (later : List Task) (planes : List PlaneValue) → IsKnown (t ∷ later) planes → IsKnown later (after_task tables halos band t planes))
       (reads : (q : Reduction) (later : List Task) (planes : List PlaneValue) → IsKnown (Reduce q ∷ later) planes → Is q.input (plane_image (plane planes q.input))) where

@@ -45,7 +45,7 @@ client_readable p c = record {
   image = subst IsImage (sym (all_read p c.whole c.rows)) c.image;
 }
 
--- a smaller band finds room where a larger one does
+-- blocks that are large enough for a band are large enough for a smaller one
 room_less : (size less : ℕ) (halos : List ℕ) (descs : ℕ → Description) (steps : List Task) (blocks : List (Format × ℕ)) → less ≤ size → HaveRoom size halos descs steps blocks → HaveRoom less halos descs steps blocks
 room_less size less halos descs [] blocks h room = room
 room_less size less halos descs (Reduce r ∷ later) blocks h room = room_less size less halos descs later blocks h room
@@ -63,7 +63,7 @@ room_less size less halos descs (Write s ∷ later) blocks h room = (
     fewer : (a b c : ℕ) → a ≤ b → a * c ≤ b * c
     fewer a b c h = grind arith
 
--- a client's image is another where it agrees with that in all rows
+-- a client's image equals an image with which it agrees in all rows
 same_image : (p : PlaneValue) (b : ImageValue) → length p.samples ≡ p.desc.height * p.desc.width → length b.samples ≡ b.height * b.width → AreAlike (block_image p) b
     → ((x y : ℕ) → x < p.desc.width → y < p.desc.height → at (block_image p) x y ≡ at b x y) → block_image p ≡ b
 same_image p b size long alike same =

@@ -50,7 +50,7 @@ none_or_some (Some t) = inr (t, refl)
 pub none_not_some : (o : Option ℕ) (t : ℕ) → o ≡ None → o ≡ Some t → ⊥
 none_not_some o t a b = let k : None ≡ Some t = sym a ∙ b in cc
 
--- ---- what a step may be given
+-- ---- the inputs of a step
 
 module _ (tables : List Second) (b : Description) (images : ℕ → ImageValue) where
   abbrev told : Source → Option ObjectValue
@@ -184,7 +184,7 @@ plane_read planes c p below is = is ∙ get_or_default planes c p no_plane below
 pub image_read : (planes : List PlaneValue) (c : ℕ) (p : PlaneValue) (image : ImageValue) → c < length planes → p ≡ get_or planes c p → image ≡ plane_image p → image ≡ read_images planes c
 image_read planes c p image below is image_is = image_is ∙ ap plane_image (plane_read planes c p below is)
 
--- a step's second input, as it is lent
+-- a step's second input
 pub plane_lent : (planes : List PlaneValue) (tables : List Second) (source : Source) (c : ℕ) (p : PlaneValue) (image : ImageValue) → source ≡ Plane c → c < length planes → p ≡ get_or planes c p → image ≡ plane_image p
     → Some (ImageObject image) ≡ second_in tables (read_images planes) source
 plane_lent planes tables source c p image is below there made =
@@ -259,7 +259,7 @@ module _ (t c top : ℕ) (planes : List PlaneValue) (from : t < length planes) (
       ∙ ap (λ l. set l c ((plane planes t).format, length (plane planes t).samples)) (map-set (λ p. (p.format, length p.samples)) planes t (without_block (plane planes t)))
       ∙ ap (λ (b : Format × ℕ). set (set (capacities planes) t (b.0, 0)) c b) (sym (capacity_at planes t))
 
--- the planes once the output has its block: it can be written
+-- once the output has its block, it can be written
 pub record IsReady (s : Step) (rows : Band) (planes ready : List PlaneValue) : Type 0 where
   pub count : length ready ≡ length planes
   pub desc : (k : ℕ) → (plane ready k).desc ≡ (plane planes k).desc
@@ -347,7 +347,7 @@ module _ (tables : List Second) (high : ℕ) (s : Step) (rows : Band) (planes : 
   image_same : rows_image tables s rows (read_images before) out ≡ rows_image tables s rows (read_images planes) out
   image_same = rows_image_same tables s rows out (read_images before) (read_images planes) (λ c reads. ap plane_image (input_same c reads))
 
-  -- before, the same can be made as of the planes
+  -- the step's inputs and output fit its function on the planes before, too
   pub can_before : CanMake s (read_images before s.first) (second_in tables (read_images before) s.second) out.desc
   can_before =
       can_make tables (plane planes (second_plane s.second)).desc (read_images before) s high (plane planes s.first).desc out.desc (read_images before s.first)
@@ -414,7 +414,7 @@ module _ (tables : List Second) (high : ℕ) (s : Step) (rows : Band) (planes : 
       image_rows : IsInRows (rows_image tables s rows (read_images planes) out).height rows
       image_rows = subst (λ (d : Description). IsInRows d.height rows) (sym image_desc) in_rows
 
-  -- an output that takes no block has all its rows still
+  -- an output that takes no block still has all its rows
   pub after_whole : s.takes ≡ None → IsWhole (plane after s.output)
   after_whole none =
       let w : IsWhole out = subst IsWhole (sym (is.own none)) (fits.whole none) in

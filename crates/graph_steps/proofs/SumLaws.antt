@@ -17,7 +17,7 @@ use Rattle.graph_steps.specs.Planes.{PlaneValue, with_rows, written_among}
 use Rattle.graph_steps.specs.Steps.{scan_image, sums_above}
 use Rattle.graph_steps.proofs.PlaneLaws.{rows_among}
 
--- the sums in the row above, as they are lent from the block
+-- the sums in the row above, read from the block
 lent_sums : (w top start from x : ℕ) (front items : List ℕ) → x < w → top ≤ start → from ≡ start - top → length front ≡ from * w → front ≡ take (from * w) items
     → row_sums (last_row w front) x ≡ sums_above w top start (map pos items) x
 lent_sums w top start from x front items across low from_is long is = elim (cases_lt top start) [
@@ -45,7 +45,7 @@ lent_sums w top start from x front items across low from_is long is = elim (case
     times : (k n : ℕ) → n ≡ k + 1 → n * w ≡ k * w + w
     times k n e = let more : (k + 1) * w ≡ k * w + w = grind arith in ap (λ m. m * w) e ∙ more
 
--- a sample follows from the sums above it alone
+-- a sample depends only on the sums above it
 follows : (image : ImageValue) (start : ℕ) (f g : ℕ → ℕ) (x y : ℕ) → f x ≡ g x → within image.valid (sum_on image start f) x y ≡ within image.valid (sum_on image start g) x y
 follows image start f g x y same = ap (λ n. within image.valid (λ u v. sum_on image start (λ _. n) u v) x y) same
 

@@ -212,7 +212,7 @@ pub all_above : (image : ImageValue) (t : Tally) → IsImage image → tally_abo
 all_above image (tally.Histogram d) is = ap (λ i. tally.Histogram (record { bins = d.bins; counts = histogram d.bins i })) (all_valid image is)
 all_above image (tally.Extremes e) is = ap (λ i. tally.Extremes (extremes i)) (all_valid image is)
 
--- ---- all rows at once
+-- ---- all rows together
 
 zero_at : (n k : ℕ) → slice_index (replicate n 0) k ≡ 0
 zero_at n k = elim (cases_lt k n) [

@@ -1,4 +1,4 @@
--- A program of three tasks, and one of an integral image.
+-- A program of three tasks, and one with an integral image.
 use Rattle.std.specs.Prelude.{ℕ, List, [], ◌∷◌, Some, None, Option}
 use Rattle.vx_base.specs.declared.border.Border.TheVariants.{Replicate}
 use Rattle.vx_base.specs.declared.format.Format.TheVariants.{U8, U32}
@@ -20,9 +20,11 @@ use Rattle.graph_steps.specs.declared.tally.Tally.{Tally}
 use Rattle.graph_steps.specs.declared.tally.Tally.TheVariants.{Extremes}
 use Rattle.graph_steps.specs.Planes.{PlaneValue}
 
+-- an image of 1 x 4 pixels
 abbrev pub small_image_desc : Description
 small_image_desc = record { width = 1; height = 4; format = U8 }
 
+-- a client's image with all rows
 abbrev pub client_plane : PlaneValue
 client_plane =
     record { desc = small_image_desc; valid = whole 1 4; top = 0; rows = all_rows 4; format = U8; samples = (new_image 1 4 U8).samples }
@@ -32,6 +34,7 @@ abbrev pub block_plane : PlaneValue
 block_plane =
     record { desc = small_image_desc; valid = empty; top = 0; rows = all_rows 0; format = U8; samples = (new_image 1 4 U8).samples }
 
+-- a box filter
 abbrev pub box_node : Node
 box_node =
     record {
@@ -45,39 +48,47 @@ box_node =
       out2 = None;
     }
 
+-- the box filter as a step from one plane to another
 abbrev pub box_step : ℕ → ℕ → Option ℕ → Step
 box_step input output takes =
     record { node = box_node; which = First; first = input; second = Nothing; output = output; takes = takes; radius = 1 }
 
--- the box filter of a client's image to a virtual image, and of that to a client's image; and the extremes of the virtual image
+-- two box filters, from a client's image through a virtual image to a client's image; and the extremes of the virtual image
 abbrev pub boxes : List Task
 boxes = Write (box_step 0 1 (Some 1)) ∷ Write (box_step 1 2 None) ∷ Reduce (record { input = 1; tally = 0 }) ∷ []
 
+-- the planes of these tasks
 abbrev pub box_planes : List PlaneValue
 box_planes = client_plane ∷ block_plane ∷ client_plane ∷ []
 
+-- the halos of these planes: each filter needs one more row of its input
 abbrev pub box_halos : List ℕ
 box_halos = 2 ∷ 1 ∷ 0 ∷ []
 
+-- the tally of the virtual image
 abbrev pub box_tallies : List Tally
 box_tallies = Extremes no_extremes ∷ []
 
 -- ---- an integral image
 
+-- the client's image for the integral image
 abbrev pub sums_plane : PlaneValue
 sums_plane =
     record { desc = record { width = 1; height = 4; format = U32 }; valid = whole 1 4; top = 0; rows = all_rows 4; format = U32; samples = (new_image 1 4 U32).samples }
 
--- the integral image of a client's image in another
+-- the integral image of a client's image
 abbrev pub integral_step : Step
 integral_step =
     record { node = record box_node { function = Integral }; which = First; first = 0; second = Nothing; output = 1; takes = None; radius = 0 }
 
+-- the program with the integral image
 abbrev pub sums : List Task
 sums = Write integral_step ∷ []
 
+-- its planes
 abbrev pub sums_planes : List PlaneValue
 sums_planes = client_plane ∷ sums_plane ∷ []
 
+-- its halos, which are 0
 abbrev pub sums_halos : List ℕ
 sums_halos = 0 ∷ 0 ∷ []

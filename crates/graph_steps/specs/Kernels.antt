@@ -1,4 +1,4 @@
--- What a kernel may be run on.
+-- Premises of kernels.
 use Rattle.std.specs.Prelude.{◌≡◌, false, IsTrue, Option, Some, IfSome}
 use Rattle.vx_base.specs.declared.node.Node.{Node}
 use Rattle.vx_base.specs.Function.{parameters, accumulates}
@@ -8,7 +8,7 @@ use Rattle.vx_base.specs.Object.{ObjectValue, object_kind}
 use Rattle.image_core.specs.declared.image_mut.ImageMut.{ImageMut}
 use Rattle.image_core.specs.Fits.{Fits}
 
--- a node that doesn't accumulate, with its inputs and an output
+-- a node that doesn't accumulate can run on these inputs and this output
 pub record CanRun (n : Node) (a : ImageValue) (second : Option ObjectValue) (out : ImageMut) : Type 0 where
   pub shape : IsTrue (is_node n)
   pub plain : accumulates n.function ≡ false

@@ -1,4 +1,4 @@
--- Planes: images while a graph runs, of which some rows are held in a block of samples.
+-- Planes: images while a graph runs. A block of samples holds some or all rows.
 use Rattle.std.specs.Prelude.{ℕ, ℤ, ◌+◌, ◌-◌, ◌*◌, ◌≤◌, ◌≡◌, min, List, [], ◌++◌, take, drop, length, slice_index_or}
 use Rattle.vx_base.specs.declared.format.Format.{Format}
 use Rattle.vx_base.specs.declared.format.Format.TheVariants.{U8}
@@ -10,8 +10,7 @@ use Rattle.vx_base.specs.Image.{ImageValue, IsImage, image_over, band, at}
 use Rattle.image_core.specs.declared.band.Band.{Band}
 use Rattle.image_core.specs.Bands.{IsInRows, all_rows, image_over_rows}
 
--- the description and the valid rectangle of the whole image; the image row with which the block begins; the rows that a step may read;
--- and the samples of the block, of one format
+-- desc and valid are those of the whole image; the block begins with image row top; a step may read these rows; the samples have one format
 pub record PlaneValue : Type 0 where
   pub desc : Description
   pub valid : Rectangle
@@ -20,7 +19,7 @@ pub record PlaneValue : Type 0 where
   pub format : Format
   pub samples : List ℤ
 
--- of a block that begins with row `top`, the samples of these rows of this width
+-- the samples of these rows, in a block that begins with row `top` and has this width
 abbrev pub rows_of_block : ℕ → ℕ → Band → List ℤ → List ℤ
 rows_of_block width top rows samples = take (rows.count * width) (drop ((rows.start - top) * width) samples)
 
@@ -28,21 +27,21 @@ rows_of_block width top rows samples = take (rows.count * width) (drop ((rows.st
 abbrev pub plane_image : PlaneValue → ImageValue
 plane_image p = image_over_rows p.desc p.valid p.rows (rows_of_block p.desc.width p.top p.rows p.samples)
 
--- the image of all samples of the block: of a client's image all its rows
+-- the image of all samples of the block; a client's image has all its rows
 abbrev pub block_image : PlaneValue → ImageValue
 block_image p = image_over p.desc p.valid p.samples
 
--- the plane, of which a step may read these rows
+-- the plane with other readable rows
 abbrev pub with_read_rows : Band → PlaneValue → PlaneValue
 with_read_rows rows p = record p { rows = rows }
 
--- a block that begins with row `top`, in which these rows are those of an image, and all other samples as before
+-- the block after these rows of an image are written to it; it begins with row `top`
 abbrev pub written_among : ℕ → Band → ImageValue → List ℤ → List ℤ
 written_among top rows image old =
     take ((rows.start - top) * image.width) old
     ++ (band image.width rows.start rows.count (at image) ++ drop ((rows.start - top + rows.count) * image.width) old)
 
--- the plane to which these rows of an image are written, with the image's valid rectangle
+-- the plane after these rows of an image are written to it; it gets the image's valid rectangle
 abbrev pub with_rows : Band → ImageValue → PlaneValue → PlaneValue
 with_rows rows image p =
     record { desc = p.desc; valid = image.valid; top = p.top; rows = rows; format = p.format; samples = written_among p.top rows image p.samples }
@@ -52,12 +51,12 @@ abbrev pub whole_plane : Description → Rectangle → Samples → PlaneValue
 whole_plane d valid block =
     record { desc = d; valid = valid; top = 0; rows = all_rows d.height; format = samples_format block; samples = values block }
 
--- the plane of a virtual image, whose rows are not written yet
+-- the plane of a virtual image, of which no row is written yet
 abbrev pub virtual_plane : Description → Samples → PlaneValue
 virtual_plane d block =
     record { desc = d; valid = empty; top = 0; rows = all_rows 0; format = samples_format block; samples = values block }
 
--- the plane with another block, which begins with row `top`; and without its own
+-- the plane with another block, which begins with row `top`; and without a block
 abbrev pub with_block : Format → List ℤ → ℕ → PlaneValue → PlaneValue
 with_block format samples top p =
     record { desc = p.desc; valid = empty; top = top; rows = p.rows; format = format; samples = samples }
@@ -67,11 +66,12 @@ without_block p = record p { samples = [] }
 
 -- ---- many planes
 
+-- the plane at an index that isn't in the list
 abbrev pub no_plane : PlaneValue
 no_plane =
     record { desc = record { width = 0; height = 0; format = U8 }; valid = empty; top = 0; rows = all_rows 0; format = U8; samples = [] }
 
--- the plane at an index, the image that a step reads there, and that of its block
+-- the plane at an index, the image that a step reads there, and the image of its block
 abbrev pub plane : List PlaneValue → ℕ → PlaneValue
 plane planes c = slice_index_or planes c no_plane
 
@@ -81,7 +81,7 @@ read_images planes c = plane_image (plane planes c)
 abbrev pub block_images : List PlaneValue → ℕ → ImageValue
 block_images planes c = block_image (plane planes c)
 
--- a plane that a step can read
+-- a step can read the plane
 pub record IsReadable (p : PlaneValue) : Type 0 where
   pub format : p.format ≡ p.desc.format
   pub rows : IsInRows p.desc.height p.rows
@@ -89,7 +89,7 @@ pub record IsReadable (p : PlaneValue) : Type 0 where
   pub room : (p.rows.start - p.top + p.rows.count) * p.desc.width ≤ length p.samples
   pub image : IsImage (plane_image p)
 
--- a plane whose block has all rows of an image
+-- the plane's block has all rows of the image
 pub record IsWhole (p : PlaneValue) : Type 0 where
   pub format : p.format ≡ p.desc.format
   pub top : p.top ≡ 0

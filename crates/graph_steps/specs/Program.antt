@@ -1,4 +1,4 @@
--- Programs: tasks that run band after band, and the images that they make.
+-- Programs: tasks that run band by band, and the images that they write.
 use Rattle.std.specs.Prelude.{ℕ, ◌+◌, ◌*◌, ◌<◌, ◌≤◌, ◌≡◌, ◌≢◌, ◌⊎◌, ◌==◌, if◌then◌else◌, min, true, List, [], ◌∷◌, length, slice_index_or, Some, None}
 use Rattle.vx_base.specs.declared.format.Format.{Format}
 use Rattle.vx_base.specs.Description.{Description}
@@ -30,7 +30,7 @@ Reduces r (Reduce q ∷ others) = (r ≡ q) ⊎ Reduces r others
 abbrev pub IsUnwritten : List Task → ℕ → Type 0
 IsUnwritten tasks c = (s : Step) → IsStepOf s tasks → s.output ≢ c
 
--- no plane is written by two of the steps
+-- no two steps write the same plane
 abbrev pub HaveOneWriter : List Task → Type 0
 HaveOneWriter [] = Unit {0}
 HaveOneWriter (Write s ∷ later) = IsUnwritten later s.output × HaveOneWriter later
@@ -44,11 +44,11 @@ AreInOrder (Reduce r ∷ later) = AreInOrder later
 
 -- ---- halos
 
--- the rows above and below a band that are needed of each plane
+-- the number of rows above and below a band that are needed of a plane
 abbrev pub halo : List ℕ → ℕ → ℕ
 halo halos c = slice_index_or halos c 0
 
--- a step's inputs have its output's halo and its radius more, in images of at most this height
+-- the halos of a step's inputs are at least its output's halo plus its radius, limited to the greatest image height
 abbrev pub Suffice : ℕ → List ℕ → List Task → Type 0
 Suffice high halos tasks =
     (s : Step) → IsStepOf s tasks → (c : ℕ) → ReadsPlane s c → min high (halo halos s.output + s.radius) ≤ halo halos c
@@ -59,11 +59,11 @@ IsUnread tasks c = (s : Step) → IsStepOf s tasks → ReadsPlane s c → ⊥
 
 -- ---- a band
 
--- of the image at an index, the rows that a band needs
+-- the rows of a plane that a band needs: the band and the plane's halo
 abbrev pub band_rows : List PlaneValue → List ℕ → Band → ℕ → Band
 band_rows planes halos rows c = with_halo (halo halos c) (plane planes c).desc.height rows
 
--- the planes once a task is done on a band, and once all are
+-- the planes after a task on a band, and after all tasks
 abbrev pub after_task : List Second → List ℕ → Band → Task → List PlaneValue → List PlaneValue
 after_task tables halos rows (Write s) planes = after_step tables s (band_rows planes halos rows s.output) planes
 after_task tables halos rows (Reduce r) planes = planes
@@ -74,27 +74,27 @@ after_tasks tables halos rows (t ∷ later) planes = after_tasks tables halos ro
 
 -- ---- blocks
 
--- the plane at this index keeps its block: it is that of a client's image
+-- the plane at this index keeps its block, as that of a client's image does: no step takes it or gives the plane another
 abbrev pub KeepsBlock : ℕ → List Task → ℕ → Type 0
 KeepsBlock count tasks c = (c < count) × ((s : Step) → IsStepOf s tasks → (t : ℕ) → s.takes ≡ Some t → (t ≢ c) × (s.output ≢ c))
 
--- the rows that the plane has before these tasks are read by one of them, or kept
+-- a task reads the plane's rows before a step writes them, or they are kept to the end
 abbrev pub IsLive : (ℕ → Type 0) → List Task → ℕ → Type 0
 IsLive kept [] c = kept c
 IsLive kept (Write s ∷ later) c = ReadsPlane s c ⊎ ((c ≢ s.output) × IsLive kept later c)
 IsLive kept (Reduce r ∷ later) c = (r.input ≡ c) ⊎ IsLive kept later c
 
--- each block is taken from a plane whose rows are not read again
+-- each block is taken from a plane whose rows aren't read again
 abbrev pub AreFree : (ℕ → Type 0) → List Task → Type 0
 AreFree kept [] = Unit {0}
 AreFree kept (Reduce r ∷ later) = AreFree kept later
 AreFree kept (Write s ∷ later) = ((t : ℕ) → s.takes ≡ Some t → t ≢ s.output → IsLive kept later t → ⊥) × AreFree kept later
 
--- a block for this many rows of an image and their halo
+-- the block has the image's format and is large enough for a band of `size` rows with a halo of `more` rows
 abbrev pub HoldsRows : ℕ → ℕ → Description → Format × ℕ → Type 0
 HoldsRows size more d block = (block.0 ≡ d.format) × (min d.height (size + more + more) * d.width ≤ block.1)
 
--- each block that is taken has room for a band of this many rows of the output, and its halo
+-- each block that a step takes is large enough for a band of the output with its halo
 abbrev pub HaveRoom : ℕ → List ℕ → (ℕ → Description) → List Task → List (Format × ℕ) → Type 0
 HaveRoom size halos descs [] blocks = Unit {0}
 HaveRoom size halos descs (Reduce r ∷ later) blocks = HaveRoom size halos descs later blocks
@@ -102,7 +102,7 @@ HaveRoom size halos descs (Write s ∷ later) blocks =
     ((t : ℕ) → s.takes ≡ Some t → HoldsRows size (halo halos s.output) (descs s.output) (capacity blocks t))
     × HaveRoom size halos descs later (blocks_after_step s blocks)
 
--- where the blocks are after the tasks
+-- the blocks of all planes after the tasks
 abbrev pub blocks_after_tasks : List Task → List (Format × ℕ) → List (Format × ℕ)
 blocks_after_tasks [] blocks = blocks
 blocks_after_tasks (Write s ∷ later) blocks = blocks_after_tasks later (blocks_after_step s blocks)
@@ -110,7 +110,7 @@ blocks_after_tasks (Reduce r ∷ later) blocks = blocks_after_tasks later blocks
 
 -- ---- programs
 
--- the indices that a step names are those of planes; its output and the plane whose block that takes are none of its inputs
+-- a step's indices are those of planes; its inputs are neither its output nor the plane whose block it takes
 pub record NamesPlanes (count : ℕ) (s : Step) : Type 0 where
   pub output : s.output < count
   pub reads : (c : ℕ) → ReadsPlane s c → (c < count) × (c ≢ s.output) × (s.takes ≢ Some c)
@@ -123,7 +123,7 @@ pub record IsClient (p : PlaneValue) : Type 0 where
   pub rows : p.rows ≡ all_rows p.desc.height
   pub image : IsImage (block_image p)
 
--- tasks that can run in bands of `size` rows over planes of at most this height
+-- the tasks can run in bands of `size` rows over planes of at most `high` rows
 pub record IsProgram (tables : List Second) (high size : ℕ) (halos : List ℕ) (tasks : List Task) (planes : List PlaneValue) : Type 0 where
   pub some : 0 < high
   pub forward : 0 < size
@@ -133,19 +133,19 @@ pub record IsProgram (tables : List Second) (high size : ℕ) (halos : List ℕ)
   pub halo_count : length halos ≡ length planes
   pub enough : Suffice high halos tasks
   pub one_writer : HaveOneWriter tasks
-  -- rows that a step reads were written before it, or are those of a client's image that no step writes
+  -- each row that a step reads was written before, or belongs to a client's image that no step writes
   pub begins : (c : ℕ) → IsLive (KeepsBlock (length planes) tasks) tasks c → IsUnwritten tasks c × KeepsBlock (length planes) tasks c
   pub clients : (c : ℕ) → KeepsBlock (length planes) tasks c → IsClient (plane planes c)
   pub written : (s : Step) → IsStepOf s tasks → s.takes ≡ None → KeepsBlock (length planes) tasks s.output
   -- a step that reads its output writes each row once, to a block of all rows
   pub once : (s : Step) → IsStepOf s tasks → reads_output s.node.function ≡ true → ((halo halos s.output ≡ 0) × (s.takes ≡ None)) ⊎ (high ≤ size)
-  -- blocks are free when they are taken, have room, and after a band are where they were before it
+  -- blocks are free and large enough when they are taken, and back in their planes after a band
   pub free : AreFree (KeepsBlock (length planes) tasks) tasks
   pub room : HaveRoom size halos (λ c. (plane planes c).desc) tasks (capacities planes)
   pub again : blocks_after_tasks tasks (capacities planes) ≡ capacities planes
 
--- images that the steps make of each other: each output is, whole, the step's image of these, and where the step accumulates of the
--- output before; every other image is as before
+-- the images solve the steps' equations: each output is the step's image of them and, if the step accumulates, of the old output; all other
+-- images are unchanged
 pub record SolvesSteps (tables : List Second) (count : ℕ) (tasks : List Task) (before after : ℕ → ImageValue) : Type 0 where
   pub images : (c : ℕ) → c < count → IsImage (after c)
   pub written : (s : Step) → IsStepOf s tasks → after s.output ≡ step_image tables s after (before s.output)
@@ -157,7 +157,7 @@ pub record SolvesSteps (tables : List Second) (count : ℕ) (tasks : List Task) 
 abbrev pub with_image : ℕ → ImageValue → (ℕ → ImageValue) → ℕ → ImageValue
 with_image c image images k = if k == c then image else images k
 
--- the steps one after the other, each over whole images
+-- the images after all steps, each run on whole images in order
 abbrev pub steps_in_turn : List Second → List Task → (ℕ → ImageValue) → ℕ → ImageValue
 steps_in_turn tables [] images = images
 steps_in_turn tables (Write s ∷ later) images = steps_in_turn tables later (with_image s.output (step_image tables s images (images s.output)) images)
@@ -167,6 +167,6 @@ steps_in_turn tables (Reduce r ∷ later) images = steps_in_turn tables later im
 abbrev pub IsWritten : List Task → ℕ → Type 0
 IsWritten tasks c = (s : Step) × IsStepOf s tasks × (s.output ≡ c)
 
--- each plane is that of a client's image, or is written
+-- each plane belongs to a client's image, or a step writes it
 abbrev pub AreFilled : ℕ → List Task → Type 0
 AreFilled count tasks = (c : ℕ) → c < count → KeepsBlock count tasks c ⊎ IsWritten tasks c

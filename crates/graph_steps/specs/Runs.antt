@@ -12,7 +12,7 @@ use Rattle.graph_steps.specs.declared.tally.Tally.{Tally}
 use Rattle.graph_steps.specs.Tallies.{CanReduce, HaveOneReduction}
 use Rattle.graph_steps.specs.Program.{Reduces, band_rows, IsStepOf, NamesPlanes, IsLive, AreFree, HaveRoom}
 
--- steps that can run on a band, where these planes keep their blocks
+-- the steps can run on a band, and these planes keep their blocks
 pub record CanRunBand (tables : List Second) (high : ℕ) (halos : List ℕ) (rows : Band) (kept : ℕ → Type 0) (tasks : List Task) (planes : List PlaneValue) : Type 0 where
   pub fits : rows.start + rows.count < 2 ^ 16
   pub halo_count : length halos ≡ length planes
@@ -25,12 +25,12 @@ pub record CanRunBand (tables : List Second) (high : ℕ) (halos : List ℕ) (ro
   pub free : AreFree kept tasks
   pub room : HaveRoom rows.count halos (λ c. (plane planes c).desc) tasks (capacities planes)
 
--- tasks whose reductions can add a band, once the rows above `first` are added
+-- the reductions can add a band, after the rows above `first`
 pub record CanReduceBand (first : ℕ) (tasks : List Task) (planes : List PlaneValue) (tallies : List Tally) : Type 0 where
   pub apart : HaveOneReduction tasks
   pub reduces : (r : Reduction) → Reduces r tasks → CanReduce first planes tallies r
 
--- a task that can be done on a band
+-- a task can run on a band
 abbrev pub CanDo : List Second → ℕ → List ℕ → Band → Task → List PlaneValue → List Tally → Type 0
 CanDo tables high halos rows (Write s) planes tallies = (s.output < length halos) × CanStep tables high s (band_rows planes halos rows s.output) planes
 CanDo tables high halos rows (Reduce r) planes tallies = IsReadable (plane planes r.input) × CanReduce rows.start planes tallies r

@@ -37,60 +37,63 @@ use Rattle.graph_steps.specs.Planes.{PlaneValue, plane, read_images, plane_image
 abbrev pub ReadsPlane : Step → ℕ → Type 0
 ReadsPlane s c = (s.first ≡ c) ⊎ (s.second ≡ Plane c)
 
--- a step's second input: an image, a lent table, or none
+-- a step's second input: an image, a table, or none
 abbrev pub second_in : List Second → (ℕ → ImageValue) → Source → Option ObjectValue
 second_in tables images Nothing = None
 second_in tables images (Plane c) = Some (ImageObject (images c))
 second_in tables images (Table k) = option_and_then (λ t. second_object t) (slice_get tables k)
 
--- the image that a step makes of its inputs and, where it accumulates, of its output before
+-- the image that a step computes from its inputs and, if it accumulates, from its old output
 abbrev pub image_from_inputs : Step → ImageValue → Option ObjectValue → ImageValue → ImageValue
 image_from_inputs s first second own = node_image s.node s.which own.format first (beside_first s.node second (ImageObject own))
 
+-- the image that a kernel computes, given the old output
 abbrev pub kernel_image : Kernel → ImageValue → ImageValue
 kernel_image k own = image_from_inputs k.step.now k.first.now (second_object k.second.now) own
 
--- the image whose rows an output holds: 0 in every other row
+-- the image with the rows of an output, and 0 in all other rows
 abbrev pub held_image : ImageMut → ImageValue
 held_image out = image_over_rows out.desc out.valid out.rows (written out).samples
 
+-- the image that a step computes from the images of its planes
 abbrev pub step_image : List Second → Step → (ℕ → ImageValue) → ImageValue → ImageValue
 step_image tables s images own = image_from_inputs s (images s.first) (second_in tables images s.second) own
 
--- the step of a node whose inputs are lent to its kernel: it names no planes
+-- the step of a node whose inputs are passed to its kernel; its plane indices aren't used
 abbrev pub lent_step : Node → Output → Step
 lent_step n which = record { node = n; which = which; first = 0; second = Nothing; output = 0; takes = None; radius = 0 }
 
 -- ---- integral images
 
+-- whether the function is the integral image
 abbrev pub is_integral : Function → Bool
 is_integral Integral = true
 is_integral other = false
 
--- a step of this function reads its output: it accumulates there, or a row follows from the row above it
+-- whether a step reads its output: it accumulates, or continues from the row above
 abbrev pub reads_output : Function → Bool
 reads_output function = accumulates function || is_integral function
 
--- the sums in the row above `start`, in a block of rows from `top` on; 0 where the block begins with row `start`
+-- the integral image's row above `start`, in a block that begins with row `top`; 0 if the block has no such row
 abbrev pub sums_above : ℕ → ℕ → ℕ → List ℤ → ℕ → ℕ
 sums_above width top start samples x = if start == top then 0 else unsigned_abs (slice_index_or samples ((start - top - 1) * width + x) (pos 0))
 
--- the integral image in rows from `start` on, which follow from the row above them in the output's block
+-- the integral image in the rows from `start` on, continued from the row above them in the output's block
 abbrev pub scan_image : ℕ → ImageValue → PlaneValue → ImageValue
 scan_image start first out = made first.width first.height out.desc.format first.valid (sum_on first start (sums_above out.desc.width out.top start out.samples))
 
--- the image of which a step writes these rows
+-- the image whose rows a step writes
 abbrev pub rows_image : List Second → Step → Band → (ℕ → ImageValue) → PlaneValue → ImageValue
 rows_image tables s rows images out =
     if is_integral s.node.function then scan_image rows.start (images s.first) out else step_image tables s images (plane_image (with_read_rows rows out))
 
--- the rows of its inputs above and below a row of its output that a step reads
+-- a step's radius: the number of input rows above and below an output row that it reads; None if it reads all
 abbrev pub step_reach : Function → Option ConvolutionValue → Option ℕ
 step_reach function matrix = if is_integral function then Some 0 else reach function matrix
 
 -- ---- premises of a step
 
--- a node's inputs, and an output of this description: kinds, formats and sizes that its function takes
+-- the inputs and an output of this description have the kinds, formats and sizes that the function takes
 pub record CanMake (s : Step) (first : ImageValue) (second : Option ObjectValue) (out : Description) : Type 0 where
   pub node : IsNode s.node
   pub kind : IfSome second (λ object. (parameters s.node.function).second_input ≡ Some (object_kind object))
@@ -98,75 +101,79 @@ pub record CanMake (s : Step) (first : ImageValue) (second : Option ObjectValue)
   pub size : IsTrue (same_size out (description_of first))
   pub second_size : SecondHasSize first second
 
--- a function reads no row outside the radius, in images of at most this height
+-- the radius is enough for the rows that a function reads, in images of at most this height
 abbrev pub Covers : Option ℕ → ℕ → ℕ → Type 0
 Covers (Some rows) radius high = rows ≤ radius
 Covers None radius high = high ≤ radius
 
--- an image of which nothing but its description matters
+-- an image for statements that depend on the description alone
 abbrev pub blank_image : Description → ImageValue
 blank_image d = image_over d empty []
 
--- the plane of the second input; index 0 where that is none
+-- the plane of the second input, or index 0 if it isn't a plane
 abbrev pub second_plane : Source → ℕ
 second_plane (Plane c) = c
 second_plane other = 0
 
--- a step over planes of these descriptions: of its inputs and of its output
+-- a step can run on planes with these descriptions, if the heights are at most `high`
 pub record Suits (tables : List Second) (high : ℕ) (s : Step) (first second out : Description) : Type 0 where
   pub makes : CanMake s (blank_image first) (second_in tables (λ _. blank_image second) s.second) out
   pub table : (k : ℕ) → s.second ≡ Table k → (k < length tables) × IfSome (second_in tables (λ _. blank_image second) s.second) IsObject
   pub near : Covers (step_reach s.node.function (matrix_in (second_in tables (λ _. blank_image second) s.second))) s.radius high
 
--- the same over planes
+-- the same for the planes at its indices
 abbrev pub SuitsPlanes : List Second → ℕ → Step → List PlaneValue → Type 0
 SuitsPlanes tables high s planes =
     Suits tables high s (plane planes s.first).desc (plane planes (second_plane s.second)).desc (plane planes s.output).desc
 
--- planes on which a step can write these rows of its output
+-- a step can write these rows of its output
 pub record CanStep (tables : List Second) (high : ℕ) (s : Step) (rows : Band) (planes : List PlaneValue) : Type 0 where
   pub suits : SuitsPlanes tables high s planes
   pub output : s.output < length planes
   pub reads : (c : ℕ) → ReadsPlane s c → (c < length planes) × (c ≢ s.output) × (s.takes ≢ Some c) × IsReadable (plane planes c)
   pub within : IsInRows (plane planes s.output).desc.height rows
-  -- the block that the output takes has its format, and room for the rows
+  -- the block that the output takes has the output's format, and is large enough for the rows
   pub block : (t : ℕ) → s.takes ≡ Some t →
       (t < length planes) × ((plane planes t).format ≡ (plane planes s.output).desc.format) × (rows.count * (plane planes s.output).desc.width ≤ length (plane planes t).samples)
-  -- an output that takes none has all rows
+  -- an output that takes no block has all rows
   pub whole : s.takes ≡ None → IsWhole (plane planes s.output)
 
 -- ---- effect on planes
 
--- the plane at c takes the block of that at t, to hold rows from `top` on
+-- plane c takes the block of plane t, for rows from `top` on
 abbrev pub with_moved_block : ℕ → ℕ → ℕ → List PlaneValue → List PlaneValue
 with_moved_block t c top planes =
     slice_set (slice_set planes t (without_block (plane planes t))) c
     (with_block (plane planes t).format (plane planes t).samples top (plane (slice_set planes t (without_block (plane planes t))) c))
 
+-- the planes after the output has taken its block, if it takes one
 abbrev pub with_output_block : Option ℕ → ℕ → ℕ → List PlaneValue → List PlaneValue
 with_output_block None c top planes = planes
 with_output_block (Some t) c top planes = with_moved_block t c top planes
 
--- these rows of the output are written
+-- the planes after these rows of the output are written
 abbrev pub with_output : List Second → Step → Band → List PlaneValue → List PlaneValue
 with_output tables s rows planes =
     let out = plane planes s.output in
     slice_set planes s.output (with_rows rows (rows_image tables s rows (read_images planes) out) out)
 
--- the planes once the step has run on these rows of its output
+-- the planes after a step has run on these rows of its output
 abbrev pub after_step : List Second → Step → Band → List PlaneValue → List PlaneValue
 after_step tables s rows planes = with_output tables s rows (with_output_block s.takes s.output rows.start planes)
 
--- the format of a block and its number of samples, and how blocks move as a step takes one
+-- the format and the number of samples of each plane's block
 abbrev pub capacities : List PlaneValue → List (Format × ℕ)
 capacities planes = map (λ p. (p.format, length p.samples)) planes
 
+-- those of one plane
 abbrev pub capacity : List (Format × ℕ) → ℕ → Format × ℕ
 capacity blocks c = slice_index_or blocks c (U8, 0)
 
+-- those of all planes after plane c has taken the block of a plane
 abbrev pub blocks_with_move : Option ℕ → ℕ → List (Format × ℕ) → List (Format × ℕ)
 blocks_with_move None c blocks = blocks
 blocks_with_move (Some t) c blocks = slice_set (slice_set blocks t ((capacity blocks t).0, 0)) c (capacity blocks t)
 
+-- those of all planes after a step
 abbrev pub blocks_after_step : Step → List (Format × ℕ) → List (Format × ℕ)
 blocks_after_step s blocks = blocks_with_move s.takes s.output blocks

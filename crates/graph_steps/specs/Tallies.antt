@@ -1,4 +1,4 @@
--- Tallies: histograms and extremes, as far as bands have run.
+-- Tallies: the results of reductions for the bands that have run so far.
 use Rattle.std.specs.Prelude.{ℕ, ◌+◌, ◌*◌, ◌<◌, ◌≤◌, ◌^◌, ◌≡◌, ◌≢◌, List, [], ◌∷◌, length, replicate, slice_index, slice_index_or, slice_set}
 use Rattle.vx_base.specs.declared.format.Format.{Format}
 use Rattle.vx_base.specs.declared.format.Format.TheVariants.{U8, U32}
@@ -20,10 +20,11 @@ use Rattle.graph_steps.specs.Program.{Reduces, after_task}
 
 -- ---- one tally
 
--- the distribution once these rows of an image are counted too
+-- the histogram with these rows of an image added
 abbrev pub with_rows_counted : Band → ImageValue → DistributionValue → DistributionValue
 with_rows_counted rows image d = record { bins = d.bins; counts = added d.counts (histogram d.bins (valid_in rows image)) }
 
+-- a tally with these rows of an image added
 abbrev pub with_rows_added : Band → ImageValue → Tally → Tally
 with_rows_added rows image (tally.Histogram d) = tally.Histogram (with_rows_counted rows image d)
 with_rows_added rows image (tally.Extremes e) = tally.Extremes (added_extremes 0 e (extremes (valid_in rows image)))
@@ -33,17 +34,17 @@ abbrev pub tally_of : ImageValue → Tally → Tally
 tally_of image (tally.Histogram d) = tally.Histogram (record { bins = d.bins; counts = histogram d.bins image })
 tally_of image (tally.Extremes e) = tally.Extremes (extremes image)
 
--- a tally to which nothing was added
+-- nothing was added to the tally
 abbrev pub IsNew : Tally → Type 0
 IsNew (tally.Histogram d) = d.counts ≡ replicate d.bins.bins 0
 IsNew (tally.Extremes e) = e ≡ no_extremes
 
--- an image of this format can be added
+-- images of this format can be added
 abbrev pub TakesFormat : Format → Tally → Type 0
 TakesFormat format (tally.Histogram d) = format ≡ U8
 TakesFormat format (tally.Extremes e) = format ≢ U32
 
--- no count passes 32 bits where these rows are added
+-- no count exceeds 32 bits when these rows are added
 abbrev pub CountsFit : Band → ImageValue → Tally → Type 0
 CountsFit rows image (tally.Histogram d) = (k : ℕ) → slice_index d.counts k + length (valid_samples (valid_in rows image)) < 2 ^ 32
 CountsFit rows image (tally.Extremes e) =
@@ -54,22 +55,23 @@ pub record CanAdd (rows : Band) (image : ImageValue) (t : Tally) : Type 0 where
   pub format : TakesFormat image.format t
   pub room : CountsFit rows image t
 
--- a tally of at most this many samples, with a count for each bin
+-- no count of the tally exceeds `most`, and a histogram has a count for each bin
 abbrev pub IsBounded : ℕ → Tally → Type 0
 IsBounded most (tally.Histogram d) = (length d.counts ≡ d.bins.bins) × ((k : ℕ) → slice_index d.counts k ≤ most)
 IsBounded most (tally.Extremes e) = (e.min_count ≤ most) × (e.max_count ≤ most)
 
 -- ---- all tallies
 
+-- the tally at an index
 abbrev pub tally_at : List Tally → ℕ → Tally
 tally_at tallies k = slice_index_or tallies k (tally.Extremes no_extremes)
 
--- the tallies once a reduction has run on a band
+-- the tallies after a reduction has run on a band
 abbrev pub after_reduction : Band → List PlaneValue → Reduction → List Tally → List Tally
 after_reduction rows planes r tallies =
     slice_set tallies r.tally (with_rows_added (with_halo 0 (plane planes r.input).desc.height rows) (plane_image (plane planes r.input)) (tally_at tallies r.tally))
 
--- the tallies once a task is done on a band, and once all are
+-- the tallies after a task on a band, and after all tasks
 abbrev pub tallies_after : Band → Task → List PlaneValue → List Tally → List Tally
 tallies_after rows (Write s) planes tallies = tallies
 tallies_after rows (Reduce r) planes tallies = after_reduction rows planes r tallies
@@ -79,13 +81,13 @@ all_tallies_after tables halos rows [] planes tallies = tallies
 all_tallies_after tables halos rows (t ∷ later) planes tallies =
     all_tallies_after tables halos rows later (after_task tables halos rows t planes) (tallies_after rows t planes tallies)
 
--- no tally is that of two reductions
+-- no two reductions share a tally
 abbrev pub HaveOneReduction : List Task → Type 0
 HaveOneReduction [] = Unit {0}
 HaveOneReduction (Write s ∷ later) = HaveOneReduction later
 HaveOneReduction (Reduce r ∷ later) = ((q : Reduction) → Reduces q later → q.tally ≢ r.tally) × HaveOneReduction later
 
--- a reduction of a plane whose rows above `first` are added
+-- a reduction can continue with the rows from `first` on
 pub record CanReduce (first : ℕ) (planes : List PlaneValue) (tallies : List Tally) (r : Reduction) : Type 0 where
   pub input : r.input < length planes
   pub tally : r.tally < length tallies

@@ -1,4 +1,4 @@
-//! For each band all tasks.
+//! Runs programs band by band.
 ghost use Rattle.std.specs.Prelude.{◌≡◌, ◌-◌, ◌+◌, ◌<◌, ◌≤◌, ◌^◌, ℕ, length};
 ghost use Rattle.vx_base.specs.Image.{ImageValue};
 ghost use Rattle.graph_steps.specs.declared.step.Reduction.{Reduction as ReductionValue};
@@ -19,7 +19,7 @@ use crate::step::{Reduction, Step, Task};
 use crate::tally::Tally;
 use image_core::{Band, Second};
 
-/// Returns the rows of the step's output that a band needs.
+/// Returns the rows of the step's output that a band needs: the band and the output's halo.
 fn rows_for(step: &Step, halos: &[u16], band: Band, planes: &[Plane]) -> Band
     requires fits { band.start + band.count < 2 ^ 16 }
     requires halo { step.now.output < length halos.now }
@@ -41,7 +41,7 @@ fn reduce(reduction: &Reduction, band: Band, planes: &[Plane], tallies: &mut [Ta
     tallies[reduction.tally].add(&input.image(), rows);
 }
 
-/// Does a task on a band.
+/// Runs a task on a band.
 fn do_task(
     tables: &[Second<'_>],
     task: &Task,
@@ -65,8 +65,8 @@ fn do_task(
     }
 }
 
-/// Does all tasks on a band. The rows of the band and its halo are written of each output, and the
-/// rows of the band are added to each tally.
+/// Runs all tasks on a band. Each step writes the rows of the band and its output's halo, and each
+/// reduction adds the rows of the band to its tally.
 fn run_band(
     tables: &[Second<'_>],
     tasks: &[Task],
@@ -89,9 +89,10 @@ fn run_band(
     }
 }
 
-/// Runs a program over planes of at most this height, in bands of `size` rows: over whole images
-/// where `size` is the height. Each client's image is in the end that of any solution of the steps'
-/// equations over whole images, and each tally that of its image, whatever the size of the bands.
+/// Runs a program in bands of `size` rows, over planes of at most `high` rows.
+///
+/// The results don't depend on `size`. Each client's image and each tally are those of any solution
+/// of the steps' equations over whole images.
 pub fn run(
     tables: &[Second<'_>],
     tasks: &[Task],

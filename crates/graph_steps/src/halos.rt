@@ -7,7 +7,7 @@ ghost use Rattle.graph_steps.specs.Program.{IsStepOf, AreInOrder, halo, Suffice,
 
 use crate::step::{Source, Step, Task};
 
-/// Gives the plane at an index at least this halo.
+/// Raises the halo of a plane to at least `rows`.
 fn raise(halos: &mut [u16], at: usize, rows: u16)
     requires { at < length halos.old }
     ensures { halos.new ≡ slice_set halos.old at (max (halo halos.old at) rows) }
@@ -15,7 +15,7 @@ fn raise(halos: &mut [u16], at: usize, rows: u16)
     halos[at] = halos[at].max(rows);
 }
 
-/// Gives the inputs of a step the halo of its output and the step's radius more.
+/// Raises the halos of a step's inputs to its output's halo plus the step's radius.
 fn raise_inputs(step: &Step, high: u16, halos: &mut [u16])
     requires reads { (c : ℕ) → ReadsPlane step.now c → c < length halos.old }
     requires output { step.now.output < length halos.old }
@@ -34,7 +34,7 @@ fn raise_inputs(step: &Step, high: u16, halos: &mut [u16])
     }
 }
 
-/// Raises the halos of a task's inputs. A reduction reads the rows of the band alone.
+/// Raises the halos of a task's inputs. A reduction reads only the rows of the band.
 fn raise_for(task: &Task, high: u16, halos: &mut [u16])
     requires reads { (s : StepValue) → task.now ≡ Write s → (c : ℕ) → ReadsPlane s c →
         c < length halos.old }
@@ -52,8 +52,8 @@ fn raise_for(task: &Task, high: u16, halos: &mut [u16])
     }
 }
 
-/// Finds the halo of each plane, from the last task back to the first. `high` is the height of the
-/// highest image.
+/// Writes the halo of each plane, from the last task back to the first. No halo exceeds `high`, the
+/// height of the highest image.
 pub fn find_halos(high: u16, tasks: &[Task], halos: &mut [u16])
     requires order { AreInOrder tasks.now }
     requires reads { (s : StepValue) → IsStepOf s tasks.now → (c : ℕ) → ReadsPlane s c →

@@ -1,4 +1,4 @@
-//! The kernel of each function.
+//! Runs the kernel of a node's function.
 ghost use Rattle.std.specs.Prelude.{◌≡◌, true, false, IsTrue, None, Some};
 ghost use Rattle.vx_base.specs.declared.output.Output.{Output as OutputValue};
 ghost use Rattle.vx_base.specs.Function.{accumulates};
@@ -24,7 +24,7 @@ use stat_kernels::integral;
 use vx_base::{Function, Node, Output};
 use window_kernels::{box3, convolve, dilate3, erode3, gaussian3, median3, sobel3};
 
-/// A step whose inputs are lent.
+/// A step with its inputs.
 #[derive(Drop)]
 pub struct Kernel<'k, 'f, 's> {
     pub step: &'k Step,
@@ -33,8 +33,7 @@ pub struct Kernel<'k, 'f, 's> {
 }
 
 impl<'k, 'f, 's> Kernel<'k, 'f, 's> {
-    /// Writes the rows of the step's output that are lent, and its valid rectangle. A step that
-    /// accumulates adds to the rows that the output holds.
+    /// Writes the output's rows, and its valid rectangle. A step that accumulates adds to the rows.
     pub fn run(&self, output: &mut ImageMut<'_>)
         requires target { IsTarget output.old }
         requires can { CanMake self.now.step.now self.now.first.now
@@ -56,7 +55,7 @@ impl<'k, 'f, 's> Kernel<'k, 'f, 's> {
     }
 }
 
-/// Writes the rows that are lent of one of a node's outputs, and its valid rectangle.
+/// Writes the rows of one of a node's outputs, and its valid rectangle.
 pub fn run_node(
     node: &Node,
     which: Output,
@@ -83,8 +82,8 @@ pub fn run_node(
     }
 }
 
-/// Adds the node's image of `image` to the rows that are lent of its output: each sample where both
-/// are valid, and the valid rectangle. `own` is any image with these rows.
+/// Adds the result of an accumulating node to the rows of its output: each sample where both are
+/// valid. Also writes the valid rectangle. In the contract, `own` is any image with these rows.
 fn run_sum(node: &Node, image: &Image<'_>, sums: &mut ImageMut<'_>)
     requires function { accumulates node.now.function ≡ true }
     requires shape { IsTrue (is_node node.now) }
@@ -103,7 +102,7 @@ fn run_sum(node: &Node, image: &Image<'_>, sums: &mut ImageMut<'_>)
     }
 }
 
-/// Writes the image of a function of one image.
+/// Writes an output of a function of one image.
 fn run_on_one(node: &Node, which: Output, first: &Image<'_>, output: &mut ImageMut<'_>)
     requires { CanRun node.now first.now None output.old }
     ensures { Writes (node_image node.now which (written output.old).format first.now None)
@@ -127,7 +126,7 @@ fn run_on_one(node: &Node, which: Output, first: &Image<'_>, output: &mut ImageM
     }
 }
 
-/// Writes the image of a function of two images.
+/// Writes an output of a function of two images.
 fn run_on_two(
     node: &Node,
     which: Output,

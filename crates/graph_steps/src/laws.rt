@@ -6,7 +6,8 @@ ghost use Rattle.graph_steps.specs.Planes.{PlaneValue, block_images};
 ghost use Rattle.graph_steps.specs.Program.{AreFilled, AreInOrder, IsProgram, SolvesSteps};
 ghost use Rattle.graph_steps.specs.Program.{steps_in_turn};
 
-/// The steps of a program have a solution: what they make one after the other over whole images.
+/// The steps of a program have a solution: the images that they write when each runs on whole
+/// images, in order.
 pub fn solution()
     ensures { (tables : List SecondValue) (high size : ℕ) (halos : List ℕ) (tasks : List TaskValue)
         (planes : List PlaneValue) → IsProgram tables high size halos tasks planes →

@@ -1,29 +1,30 @@
-//! Graphs as steps over planes, run band after band of rows.
+//! Graphs as steps over planes, run one band of rows after another.
 //!
-//! A *plane* is an image while a graph runs. Its block of samples holds all rows of a client's
-//! image, or of a virtual image the rows that a band needs. A *step* is a node whose operands are
-//! planes, by their indices. A *reduction* adds the rows of a plane to a histogram or to extremes.
-//! A *program* is the steps and reductions of a graph in an order in which they can run. It runs
-//! band after band: all of them over the first rows, then all of them over the next ones. A run
-//! over whole images is a run of one band.
+//! A *plane* is an image while a graph runs. For a client's image, its block of samples holds all
+//! rows; for a virtual image, only those that a band needs. A *step* is a node whose operands are
+//! planes, given by their indices. A *reduction* adds the rows of a plane to a histogram or to
+//! extremes. A *program* is the steps and reductions of a graph in an order in which they can run.
+//! It runs all of them on the first band, then all of them on the next band. A run over whole
+//! images is a run of one band.
 //!
-//! A step reads rows of its input above and below the rows that it writes: its *radius*. So the
-//! rows that are written of an inner plane are the band with a *halo*. `find_halos` finds the halo
-//! of each plane, from the last task back to the first.
+//! To write a row, a step reads the input rows within its *radius* above and below. Therefore the
+//! rows written of an intermediate plane are the band and a *halo*. `find_halos` finds the halo of
+//! each plane, from the last task back to the first.
 //!
-//! A row of an integral image follows from the row above it, which is in the output's block. So its
-//! radius is 0, and its output is whole and has no halo, unless the program runs in one band.
+//! A row of an integral image is computed from the row above it, which is in the output's block. So
+//! its radius is 0. Its output is a whole image without a halo, unless the program runs in one
+//! band.
 //!
-//! - `step`: a node over planes, and the other tasks
-//! - `plane`: an image while a graph runs
-//! - `kernel`: the kernel of each function
-//! - `rows`: rows that are written in a block
-//! - `one_step`: one step over some rows
+//! - `step`: steps and reductions
+//! - `plane`: planes
+//! - `kernel`: runs the kernel of a step's function
+//! - `rows`: writes rows in a block of samples
+//! - `one_step`: runs one step on some rows
 //! - `tally`: histograms and extremes, band by band
-//! - `halos`: the rows above and below a band that are needed
-//! - `bands`: for each band all tasks
+//! - `halos`: finds the halos
+//! - `bands`: runs a program band by band
 //! - `laws`: programs have solutions
-//! - `examples`: a program in bands
+//! - `examples`: programs in bands
 #![tactic(auto)]
 
 mod bands;

@@ -1,4 +1,4 @@
-//! One step over some rows.
+//! Runs one step on some rows.
 ghost use Rattle.std.specs.Prelude.{◌≡◌, ◌≢◌, ◌<◌, ◌≤◌, ◌+◌, ◌-◌, ◌*◌, ℕ, length};
 ghost use Rattle.std.specs.Prelude.{Option, Some, IsTrue, true};
 ghost use Rattle.vx_base.specs.Object.{ObjectValue};
@@ -17,7 +17,8 @@ use crate::plane::Plane;
 use crate::step::{Source, Step};
 use image_core::{Band, Second};
 
-/// Moves the block of one plane to another, or to itself, which is to hold rows from row `top` on.
+/// Moves a block from one plane to another, or to the same plane. The block then begins with row
+/// `top`.
 fn claim(planes: &mut [Plane], from: usize, to: usize, top: u16)
     requires from { from < length planes.old }
     requires to { to < length planes.old }
@@ -27,7 +28,7 @@ fn claim(planes: &mut [Plane], from: usize, to: usize, top: u16)
     planes[to].take(block, top);
 }
 
-/// Gives the step's output the block that it takes, if any.
+/// Gives the step's output the block that it takes over, if any.
 fn make_ready(step: &Step, top: u16, planes: &mut [Plane])
     requires from { (t : ℕ) → step.now.takes ≡ Some t → t < length planes.old }
     requires to { step.now.output < length planes.old }
@@ -39,7 +40,7 @@ fn make_ready(step: &Step, top: u16, planes: &mut [Plane])
     }
 }
 
-/// Writes these rows of what a step makes that writes no integral image.
+/// Writes rows of the output of a step that isn't an integral image.
 fn write_made(tables: &[Second<'_>], step: &Step, rows: Band, planes: &[Plane], output: &mut Plane)
     requires reads { (c : ℕ) → ReadsPlane step.now c →
         (c < length planes.now) × IsReadable (plane planes.now c) }
@@ -104,7 +105,7 @@ fn write_integral(step: &Step, rows: Band, planes: &[Plane], output: &mut Plane)
     output.write_sums(&planes[step.first].image(), rows);
 }
 
-/// Writes these rows of the step's output, whose plane is out of the others.
+/// Writes rows of the step's output, which has been taken out of `planes`.
 fn write_rows(tables: &[Second<'_>], step: &Step, rows: Band, planes: &[Plane], output: &mut Plane)
     requires reads { (c : ℕ) → ReadsPlane step.now c →
         (c < length planes.now) × IsReadable (plane planes.now c) }
@@ -127,7 +128,7 @@ fn write_rows(tables: &[Second<'_>], step: &Step, rows: Band, planes: &[Plane], 
     }
 }
 
-/// Writes these rows of the step's output.
+/// Writes rows of the step's output.
 fn write_output(tables: &[Second<'_>], step: &Step, rows: Band, planes: &mut [Plane])
     requires reads { (c : ℕ) → ReadsPlane step.now c →
         (c < length planes.old) × (c ≢ step.now.output) × IsReadable (plane planes.old c) }
@@ -153,7 +154,7 @@ fn write_output(tables: &[Second<'_>], step: &Step, rows: Band, planes: &mut [Pl
     planes[step.output] = output;
 }
 
-/// Runs a step over these rows of its output.
+/// Runs a step on these rows of its output.
 pub fn run_step(tables: &[Second<'_>], step: &Step, rows: Band, planes: &mut [Plane])
     requires { (high : ℕ) × CanStep tables.now high step.now rows planes.old }
     ensures { planes.new ≡ after_step tables.now step.now rows planes.old }

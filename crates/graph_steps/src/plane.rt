@@ -1,4 +1,4 @@
-//! Images while a graph runs.
+//! Planes: images while a graph runs.
 ghost use Rattle.std.specs.Prelude.{◌≡◌, ◌+◌, ◌-◌, ◌*◌, ◌≤◌, ◌<◌, ◌^◌, length};
 ghost use Rattle.vx_base.specs.declared.format.Format.TheVariants.{U8, U32};
 ghost use Rattle.vx_base.specs.Picture.{values, samples_format};
@@ -22,7 +22,7 @@ use vx_base::{Desc, Rect, Samples};
 pub struct Plane {
     desc: Desc,
     valid: Rect,
-    /// The row with which the block begins.
+    /// The image row with which the block begins.
     top: u16,
     /// The rows that a step may read.
     rows: Band,
@@ -59,7 +59,7 @@ impl Plane {
         }
     }
 
-    /// Returns the plane of a virtual image whose rows are not written yet.
+    /// Returns the plane of a virtual image, of which no row is written yet.
     pub fn of_block(desc: Desc, samples: Samples) -> Plane
         ensures { result ≡ virtual_plane desc samples }
     {
@@ -72,19 +72,21 @@ impl Plane {
         }
     }
 
+    /// Returns the image's description.
     pub fn desc(&self) -> Desc
         ensures { result ≡ self.now.desc }
     {
         self.desc
     }
 
+    /// Returns the image's valid rectangle.
     pub fn valid(&self) -> Rect
         ensures { result ≡ self.now.valid }
     {
         self.valid
     }
 
-    /// Takes the block out: for the table, for the pool, or for the plane that has it from then on.
+    /// Takes the block out of the plane, which is left without samples.
     pub fn give(&mut self) -> Samples
         ensures format { samples_format result ≡ self.old.format }
         ensures value { values result ≡ self.old.samples }
@@ -93,7 +95,7 @@ impl Plane {
         self.samples.take()
     }
 
-    /// Takes over a block that is to hold rows from row `top` on.
+    /// Puts a block into the plane, for rows from `top` on. The valid rectangle becomes empty.
     pub fn take(&mut self, samples: Samples, top: u16)
         ensures { self.new ≡ with_block (samples_format samples) (values samples) top self.old }
     {
@@ -102,7 +104,8 @@ impl Plane {
         self.valid = Rect::empty();
     }
 
-    /// Takes the plane out, while its inputs are lent; no samples are left.
+    /// Takes the plane out of its list, so that it can be written while others are read. No samples
+    /// are left.
     pub fn take_out(&mut self) -> Plane
         ensures { result ≡ self.old }
     {
@@ -115,7 +118,7 @@ impl Plane {
         }
     }
 
-    /// Returns the band with its halo, as far as the image has these rows.
+    /// Returns the band with a halo above and below, clipped to the image.
     pub fn with_halo(&self, band: Band, halo: u16) -> Band
         requires { band.start + band.count < 2 ^ 16 }
         ensures { result ≡ with_halo halo self.now.desc.height band }
@@ -129,7 +132,7 @@ impl Plane {
         }
     }
 
-    /// Lends the rows for reading; each other row is read as 0.
+    /// Returns the image that a step reads: 0 outside the plane's rows.
     pub fn image(&self) -> Image<'_>
         requires { IsReadable self.now }
         ensures { result ≡ plane_image self.now }
@@ -160,8 +163,8 @@ impl Plane {
         }
     }
 
-    /// Writes these rows of a kernel's image, and its valid rectangle. From then on a step may read
-    /// these rows.
+    /// Writes these rows of a kernel's image, and its valid rectangle. Then a step may read these
+    /// rows.
     pub fn write(&mut self, kernel: &Kernel<'_, '_, '_>, rows: Band)
         requires format { self.old.format ≡ self.old.desc.format }
         requires can { CanMake kernel.now.step.now kernel.now.first.now
@@ -189,7 +192,7 @@ impl Plane {
         };
     }
 
-    /// Writes all rows of a kernel's image to the plane of a client's image.
+    /// Writes all rows of a kernel's image to a plane that holds the whole image.
     pub fn write_all(&mut self, kernel: &Kernel<'_, '_, '_>)
         requires whole { IsWhole self.old }
         requires can { CanMake kernel.now.step.now kernel.now.first.now
@@ -201,8 +204,8 @@ impl Plane {
         self.write(kernel, Band::whole(self.desc));
     }
 
-    /// Writes these rows of the integral image of an image, and its valid rectangle. The first row
-    /// follows from the row above it.
+    /// Writes these rows of an integral image, and its valid rectangle. The first row continues
+    /// from the row above it.
     pub fn write_sums(&mut self, image: &Image<'_>, band: Band)
         requires input { image.now.format ≡ U8 }
         requires format { self.old.format ≡ U32 }

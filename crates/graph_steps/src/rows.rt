@@ -1,4 +1,4 @@
-//! Rows that are written in a block of samples.
+//! Writes rows in a block of samples.
 ghost use Rattle.std.specs.Prelude.{◌≡◌, ◌+◌, ◌-◌, ◌*◌, ◌≤◌, length, map, pos};
 ghost use Rattle.vx_base.specs.declared.format.Format.TheVariants.{U8, S16, U32};
 ghost use Rattle.vx_base.specs.Image.{made};
@@ -14,7 +14,7 @@ use image_core::{Band, Image, ImageMut};
 use stat_kernels::{integral_on, row_above};
 use vx_base::{Desc, Rect};
 
-/// Writes a kernel's rows to exactly their samples, and returns the valid rectangle.
+/// Writes a kernel's rows to the samples of these rows, and returns the valid rectangle.
 macro_rules! make_rows {
     ($desc:expr, $rows:expr, $valid:expr, $samples:expr, $kernel:expr) => {{
         let mut output = ImageMut::of_rows($desc, $rows, $samples);
@@ -24,7 +24,7 @@ macro_rules! make_rows {
     }};
 }
 
-/// The samples of these rows in a block that begins with row `top`.
+/// Returns the samples of these rows in a block that begins with row `top`.
 macro_rules! part_of {
     ($desc:expr, $top:expr, $rows:expr, $samples:expr) => {{
         let width = usize::from($desc.width());
@@ -34,8 +34,8 @@ macro_rules! part_of {
     }};
 }
 
-/// Writes a kernel's rows to exactly their samples, and returns the valid rectangle. `valid` is
-/// the output's rectangle before.
+/// Writes a kernel's rows to the samples of these rows, and returns the valid rectangle. `valid` is
+/// the output's previous rectangle.
 fn make_bytes(
     desc: Desc,
     rows: Band,
@@ -89,8 +89,8 @@ pub fn write_bytes(
     )
 }
 
-/// Writes a kernel's rows to exactly their samples, and returns the valid rectangle. `valid` is
-/// the output's rectangle before.
+/// Writes a kernel's rows to the samples of these rows, and returns the valid rectangle. `valid` is
+/// the output's previous rectangle.
 fn make_shorts(
     desc: Desc,
     rows: Band,
@@ -144,8 +144,8 @@ pub fn write_shorts(
     )
 }
 
-/// Writes a kernel's rows to exactly their samples, and returns the valid rectangle. `valid` is
-/// the output's rectangle before.
+/// Writes a kernel's rows to the samples of these rows, and returns the valid rectangle. `valid` is
+/// the output's previous rectangle.
 fn make_words(
     desc: Desc,
     rows: Band,
@@ -199,8 +199,8 @@ pub fn write_words(
     )
 }
 
-/// Writes these rows of the integral image of an image to a block that begins with row `top`. The
-/// first of them follows from the row above it, which is there unless the block begins with it.
+/// Writes these rows of an image's integral image to a block that begins with row `top`. The first
+/// of them continues from the row above it, if the block has that row.
 pub fn write_sums(width: u16, top: u16, rows: Band, image: &Image<'_>, samples: &mut [u32])
     requires input { image.now.format ≡ U8 }
     requires width { image.now.width ≡ width }

@@ -1,4 +1,4 @@
-//! Tasks: steps over planes, and reductions.
+//! Tasks: steps and reductions.
 ghost use Rattle.std.specs.Prelude.{◌≡◌};
 ghost use Rattle.std.specs.Option.{option_copied};
 ghost use Rattle.graph_steps.specs.Steps.{is_integral, lent_step, reads_output, step_reach};
@@ -6,21 +6,21 @@ ghost use Rattle.graph_steps.specs.Steps.{is_integral, lent_step, reads_output, 
 use node_rows::reach;
 use vx_base::{Convolution, Function, Node, Output};
 
-/// Where a step's second input is.
+/// The source of a step's second input.
 #[derive(Clone, Copy, Debug)]
 pub enum Source {
-    /// There is none.
+    /// No second input.
     Nothing,
     /// The plane at this index.
     Plane(usize),
-    /// The lent table, threshold or matrix at this index.
+    /// The table, threshold or matrix at this index of the run's tables.
     Table(usize),
 }
 
-/// A node over planes, for one of its outputs that is an image.
+/// A node over planes, for one of its output images.
 #[derive(Clone, Copy, Debug)]
 pub struct Step {
-    /// The function and its parameters. The names of its operands aren't read.
+    /// The function and its parameters. The node's references aren't used.
     pub node: Node,
     pub which: Output,
     /// The index of the first input's plane.
@@ -28,15 +28,16 @@ pub struct Step {
     pub second: Source,
     /// The index of the output's plane.
     pub output: usize,
-    /// The plane whose block the output takes, which may be its own. `None` where the output is a
-    /// client's image, which has all its rows.
+    /// The plane whose block the output takes over, which may be its own. `None` if the output is a
+    /// client's image, whose block has all rows.
     pub takes: Option<usize>,
-    /// The rows above and below a row of the output that are read of the inputs.
+    /// The number of input rows above and below an output row that the step reads.
     pub radius: u16,
 }
 
-/// Returns the rows above and below a row of its output that a step reads of its inputs. A row of
-/// an integral image follows from the row above it. `None`: all rows.
+/// Returns the radius of a step: the number of input rows above and below an output row that it
+/// reads. `None` means all rows. An integral image has radius 0, since a row continues from the row
+/// above it.
 pub fn step_reach(function: Function, matrix: Option<&Convolution>) -> Option<u16>
     ensures { result ≡ step_reach function (option_copied matrix.entry) }
 {
@@ -54,7 +55,8 @@ fn is_integral(function: Function) -> bool
 }
 
 impl Step {
-    /// Returns the step of a node whose inputs are lent to its kernel: it names no planes.
+    /// Returns the step of a node whose inputs are passed to its kernel. Its plane indices aren't
+    /// used.
     pub fn of_lent(node: Node, which: Output) -> Step
         ensures { result ≡ lent_step node which }
     {
@@ -69,15 +71,15 @@ impl Step {
         }
     }
 
-    /// Whether the step writes an integral image.
+    /// Returns whether the step writes an integral image.
     pub fn is_integral(&self) -> bool
         ensures { result ≡ is_integral self.now.node.function }
     {
         is_integral(self.node.function)
     }
 
-    /// Whether the step reads its output: it accumulates there, or a row follows from the row above
-    /// it. Such a step writes each row once.
+    /// Returns whether the step reads its output: it accumulates, or continues from the row above.
+    /// Such a step must write each row once.
     pub fn reads_output(&self) -> bool
         ensures { result ≡ reads_output self.now.node.function }
     {
@@ -85,7 +87,7 @@ impl Step {
     }
 }
 
-/// A histogram or the extremes of an image.
+/// A reduction of an image to a histogram or to its extremes.
 #[derive(Clone, Copy, Debug)]
 pub struct Reduction {
     /// The index of the image's plane.
@@ -94,11 +96,11 @@ pub struct Reduction {
     pub tally: usize,
 }
 
-/// A task on a band.
+/// A task of a program, which runs on a band.
 #[derive(Clone, Copy, Debug)]
 pub enum Task {
-    /// Rows of an image are written.
+    /// Writes rows of an image.
     Write(Step),
-    /// Rows of an image are added to a tally.
+    /// Adds rows of an image to a tally.
     Reduce(Reduction),
 }

@@ -13,7 +13,7 @@ use stat_kernels::{add_histogram, add_min_max};
 use std::marker::Model;
 use vx_base::{Bins, Extremes, GREATEST_BINS};
 
-/// Bins, and how many samples fell into each.
+/// The bins of a histogram, and the number of samples in each.
 #[derive(Debug, Drop)]
 pub struct Histogram {
     bins: Bins,
@@ -30,7 +30,7 @@ impl Model for Histogram {
 }
 
 impl Histogram {
-    /// Returns a histogram in which no sample is counted.
+    /// Returns a histogram without samples.
     pub fn new(bins: Bins) -> Histogram
         ensures { result ≡ new_distribution bins }
     {
@@ -41,14 +41,14 @@ impl Histogram {
         }
     }
 
-    /// Returns how many samples fell into each bin.
+    /// Returns the number of samples in each bin.
     pub fn counts(&self) -> &[u32]
         ensures { result.now ≡ self.now.counts }
     {
         &self.counts[..usize::from(self.bins.bins())]
     }
 
-    /// Counts the valid samples in these rows of an image too.
+    /// Counts the valid samples in these rows of an image.
     fn add(&mut self, image: &Image<'_>, rows: Band)
         requires rows { IsInRows image.now.height rows }
         requires can { CanAdd rows image.now (HistogramTally self.old) }
@@ -64,7 +64,7 @@ impl Histogram {
     }
 }
 
-/// A reduction of an image, as far as its bands have run.
+/// The result of a reduction, for the bands that have run so far.
 #[derive(Debug, Drop)]
 pub enum Tally {
     Histogram(Histogram),
@@ -72,7 +72,7 @@ pub enum Tally {
 }
 
 impl Tally {
-    /// Adds these rows of an image, which are below those that were added before.
+    /// Adds these rows of an image, which are below those added before.
     pub fn add(&mut self, image: &Image<'_>, rows: Band)
         requires rows { IsInRows image.now.height rows }
         requires can { CanAdd rows image.now self.old }
@@ -87,7 +87,7 @@ impl Tally {
         }
     }
 
-    /// Adds all rows of an image to a tally to which nothing was added.
+    /// Adds all rows of an image to a new tally.
     pub fn add_all(&mut self, image: &Image<'_>)
         requires new { IsNew self.old }
         requires image { IsImage image.now }

@@ -5,7 +5,7 @@ use Rattle.lane_rows.proofs.BitLaws.{each_fits_32, up_to_more, added, added_bits
 use Rattle.lane_rows.proofs.ShortLaws.{of_bits}
 use Rattle.lane_rows.proofs.PairLaws.{AreAdded, none_added, pair_added}
 
--- sums that are given are what their bits say
+-- given sums can be read back from their bits
 pub given : (sums : List ℤ) (n : ℕ) → Each1 (IsNear ((45 - n) * 16711680)) sums → map (to_z w32) (map (of_z w32) sums) ≡ sums
 given sums n near = of_bits w32 sums (each_fits_32 sums (up_to_more ((45 - n) * 16711680) 752025600 sums (omega arith) near))
 

@@ -47,7 +47,7 @@ sixteen_added k bits row sums is fits p q bytes s_fits =
     (λ a s f g. ap (λ n. to_z w32 ((of_z w32 s + (a * n) % 4294967296) % 4294967296)) is ∙ lane k s a fits f g)
     ∙ ap (zip2 (λ a s. int_wrap w32 (s +ℤ k *ℤ a)) (map pos row)) (map-id sums)
 
--- none wraps where there is room
+-- no sum within its bound wraps
 pub none_wraps : (k : ℤ) (row : List ℕ) (sums : List ℤ) → FitsSigned w16 k → Each1 (Fits w8) row → Each1 HasRoom sums
     → zip2 (λ a s. int_wrap w32 (s +ℤ k *ℤ a)) (map pos row) sums ≡ zip2 (with_product k) (map pos row) sums
 none_wraps k [] sums fits bytes room = refl

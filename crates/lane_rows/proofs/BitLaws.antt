@@ -1,4 +1,4 @@
--- Signed lanes as bits, and as the numbers that the bits say.
+-- Signed lanes as bits, and as the numbers that the bits represent.
 use Rattle.std.proofs.Common.{◌≡◌, ℕ, ℤ, pos, zero, suc, ◌+◌, ◌*◌, ◌%◌, ◌≤◌, List, [], ◌∷◌, ◌++◌, map, length, get_or, take, drop, ◌-◌, refl, ap, ◌∙◌, sym, subst, arith, w16, w32, FitsSigned, to_z, of_z, ◌+ℤ◌, ◌*ℤ◌, unsigned_abs, take-take, length-append}
 use Rattle.lane_rows.proofs.PairNames.{range_with_len, zip2, Each1, pick_l, chunk, ints, to_z-of_z, fits_signed_from_abs, Each1-chunk, map-append, length-map, evens_of, odds_of, IsNear}
 use Rattle.std.proofs.lemmas.Int.{of_z-to_z, wrapping_add_is, int_wrap_fits, unsigned_abs-mul}
@@ -159,7 +159,7 @@ loaded xs i room fits = ap (λ l. map (to_z w16) (map (of_z w16) l)) (cut xs i r
 pub bytes_fit : (xs : List ℤ) → Each1 (IsNear 255) xs → Each1 (FitsSigned w16) xs
 bytes_fit xs near = Each1-weaker (IsNear 255) (FitsSigned w16) byte_fits xs near
 
--- products that are told are what their bits say
+-- sums of two products fit 32 bits
 pub product_fits : (xs : List ℤ) → Each1 (IsNear 16711680) xs → Each1 (FitsSigned w32) xs
 product_fits xs near = each_fits_32 xs (up_to_more 16711680 752025600 xs (omega arith) near)
 

@@ -44,7 +44,7 @@ module _ {A B T : Type 0} (of : A → ℤ) (with : B → ℤ) (value : T → ℤ
       rw (take-put_mid i m out ws j (omega (arith, next, long)) (omega (arith, room)), map-append, before, these, next, take-add i n xs, take-add i n ys, map-append of, map-append with)
       (sym (zip2-append f _ _ _ _ same))
 
-  -- and what is left after it, where the row is updated in place
+  -- and the rest after it, if the row is updated in place
   pub left_of_block : (olds : List T) (j m : ℕ) → j ≡ i + n → m ≡ n → drop i out ≡ drop i olds → drop j (put_mid i m out ws) ≡ drop j olds
   left_of_block olds j m next width same =
       drop-put_mid i m out ws j (omega (arith, next, width)) (omega (arith, room)) (long ∙ sym width)

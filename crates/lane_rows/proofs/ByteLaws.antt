@@ -1,4 +1,4 @@
--- What is computed of bytes in lanes.
+-- Arithmetic on bytes in lanes.
 use Rattle.std.proofs.Common.{◌≡◌, inl, inr, ℕ, ℤ, pos, negsuc, suc, ◌+◌, ◌-◌, ◌%◌, ◌<◌, ◌≤◌, ◌-ℤ◌, unsigned_abs, List, length, map, Bool, true, false, cond, min, max, ltb, w8, Fits, refl, ap, ◌∙◌, arith, int_le, ◌&&◌, if◌then◌else◌}
 use Rattle.lane_rows.proofs.Common.{zip2, Each1, ints, clamps, cases_lt, nat_tests, U8, Wrap, Saturate, narrow, top}
 use Rattle.vx_base.specs.Pixelwise.{sum, difference, absolute_difference, smaller, greater, not_bits}
@@ -19,7 +19,7 @@ minus x y = (x + (256 - y)) % 256
 abbrev pub turned : ℕ → ℕ
 turned x = 255 - x
 
--- a lane of one or of another, where a lane is less than a third
+-- a lane of e where a is less than b, and of f elsewhere
 abbrev pub where_less : Lanewise ℕ ℕ ℕ → Lanewise ℕ ℕ ℕ → Lanewise ℕ ℕ ℕ → Lanewise ℕ ℕ ℕ → Lanewise ℕ ℕ ℕ
 where_less a b e f = chosen (top 7) (both less a b) e f
 
@@ -29,7 +29,7 @@ smallest e f = where_less e f e f
 abbrev pub largest : Lanewise ℕ ℕ ℕ → Lanewise ℕ ℕ ℕ → Lanewise ℕ ℕ ℕ
 largest e f = where_less e f f e
 
--- what is made of two vectors of bytes, and of one
+-- the results for two vectors of bytes, and for one
 pub bytes_are : (e : Lanewise ℕ ℕ ℕ) (f : ℤ → ℤ → ℤ) (xs ys : List ℕ) → (length xs ≡ 32) × Each1 (Fits w8) xs → (length ys ≡ 32) × Each1 (Fits w8) ys
     → ((x y : ℕ) → Fits w8 x → Fits w8 y → pos (e.at x y) ≡ f (pos x) (pos y)) → map pos (e.all 32 xs ys) ≡ zip2 f (map pos xs) (map pos ys)
 bytes_are e f xs ys p q at = pairs_are e (Fits w8) (Fits w8) pos pos pos f 32 xs ys p.0 q.0 p.1 q.1 at

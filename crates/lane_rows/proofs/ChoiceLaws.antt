@@ -1,4 +1,4 @@
--- Rows that are chosen of three rows.
+-- Minima and maxima of three rows.
 use Rattle.std.proofs.Common.{◌≡◌, ℕ, ℤ, pos, List, [], ◌∷◌, map, refl, ap, ◌∙◌, sym}
 use Rattle.lane_rows.proofs.Common.{range_with_len, zip2}
 use Rattle.std.specs.Prelude.{slice_index}
@@ -20,7 +20,7 @@ module _ (lo : ℕ → ℕ → ℕ) (op : ℤ → ℤ → ℤ) (same : (a b : �
   abbrev c : ℕ → ℕ
   c = slice_index rows.right.now
 
-  -- what is chosen of three bytes, as a number
+  -- the choice from three bytes, as a number
   pub chosen_number : (i : ℕ) → pos (chosen_of_three lo (a i) (b i) (c i)) ≡ chosen_at op rows i
   chosen_number i =
       same (lo (a i) (b i)) (c i)

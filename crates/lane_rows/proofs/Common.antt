@@ -1,4 +1,4 @@
--- The names that several proofs cite, passed on from one place. Declares nothing.
+-- Names that several proofs use. Declares nothing.
 pub use Rattle.lane_rows.specs.Quarters.{exchanged}
 pub use Rattle.std.proofs.Math.Nat.{div-eq_of_lt, mod-eq_of_lt, pow-le-pow_right}
 pub use Rattle.std.proofs.Math.Seq.{take-add}

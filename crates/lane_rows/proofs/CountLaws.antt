@@ -1,4 +1,4 @@
--- The first items of a list of samples: how many are this one, and what they fold to.
+-- The first items of a list of samples: the number that equal an item, and their least or greatest.
 use Rattle.std.proofs.Common.{◌≡◌, ℕ, ℤ, pos, negsuc, ◌+◌, ◌-◌, ◌*◌, ◌<◌, ◌≤◌, List, [], ◌∷◌, length, map, take, drop, get_or, cond, true, false, eqb, ap, ◌∙◌, sym, refl, arith, rules, inl, inr, to_z, of_z, w16, FitsSigned, count_by, slice_range, eq-eqb, ne_eqb, take_all}
 use Rattle.lane_rows.proofs.Names.{All, All-head, All-tail, IsSample, S16, cases_Bool, cases_eq, fold, int_eq, take-add, ints, to_z-of_z, take-map, drop-map, get_or-map, length-map, sum_by-append, sum_by-cons, sum_by_more, count_by-le-length, chosen, count_of}
 use Rattle.std.proofs.lemmas.Bool.Decides.{Decides-int_eq}
@@ -57,7 +57,7 @@ block_counted value v row k n m before here =
       ap (λ j. count_of v (take j zs)) next,
     )
 
--- there are no more than samples
+-- a count is at most the number of samples
 pub counted_fits : {T : Type 0} (value : T → ℤ) (v : ℤ) (row : List T) (i n : ℕ) → n ≡ count_of v (take i (map value row)) → n ≤ length row
 counted_fits value v row i n is =
     omega (arith, sum_by-take-le (λ s. cond (int_eq s v) 1 0) (map value row) i, count_by-le-length (λ s. int_eq s v) (map value row), length-map row value)
@@ -69,7 +69,7 @@ all_counted value v row i n end is = is ∙ ap (count_of v) (take_all i (map val
 same_test : (x v : ℕ) → eqb x v ≡ int_eq (pos x) (pos v)
 same_test x v = search (rules, ints)
 
--- bytes that are counted as they stand
+-- bytes are counted by their own values
 pub bytes_counted : (v : ℕ) (xs : List ℕ) → count_by (λ x. eqb x v) xs ≡ count_of (pos v) (map pos xs)
 bytes_counted v [] = refl
 bytes_counted v (x ∷ xs) =
@@ -104,7 +104,7 @@ next_chosen value choose row a w next i r below is so_far then =
     ∙ ap (choose (fold choose a (take i zs))) (number_read value row i r below is)
     ∙ sym (ap (fold choose a) (take_more zs i (pos 0) (omega (arith, length-map row value))) ∙ fold_push choose a (take i zs) (get_or zs i (pos 0)))
 
--- a choice that begins with the first sample, and comes to it once more
+-- a choice that begins with the first sample, and meets it again
 chosen_from_first : (choose : ℤ → ℤ → ℤ) → ((z : ℤ) → choose z z ≡ z) → (zs : List ℤ) → 0 < length zs → fold choose (get_or zs 0 (pos 0)) zs ≡ chosen choose zs
 chosen_from_first choose same [] some = absurd (omega arith)
 chosen_from_first choose same (z ∷ zs) some = ap (λ a. fold choose a zs) (same z)
@@ -116,6 +116,6 @@ all_chosen value choose same row w i some end is =
     let zs = map value row in
     is ∙ ap (fold choose (get_or zs 0 (pos 0))) (take_all i zs (omega (arith, length-map row value))) ∙ chosen_from_first choose same zs (omega (arith, length-map row value))
 
--- none of those before a place
+-- no sample before an index
 pub none_of_first : (v : ℤ) (ws : List ℤ) (i : ℕ) → count_of v (slice_range ws 0 i) ≡ 0 → count_of v (take i ws) ≡ 0
 none_of_first v ws i none = let e : i ≡ i - 0 = omega arith in ap (λ j. count_of v (take j ws)) e ∙ none

@@ -50,7 +50,7 @@ down x s = of_z w16 (shr_z (to_z w16 x) (2 ^ s))
 abbrev pub downs : ℕ → Lanewise ℤ ℤ ℕ
 downs s = both down (each (of_z w16) one) (constant s)
 
--- what is left in eight bits
+-- modulo 2 ^ 8
 abbrev pub lefts : ℕ → Lanewise ℤ ℤ ℕ
 lefts s = both bit_and (downs s) (constant 255)
 

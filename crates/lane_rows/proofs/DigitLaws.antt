@@ -4,7 +4,7 @@ use Rattle.lane_rows.proofs.Common.{Each1, number_l, digits_l, mod-eq_of_lt, div
 use Rattle.std.proofs.Math.Nat.{add-mul-mod_self_left, add-mul-div_left, mod-add-div, div-lt_iff_lt-mul}
 use Rattle.std.proofs.Math.Arith.{digits_lt}
 
--- how many numbers n digits of a base tell apart
+-- the number of values that n digits of a base represent
 abbrev pub places : ℕ → ℕ → ℕ
 places b zero = 1
 places b (suc n) = places b n * b

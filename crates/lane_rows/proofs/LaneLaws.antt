@@ -1,4 +1,4 @@
--- What is computed of numbers without a sign, lane by lane.
+-- Arithmetic on unsigned numbers, lane by lane.
 use Rattle.std.proofs.Common.{◌≡◌, ℕ, ℤ, pos, ◌*◌, ◌/◌, ◌%◌, ◌^◌, ◌<◌, List, [], ◌∷◌, map, Bool, true, false, cond, min, ltb, w8, Fits, refl, ap, ◌∙◌, sym, subst, arith, bit_and}
 use Rattle.lane_rows.proofs.Common.{zip2, ints, clamps, U8, Wrap, Saturate, narrow, top}
 use Rattle.std.proofs.lemmas.Nat.{and_mask}

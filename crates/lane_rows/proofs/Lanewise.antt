@@ -1,4 +1,4 @@
--- What straight code makes of the lanes of two vectors: all of them, and one at a place.
+-- Branch-free code over the lanes of two vectors: all lanes, and a single one.
 use Rattle.std.proofs.Common.{◌≡◌, ℕ, List, [], ◌∷◌, length, map, Bool, cond, replicate, refl, ap, ◌∙◌, sym, subst, arith, zero, suc, map-id}
 use Rattle.lane_rows.proofs.Common.{zip2, Each1, sel_l}
 
@@ -91,7 +91,7 @@ alike P Q u v w g f [] ys ps qs at = refl
 alike P Q u v w g f (x ∷ xs) [] ps qs at = refl
 alike P Q u v w g f (x ∷ xs) (y ∷ ys) ps qs at = cc (at x y ps.0 qs.0, alike P Q u v w g f xs ys ps.1 qs.1 at)
 
--- what the code makes of two vectors, as numbers
+-- the code's result for two vectors, as numbers
 pub pairs_are : {A B C D E F : Type 0} (e : Lanewise A B C) (P : A → Type 0) (Q : B → Type 0) (u : C → F) (v : A → D) (w : B → E) (f : D → E → F) (n : ℕ) (xs : List A) (ys : List B)
     → length xs ≡ n → length ys ≡ n → Each1 P xs → Each1 Q ys → ((a : A) (b : B) → P a → Q b → u (e.at a b) ≡ f (v a) (w b)) → map u (e.all n xs ys) ≡ zip2 f (map v xs) (map w ys)
 pairs_are e P Q u v w f n xs ys p q ps qs at = ap (map u) (e.same n xs ys p q) ∙ alike P Q u v w e.at f xs ys ps qs at
@@ -101,7 +101,7 @@ alike_lanes P Q g f [] ys ps qs at = refl
 alike_lanes P Q g f (x ∷ xs) [] ps qs at = refl
 alike_lanes P Q g f (x ∷ xs) (y ∷ ys) ps qs at = cc (at x y ps.0 qs.0, alike_lanes P Q g f xs ys ps.1 qs.1 at)
 
--- what it makes of two vectors, as lanes
+-- its result for two vectors, as lanes
 pub lanes_are : {A B C : Type 0} (e : Lanewise A B C) (P : A → Type 0) (Q : B → Type 0) (f : A → B → C) (n : ℕ) (xs : List A) (ys : List B)
     → length xs ≡ n → length ys ≡ n → Each1 P xs → Each1 Q ys → ((a : A) (b : B) → P a → Q b → e.at a b ≡ f a b) → e.all n xs ys ≡ zip2 f xs ys
 lanes_are e P Q f n xs ys p q ps qs at = e.same n xs ys p q ∙ alike_lanes P Q e.at f xs ys ps qs at
@@ -111,12 +111,12 @@ one_alike : {A C D F : Type 0} (P : A → Type 0) (u : C → F) (v : A → D) (g
 one_alike P u v g f [] ps at = refl
 one_alike P u v g f (x ∷ xs) ps at = cc (at x ps.0, one_alike P u v g f xs ps.1 at)
 
--- of one vector, which the code has twice
+-- its result for one vector, which the code gets twice
 pub items_are : {A C D F : Type 0} (e : Lanewise A A C) (P : A → Type 0) (u : C → F) (v : A → D) (f : D → F) (n : ℕ) (xs : List A)
     → length xs ≡ n → Each1 P xs → ((a : A) → P a → u (e.at a a) ≡ f (v a)) → map u (e.all n xs xs) ≡ map f (map v xs)
 items_are e P u v f n xs p ps at = ap (map u) (e.same n xs xs p p) ∙ one_alike P u v e.at f xs ps at
 
--- of one vector of numbers, which are what the code reads
+-- the same if the numbers are the lanes themselves
 pub numbers_are : {A C F : Type 0} (e : Lanewise A A C) (P : A → Type 0) (u : C → F) (f : A → F) (n : ℕ) (xs : List A)
     → length xs ≡ n → Each1 P xs → ((a : A) → P a → u (e.at a a) ≡ f a) → map u (e.all n xs xs) ≡ map f xs
 numbers_are e P u f n xs p ps at = items_are e P u (λ a. a) f n xs p ps at ∙ ap (map f) (map-id xs)
@@ -127,7 +127,7 @@ each_of P Q R g [] ys ps qs at = tt
 each_of P Q R g (x ∷ xs) [] ps qs at = tt
 each_of P Q R g (x ∷ xs) (y ∷ ys) ps qs at = (at x y ps.0 qs.0, each_of P Q R g xs ys ps.1 qs.1 at)
 
--- what holds of each lane that it makes
+-- a property of each lane of the result
 pub each_is : {A B C : Type 0} (e : Lanewise A B C) (P : A → Type 0) (Q : B → Type 0) (R : C → Type 0) (n : ℕ) (xs : List A) (ys : List B)
     → length xs ≡ n → length ys ≡ n → Each1 P xs → Each1 Q ys → ((a : A) (b : B) → P a → Q b → R (e.at a b)) → Each1 R (e.all n xs ys)
 each_is e P Q R n xs ys p q ps qs at = subst (Each1 R) (sym (e.same n xs ys p q)) (each_of P Q R e.at xs ys ps qs at)

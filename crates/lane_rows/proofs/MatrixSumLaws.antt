@@ -5,7 +5,7 @@ use Rattle.std.proofs.lemmas.Simd.{Each1-replicate, Each1-from_get_or}
 use Rattle.lane_rows.proofs.BitLaws.{picked, fits_32, each_fits_32, up_to_more, Each1-append}
 use Rattle.lane_rows.proofs.ShortLaws.{of_bits}
 
--- a row of those that stand one after another
+-- one row of several in a list
 pub row_cut : {A : Type 0} (items : List A) (first line step l : ℕ) → first ≡ l → step ≡ line → take (first * step + step - first * step) (drop (first * step) items) ≡ chunk (l * line) line items
 row_cut items first line step l is same =
     let e : first * step + step - first * step ≡ step = omega arith in
@@ -27,19 +27,19 @@ each_of_row P items row line l all is = subst (Each1 P) (sym is) (Each1-chunk P 
 pub length_row : (items row : List ℤ) (line l : ℕ) → row ≡ line_of items line l → l * line + line ≤ length items → length row ≡ line
 length_row items row line l is room = ap length is ∙ length-chunk (l * line) line items room
 
--- none of them is
+-- no row is added yet
 pub no_row_added : (m : MatrixRows) (place : ℕ) → AreSums m place 0 (replicate 16 0)
 no_row_added m place = record { value = refl; len = refl; limit = zeros_up_to }
 
 module _ (m : MatrixRows) (place l : ℕ) (sums : List ℕ) (are : AreSums m place l sums) where
-  -- what is asked of the sums to which a row is added
+  -- the bound on sums to which a row is added
   pub sums_up_to : l < 9 → m.pairs ≤ 5 → Each1 (IsNear ((45 - m.pairs) * 16711680)) (map (to_z w32) sums)
   sums_up_to few some = up_to_more (l * 83558400) ((45 - m.pairs) * 16711680) (map (to_z w32) sums) (omega arith) are.limit
 
   pub length_sums : length (map (to_z w32) sums) ≡ 16
   length_sums = length-map sums (to_z w32) ∙ are.len
 
-  -- one more of them is
+  -- one more row is added
   pub row_added : (next row table : List ℤ) → row ≡ line_of m.rows.now m.line l → table ≡ line_of m.tables.now 80 l → l < 9 → m.pairs ≤ 5
       → ((f : ℕ → ℤ) → map (to_z w32) sums ≡ run 0 16 f → next ≡ run 0 16 (λ i. f i +ℤ row_sum row table m.pairs (place + 2 * i)))
       → length next ≡ 16 → ((limit : ℕ) → Each1 (IsNear limit) (map (to_z w32) sums) → Each1 (IsNear (limit + m.pairs * 16711680)) next)
@@ -54,7 +54,7 @@ module _ (m : MatrixRows) (place l : ℕ) (sums : List ℕ) (are : AreSums m pla
         limit = subst (Each1 (IsNear ((l + 1) * 83558400))) (sym same) near;
       }
 
-  -- all of them are
+  -- all rows are added
   pub all_rows_added : l ≡ m.count → map (to_z w32) sums ≡ run 0 16 (λ i. matrix_sum m (place + 2 * i))
   all_rows_added end = are.value ∙ ap (λ n. run 0 16 (λ i. sum_of_rows m.rows.now m.line m.tables.now m.pairs n (place + 2 * i))) end
 

@@ -8,7 +8,7 @@ use Rattle.std.proofs.lemmas.List.Sums.{sum_by-cons}
 use Rattle.vx_base.specs.Window.{is_middle, median}
 use Rattle.lane_rows.specs.Ranks.{middle_of_nine}
 
--- a function that looks through the lesser and the greater of two
+-- a function that commutes with the lesser and the greater of two
 record Splits {A B : Type 0} (t : A → B) (lo hi : A → A → A) (low high : B → B → B) : Type 0 where
   pub lesser : (x y : A) → t (lo x y) ≡ low (t x) (t y)
   pub greater : (x y : A) → t (hi x y) ≡ high (t x) (t y)
@@ -43,7 +43,7 @@ both_true : (p q : Bool) → (p && q) ≡ true → (p ≡ true) × (q ≡ true)
 both_true true q h = (refl, h)
 both_true false q h = (cc, cc)
 
--- a test of all lists that are so long
+-- a test of all lists of this length
 abbrev of_all : ℕ → (List Bool → Bool) → Bool
 of_all zero q = q []
 of_all (suc n) q = of_all n (λ l. q (true ∷ l)) && of_all n (λ l. q (false ∷ l))
@@ -79,7 +79,7 @@ pub record IsMiddle (zs : List ℤ) (v : ℤ) : Type 0 where
   pub fewer : count_by (λ z. int_lt z v) zs ≤ 4
   pub more : count_by (λ z. int_lt v z) zs ≤ 4
 
--- what the minima and maxima leave in the middle is in the middle
+-- the result of the minima and maxima is a median
 middle_is_middle : (a b c d e f g h i : ℤ) → IsMiddle (a ∷ b ∷ c ∷ d ∷ e ∷ f ∷ g ∷ h ∷ i ∷ []) (middle_of_nine int_min int_max a b c d e f g h i)
 middle_is_middle a b c d e f g h i = known (middle_of_nine int_min int_max a b c d e f g h i) refl
   where
@@ -96,7 +96,7 @@ middle_is_middle a b c d e f g h i = known (middle_of_nine int_min int_max a b c
 
 -- ---- there is one
 
--- of two numbers the smaller is below, or the greater above, each of the numbers
+-- for v < w, each number is above v or below w
 apart : (v w z : ℤ) → v <ℤ w → 1 ≤ one (int_lt z w) + one (int_lt v z)
 apart v w z h = grind (arith, ints)
 

@@ -1,4 +1,4 @@
--- The names that the proofs of counts, extents and running sums cite, passed on from one place. Declares nothing.
+-- Names that the proofs of counts, extents and running sums use. Declares nothing.
 pub use Rattle.lane_rows.specs.Running.{sum_below, sums_below}
 pub use Rattle.lane_rows.specs.Tallies.{count_at, count_in_all}
 pub use Rattle.std.proofs.Math.Seq.{take-add}

@@ -41,7 +41,7 @@ picks_32 false x y = refl
 pub raised_first : (z : ℤ) → (int_min (int_max (pos 0) z) (pos 255) ≡ clamp U8 z) × (int_min (int_max (negsuc 32767) z) (pos 32767) ≡ clamp S16 z)
 raised_first z = (grind (arith, ints, clamps), grind (arith, ints, clamps))
 
--- a number as one without a sign, and that it is one of eight bits
+-- a number of eight bits as an unsigned one
 abbrev pub IsByte : ℤ → Type 0
 IsByte z = T (non_neg z) × Fits w8 (unsigned_abs z)
 
@@ -83,7 +83,7 @@ module _ (zs : List ℤ) (long : length zs ≡ 16) (fits : Each1 (FitsSigned w32
       numbers_are (each (λ x. of_z w16 (to_z w32 x)) shorts) (FitsSigned w32) (to_z w16) (narrow S16 Saturate) 16 zs long fits
       (λ z f. ap (λ y. to_z w16 (of_z w16 y)) (short_at z f) ∙ to_z-of_z w16 (narrow S16 Saturate z) (nearest_fits z))
 
--- ---- what is left in 16 bits
+-- ---- modulo 2 ^ 16
 
 left_shifted : (x : ℕ) → (x * 65536) % 4294967296 ≡ x % 65536 * 65536
 left_shifted x = omega arith
@@ -161,7 +161,7 @@ pub narrowed_products_fit : (policy : Policy) (k : ℕ) (us vs : List ℤ) → E
 narrowed_products_fit policy k us vs f g =
     subst (Each1 (FitsSigned w16)) (products_narrowed policy k us vs) (narrow_fits policy (map (λ z. int_div z (pos (2 ^ k))) (zip2 ◌*ℤ◌ us vs)) (quotients_fit k (zip2 ◌*ℤ◌ us vs) (products_fit us vs f g)))
 
--- what is computed of lanes as bits
+-- results of lanes as bits
 pub products_told : (policy : Policy) (k : ℕ) (us vs ps : List ℤ) → Each1 (FitsSigned w16) us → Each1 (FitsSigned w16) vs
     → ps ≡ zip2 (product S16 policy k) (map (to_z w16) (map (of_z w16) us)) (map (to_z w16) (map (of_z w16) vs)) → map (to_z w16) (map (of_z w16) ps) ≡ zip2 (product S16 policy k) us vs
 products_told policy k us vs ps f g is =

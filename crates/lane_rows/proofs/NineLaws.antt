@@ -1,4 +1,4 @@
--- What is computed in lanes of the nine samples of windows, lane by lane.
+-- Results for the nine samples of windows, lane by lane.
 use Rattle.std.proofs.Common.{◌≡◌, ℕ, ℤ, pos, List, [], ◌∷◌, map, Bool, cond, refl, ap, ◌∙◌}
 use Rattle.lane_rows.proofs.Common.{range_with_len, sel_l, zip2}
 use Rattle.std.proofs.lemmas.Simd.{map-map}
@@ -29,7 +29,7 @@ same_three g x y z = cc (x, y, z)
 abbrev Net : Type 0 → Type 0
 Net A = A → A → A → A → A → A → A → A → A → A
 
--- what is computed of vectors is computed lane by lane
+-- a function of nine vectors is computed lane by lane
 abbrev ByLanes : Net (List ℕ) → Net ℕ → Type 0
 ByLanes wide net =
     (a b c d e f g h i : ℕ → ℕ) (ks : List ℕ) → wide (map a ks) (map b ks) (map c ks) (map d ks) (map e ks) (map f ks) (map g ks) (map h ks) (map i ks) ≡ map (λ k. net (a k) (b k) (c k) (d k) (e k) (f k) (g k) (h k) (i k)) ks

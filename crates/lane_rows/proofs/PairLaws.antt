@@ -13,7 +13,7 @@ drop_two row q room =
     let two : suc (q + 1) ≡ q + 2 = omega arith in
     rw (drop-cons row q (pos 0) (omega arith), one, drop-cons row (q + 1) (pos 0) (omega arith), two) refl
 
--- what two coefficients in turn give along a row
+-- the sums of two alternating coefficients along a row
 pairs_along : (row : List ℤ) (a b : ℤ) (n k p : ℕ) → p + 2 * k + 2 * n ≤ length row
     → zip2 ◌+ℤ◌ (zip2 ◌*ℤ◌ (evens_of (take (twice n) (drop (p + 2 * k) row))) (evens_of (alternating n a b))) (zip2 ◌*ℤ◌ (odds_of (take (twice n) (drop (p + 2 * k) row))) (odds_of (alternating n a b))) ≡ run k n (λ i. pair_at row a b (p + 2 * i))
 unfolding twice

@@ -19,14 +19,14 @@ pair_written of with value f xs ys out i x y z room long also before first secon
     let made : value z ≡ f (of (get_or xs i x)) (with (get_or ys i y)) = is ∙ ap (λ a. f (of a) (with y)) first ∙ ap (λ b. f (of (get_or xs i x)) (with b)) second in
     rw (take_more_set out i z room, map_push value (take i out) z, before, made, map_more of xs i x (omega arith), map_more with ys i y (omega arith)) (sym (zip2-push f _ _ _ _ same))
 
--- ---- rows that are updated in place: what stands from place i on is what stood there
+-- ---- rows that are updated in place: from index i on they are as before
 
 left_at : {T : Type 0} (out olds : List T) (i : ℕ) (d : T) → drop i out ≡ drop i olds → get_or out i d ≡ get_or olds i d
 left_at out olds i d same =
     let here : i + 0 ≡ i = omega arith in
     rw here at (sym (get_or-drop i out 0 d) ∙ ap (λ l. get_or l 0 d) same ∙ get_or-drop i olds 0 d)
 
--- one more sample of a function of a row and of what stood there
+-- one more sample of a function of a row and of the old samples
 pub pair_updated : {A T : Type 0} (of : A → ℤ) (value : T → ℤ) (f : ℤ → ℤ → ℤ) (xs : List A) (olds out : List T) (i : ℕ) (x : A) (y z : T)
     → i < length out → length xs ≡ length out → length olds ≡ length out
     → map value (take i out) ≡ zip2 f (map of (take i xs)) (map value (take i olds)) → drop i out ≡ drop i olds
@@ -35,6 +35,6 @@ pub pair_updated : {A T : Type 0} (of : A → ℤ) (value : T → ℤ) (f : ℤ 
 pair_updated of value f xs olds out i x y z room long also before same first second is =
     pair_written of value value f xs olds out i x y z room long also before first (second ∙ left_at out olds i y same) (is ∙ ap (λ b. f (of x) (value b)) (sym second))
 
--- what is left after one more
+-- the rest after one more sample
 pub left_of_more : {T : Type 0} (olds out : List T) (i : ℕ) (z : T) → drop i out ≡ drop i olds → drop (i + 1) (set out i z) ≡ drop (i + 1) olds
 left_of_more olds out i z same = rw (drop-set-lt (i + 1) out i z (omega arith), ← drop-drop 1 i out, same) (drop-drop 1 i olds)

@@ -28,7 +28,7 @@ pub block_of_run : {T : Type 0} (value : T → ℤ) (g : ℕ → ℤ) (out ws : 
     → map value (take (32 * (k + 1)) (put_mid (32 * k) m out ws)) ≡ run 0 (32 * (k + 1)) g
 block_of_run value g out ws k m room before is = block_at value g out ws (32 * k) m (32 * (k + 1)) room (omega arith) before is
 
--- what is written of the first blocks, as far as the last block
+-- the items written by the first blocks, up to the last block
 pub shorter_run : {T : Type 0} (value : T → ℤ) (g : ℕ → ℤ) (out : List T) (i n : ℕ) → i ≤ n → map value (take n out) ≡ run 0 n g → map value (take i out) ≡ run 0 i g
 shorter_run value g out i n less is =
     ap (map value) (sym (take-take i n out less))
@@ -50,11 +50,11 @@ block_written value g out ws k m n e size end begun before long is =
 pub block_begins : (n k : ℕ) → k < n / 32 + min 1 (n % 32) → 32 * k ≤ n
 block_begins n k h = omega arith
 
--- and then they end with it
+-- after the last block the row ends
 pub blocks_end : (n k : ℕ) → n / 32 + min 1 (n % 32) ≤ k → min (32 * k) n ≡ n
 blocks_end n k h = omega arith
 
--- all of what is written
+-- the whole row is written
 pub whole_run : {T : Type 0} (value : T → ℤ) (g : ℕ → ℤ) (out : List T) (i n : ℕ) → length out ≡ n → i ≡ n → map value (take i out) ≡ run 0 i g → map value out ≡ run 0 n g
 whole_run value g out i n long end is = ap (map value) (sym (take_all i out (omega (arith, long, end)))) ∙ is ∙ ap (λ m. run 0 m g) end
 

@@ -8,17 +8,17 @@ use Rattle.std.proofs.lemmas.Simd.{pick_l_whole, Each1-get_or, put_chunk_whole, 
 use Rattle.std.proofs.lemmas.Slice.{take-put_mid}
 use borrow.Rule.Slice.PartMut.{put_mid}
 
--- to each lane what stands some lanes before it is added
+-- each lane plus the lane that `ks` selects for it, or 0
 abbrev shifted : List ℕ → List ℕ → List ℕ
 shifted ks xs = zip2 (λ a b. (a + b) % 65536) xs (pick_l 0 (replicate 8 0 ++ xs) ks)
 
--- the sums that end with each pair of neighbours, of the sum of each
+-- the running sums that end with each pair of neighbours, from the sums of the pairs
 abbrev by_pairs : List ℕ → List ℕ
 by_pairs pairs =
     shifted (0 ∷ 0 ∷ 0 ∷ 0 ∷ 11 ∷ 11 ∷ 11 ∷ 11 ∷ [])
     (shifted (0 ∷ 0 ∷ 8 ∷ 9 ∷ 0 ∷ 0 ∷ 12 ∷ 13 ∷ []) (shifted (0 ∷ 8 ∷ 9 ∷ 10 ∷ 0 ∷ 12 ∷ 13 ∷ 14 ∷ []) pairs))
 
--- the same without what stands second in the pair, before each of them
+-- all running sums: before each of those, the sum without the pair's second item
 abbrev between : List ℕ → List ℕ → List ℕ
 between sums odds =
     map (λ a. a) (pick_l 0 (zip2 (λ a b. (a + (65536 - b)) % 65536) sums odds ++ sums) (0 ∷ 8 ∷ 1 ∷ 9 ∷ 2 ∷ 10 ∷ 3 ∷ 11 ∷ 4 ∷ 12 ∷ 5 ∷ 13 ∷ 6 ∷ 14 ∷ 7 ∷ 15 ∷ []))
@@ -92,7 +92,7 @@ cut_is xs i = let e : i + 16 - i ≡ 16 = omega arith in ap (λ n. take n (drop 
 loaded_is : (xs : List ℕ) (i : ℕ) → i + 16 ≤ length xs → chunk 0 16 (cut xs i) ≡ map (λ k. get_or xs k 0) (range_with_len i 16)
 loaded_is xs i inside = ap (take 16) (cut_is xs i) ∙ take-take 16 16 (drop i xs) (omega arith) ∙ sym (pick_l-range_with_len 0 xs i 16 inside)
 
--- a sum of what is left of a sum
+-- a sum modulo 2 ^ 32 of a sum modulo 2 ^ 32
 pub sum_wraps : (a b c : ℕ) → a ≡ c % 4294967296 → (a + b) % 4294967296 ≡ (c + b) % 4294967296
 sum_wraps a b c is = omega arith
 
@@ -125,7 +125,7 @@ module _ (row above : List ℕ) (i : ℕ) (inside : i + 16 ≤ length row) where
   block_is sums total room are is =
       rw (loaded_is above i room, are, is) (along (λ k. sum (take k (chunk 0 16 (cut row i)))) (sum_below above row) (λ k. get_or above k 0) (sum (take i row) % 4294967296) 1 i 16 lane)
 
-  -- the sums that stand in a row once the block is written
+  -- the sums in a row once the block is written
   pub block_written : (block out : List ℕ) (n m : ℕ) → n ≡ i + 16 → length out ≡ length row → block ≡ map (sum_below above row) (range_with_len i 16)
       → take i out ≡ map (sum_below above row) (range_with_len 0 i)
       → take n (put_mid i m out (put_chunk 0 (cut out i) block)) ≡ map (sum_below above row) (range_with_len 0 n)
@@ -139,7 +139,7 @@ module _ (row above : List ℕ) (i : ℕ) (inside : i + 16 ≤ length row) where
 
 -- ---- one more place
 
--- what the row adds up to, with one more sample
+-- the sum of the row with one more sample
 pub total_more : (row : List ℕ) (k total x : ℕ) → k < length row → total ≡ sum (take k row) % 4294967296 → x ≡ get_or row k 0 → (total + x) % 4294967296 ≡ sum (take (k + 1) row) % 4294967296
 total_more row k total x below is at =
     sum_wraps total x (sum (take k row)) is ∙ ap (λ n. n % 4294967296) (omega (arith, at, sum_by_more (λ n. n) row k 0 below))

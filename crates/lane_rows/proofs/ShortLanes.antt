@@ -1,4 +1,4 @@
--- What is computed of numbers of 16 bits in lanes.
+-- Arithmetic on numbers of 16 bits in lanes.
 use Rattle.std.proofs.Common.{rules, ◌≡◌, ℕ, ℤ, pos, ◌+◌, ◌-◌, ◌%◌, ◌-ℤ◌, ◌+ℤ◌, int_lt, unsigned_abs, List, length, map, Bool, true, false, cond, w16, w32, FitsSigned, to_z, of_z, refl, ap, ◌∙◌, sym, subst, arith, map-id}
 use Rattle.std.specs.Int.{int_min, int_max}
 use Rattle.lane_rows.proofs.Common.{zip2, Each1, ints, clamps, to_z-of_z, int_wrap_fits, S16, Policy, narrow, top, Width}
@@ -108,7 +108,7 @@ pub read_both : (g : ℤ → ℤ → ℤ) (us vs : List ℤ) → Each1 (FitsSign
     → zip2 g (map (to_z w16) (map (of_z w16) us)) (map (to_z w16) (map (of_z w16) vs)) ≡ zip2 g us vs
 read_both g us vs f h = ap (λ (l : List ℤ). zip2 g l (map (to_z w16) (map (of_z w16) vs))) (of_bits w16 us f) ∙ ap (zip2 g us) (of_bits w16 vs h)
 
--- what is made of two vectors of 16 bits, where it fits w bits
+-- the result for two vectors of 16 bits, if it fits w bits
 module _ (g : ℤ → ℤ → ℤ) (w : Width) (fit : (x y : ℤ) → FitsSigned w16 x → FitsSigned w16 y → FitsSigned w (g x y)) (us vs : List ℤ) (f : Each1 (FitsSigned w16) us) (h : Each1 (FitsSigned w16) vs)
     (ms : List ℤ) (is : ms ≡ zip2 g (map (to_z w16) (map (of_z w16) us)) (map (to_z w16) (map (of_z w16) vs))) where
   pub made_are : map (to_z w) (map (of_z w) ms) ≡ zip2 g us vs

@@ -12,7 +12,7 @@ use mir.Val.{bits}
 
 -- ---- lanes as bits
 
--- numbers that fit are what their bits say
+-- numbers that fit can be read back from their bits
 pub of_bits : (w : Width) (xs : List ℤ) → Each1 (FitsSigned w) xs → map (to_z w) (map (of_z w) xs) ≡ xs
 of_bits w [] ps = refl
 of_bits w (x ∷ xs) ps = cc (to_z-of_z w x ps.0, of_bits w xs ps.1)
@@ -20,7 +20,7 @@ of_bits w (x ∷ xs) ps = cc (to_z-of_z w x ps.0, of_bits w xs ps.1)
 pub fit_as_bits : (w : Width) (xs : List ℤ) → Each1 (FitsSigned w) xs → Each1 (FitsSigned w) (map (to_z w) (map (of_z w) xs))
 fit_as_bits w xs ps = subst (Each1 (FitsSigned w)) (sym (of_bits w xs ps)) ps
 
--- what lanes are that are these numbers
+-- lanes equal to numbers that fit can be read back from their bits
 pub told : (w : Width) (xs ys : List ℤ) → xs ≡ ys → Each1 (FitsSigned w) ys → map (to_z w) (map (of_z w) xs) ≡ ys
 told w xs ys is fits = ap (λ l. map (to_z w) (map (of_z w) l)) is ∙ of_bits w ys fits
 

@@ -13,7 +13,7 @@ use Rattle.lane_rows.proofs.Lanewise.{Lanewise, one, other, constant, each, both
 pub squares_are : (s k : ℕ) (xs : List ℕ) → s ≡ k → (length xs ≡ 16) × Each1 (Fits w8) xs → map pos ((products s).all 16 xs xs) ≡ map (λ a. int_div_euclid (a *ℤ a) (pos (2 ^ k))) (map pos xs)
 squares_are s k xs is p = items_are (products s) (Fits w8) pos pos (λ a. int_div_euclid (a *ℤ a) (pos (2 ^ k))) 16 xs p.0 p.1 (λ x f. ap pos (product_lane x x s k is f f))
 
--- ---- room for more
+-- ---- sums that can grow
 
 abbrev bits : Lanewise ℕ ℤ ℕ
 bits = each (of_z w16) other

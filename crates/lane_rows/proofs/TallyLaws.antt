@@ -20,7 +20,7 @@ four_more v row k room =
       one_at v row (4 * k + 3) (4 * (k + 1)) (omega arith) (omega arith),
     )
 
--- so many are counted among the first samples at most
+-- at most i of the first i samples are counted
 pub few_of_first : (v : ℕ) (row : List ℕ) (i : ℕ) → i ≤ length row → count_at v (take i (map pos row)) ≤ i
 few_of_first v row i room =
     omega (arith, count_by-le-length (λ z. unsigned_abs z == v) (take i (map pos row)), length-take i (map pos row), length-map row pos)

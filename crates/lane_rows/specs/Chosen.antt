@@ -1,8 +1,8 @@
--- What a threshold makes of a number.
+-- The value that a threshold gives a number.
 use Rattle.std.specs.Prelude.{ℕ, ℤ, pos, if◌then◌else◌}
 use Rattle.vx_base.specs.declared.threshold.ThresholdKind.{ThresholdKind}
 use Rattle.vx_base.specs.Threshold.{passes}
 
--- the one value where it passes, else the other
+-- the true value if the number passes, and the false value if not
 abbrev pub chosen : ThresholdKind → ℕ → ℕ → ℤ → ℤ
 chosen kind t f a = if passes kind a then pos t else pos f

@@ -1,4 +1,4 @@
--- That the limits of kernels of three numbers are low enough to add up in 16 bits.
+-- The bounds of the three-number kernels' inputs are low enough for sums in 16 bits.
 use Rattle.std.specs.Prelude.{◌≤◌}
 use Rattle.std.proofs.Common.{arith}
 

@@ -1,55 +1,57 @@
--- Sums of samples times coefficients, two at once.
+-- Sums of samples times coefficients, taken in pairs.
 use Rattle.std.specs.Prelude.{ℕ, zero, suc, ℤ, pos, ◌≡◌, ◌+◌, ◌*◌, ◌≤◌, ◌<◌, ◌+ℤ◌, ◌*ℤ◌, List, [], ◌∷◌, slice_index_or, unsigned_abs}
 use Rattle.std.specs.Simd.Lanes.{chunk}
 
--- no further from 0 than the limit. A U8 sample times an S16 coefficient is at most 255 * 32768 = 8355840 from 0, two of them added up
--- 16711680, and 45 such pairs 752025600, below 2^31: in nine rows of a matrix there are no more
+-- at most the limit from 0. A U8 sample times an S16 coefficient is at most 255 * 32768 = 8355840 from 0, a pair of them 16711680, and 45
+-- such pairs 752025600, below 2^31. The nine rows of a matrix have no more pairs
 abbrev pub IsNear : ℕ → ℤ → Type 0
 IsNear limit z = unsigned_abs z ≤ limit
 
+-- the items at even indices
 abbrev pub evens_of : {A : Type 0} → List A → List A
 evens_of [] = []
 evens_of (x ∷ []) = x ∷ []
 evens_of (x ∷ y ∷ zs) = x ∷ evens_of zs
 
+-- the items at odd indices
 abbrev pub odds_of : {A : Type 0} → List A → List A
 odds_of [] = []
 odds_of (x ∷ []) = []
 odds_of (x ∷ y ∷ zs) = y ∷ odds_of zs
 
--- two numbers in turn, so many times
+-- two numbers in alternation, n times each
 abbrev pub alternating : ℕ → ℤ → ℤ → List ℤ
 alternating zero a b = []
 alternating (suc n) a b = a ∷ b ∷ alternating n a b
 
--- g 0, g 1, .. added up, so many of them
+-- the sum of g 0 to g (n - 1)
 abbrev pub sum_of_first : ℕ → (ℕ → ℤ) → ℤ
 sum_of_first zero g = pos 0
 sum_of_first (suc n) g = sum_of_first n g +ℤ g n
 
--- what two coefficients give of the sample at a place of a row and the next one
+-- the sample at an index times a, plus the next sample times b
 abbrev pub pair_at : List ℤ → ℤ → ℤ → ℕ → ℤ
 pair_at row a b p = slice_index_or row p (pos 0) *ℤ a +ℤ slice_index_or row (p + 1) (pos 0) *ℤ b
 
--- pair j of a table
+-- the first and the second coefficient of pair j of a table, which holds each pair eight times
 abbrev pub first_of_pair : List ℤ → ℕ → ℤ
 first_of_pair table j = slice_index_or table (16 * j) (pos 0)
 
 abbrev pub second_of_pair : List ℤ → ℕ → ℤ
 second_of_pair table j = slice_index_or table (16 * j + 1) (pos 0)
 
--- each of n pairs stands eight times in the table
+-- the table holds each of n pairs eight times
 abbrev pub IsPairTable : ℕ → List ℤ → Type 0
 IsPairTable n table = (j : ℕ) → j < n → chunk (16 * j) 16 table ≡ alternating 8 (first_of_pair table j) (second_of_pair table j)
 
--- what n pairs of coefficients give at a place of a row, each two places further to the right
+-- the sum of n pairs of coefficients at an index of a row, each pair two samples to the right of the one before
 abbrev pub row_sum : List ℤ → List ℤ → ℕ → ℕ → ℤ
 row_sum row table n p = sum_of_first n (λ j. pair_at row (first_of_pair table j) (second_of_pair table j) (p + 2 * j))
 
--- one of the rows that stand one after another
+-- row l of items, which hold rows of this length
 abbrev pub line_of : List ℤ → ℕ → ℕ → List ℤ
 line_of items line l = chunk (l * line) line items
 
--- what the first n rows of tables give at a place of as many rows; a row of tables has room for five pairs
+-- the sum of the first n rows at an index, each with its row of the table, which has 80 items: space for five pairs
 abbrev pub sum_of_rows : List ℤ → ℕ → List ℤ → ℕ → ℕ → ℕ → ℤ
 sum_of_rows rows line table pairs n p = sum_of_first n (λ l. row_sum (line_of rows line l) (line_of table 80 l) pairs p)

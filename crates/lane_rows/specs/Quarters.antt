@@ -1,7 +1,7 @@
--- Sixteen items, two quarters of which stand in each other's place.
+-- Sixteen items with two quarters exchanged.
 use Rattle.std.specs.Prelude.{List, ◌++◌}
 use Rattle.std.specs.Simd.Lanes.{chunk}
 
--- the second and the third quarter exchanged
+-- the second and third quarters exchanged
 abbrev pub exchanged : {A : Type 0} → List A → List A
 exchanged xs = chunk 0 4 xs ++ chunk 8 4 xs ++ chunk 4 4 xs ++ chunk 12 4 xs

@@ -1,11 +1,11 @@
--- That what is chosen of each row, and then of the rows, is the least of nine or the greatest.
+-- The choice within each row, and then among the rows, gives the least or the greatest of nine.
 use Rattle.std.specs.Prelude.{ℕ, ℤ, ◌≡◌, [], ◌∷◌, pos, min, max}
 use Rattle.std.specs.Int.{int_min, int_max}
 use Rattle.std.proofs.Common.{arith, ap, ◌∙◌}
 use Rattle.vx_base.specs.Window.{least_of, greatest_of}
 use Rattle.lane_rows.specs.Ranks.{chosen_of_nine}
 
--- of an operation whose order doesn't matter, as numbers with a sign
+-- for an associative operation, on signed numbers
 module _ (lo : ℕ → ℕ → ℕ) (op : ℤ → ℤ → ℤ) (as_number : (x y : ℕ) → pos (lo x y) ≡ op (pos x) (pos y)) (assoc : (x y z : ℕ) → lo x (lo y z) ≡ lo (lo x y) z) where
   one_after_another : (r d e f : ℕ) → lo r (lo (lo d e) f) ≡ lo (lo (lo r d) e) f
   one_after_another r d e f = assoc r (lo d e) f ∙ ap (λ z. lo z f) (assoc r d e)

@@ -1,18 +1,19 @@
--- Of nine items by rows the chosen one, by choices of two, and the middle one.
+-- The choice from nine items, by choices of two, and the median of nine.
 
--- of three
+-- the choice from three items
 abbrev pub chosen_of_three : {A : Type 0} → (A → A → A) → A → A → A → A
 chosen_of_three op a b c = op (op a b) c
 
--- of each row, and of the rows
+-- the choice from nine items: within each row, then among the rows
 abbrev pub chosen_of_nine : {A : Type 0} → (A → A → A) → A → A → A → A → A → A → A → A → A → A
 chosen_of_nine op a b c d e f g h i = chosen_of_three op (chosen_of_three op a b c) (chosen_of_three op d e f) (chosen_of_three op g h i)
 
--- the middle one of three, by the lesser and the greater of two
+-- the median of three items, by the lesser and the greater of two
 abbrev pub middle_of_three : {A : Type 0} → (A → A → A) → (A → A → A) → A → A → A → A
 middle_of_three lo hi a b c = hi (lo a b) (lo (hi a b) c)
 
--- of nine by rows: of the columns a d g, b e h and c f i the middle one of the greatest least, the least greatest and the middle middle
+-- the median of nine items: for the columns a d g, b e h and c f i, the median of the greatest least, the least greatest and the middle
+-- middle
 abbrev pub middle_of_nine : {A : Type 0} → (A → A → A) → (A → A → A) → A → A → A → A → A → A → A → A → A → A
 middle_of_nine lo hi a b c d e f g h i =
     middle_of_three lo hi

@@ -1,12 +1,12 @@
--- Counts of each value.
+-- Counts of values.
 use Rattle.std.specs.Prelude.{ℕ, ℤ, ◌+◌, ◌==◌, unsigned_abs, List, slice_index}
 use Rattle.std.specs.List.{count_by}
 
--- how many of these items, which are bytes, are v
+-- the number of items, which are bytes, that are v
 abbrev pub count_at : ℕ → List ℤ → ℕ
 count_at v items = count_by (λ z. unsigned_abs z == v) items
 
--- what four tables count of v together
+-- the count of v in four tables together
 abbrev pub count_in_all : (first second third fourth : List ℕ) → ℕ → ℕ
 count_in_all first second third fourth v =
     ((slice_index first v + slice_index second v) + slice_index third v) + slice_index fourth v

@@ -1,24 +1,24 @@
--- Rows of windows of three rows of three bytes each.
+-- 3 x 3 windows of bytes as rows.
 use Rattle.std.specs.Prelude.{ℕ, ℤ, pos, ◌+◌, ◌+ℤ◌, ◌-ℤ◌, ◌*ℤ◌, List, [], ◌∷◌, length, slice_index}
 use Rattle.lane_rows.specs.declared.nine_rows.Three.{Three}
 use Rattle.lane_rows.specs.declared.nine_rows.Nine.{Nine}
 
--- the items of three rows at one place
+-- the items of three rows at one index
 abbrev pub three_of : Three → ℕ → ℕ × ℕ × ℕ
 three_of rows i = (slice_index rows.left.now i, slice_index rows.middle.now i, slice_index rows.right.now i)
 
--- nine bytes by rows from above to below, as numbers
+-- nine bytes by rows from top to bottom, as numbers
 abbrev pub nine_of : ℕ × ℕ × ℕ → ℕ × ℕ × ℕ → ℕ × ℕ × ℕ → List ℤ
 nine_of above here below =
     pos above.0 ∷ pos above.1 ∷ pos above.2
     ∷ pos here.0 ∷ pos here.1 ∷ pos here.2
     ∷ pos below.0 ∷ pos below.1 ∷ pos below.2 ∷ []
 
--- the items of nine rows at one place
+-- the items of nine rows at one index: a window
 abbrev pub nine_at : Nine → ℕ → List ℤ
 nine_at nine i = nine_of (three_of nine.above i) (three_of nine.here i) (three_of nine.below i)
 
--- how many places they have
+-- the number of windows
 abbrev pub places : Nine → ℕ
 places nine = length nine.above.left.now
 
@@ -26,10 +26,10 @@ places nine = length nine.above.left.now
 abbrev pub three_from : List ℕ → ℕ → ℕ × ℕ × ℕ
 three_from row i = (slice_index row i, slice_index row (i + 1), slice_index row (i + 2))
 
--- the nine items of three rows, from column i on
+-- the window of three rows whose left column is column i
 abbrev pub nine_from : List ℕ → List ℕ → List ℕ → ℕ → List ℤ
 nine_from above here below i = nine_of (three_from above i) (three_from here i) (three_from below i)
 
--- how much greater three items are than three others, the middle one counted twice
+-- the second three items minus the first three, with weights 1, 2, 1
 abbrev pub change : ℕ × ℕ × ℕ → ℕ × ℕ × ℕ → ℤ
 change from to = (pos to.0 -ℤ pos from.0) +ℤ pos 2 *ℤ (pos to.1 -ℤ pos from.1) +ℤ (pos to.2 -ℤ pos from.2)

@@ -1,4 +1,5 @@
-//! Sums that a row of bytes is added to, in place.
+//! Kernels that add a row of bytes to a row of sums. OpenVX 1.3, "Accumulate" and "Accumulate
+//! Squared".
 #![tactic(auto, using(crate::proofs::ShortLaws::fit_as_bits))]
 
 ghost use Rattle.std.specs.Prelude.{◌≡◌, ◌≤◌, ◌*◌, ◌/◌, ◌^◌, pos, map, length};
@@ -12,7 +13,7 @@ use crate::rows::update_row;
 use crate::shorts::{accumulated_shorts, scaled_squares};
 use std::simd::prelude::*;
 
-/// The sum and the byte, at most 32,767.
+/// The sum plus the byte, at most 32,767.
 pub struct Accumulated;
 
 impl OfSum<u8, i16> for Accumulated {
@@ -28,7 +29,7 @@ impl OfSum<u8, i16> for Accumulated {
     }
 }
 
-/// The square of a byte over 2^amount, rounded down.
+/// Returns the square of a byte over 2^amount, rounded down.
 fn scaled_square(a: u8, amount: u8) -> u16
     requires { amount ≤ 15 }
     ensures { result ≡ a * a / 2 ^ amount }
@@ -36,7 +37,7 @@ fn scaled_square(a: u8, amount: u8) -> u16
     (u16::from(a) * u16::from(a)) >> amount
 }
 
-/// The sum and the byte's square over 2^amount, rounded down; at most 32,767.
+/// The sum plus the byte's square over 2^amount, rounded down; at most 32,767.
 #[derive(Drop)]
 pub struct Squared {
     pub amount: u8,
@@ -56,7 +57,7 @@ impl OfSum<u8, i16> for Squared {
     }
 }
 
-/// Adds each item to the sum at its place; what is greater than 32,767 becomes that.
+/// Adds each item to the sum at its index. A sum above 32,767 becomes 32,767.
 pub fn accumulate(row: &[u8], sums: &mut [i16])
     requires { length row.now ≡ length sums.old }
     ensures { sums.new ≡ zip2 (accumulated S16) (map pos row.now) sums.old }
@@ -64,8 +65,8 @@ pub fn accumulate(row: &[u8], sums: &mut [i16])
     update_row(&Accumulated, row, sums);
 }
 
-/// Adds each item's square over 2^amount, rounded down, to the sum at its place; what is greater
-/// than 32,767 becomes that.
+/// Adds each item's square over 2^amount, rounded down, to the sum at its index. A sum above 32,767
+/// becomes 32,767.
 pub fn accumulate_square(row: &[u8], amount: u8, sums: &mut [i16])
     requires length { length row.now ≡ length sums.old }
     requires amount { amount ≤ 15 }

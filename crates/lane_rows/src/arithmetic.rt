@@ -1,4 +1,4 @@
-//! Kernels of two U8 or S16 items, at the formats that they may have.
+//! Kernels of two items, for the combinations of U8 and S16 that OpenVX allows.
 #![tactic(auto, using(crate::proofs::ShortLaws::fit_as_bits))]
 
 ghost use Rattle.std.specs.Prelude.{◌≡◌, ℤ, pos, map, length, FitsSigned};
@@ -12,24 +12,24 @@ use crate::kernel::OfPair;
 use crate::stores::store_32_bytes;
 use std::simd::prelude::*;
 
-/// What a kernel gives of two U8 or S16 items.
+/// A function of two U8 or S16 items.
 pub trait Arithmetic {
-    /// The sample of a format, from those of the two items.
+    /// The result in a format, from the values of the two items.
     ghost formula: { Self → Format → ℤ → ℤ → ℤ };
 
-    /// Returns the U8 sample, from two of U8.
+    /// Returns the U8 result for two U8 items.
     fn of_bytes(&self, a: u8, b: u8) -> u8
         ensures { pos result ≡ formula self.now U8 (pos a) (pos b) };
 
-    /// Returns the S16 sample, from two that are S16 or have become it.
+    /// Returns the S16 result for two S16 items, either of which may be widened from U8.
     fn of_shorts(&self, a: i16, b: i16) -> i16
         ensures { result ≡ formula self.now S16 a b };
 
-    /// Returns 32 U8 samples.
+    /// Returns the U8 results for 32 pairs.
     fn bytes(&self, a: u8x32, b: u8x32) -> u8x32
         ensures { map pos result ≡ zip2 (formula self.now U8) (map pos a) (map pos b) };
 
-    /// Returns 16 S16 samples.
+    /// Returns the S16 results for 16 pairs.
     fn shorts(&self, a: i16x16, b: i16x16) -> i16x16
         requires a_len { length a ≡ 16 }
         requires b_len { length b ≡ 16 }
@@ -39,7 +39,8 @@ pub trait Arithmetic {
         ensures fits { Each1 (FitsSigned w16) result };
 }
 
-/// A kernel at rows of U8 to U8, and at rows that are each U8 or S16 to S16.
+/// The kernel of an arithmetic function: two U8 rows to a U8 row, or two rows, each U8 or S16, to
+/// an S16 row.
 #[derive(Drop)]
 pub struct OfSamples<'a, K>(pub &'a K);
 
@@ -56,7 +57,7 @@ impl<K: Arithmetic> OfPair<u8, u8, u8> for OfSamples<'_, K> {
     }
 }
 
-/// Writes what the kernel gives of sixteen items of each row.
+/// Writes the kernel's results for 16 items of each row.
 fn write_sixteen<A: Short, B: Short, K: Arithmetic>(
     kernel: &K,
     first: &[A],

@@ -1,4 +1,4 @@
-//! Sums to which a coefficient times each byte of a row is added.
+//! Adds a coefficient times a row of bytes to a row of sums.
 ghost use Rattle.std.specs.Prelude.{◌≡◌, ◌+ℤ◌, ◌*ℤ◌, pos, map, length, FitsSigned};
 ghost use Rattle.std.specs.Int.{w16, w32, int_wrap};
 ghost use Rattle.std.specs.Simd.Lanes.{zip2, Each1};
@@ -9,7 +9,7 @@ use crate::rows::update_row;
 use crate::scales::sixteen;
 use std::simd::prelude::*;
 
-/// The sum and a coefficient times the byte; what doesn't fit 32 bits wraps.
+/// The sum plus a coefficient times the byte, modulo 2^32.
 #[derive(Drop)]
 struct Axpy {
     k: i16,
@@ -29,8 +29,8 @@ impl OfSum<u8, i32> for Axpy {
     }
 }
 
-/// Adds the coefficient times each byte to the sum at its place. No sum is more than 2,139,127,807
-/// from 0 before, so that none leaves its type.
+/// Adds the coefficient times each byte to the sum at its index. The sums are at most 2,139,127,807
+/// from 0 before, so that none overflows.
 pub fn axpy_i32(row: &[u8], k: i16, sums: &mut [i32])
     requires len { length row.now ≡ length sums.old }
     requires limit { Each1 HasRoom sums.old }

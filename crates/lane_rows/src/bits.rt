@@ -9,7 +9,7 @@ use crate::rows::{map_row, zip_rows};
 use crate::stores::store_32_bytes;
 use std::simd::prelude::*;
 
-/// The bits that both items have.
+/// The bitwise and.
 pub struct And;
 
 impl OfPair<u8, u8, u8> for And {
@@ -25,7 +25,7 @@ impl OfPair<u8, u8, u8> for And {
     }
 }
 
-/// The bits that one item has or both have.
+/// The bitwise or.
 pub struct Or;
 
 impl OfPair<u8, u8, u8> for Or {
@@ -41,7 +41,7 @@ impl OfPair<u8, u8, u8> for Or {
     }
 }
 
-/// The bits that one item has and the other has not.
+/// The bitwise exclusive or.
 pub struct Xor;
 
 impl OfPair<u8, u8, u8> for Xor {
@@ -57,7 +57,7 @@ impl OfPair<u8, u8, u8> for Xor {
     }
 }
 
-/// Each of the eight bits turned over.
+/// The item with all bits inverted.
 pub struct Not;
 
 impl OfItem<u8, u8> for Not {
@@ -74,7 +74,7 @@ impl LanesOfItem<u8, u8> for Not {
     }
 }
 
-/// Writes the bits that both items have.
+/// Writes the bitwise and of the items.
 pub fn and_u8(first: &[u8], second: &[u8], out: &mut [u8])
     requires first_len { length first.now ≡ length out.old }
     requires second_len { length second.now ≡ length out.old }
@@ -83,7 +83,7 @@ pub fn and_u8(first: &[u8], second: &[u8], out: &mut [u8])
     zip_rows(&And, first, second, out);
 }
 
-/// Writes the bits that one item has or both have.
+/// Writes the bitwise or of the items.
 pub fn or_u8(first: &[u8], second: &[u8], out: &mut [u8])
     requires first_len { length first.now ≡ length out.old }
     requires second_len { length second.now ≡ length out.old }
@@ -92,7 +92,7 @@ pub fn or_u8(first: &[u8], second: &[u8], out: &mut [u8])
     zip_rows(&Or, first, second, out);
 }
 
-/// Writes the bits that one item has and the other has not.
+/// Writes the bitwise exclusive or of the items.
 pub fn xor_u8(first: &[u8], second: &[u8], out: &mut [u8])
     requires first_len { length first.now ≡ length out.old }
     requires second_len { length second.now ≡ length out.old }
@@ -101,7 +101,7 @@ pub fn xor_u8(first: &[u8], second: &[u8], out: &mut [u8])
     zip_rows(&Xor, first, second, out);
 }
 
-/// Writes the items with each of their eight bits turned over.
+/// Writes the items with all bits inverted.
 pub fn not_u8(row: &[u8], out: &mut [u8])
     requires { length row.now ≡ length out.old }
     ensures { map pos out.new ≡ map not_bits (map pos row.now) }

@@ -1,11 +1,11 @@
-//! Rows that are written or updated block by block, each block in lanes.
+//! Writes or updates rows block by block, each block in lanes.
 ghost use Rattle.std.specs.Prelude.{◌≡◌, ◌*◌, map, length};
 ghost use Rattle.std.specs.Simd.Lanes.{zip2};
 
 use crate::item::Item;
 use crate::kernel::{LanesOfItem, OfPair, OfSum};
 
-/// Writes what the kernel gives at each place of a row of blocks of 32 items.
+/// Writes the kernel's result for each item of a row. The row consists of blocks of 32 items.
 pub fn map_blocks<A: Item, T: Item, K: LanesOfItem<A, T>>(
     kernel: &K,
     row: &[A],
@@ -22,7 +22,8 @@ pub fn map_blocks<A: Item, T: Item, K: LanesOfItem<A, T>>(
     }
 }
 
-/// Writes what the kernel gives at each place of two rows of blocks of 32 items.
+/// Writes the kernel's result for each pair of items of two rows. The rows consist of blocks of 32
+/// items.
 pub fn zip_blocks<A: Item, B: Item, T: Item, K: OfPair<A, B, T>>(
     kernel: &K,
     first: &[A],
@@ -46,7 +47,7 @@ pub fn zip_blocks<A: Item, B: Item, T: Item, K: OfPair<A, B, T>>(
     }
 }
 
-/// Updates sums by a row of blocks of 16 items.
+/// Updates each sum with the row's item at the same index. The row consists of blocks of 16 items.
 pub fn update_blocks<A: Item, T: Item, K: OfSum<A, T>>(
     kernel: &K,
     row: &[A],

@@ -9,7 +9,7 @@ ghost use Rattle.vx_base.specs.Pixelwise.{smaller, greater, not_bits};
 use std::simd::prelude::*;
 use vx_base::Policy;
 
-/// The products of bytes over 2^amount, rounded down.
+/// Returns the products over 2^amount, rounded down.
 pub fn byte_products(a: u8x32, b: u8x32, amount: u8) -> u16x32
     requires { amount ≤ 15 }
     ensures { result ≡ zip2 (λ x y. x * y / 2 ^ amount) a b }
@@ -17,21 +17,21 @@ pub fn byte_products(a: u8x32, b: u8x32, amount: u8) -> u16x32
     (a.cast::<u16>() * b.cast::<u16>()) >> u16::from(amount)
 }
 
-/// The nearest bytes.
+/// Returns the nearest bytes.
 fn clamped(numbers: u16x32) -> u8x32
     ensures { result ≡ map (λ n. min n 255) numbers }
 {
     numbers.simd_min(u16x32::splat(255)).cast::<u8>()
 }
 
-/// What is left in 8 bits.
+/// Returns the numbers modulo 2^8.
 fn wrapped(numbers: u16x32) -> u8x32
     ensures { result ≡ map (λ n. n % 256) numbers }
 {
     (numbers & u16x32::splat(255)).cast::<u8>()
 }
 
-/// The U8 samples that they become.
+/// Returns the numbers narrowed to U8 by the policy.
 pub fn narrowed_bytes(numbers: u16x32, policy: Policy) -> u8x32
     ensures { map pos result ≡ map (narrow U8 policy) (map pos numbers) }
 {
@@ -41,14 +41,14 @@ pub fn narrowed_bytes(numbers: u16x32, policy: Policy) -> u8x32
     }
 }
 
-/// Each of the eight bits turned over.
+/// Returns the bytes with all bits inverted.
 pub fn inverted_bytes(a: u8x32) -> u8x32
     ensures { map pos result ≡ map not_bits (map pos a) }
 {
     !a
 }
 
-/// The sums, narrowed by the policy.
+/// Returns the sums, narrowed by the policy.
 pub fn byte_sums(a: u8x32, b: u8x32, policy: Policy) -> u8x32
     ensures { map pos result ≡ zip2 (sum U8 policy) (map pos a) (map pos b) }
 {
@@ -58,7 +58,7 @@ pub fn byte_sums(a: u8x32, b: u8x32, policy: Policy) -> u8x32
     }
 }
 
-/// The first less the second, narrowed by the policy.
+/// Returns the first bytes minus the second, narrowed by the policy.
 pub fn byte_differences(a: u8x32, b: u8x32, policy: Policy) -> u8x32
     ensures { map pos result ≡ zip2 (difference U8 policy) (map pos a) (map pos b) }
 {
@@ -68,21 +68,21 @@ pub fn byte_differences(a: u8x32, b: u8x32, policy: Policy) -> u8x32
     }
 }
 
-/// How far the bytes are apart.
+/// Returns the absolute differences.
 pub fn byte_distances(a: u8x32, b: u8x32) -> u8x32
     ensures { map pos result ≡ zip2 (absolute_difference U8) (map pos a) (map pos b) }
 {
     a.simd_max(b) - a.simd_min(b)
 }
 
-/// The smaller of the bytes.
+/// Returns the smaller byte of each pair.
 pub fn smaller_bytes(a: u8x32, b: u8x32) -> u8x32
     ensures { map pos result ≡ zip2 smaller (map pos a) (map pos b) }
 {
     a.simd_min(b)
 }
 
-/// The greater of the bytes.
+/// Returns the greater byte of each pair.
 pub fn greater_bytes(a: u8x32, b: u8x32) -> u8x32
     ensures { map pos result ≡ zip2 greater (map pos a) (map pos b) }
 {

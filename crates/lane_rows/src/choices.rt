@@ -1,4 +1,4 @@
-//! Bytes in 32 lanes, chosen by what numbers are.
+//! Thresholds in 32 lanes: each lane becomes one of two bytes.
 ghost use Rattle.std.specs.Prelude.{◌≡◌, pos, map, length, FitsSigned};
 ghost use Rattle.std.specs.Int.{w16};
 ghost use Rattle.std.specs.Simd.Lanes.{Each1};
@@ -7,7 +7,7 @@ ghost use Rattle.lane_rows.specs.Chosen.{chosen};
 
 use std::simd::prelude::*;
 
-/// One value where a byte is above the limit, another elsewhere.
+/// Returns `true_value` where a byte is above the limit, and `false_value` elsewhere.
 pub fn bytes_above(row: u8x32, limit: u8, true_value: u8, false_value: u8) -> u8x32
     ensures { map pos result ≡ map (chosen (Binary (pos limit)) true_value false_value)
         (map pos row) }
@@ -16,7 +16,8 @@ pub fn bytes_above(row: u8x32, limit: u8, true_value: u8, false_value: u8) -> u8
         .select(u8x32::splat(true_value), u8x32::splat(false_value))
 }
 
-/// One value where a byte is from the lower to the upper limit, another elsewhere.
+/// Returns `true_value` where a byte is between the limits or equal to one, and `false_value`
+/// elsewhere.
 pub fn bytes_between(row: u8x32, lower: u8, upper: u8, true_value: u8, false_value: u8) -> u8x32
     ensures { map pos result ≡ map (chosen (Range (pos lower) (pos upper)) true_value false_value)
         (map pos row) }
@@ -28,7 +29,7 @@ pub fn bytes_between(row: u8x32, lower: u8, upper: u8, true_value: u8, false_val
         .select(u8x32::splat(false_value), up_to)
 }
 
-/// One value where a number is above the limit, another elsewhere.
+/// Returns `true_value` where a number is above the limit, and `false_value` elsewhere.
 pub fn shorts_above(row: i16x32, limit: i16, true_value: u8, false_value: u8) -> u8x32
     requires len { length row ≡ 32 }
     requires fits { Each1 (FitsSigned w16) row }
@@ -39,7 +40,8 @@ pub fn shorts_above(row: i16x32, limit: i16, true_value: u8, false_value: u8) ->
         .select(u8x32::splat(true_value), u8x32::splat(false_value))
 }
 
-/// One value where a number is from the lower to the upper limit, another elsewhere.
+/// Returns `true_value` where a number is between the limits or equal to one, and `false_value`
+/// elsewhere.
 pub fn shorts_between(row: i16x32, lower: i16, upper: i16, true_value: u8, false_value: u8) -> u8x32
     requires len { length row ≡ 32 }
     requires fits { Each1 (FitsSigned w16) row }

@@ -1,15 +1,16 @@
-//! Kernels of three rows, by which windows go down the columns of three rows of bytes and then
-//! across three columns, and those of gradients.
+//! Kernels of three rows for separable windows: first down the columns of three rows of bytes, then
+//! across three columns. Those of gradients are here.
 //!
-//! Gradients are plain loops, which the compiler computes in lanes as wide as the processor's. Lanes
-//! of 32 numbers of 16 bits take 1.1 to 1.2 times as long on processors with lanes of 16 bytes.
+//! They are plain loops, which the compiler computes in lanes of the processor's width. Explicit
+//! blocks of 32 numbers of 16 bits take 1.1 to 1.2 times as long on processors with registers of 16
+//! bytes.
 ghost use Rattle.std.specs.Prelude.{◌≡◌, ◌≤◌, ◌+ℤ◌, ◌-ℤ◌, ◌*ℤ◌, ℤ, pos, map, length, unsigned_abs};
 ghost use Rattle.vx_base.specs.Image.{run};
 ghost use Rattle.lane_rows.specs.Threes.{AreTaken, number_at};
 
 use crate::item::Item;
 
-/// The sum of three bytes, the middle one twice.
+/// The sum of three bytes with weights 1, 2, 1.
 #[derive(Clone, Copy)]
 pub struct WeightedSum {
     sum: u16,
@@ -39,7 +40,7 @@ impl Item for Change {
 }
 
 impl Change {
-    /// Returns the difference of equal bytes.
+    /// Returns the difference zero.
     pub fn zero() -> Change {
         Change { change: 0 }
     }
@@ -49,15 +50,15 @@ impl Change {
 pub trait OfColumn<A: Item, T: Item> {
     ghost formula: { ℤ → ℤ → ℤ → ℤ };
 
-    /// The numbers that it takes.
+    /// The numbers that it accepts.
     ghost takes: { ℤ → Type 0 };
 
-    /// Returns what it gives of three items.
+    /// Returns the result for three items.
     fn item(first: A, second: A, third: A) -> T
         requires { takes (A.value first) × takes (A.value second) × takes (A.value third) }
         ensures { T.value result ≡ formula (A.value first) (A.value second) (A.value third) };
 
-    /// Writes what it gives at each place of three rows, item by item.
+    /// Writes the result for each index of three rows, item by item.
     fn write(first: &[A], second: &[A], third: &[A], out: &mut [T])
         requires first_len { length first.now ≡ length out.old }
         requires second_len { length second.now ≡ length out.old }
@@ -74,7 +75,7 @@ pub trait OfColumn<A: Item, T: Item> {
     }
 }
 
-/// The sum of three numbers, the middle one twice.
+/// The sum of three numbers with weights 1, 2, 1.
 #[derive(Drop)]
 pub struct Weighted;
 
@@ -99,7 +100,7 @@ impl OfColumn<Change, i16> for Weighted {
     }
 }
 
-/// How much greater the third of three numbers is than the first.
+/// The third of three numbers minus the first.
 #[derive(Drop)]
 pub struct Rise;
 

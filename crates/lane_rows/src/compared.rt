@@ -1,4 +1,4 @@
-//! Items that are compared with each other, one by one and in lanes.
+//! Items that are compared, one by one and in lanes.
 ghost use Rattle.std.specs.Prelude.{◌≡◌, map, length};
 ghost use Rattle.std.specs.Int.{int_min, int_max};
 ghost use Rattle.std.specs.Ordering.{int_eq};
@@ -8,7 +8,7 @@ use crate::item::Short;
 use std::simd::prelude::*;
 use vx_base::are_shorts;
 
-/// Items that have an order: `u8` and `i16`.
+/// An item type with an order: `u8` or `i16`.
 pub trait Compared: Short {
     fn lesser(self, other: Self) -> Self
         ensures { Self.value result ≡ int_min (Self.value self) (Self.value other) };
@@ -16,11 +16,11 @@ pub trait Compared: Short {
     fn greater(self, other: Self) -> Self
         ensures { Self.value result ≡ int_max (Self.value self) (Self.value other) };
 
-    /// Whether they are equal.
+    /// Returns whether the items are equal.
     fn is(self, other: Self) -> bool
         ensures { result ≡ int_eq (Self.value self) (Self.value other) };
 
-    /// How many of 32 items are this one.
+    /// Returns the number of items of a block of 32 that equal this one.
     fn count_in(self, block: &[Self]) -> u32
         requires { length block.now ≡ 32 }
         ensures { result ≡ count_of (Self.value self) (map Self.value block.now) };

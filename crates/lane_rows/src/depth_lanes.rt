@@ -1,4 +1,4 @@
-//! Bit depths in 32 lanes.
+//! Conversion of bit depths in 32 lanes.
 ghost use Rattle.std.specs.Prelude.{◌≡◌, ◌≤◌, ◌^◌, ◌*ℤ◌, pos, map, length, FitsSigned};
 ghost use Rattle.std.specs.Int.{w16};
 ghost use Rattle.std.specs.Simd.Lanes.{Each1};
@@ -8,7 +8,7 @@ ghost use Rattle.vx_base.specs.Pixelwise.{converted};
 use std::simd::prelude::*;
 use vx_base::Policy;
 
-/// The bytes times 2^amount.
+/// Returns the bytes times 2^amount.
 pub fn shifted_up(row: u8x32, amount: u8) -> i16x32
     requires { amount ≤ 7 }
     ensures value { result ≡ map (λ a. a *ℤ pos (2 ^ amount)) (map pos row) }
@@ -17,7 +17,7 @@ pub fn shifted_up(row: u8x32, amount: u8) -> i16x32
     row.cast::<i16>() << i16::from(amount)
 }
 
-/// The numbers over 2^amount, rounded down and narrowed by the policy.
+/// Returns the numbers over 2^amount, rounded down and narrowed by the policy.
 pub fn shifted_down(row: i16x32, amount: u8, policy: Policy) -> u8x32
     requires amount { amount ≤ 7 }
     requires len { length row ≡ 32 }

@@ -1,4 +1,4 @@
-//! Items of one format from those of another.
+//! Conversion between U8 and S16 items. OpenVX 1.3, "Convert Bit Depth".
 #![tactic(auto, using(crate::proofs::ShortLaws::fit_as_bits))]
 
 ghost use Rattle.std.specs.Prelude.{◌≡◌, ◌≤◌, ◌^◌, ◌*ℤ◌, pos, map, length};
@@ -14,7 +14,7 @@ use crate::stores::{store_32_bytes, store_32_shorts};
 use std::simd::prelude::*;
 use vx_base::Policy;
 
-/// Times 2^amount.
+/// The item times 2^amount.
 #[derive(Drop)]
 pub struct ShiftedUp {
     pub amount: u8,
@@ -36,7 +36,7 @@ impl LanesOfItem<u8, i16> for ShiftedUp {
     }
 }
 
-/// Over 2^amount, rounded down and narrowed by the policy.
+/// The item over 2^amount, rounded down and narrowed by the policy.
 #[derive(Drop)]
 pub struct Narrowed<P> {
     pub overflow: P,

@@ -1,4 +1,4 @@
-//! How far items are apart.
+//! Absolute differences. OpenVX 1.3, "Absolute Difference".
 #![tactic(auto, using(crate::proofs::ShortLaws::fit_as_bits))]
 
 ghost use Rattle.std.specs.Prelude.{◌≡◌, pos, map, length};
@@ -14,7 +14,7 @@ use crate::shorts::{narrowed, short_distances};
 use std::simd::prelude::*;
 use vx_base::Policy;
 
-/// How far the items are apart, at most the format's greatest sample.
+/// The absolute difference, at most the format's greatest sample.
 #[derive(Drop)]
 pub struct Distance;
 
@@ -38,7 +38,7 @@ impl Arithmetic for Distance {
     }
 }
 
-/// Writes how far the items are apart.
+/// Writes the absolute differences of the items.
 pub fn absdiff_u8(first: &[u8], second: &[u8], out: &mut [u8])
     requires first_len { length first.now ≡ length out.old }
     requires second_len { length second.now ≡ length out.old }
@@ -48,7 +48,7 @@ pub fn absdiff_u8(first: &[u8], second: &[u8], out: &mut [u8])
     zip_rows(&OfSamples(&Distance), first, second, out);
 }
 
-/// Writes how far the items, each U8 or S16, are apart, at most 32,767.
+/// Writes the absolute differences of the items, each U8 or S16, at most 32,767.
 pub fn absdiff_s16<A: Short, B: Short>(first: &[A], second: &[B], out: &mut [i16])
     requires first_len { length first.now ≡ length out.old }
     requires second_len { length second.now ≡ length out.old }

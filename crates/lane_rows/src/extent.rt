@@ -1,5 +1,5 @@
-//! The least and the greatest item of a row. The loops ask nothing, so that the compiler runs them
-//! in lanes.
+//! The least and the greatest item of a row. The loops have no branches, so that the compiler
+//! computes them in lanes.
 ghost use Rattle.std.specs.Prelude.{◌≡◌, ◌<◌, ◌^◌, pos, map, length};
 ghost use Rattle.std.specs.Int.{int_min, int_max};
 ghost use Rattle.vx_base.specs.Statistics.{chosen, count_of};
@@ -7,7 +7,7 @@ ghost use Rattle.vx_base.specs.Statistics.{chosen, count_of};
 use crate::compared::Compared;
 use crate::occurrences::count_of;
 
-/// The least item of a row that has one.
+/// Returns the least item of a row, which isn't empty.
 pub fn least_of<T: Compared>(row: &[T]) -> T
     requires { 0 < length row.now }
     ensures { T.value result ≡ chosen int_min (map T.value row.now) }
@@ -19,7 +19,7 @@ pub fn least_of<T: Compared>(row: &[T]) -> T
     least
 }
 
-/// The greatest item of a row that has one.
+/// Returns the greatest item of a row, which isn't empty.
 pub fn greatest_of<T: Compared>(row: &[T]) -> T
     requires { 0 < length row.now }
     ensures { T.value result ≡ chosen int_max (map T.value row.now) }
@@ -31,7 +31,7 @@ pub fn greatest_of<T: Compared>(row: &[T]) -> T
     greatest
 }
 
-/// The least and the greatest item of a row, and how many items are equal to each.
+/// The least and the greatest item of a row, and the number of items equal to each.
 #[derive(Clone, Copy)]
 pub struct RowExtremes<T: Copy> {
     pub least: T,
@@ -59,8 +59,8 @@ fn extremes_of<T: Compared>(row: &[T]) -> RowExtremes<T>
     }
 }
 
-/// Returns the least and the greatest item of a row that has one, and how many items are equal to
-/// each.
+/// Returns the least and the greatest item of a row, which isn't empty, and the number of items
+/// equal to each.
 pub fn extremes_u8(row: &[u8]) -> RowExtremes<u8>
     requires some { 0 < length row.now }
     requires room { length row.now < 2 ^ 32 }
@@ -72,8 +72,8 @@ pub fn extremes_u8(row: &[u8]) -> RowExtremes<u8>
     extremes_of(row)
 }
 
-/// Returns the least and the greatest item of a row that has one, and how many items are equal to
-/// each.
+/// Returns the least and the greatest item of a row, which isn't empty, and the number of items
+/// equal to each.
 pub fn extremes_s16(row: &[i16]) -> RowExtremes<i16>
     requires some { 0 < length row.now }
     requires room { length row.now < 2 ^ 32 }

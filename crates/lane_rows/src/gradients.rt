@@ -1,4 +1,4 @@
-//! How the nine samples of windows change along a row and from row to row.
+//! Sobel gradients of 3 x 3 windows. OpenVX 1.3, "Sobel 3x3".
 ghost use Rattle.std.specs.Prelude.{◌≡◌, ◌+◌, ◌*◌, ◌≤◌, ℕ, map, length};
 ghost use Rattle.std.specs.List.{range_with_len};
 ghost use Rattle.vx_base.specs.Image.{run};
@@ -9,7 +9,7 @@ use crate::nine::{OfNine, ThreeItems, write_nine};
 use crate::nine_rows::{Nine, three_lanes};
 use std::simd::prelude::*;
 
-/// The sum of three samples, the middle one counted twice.
+/// Returns the sum of three samples with weights 1, 2, 1.
 fn weighted_sum(items: ThreeItems) -> u16
     ensures value { result ≡ items.0 + 2 * items.1 + items.2 }
     ensures limit { result ≤ 1020 }
@@ -17,14 +17,14 @@ fn weighted_sum(items: ThreeItems) -> u16
     u16::from(items.0) + 2 * u16::from(items.1) + u16::from(items.2)
 }
 
-/// How much greater three samples are than three others, the middle one counted twice.
+/// Returns the second three samples minus the first three, summed with weights 1, 2, 1.
 fn change(from: ThreeItems, to: ThreeItems) -> i16
     ensures { result ≡ change from to }
 {
     weighted_sum(to) as i16 - weighted_sum(from) as i16
 }
 
-/// Writes how much greater the samples d, e and f are than a, b and c, at each of 32 places.
+/// Writes d, e and f minus a, b and c, summed with weights 1, 2, 1, in each of 32 lanes.
 fn write_changes(a: u8x32, b: u8x32, c: u8x32, d: u8x32, e: u8x32, f: u8x32, out: &mut [i16])
     requires out_len { length out.old ≡ 32 }
     ensures { (g h i j k l : ℕ → ℕ) (place : ℕ) →
@@ -39,7 +39,7 @@ fn write_changes(a: u8x32, b: u8x32, c: u8x32, d: u8x32, e: u8x32, f: u8x32, out
     (first + (second + second) + third).copy_to_slice(out);
 }
 
-/// The change from left to right.
+/// The horizontal gradient: the right column minus the left, with weights 1, 2, 1.
 pub struct GradientX;
 
 impl OfNine<i16> for GradientX {
@@ -57,7 +57,7 @@ impl OfNine<i16> for GradientX {
     }
 }
 
-/// The change from above to below.
+/// The vertical gradient: the lower row minus the upper, with weights 1, 2, 1.
 pub struct GradientY;
 
 impl OfNine<i16> for GradientY {
@@ -76,7 +76,7 @@ impl OfNine<i16> for GradientY {
     }
 }
 
-/// Writes the change from left to right of nine samples at each place.
+/// Writes the horizontal gradient of each window.
 pub fn sobel_x(nine: &Nine<'_>, out: &mut [i16])
     requires { places nine.now ≡ length out.old }
     ensures { out.new ≡ run 0 (length out.old) (λ i. gradient_x (nine_at nine.now i)) }
@@ -84,7 +84,7 @@ pub fn sobel_x(nine: &Nine<'_>, out: &mut [i16])
     write_nine(&GradientX, nine, out);
 }
 
-/// Writes the change from above to below of nine samples at each place.
+/// Writes the vertical gradient of each window.
 pub fn sobel_y(nine: &Nine<'_>, out: &mut [i16])
     requires { places nine.now ≡ length out.old }
     ensures { out.new ≡ run 0 (length out.old) (λ i. gradient_y (nine_at nine.now i)) }

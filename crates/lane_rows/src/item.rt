@@ -1,4 +1,4 @@
-//! The numbers that rows hold.
+//! The number types of a row's items.
 ghost use Rattle.std.specs.Prelude.{◌≡◌, ℤ, pos, map, length, FitsSigned};
 ghost use Rattle.std.specs.Int.{w16};
 ghost use Rattle.std.specs.Simd.Lanes.{Each1};
@@ -6,9 +6,9 @@ ghost use Rattle.std.specs.Simd.Lanes.{Each1};
 use std::simd::prelude::*;
 use vx_base::are_shorts;
 
-/// A number type of a row's items.
+/// The number type of a row's items.
 pub trait Item: Copy {
-    /// The number.
+    /// The item's value.
     ghost value: { Self → ℤ };
 }
 
@@ -24,13 +24,13 @@ impl Item for i32 {
     ghost value = { λ z. z };
 }
 
-/// Items that are S16 samples, or become them without loss: `u8` and `i16`.
+/// An item type that converts to S16 without loss: `u8` or `i16`.
 pub trait Short: Item {
-    /// The same number as an S16 sample.
+    /// Returns the same number as an S16 sample.
     fn short(self) -> i16
         ensures { result ≡ Self.value self };
 
-    /// Sixteen of them as S16 samples.
+    /// Returns the 16 items of a block as S16 samples.
     fn shorts(block: &[Self]) -> i16x16
         requires { length block.now ≡ 16 }
         ensures value { result ≡ map Self.value block.now }
@@ -58,7 +58,7 @@ impl Short for i16 {
     }
 }
 
-/// Returns 32 S16 samples.
+/// Returns the 32 items of a block.
 pub fn shorts_of(block: &[i16]) -> i16x32
     requires { length block.now ≡ 32 }
     ensures value { result ≡ block.now }

@@ -1,11 +1,11 @@
-//! Rows that are written or updated item by item: what is left of a row after its last block.
+//! Writes or updates rows item by item: the rest of a row after its last block.
 ghost use Rattle.std.specs.Prelude.{◌≡◌, map, length};
 ghost use Rattle.std.specs.Simd.Lanes.{zip2};
 
 use crate::item::Item;
 use crate::kernel::{OfItem, OfPair, OfSum};
 
-/// Writes what the kernel gives at each place of a row.
+/// Writes the kernel's result for each item of a row.
 pub fn map_items<A: Item, T: Item, K: OfItem<A, T>>(kernel: &K, row: &[A], out: &mut [T])
     requires { length row.now ≡ length out.old }
     ensures { map T.value out.new ≡ map (K.formula kernel.now) (map A.value row.now) }
@@ -15,7 +15,7 @@ pub fn map_items<A: Item, T: Item, K: OfItem<A, T>>(kernel: &K, row: &[A], out: 
     }
 }
 
-/// Writes what the kernel gives at each place of two rows.
+/// Writes the kernel's result for each pair of items of two rows.
 pub fn zip_items<A: Item, B: Item, T: Item, K: OfPair<A, B, T>>(
     kernel: &K,
     first: &[A],
@@ -32,7 +32,7 @@ pub fn zip_items<A: Item, B: Item, T: Item, K: OfPair<A, B, T>>(
     }
 }
 
-/// Makes each sum what the kernel gives of the row's item at its place and of it.
+/// Updates each sum with the row's item at the same index.
 pub fn update_items<A: Item, T: Item, K: OfSum<A, T>>(kernel: &K, row: &[A], sums: &mut [T])
     requires { length row.now ≡ length sums.old }
     ensures { map T.value sums.new ≡ zip2 (K.formula kernel.now) (map A.value row.now)

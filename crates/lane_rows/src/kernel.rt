@@ -1,22 +1,22 @@
-//! What a kernel is: what it gives of one item, and of a block of them in lanes.
+//! The traits of kernels: the result for one item, and for a block of items in lanes.
 ghost use Rattle.std.specs.Prelude.{◌≡◌, ℤ, map, length};
 ghost use Rattle.std.specs.Simd.Lanes.{zip2};
 
 use crate::item::Item;
 
-/// What a kernel of one row gives of one item.
+/// A function of one item.
 pub trait OfItem<A: Item, T: Item> {
-    /// The number, from that of the item.
+    /// The result's value, from the item's value.
     ghost formula: { Self → ℤ → ℤ };
 
-    /// Returns what it gives of an item.
+    /// Returns the result for an item.
     fn item(&self, a: A) -> T
         ensures { T.value result ≡ formula self.now (A.value a) };
 }
 
-/// A kernel of one row. One that a processor has no lanes for writes a block by its items.
+/// A kernel of one row. A kernel without vector instructions may write a block item by item.
 pub trait LanesOfItem<A: Item, T: Item>: OfItem<A, T> {
-    /// Writes what it gives of 32 items.
+    /// Writes the results for 32 items.
     fn lanes(&self, row: &[A], out: &mut [T])
         requires row_len { length row.now ≡ 32 }
         requires out_len { length out.old ≡ 32 }
@@ -25,14 +25,14 @@ pub trait LanesOfItem<A: Item, T: Item>: OfItem<A, T> {
 
 /// A kernel of two rows.
 pub trait OfPair<A: Item, B: Item, T: Item> {
-    /// The number, from those of the two items.
+    /// The result's value, from the values of the two items.
     ghost formula: { Self → ℤ → ℤ → ℤ };
 
-    /// Returns what it gives of two items at one place.
+    /// Returns the result for the two items at an index.
     fn item(&self, a: A, b: B) -> T
         ensures { T.value result ≡ formula self.now (A.value a) (B.value b) };
 
-    /// Writes what it gives of 32 items of each row.
+    /// Writes the results for 32 items of each row.
     fn lanes(&self, first: &[A], second: &[B], out: &mut [T])
         requires first_len { length first.now ≡ 32 }
         requires second_len { length second.now ≡ 32 }
@@ -41,9 +41,9 @@ pub trait OfPair<A: Item, B: Item, T: Item> {
             (map B.value second.now) };
 }
 
-/// A kernel that updates sums by a row.
+/// A kernel that updates a row of sums with another row.
 pub trait OfSum<A: Item, T: Item> {
-    /// The new sum, from the number of the row's item and the sum that stood at its place.
+    /// The new sum, from the value of the row's item and the old sum at its index.
     ghost formula: { Self → ℤ → ℤ → ℤ };
 
     /// Returns the new sum.

@@ -1,42 +1,41 @@
-//! Kernels over rows: slices of equal length, the inputs first, then what they are computed with,
-//! then the output.
+//! Kernels over rows: functions of slices that have the same length, which may be any. The inputs
+//! come first, then the parameters, then the output.
 //!
-//! Each item of the output is the formula of the items at its place; where a row is updated in
-//! place, of the one that stood there as well. A kernel is a small type that says what it gives of
-//! one item, and of a block of items in lanes (`std::simd`); that a whole row is written, block by
-//! block and the rest item by item, is proved once for all kernels.
+//! Each output item is computed from the input items at its index. A kernel that updates a row also
+//! reads the output item that it replaces. A kernel is a small type that computes one item, and a
+//! block of items in lanes (`std::simd`). One proof covers all kernels: it shows that a row is
+//! written as a whole, block by block and the rest item by item.
 //!
-//! - `item`: the numbers that rows hold
-//! - `kernel`: what a kernel is, of one row, of two, or that updates one
-//! - `rows`: the rows that kernels write, by `blocks` and by `items`
-//! - `stores`: how lanes are stored, and kernels that a processor has no lanes for
-//! - `overflow`: policies as types, so that a loop asks for none
-//! - `arithmetic`: kernels of two U8 or S16 items, at the formats that they may have
+//! - `item`: the number types of items
+//! - `kernel`: the traits of kernels, for one row, for two rows, and for updates
+//! - `rows`: writes whole rows, by `blocks` and by `items`
+//! - `stores`: stores of lanes, and kernels without vector instructions
+//! - `overflow`: policies as types, so that no loop tests the policy
+//! - `arithmetic`: kernels of two U8 or S16 items
 //! - `bits`, `sums`, `products`, `distances`, `extremes`, `thresholds`, `depths`, `accumulation`:
 //!   the kernels
-//! - `compared`, `extent`, `occurrences`: the extremes of a row, how often an item stands in it, and
-//!   where first
-//! - `tallies`: how often each byte stands in a row
-//! - `running`: running sums of a row, beside those above it
-//! - `places`: rows that are written place by place, in blocks of 32 places of which the last may
-//!   overlap the one before
-//! - `nine_rows`, `nine`: the nine samples of windows as nine rows, and rows of what a kernel gives
-//!   of them
-//! - `ranks`, `gradients`: the kernels of nine samples, and choices of three
-//! - `threes`: sums and means of three rows of numbers that aren't negative
-//! - `columns`: what a kernel of three rows is; weighted sums and differences, which may be
-//!   negative, for gradients
-//! - `axpy`: a coefficient times a row of bytes, added to sums
-//! - `matrix_rows`: sums of rows of samples, each times a coefficient of a matrix, by `pairs` of
+//! - `compared`, `extent`, `occurrences`: the least and the greatest item of a row, how often an
+//!   item occurs, and its first index
+//! - `tallies`: a histogram of the bytes of a row
+//! - `running`: running sums of a row, added to the sums of the row above
+//! - `places`: rows that are written in blocks of 32 items; the last block may overlap the one
+//!   before
+//! - `nine_rows`, `nine`: windows of 3 x 3 samples as nine rows, and kernels of them
+//! - `ranks`, `gradients`: the kernels of 3 x 3 windows, and minima and maxima of three rows
+//! - `threes`: sums and means of three rows of non-negative numbers
+//! - `columns`: kernels of three rows, with weighted sums and differences for gradients
+//! - `axpy`: adds a coefficient times a row of bytes to a row of sums
+//! - `matrix_rows`: sums of rows of samples times the coefficients of a matrix, by `pairs` of
 //!   coefficients
-//! - `scales`: numbers over a power of two, rounded toward zero and clamped
-//! - `bytes`, `shorts`, `choices`, `depth_lanes`: their arithmetic in lanes
+//! - `scales`: numbers divided by a power of two, rounded toward zero and clamped
+//! - `bytes`, `shorts`, `choices`, `depth_lanes`: arithmetic in lanes
 //!
-//! The kernels and their formulas: a and b are the items, c is what stood in the output, and p
-//! narrows to the output's format by the policy. Times are those of an item of rows of 1920 in the
-//! cache, in thousandths of a nanosecond, on x86-64-v2, whose registers have 16 bytes, and on
-//! x86-64-v3, with 32. A block of 32 items is two registers of bytes or four of S16 on v2, half as
-//! many on v3; where a row is updated, a block has 16 items. No time: not measured alone.
+//! The table lists the kernels and their formulas: a and b are the input items, c is the old output
+//! item, and p narrows to the output's format by the policy. Times are in picoseconds per item, for
+//! rows of 1920 items in the cache, on x86-64-v2 (registers of 16 bytes) and x86-64-v3 (32 bytes).
+//! A block of 32 items takes two registers of bytes or four of S16 items on v2, and half as many on
+//! v3. A kernel that updates a row has blocks of 16 items. Kernels without a time were not measured
+//! alone.
 //!
 //! | Kernel | Formula | Conditions | v2 | v3 |
 //! |---|---|---|---|---|
@@ -44,21 +43,19 @@
 //! | `not_u8` | 255 - a | | 25 | 13 |
 //! | `add_u8`, `sub_u8` | p(a + b), p(a - b) | | 31 | 18 |
 //! | `add_s16`, `sub_s16` | p(a + b), p(a - b) | U8 or S16 rows | 61 | 39 |
-//! | `mul_u8` | p(a * b / 2^n), rounded to zero | n up to 15 | 108 | 66 |
-//! | `mul_s16` | p(a * b / 2^n), rounded to zero | U8 or S16 rows, n up to 15 | 191 | 98 |
-//! | `absdiff_u8` | how far apart | | 40 | 21 |
-//! | `absdiff_s16` | how far apart, up to 32,767 | U8 or S16 rows | 82 | 40 |
-//! | `min_u8`, `max_u8` | the smaller, the greater | | 31 | 16 |
-//! | `min_s16`, `max_s16` | the smaller, the greater | U8 or S16 rows | 61 | 38 |
+//! | `mul_u8` | p(a * b / 2^n), rounded toward zero | n up to 15 | 108 | 66 |
+//! | `mul_s16` | p(a * b / 2^n), rounded toward zero | U8 or S16 rows, n up to 15 | 191 | 98 |
+//! | `absdiff_u8` | abs(a - b) | | 40 | 21 |
+//! | `absdiff_s16` | abs(a - b), at most 32,767 | U8 or S16 rows | 82 | 40 |
+//! | `min_u8`, `max_u8` | min(a, b), max(a, b) | | 31 | 16 |
+//! | `min_s16`, `max_s16` | min(a, b), max(a, b) | U8 or S16 rows | 61 | 38 |
 //! | `threshold_u8` | by a limit; by a range | a rule of U8 | 29; 51 | 19; 29 |
 //! | `threshold_s16` | by a limit; by a range | a rule of S16 | 50; 86 | 38; 56 |
 //! | `widen`, `shift_up` | a, a * 2^n | n up to 7 | 46 | 23 |
 //! | `narrow` | a / 2^n, rounded down, wraps; saturates | n up to 7 | 52; 39 | 29; 24 |
-//! | `scale_u8`, `scale_s16` | a / 2^n, rounded to zero, at the nearest | S32 rows, n up to 31 | | |
-//! | `accumulate` | c + a, up to 32,767 | updates S16 | 90 | 44 |
-//! | `accumulate_square` | c + a * a / 2^n, rounded down, up to 32,767 | n up to 15 | 122 | 62 |
-//!
-//! The rows of a call have one length, which may be any.
+//! | `scale_u8`, `scale_s16` | a / 2^n, rounded toward zero, clamped | S32 rows, n up to 31 | | |
+//! | `accumulate` | c + a, at most 32,767 | updates S16 | 90 | 44 |
+//! | `accumulate_square` | c + a * a / 2^n, rounded down, at most 32,767 | n up to 15 | 122 | 62 |
 #![tactic(auto)]
 
 mod accumulation;

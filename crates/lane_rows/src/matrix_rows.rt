@@ -1,4 +1,4 @@
-//! Rows of samples that a matrix lies on.
+//! Sums of rows of samples times the coefficients of a matrix.
 ghost use Rattle.std.specs.Prelude.{◌≡◌, ◌+◌, ◌*◌, ◌<◌, ◌≤◌, ◌^◌, ℕ, pos, int_div, map, length};
 ghost use Rattle.std.specs.Prelude.{FitsSigned, All};
 ghost use Rattle.std.specs.Int.{w16};
@@ -13,20 +13,21 @@ use crate::pairs::add_row;
 use crate::scales::{Clamped, Scale};
 use std::simd::prelude::*;
 
-/// As many rows of U8 samples as a matrix has, and its coefficients.
+/// The rows of U8 samples under a matrix, and the matrix's coefficients.
 #[derive(Drop)]
 pub struct MatrixRows<'a> {
-    /// The rows, one after another.
+    /// The samples of the rows, row after row.
     pub rows: &'a [i16],
-    /// How many items a row has.
+    /// The length of a row in items.
     pub line: u16,
-    /// For each row 80 items: pairs of coefficients, each eight times.
+    /// The coefficients: 80 items for each row, which hold its pairs of coefficients, each eight
+    /// times.
     pub tables: &'a [i16],
-    /// How many rows there are.
+    /// The number of rows.
     pub count: u8,
-    /// How many pairs of coefficients a row has.
+    /// The number of pairs of coefficients in a row.
     pub pairs: usize,
-    /// The power of two that the sums are divided by.
+    /// The sums are divided by 2 to the power of this.
     pub exponent: u8,
     ghost few: { (count ≤ 9) × (pairs ≤ 5) },
     ghost small: { exponent ≤ 31 },
@@ -37,7 +38,7 @@ pub struct MatrixRows<'a> {
     ghost fits: { All (FitsSigned w16) tables.now },
 }
 
-/// One of the rows that stand one after another.
+/// Returns row `l` of `items`, which holds rows of `line` items.
 fn row_of(items: &[i16], line: u16, l: u8) -> &[i16]
     requires { l * line + line ≤ length items.now }
     ensures { result.now ≡ line_of items.now line l }
@@ -50,8 +51,8 @@ fn row_of(items: &[i16], line: u16, l: u8) -> &[i16]
 impl MatrixRows<'_> {
     ghost use Rattle.lane_rows.specs.MatrixRows.{matrix_sum};
 
-    /// Returns the sums at 32 places: at the even places and at the odd ones, counted from the
-    /// given one.
+    /// Returns the sums at 32 indices: at the even indices and at the odd ones, counted from
+    /// `place`.
     fn sum_rows(&self, place: usize) -> (i32x16, i32x16)
         requires { place + 2 * self.now.pairs + 31 ≤ self.now.line }
         ensures even { result.0 ≡ run 0 16 (λ i. matrix_sum self.now (place + 2 * i)) }
@@ -69,7 +70,7 @@ impl MatrixRows<'_> {
         (even, odd)
     }
 
-    /// Returns the sums at 32 places.
+    /// Returns the sums at the 32 indices from `place` on.
     fn sum_block(&self, place: usize) -> [i32; 32]
         requires { place + 2 * self.now.pairs + 31 ≤ self.now.line }
         ensures { result ≡ run 0 32 (λ i. matrix_sum self.now (place + i)) }
@@ -82,7 +83,7 @@ impl MatrixRows<'_> {
         sums
     }
 
-    /// Writes at most 32 samples, from the given place on.
+    /// Writes at most 32 samples, from the index `place` on.
     fn write_block<T: Clamped>(&self, place: usize, out: &mut [T])
         requires few { length out.old ≤ 32 }
         requires room { place + 41 ≤ self.now.line }
@@ -101,8 +102,8 @@ impl MatrixRows<'_> {
         }
     }
 
-    /// Writes the sums along the rows over 2^exponent, rounded toward zero and clamped. At its last
-    /// place a block reads 48 items to the right of what it writes.
+    /// Writes the sums over 2^exponent, rounded toward zero and clamped. The rows are 48 items
+    /// longer than `out`, since a block reads beyond the items that it writes.
     pub fn write<T: Clamped>(&self, out: &mut [T])
         requires { length out.old + 48 ≤ self.now.line }
         ensures { map T.value out.new ≡ run 0 (length out.old) (λ i.

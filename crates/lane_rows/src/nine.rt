@@ -1,4 +1,4 @@
-//! Kernels of the nine samples of windows.
+//! Kernels of the nine samples of 3 x 3 windows.
 ghost use Rattle.std.specs.Prelude.{◌≡◌, ◌+◌, ◌<◌, ◌≤◌, ℕ, ℤ, List, map, length};
 ghost use Rattle.vx_base.specs.Image.{run};
 ghost use Rattle.lane_rows.specs.Windows.{three_of, nine_of, nine_at, places};
@@ -8,18 +8,18 @@ use crate::item::Item;
 use crate::nine_rows::{Nine, Three};
 use crate::places::{AtPlaces, write_places};
 
-/// Three samples, from left to right or from above to below.
+/// Three samples, from left to right or from top to bottom.
 pub type ThreeItems = (u8, u8, u8);
 
-/// What a kernel gives of the nine samples of a window.
+/// A kernel of the nine samples of a window.
 pub trait OfNine<T: Item> {
-    /// The number, from the nine by rows from above to below.
+    /// The result, from the nine samples by rows from top to bottom.
     ghost formula: { Self → List ℤ → ℤ };
 
     fn item(&self, above: ThreeItems, here: ThreeItems, below: ThreeItems) -> T
         ensures { T.value result ≡ formula self.now (nine_of above here below) };
 
-    /// Writes what it gives at 32 places.
+    /// Writes the results of 32 windows, from the index `place` on.
     fn lanes(&self, nine: &Nine<'_>, place: usize, out: &mut [T])
         requires room { place + 32 ≤ places nine.now }
         requires out_len { length out.old ≡ 32 }
@@ -28,7 +28,8 @@ pub trait OfNine<T: Item> {
 }
 
 impl<'a> Three<'a> {
-    /// Three neighbours in a row, from each of its items on that has two to its right.
+    /// Returns the three neighbours from left to right, beginning at each item that has two to its
+    /// right.
     fn along(row: &'a [u8]) -> Three<'a>
         requires { 2 ≤ length row.now }
         ensures len { length result.left.now + 2 ≡ length row.now }
@@ -43,7 +44,7 @@ impl<'a> Three<'a> {
         }
     }
 
-    /// The items at one place.
+    /// Returns the three items at an index.
     pub fn items(&self, place: usize) -> ThreeItems
         requires { place < length self.now.left.now }
         ensures { result ≡ three_of self.now place }
@@ -53,7 +54,7 @@ impl<'a> Three<'a> {
 }
 
 impl<'a> Nine<'a> {
-    /// The windows of three rows, from each of their columns on that has two to its right.
+    /// Returns the windows of three rows, whose left columns are those with two to their right.
     pub fn around(above: &'a [u8], here: &'a [u8], below: &'a [u8]) -> Nine<'a>
         requires some { 2 ≤ length above.now }
         requires here { length here.now ≡ length above.now }
@@ -70,7 +71,7 @@ impl<'a> Nine<'a> {
     }
 }
 
-/// What a kernel gives at each place of nine rows.
+/// A kernel's results for nine rows.
 #[derive(Drop)]
 struct NineAt<'a, 'b, K> {
     kernel: &'a K,
@@ -93,7 +94,7 @@ impl<T: Item, K: OfNine<T>> AtPlaces<T> for NineAt<'_, '_, K> {
     }
 }
 
-/// Writes what the kernel gives at each place of nine rows.
+/// Writes the kernel's result for each window of nine rows.
 pub fn write_nine<T: Item, K: OfNine<T>>(kernel: &K, nine: &Nine<'_>, out: &mut [T])
     requires { places nine.now ≡ length out.old }
     ensures { map T.value out.new ≡ run 0 (length out.old)

@@ -1,10 +1,10 @@
-//! Nine rows of bytes: at each place the samples of a window.
+//! 3 x 3 windows as nine rows of bytes, with the samples of one window at each index.
 ghost use Rattle.std.specs.Prelude.{◌≡◌, ◌+◌, ◌≤◌, map, length, slice_index};
 ghost use Rattle.std.specs.List.{range_with_len};
 
 use std::simd::prelude::*;
 
-/// Three rows of equally many bytes: at each place three neighbours, from left to right.
+/// Three rows of equal length, with three neighbours, from left to right, at each index.
 #[derive(Clone, Copy)]
 pub struct Three<'a> {
     pub left: &'a [u8],
@@ -14,8 +14,8 @@ pub struct Three<'a> {
     ghost right_len: { length right.now ≡ length left.now },
 }
 
-/// Nine rows of equally many bytes: at each place the samples of a window, by rows from above to
-/// below and from left to right. They may be nine slices of three rows, each shifted by a column.
+/// Nine rows of equal length, with the samples of a window at each index: by rows from top to
+/// bottom, and from left to right. They may be slices of three rows, each shifted by a column.
 #[derive(Clone, Copy)]
 pub struct Nine<'a> {
     pub above: Three<'a>,
@@ -25,10 +25,10 @@ pub struct Nine<'a> {
     ghost below_len: { length below.left.now ≡ length above.left.now },
 }
 
-/// Three neighbours at each of 32 places.
+/// Three neighbours in each of 32 lanes.
 pub type ThreeLanes = (u8x32, u8x32, u8x32);
 
-/// The items of a row at 32 places.
+/// Returns the 32 items of a row from the index `place` on.
 fn lanes_at(row: &[u8], place: usize) -> u8x32
     requires { place + 32 ≤ length row.now }
     ensures { result ≡ map (slice_index row.now) (range_with_len place 32) }
@@ -36,7 +36,7 @@ fn lanes_at(row: &[u8], place: usize) -> u8x32
     u8x32::from_slice(&row[place..place + 32])
 }
 
-/// The items of three rows at 32 places.
+/// Returns the 32 items of each of three rows from the index `place` on.
 pub fn three_lanes(rows: &Three<'_>, place: usize) -> ThreeLanes
     requires { place + 32 ≤ length rows.now.left.now }
     ensures left { result.0 ≡ map (slice_index rows.now.left.now) (range_with_len place 32) }

@@ -1,11 +1,11 @@
-//! How often an item occurs in a row, and where first.
+//! The number of times that an item occurs in a row, and its first index.
 ghost use Rattle.std.specs.Prelude.{◌≡◌, ◌*◌, ◌<◌, ◌≤◌, ◌^◌, pos, map, length, slice_range};
 ghost use Rattle.std.specs.Prelude.{slice_index_or};
 ghost use Rattle.vx_base.specs.Statistics.{count_of};
 
 use crate::compared::Compared;
 
-/// How many items of a row are this one.
+/// Returns the number of items of a row that equal this one.
 pub fn count_of<T: Compared>(row: &[T], item: T) -> u32
     requires { length row.now < 2 ^ 32 }
     ensures { result ≡ count_of (T.value item) (map T.value row.now) }
@@ -23,7 +23,7 @@ pub fn count_of<T: Compared>(row: &[T], item: T) -> u32
     count
 }
 
-/// At how many items a search for this one may begin: none of those before is it.
+/// Returns an index from which a search for the item may start: the item doesn't occur before it.
 fn without<T: Compared>(row: &[T], item: T) -> usize
     ensures room { result ≤ length row.now }
     ensures none { count_of (T.value item) (slice_range (map T.value row.now) 0 result) ≡ 0 }
@@ -37,7 +37,7 @@ fn without<T: Compared>(row: &[T], item: T) -> usize
     32 * blocks
 }
 
-/// Where a item stands first in a row that has it.
+/// Returns the first index of an item that occurs in the row.
 pub fn first_of<T: Compared>(row: &[T], item: T) -> usize
     requires { 0 < count_of (T.value item) (map T.value row.now) }
     ensures below { result < length row.now }

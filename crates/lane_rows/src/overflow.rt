@@ -5,7 +5,7 @@ ghost use Rattle.vx_base.specs.declared.policy.Policy.TheVariants.{Wrap, Saturat
 
 use vx_base::Policy;
 
-/// An overflow policy that is known where a kernel is compiled, so that its loop asks nothing.
+/// An overflow policy as a type, known when a kernel is compiled, so that its loop doesn't test it.
 pub trait Overflow {
     ghost policy: { Self → Value };
 
@@ -37,8 +37,8 @@ impl Overflow for Saturated {
     }
 }
 
-/// `with_overflow!(policy, overflow => call)` makes the call with `overflow` the type of the
-/// policy, so that its code is compiled once for each.
+/// Makes a call with the type of the policy: `with_overflow!(policy, overflow => call)`. The code
+/// of the call is compiled once for each policy.
 macro_rules! with_overflow {
     ($policy:expr, $overflow:ident => $call:expr) => {
         match $policy {

@@ -1,8 +1,8 @@
-//! Sums of samples times coefficients, by the processor's multiply-and-add.
+//! Sums of samples times coefficients, by the processor's multiply-and-add instruction.
 //!
-//! It multiplies 16 numbers by 16 others and adds up the products of each two neighbours. So a
-//! vector of two coefficients in turn gives what both of them add at every second place, and the
-//! same from the next place on what they add at the places between.
+//! The instruction multiplies 16 numbers by 16 others and adds the two products of each pair of
+//! neighbours. With two coefficients in alternation it gives the sums at every second index. The
+//! same from the next index on gives the sums in between.
 ghost use Rattle.std.specs.Prelude.{◌≡◌, ◌+◌, ◌-◌, ◌*◌, ◌<◌, ◌≤◌, ℕ, ℤ, ◌+ℤ◌, ◌*ℤ◌, length};
 ghost use Rattle.std.specs.Prelude.{FitsSigned};
 ghost use Rattle.std.specs.Int.{w16};
@@ -13,7 +13,7 @@ ghost use Rattle.lane_rows.specs.Pairs.{pair_at, row_sum};
 
 use std::simd::prelude::*;
 
-/// The products of each two neighbours, added up.
+/// Returns the sum of the two products of each pair of neighbours.
 fn pair_products(samples: i16x16, coefficients: i16x16) -> i32x8
     requires samples_len { length samples ≡ 16 }
     requires coefficients_len { length coefficients ≡ 16 }
@@ -33,9 +33,10 @@ fn pair_products(samples: i16x16, coefficients: i16x16) -> i32x8
                 .cast::<i32>()
 }
 
-/// What two coefficients give at eight places, every second one. They are read from a table, and
-/// here: as vectors that are made before the loop they would be widened there, and then each
-/// product is a multiplication of its own.
+/// Returns the sums of two coefficients at eight indices, every second one from `place` on.
+///
+/// The coefficients are read from a table in here. If they were vectors made before the loop, the
+/// compiler would widen them there, and then need a multiplication for each product.
 fn eight_places(row: &[i16], place: usize, table: &[i16], at: usize) -> i32x8
     requires room { place + 16 ≤ length row.now }
     requires limit { Each1 (IsNear 255) row.now }
@@ -51,9 +52,10 @@ fn eight_places(row: &[i16], place: usize, table: &[i16], at: usize) -> i32x8
     pair_products(samples, coefficients)
 }
 
-/// What two coefficients give at sixteen places, every second one. The halves are joined before
-/// they are added to sums: else the compiler adds the products one by one, and takes two
-/// multiplications for one.
+/// Returns the sums of two coefficients at 16 indices, every second one from `place` on.
+///
+/// The halves are joined before they are added to the sums. Otherwise the compiler adds the
+/// products one by one, which takes twice as many multiplications.
 fn sixteen_places(row: &[i16], place: usize, table: &[i16], at: usize) -> i32x16
     requires room { place + 32 ≤ length row.now }
     requires limit { Each1 (IsNear 255) row.now }
@@ -74,8 +76,8 @@ fn sixteen_places(row: &[i16], place: usize, table: &[i16], at: usize) -> i32x16
     )
 }
 
-/// The sums at 32 places, with what a row of a matrix adds to them: the even places and the odd
-/// ones, counted from the given one.
+/// Returns the sums at 32 indices with those of one matrix row added: at the even indices and at
+/// the odd ones, counted from `place`.
 pub fn add_row(
     row: &[i16],
     place: usize,

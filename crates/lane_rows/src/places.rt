@@ -1,31 +1,31 @@
-//! Rows that are written place by place: in blocks of 32 places, of which the last may overlap the
-//! one before, or item by item where a row is shorter than a block.
+//! Writes rows in blocks of 32 items, of which the last may overlap the one before. A row shorter
+//! than a block is written item by item.
 ghost use Rattle.std.specs.Prelude.{◌≡◌, ◌+◌, ◌-◌, ◌*◌, ◌<◌, ◌≤◌, ℕ, ℤ, map, take, length};
 ghost use Rattle.vx_base.specs.Image.{run};
 
 use crate::item::Item;
 
-/// The items of a row that is written, at one place or at 32 in lanes.
+/// The items of a row to be written, each computed from its index.
 pub trait AtPlaces<T: Item> {
-    /// How many places there are.
+    /// The number of items.
     ghost count: { Self → ℕ };
 
-    /// The number at a place.
+    /// The value at an index.
     ghost at: { Self → ℕ → ℤ };
 
-    /// Returns the item at a place.
+    /// Returns the item at an index.
     fn item(&self, place: usize) -> T
         requires inside { place < count self.now }
         ensures { T.value result ≡ at self.now place };
 
-    /// Writes the items at 32 places.
+    /// Writes the 32 items from the index `place` on.
     fn lanes(&self, place: usize, out: &mut [T])
         requires room { place + 32 ≤ count self.now }
         requires out_len { length out.old ≡ 32 }
         ensures { map T.value out.new ≡ run place 32 (at self.now) };
 }
 
-/// Writes the items of the first blocks of 32 places.
+/// Writes the first blocks of 32 items.
 fn write_blocks<T: Item, R: AtPlaces<T>>(row: &R, blocks: usize, out: &mut [T])
     requires count { R.count row.now ≡ length out.old }
     requires inside { 32 * blocks ≤ length out.old }
@@ -37,8 +37,8 @@ fn write_blocks<T: Item, R: AtPlaces<T>>(row: &R, blocks: usize, out: &mut [T])
     }
 }
 
-/// Writes the items at the last 32 places, where those before them are written. Some of the 32 may
-/// be written already.
+/// Writes the last 32 items, once the items before them are written. Some of the 32 may be written
+/// already.
 fn write_last<T: Item, R: AtPlaces<T>>(row: &R, out: &mut [T])
     requires count { R.count row.now ≡ length out.old }
     requires room { 32 ≤ length out.old }
@@ -49,7 +49,7 @@ fn write_last<T: Item, R: AtPlaces<T>>(row: &R, out: &mut [T])
     row.lanes(place, &mut out[place..place + 32]);
 }
 
-/// Writes the items one by one.
+/// Writes all items one by one.
 fn write_items<T: Item, R: AtPlaces<T>>(row: &R, out: &mut [T])
     requires count { R.count row.now ≡ length out.old }
     ensures { map T.value out.new ≡ run 0 (length out.old) (R.at row.now) }
@@ -59,7 +59,7 @@ fn write_items<T: Item, R: AtPlaces<T>>(row: &R, out: &mut [T])
     }
 }
 
-/// Writes the items at all places: in blocks, or in a row of less than 32 places one by one.
+/// Writes all items: in blocks, or one by one if there are fewer than 32.
 pub fn write_places<T: Item, R: AtPlaces<T>>(row: &R, out: &mut [T])
     requires count { R.count row.now ≡ length out.old }
     ensures { map T.value out.new ≡ run 0 (length out.old) (R.at row.now) }

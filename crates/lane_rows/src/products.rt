@@ -1,4 +1,4 @@
-//! Products.
+//! Products. OpenVX 1.3, "Pixel-wise Multiplication".
 #![tactic(auto, using(crate::proofs::ShortLaws::fit_as_bits))]
 
 ghost use Rattle.std.specs.Prelude.{◌≡◌, ◌≤◌, ◌^◌, ◌*ℤ◌, pos, int_div, map, length};
@@ -17,7 +17,7 @@ use crate::shorts::multiplied;
 use std::simd::prelude::*;
 use vx_base::{Policy, narrow_s16, narrow_u8};
 
-/// The product of two S16 samples over 2^amount, rounded to zero.
+/// Returns the product of two S16 samples over 2^amount, rounded toward zero.
 fn scaled_product(a: i16, b: i16, amount: u8) -> i32
     requires { amount ≤ 15 }
     ensures { result ≡ int_div (a *ℤ b) (pos (2 ^ amount)) }
@@ -25,7 +25,7 @@ fn scaled_product(a: i16, b: i16, amount: u8) -> i32
     scaled(i32::from(a) * i32::from(b), amount)
 }
 
-/// The product over 2^amount, rounded to zero and narrowed by the policy.
+/// The product over 2^amount, rounded toward zero and narrowed by the policy.
 #[derive(Drop)]
 pub struct Product<P> {
     pub overflow: P,
@@ -54,7 +54,7 @@ impl<P: Overflow> Arithmetic for Product<P> {
     }
 }
 
-/// Writes the products of the items over 2^amount, rounded to zero and narrowed by the policy.
+/// Writes the products of the items over 2^amount, rounded toward zero and narrowed by the policy.
 pub fn mul_u8(first: &[u8], second: &[u8], amount: u8, policy: Policy, out: &mut [u8])
     requires first_len { length first.now ≡ length out.old }
     requires second_len { length second.now ≡ length out.old }
@@ -67,8 +67,8 @@ pub fn mul_u8(first: &[u8], second: &[u8], amount: u8, policy: Policy, out: &mut
     })
 }
 
-/// Writes the products of the items, each U8 or S16, over 2^amount, rounded to zero and narrowed by
-/// the policy.
+/// Writes the products of the items, each U8 or S16, over 2^amount, rounded toward zero and
+/// narrowed by the policy.
 pub fn mul_s16<A: Short, B: Short>(
     first: &[A],
     second: &[B],

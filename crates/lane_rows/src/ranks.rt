@@ -1,4 +1,4 @@
-//! The least, the greatest and the middle one of the nine samples of windows.
+//! Minimum, maximum and median of 3 x 3 windows.
 ghost use Rattle.std.specs.Prelude.{◌≡◌, ℕ, ℤ, pos, min, max, map, length};
 ghost use Rattle.std.specs.Prelude.{List, [], ◌∷◌};
 ghost use Rattle.std.specs.Int.{int_min, int_max};
@@ -19,14 +19,14 @@ use crate::stores::store_32_bytes;
 use std::marker::PhantomData;
 use std::simd::prelude::*;
 
-/// A kernel that chooses the lesser of two samples, or the greater, and so of three and of nine.
+/// The choice of the smaller of two samples, or of the greater, and so of three and of nine.
 trait Choice {
     ghost choice: { ℕ → ℕ → ℕ };
 
-    /// The same of numbers.
+    /// The same choice on values.
     ghost of_numbers: { ℤ → ℤ → ℤ };
 
-    /// What it chooses of nine.
+    /// The choice from nine values.
     ghost of_nine: { List ℤ → ℤ };
 
     fn of_two(a: u8, b: u8) -> u8
@@ -41,7 +41,7 @@ trait Choice {
         ≡ of_nine (pos a ∷ pos b ∷ pos c ∷ pos d ∷ pos e ∷ pos f ∷ pos g ∷ pos h ∷ pos i ∷ []) };
 }
 
-/// The least of the nine samples of a window.
+/// The least sample of a window.
 #[derive(Drop)]
 pub struct Least;
 
@@ -65,7 +65,7 @@ impl Choice for Least {
     ghost is_of_nine = { least_is_least };
 }
 
-/// The greatest of them.
+/// The greatest sample of a window.
 #[derive(Drop)]
 pub struct Greatest;
 
@@ -89,7 +89,7 @@ impl Choice for Greatest {
     ghost is_of_nine = { greatest_is_greatest };
 }
 
-/// What is chosen of three samples.
+/// Returns the sample chosen from three.
 fn chosen<C: Choice>(items: ThreeItems) -> u8
     ensures { result ≡ C.choice (C.choice items.0 items.1) items.2 }
 {
@@ -117,7 +117,7 @@ impl<C: Choice> OfNine<u8> for C {
     }
 }
 
-/// What is chosen at each place of three rows.
+/// The choices from three rows.
 #[derive(Drop)]
 struct ChosenAt<'a, 'b, C> {
     choice: PhantomData<C>,
@@ -168,7 +168,7 @@ impl<C: Choice> OfColumn<u8, u8> for ByChoice<C> {
     }
 }
 
-/// The middle one of three samples.
+/// Returns the median of three samples.
 fn middle(items: ThreeItems) -> u8
     ensures { result ≡ middle_of_three min max items.0 items.1 items.2 }
 {
@@ -184,8 +184,10 @@ fn middle_lanes(items: ThreeLanes) -> u8x32
     Greatest::of_two_lanes(low, Least::of_two_lanes(high, c))
 }
 
-/// The median of the nine samples of a window: of the least, the middle and the greatest samples
-/// of its columns, the middle one of the greatest least, the middle middle and the least greatest.
+/// The median of the nine samples of a window.
+///
+/// It is computed from the least, the middle and the greatest sample of each column: the median of
+/// the greatest least, the middle middle and the least greatest.
 pub struct Median;
 
 impl OfNine<u8> for Median {
@@ -218,7 +220,7 @@ impl OfNine<u8> for Median {
     }
 }
 
-/// The medians of nine samples at each of 32 places.
+/// Returns the medians of the windows in 32 lanes.
 fn medians(above: ThreeLanes, here: ThreeLanes, below: ThreeLanes) -> u8x32
     ensures { result ≡ middle_of_nine (zip2 min) (zip2 max) above.0 above.1 above.2 here.0 here.1
         here.2 below.0 below.1 below.2 }
@@ -245,7 +247,7 @@ fn medians(above: ThreeLanes, here: ThreeLanes, below: ThreeLanes) -> u8x32
     middle_lanes((lowest, highest, middle_lanes(between)))
 }
 
-/// Writes the least of nine samples at each place.
+/// Writes the least sample of each window.
 pub fn min9(nine: &Nine<'_>, out: &mut [u8])
     requires { places nine.now ≡ length out.old }
     ensures { map pos out.new ≡ run 0 (length out.old) (λ i. least_of (nine_at nine.now i)) }
@@ -253,7 +255,7 @@ pub fn min9(nine: &Nine<'_>, out: &mut [u8])
     write_nine(&Least, nine, out);
 }
 
-/// Writes the greatest of nine samples at each place.
+/// Writes the greatest sample of each window.
 pub fn max9(nine: &Nine<'_>, out: &mut [u8])
     requires { places nine.now ≡ length out.old }
     ensures { map pos out.new ≡ run 0 (length out.old) (λ i. greatest_of (nine_at nine.now i)) }
@@ -261,8 +263,8 @@ pub fn max9(nine: &Nine<'_>, out: &mut [u8])
     write_nine(&Greatest, nine, out);
 }
 
-/// Writes the median of nine samples at each place: the one of them that at most four are below
-/// and at most four above.
+/// Writes the median of each window: a sample with at most four smaller and at most four greater
+/// ones.
 pub fn median9(nine: &Nine<'_>, out: &mut [u8])
     requires { places nine.now ≡ length out.old }
     ensures { map pos out.new ≡ run 0 (length out.old) (λ i. median (nine_at nine.now i)) }

@@ -1,5 +1,4 @@
-//! Rows that are written from one row or from two, or updated in place: whole blocks in lanes, and
-//! the rest item by item.
+//! Writes or updates whole rows: complete blocks in lanes, and the rest item by item.
 ghost use Rattle.std.specs.Prelude.{◌≡◌, map, length};
 ghost use Rattle.std.specs.Simd.Lanes.{zip2};
 
@@ -8,7 +7,7 @@ use crate::item::Item;
 use crate::items::{map_items, update_items, zip_items};
 use crate::kernel::{LanesOfItem, OfPair, OfSum};
 
-/// Writes what the kernel gives at each place of a row.
+/// Writes the kernel's result for each item of a row.
 pub fn map_row<A: Item, T: Item, K: LanesOfItem<A, T>>(kernel: &K, row: &[A], out: &mut [T])
     requires { length row.now ≡ length out.old }
     ensures { map T.value out.new ≡ map (K.formula kernel.now) (map A.value row.now) }
@@ -20,7 +19,7 @@ pub fn map_row<A: Item, T: Item, K: LanesOfItem<A, T>>(kernel: &K, row: &[A], ou
     map_items(kernel, row_rest, out_rest);
 }
 
-/// Writes what the kernel gives at each place of two rows.
+/// Writes the kernel's result for each pair of items of two rows.
 pub fn zip_rows<A: Item, B: Item, T: Item, K: OfPair<A, B, T>>(
     kernel: &K,
     first: &[A],
@@ -40,7 +39,7 @@ pub fn zip_rows<A: Item, B: Item, T: Item, K: OfPair<A, B, T>>(
     zip_items(kernel, first_rest, second_rest, out_rest);
 }
 
-/// Makes each sum what the kernel gives of the row's item at its place and of it.
+/// Updates each sum with the row's item at the same index.
 pub fn update_row<A: Item, T: Item, K: OfSum<A, T>>(kernel: &K, row: &[A], sums: &mut [T])
     requires { length row.now ≡ length sums.old }
     ensures { map T.value sums.new ≡ zip2 (K.formula kernel.now) (map A.value row.now)

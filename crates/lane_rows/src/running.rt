@@ -1,13 +1,15 @@
-//! Rows of sums modulo 2^32, sixteen places at a time.
+//! Running sums of rows modulo 2^32, in blocks of 16 items.
 ghost use Rattle.std.specs.Prelude.{◌≡◌, ◌*◌, ◌≤◌, ◌%◌, ◌^◌, map, take, length};
 ghost use Rattle.std.specs.List.{sum, range_with_len};
 ghost use Rattle.lane_rows.specs.Running.{sum_below, sums_below};
 
 use std::simd::prelude::*;
 
-/// Of sixteen items the sum of the first, of the first two, and so on. Each pair of neighbours is
-/// one lane. Each step adds to a lane what stands one, two and then four lanes before it, so that
-/// there are the sums that end with a pair; those that end within it lack its second item.
+/// Returns the running sums of 16 items.
+///
+/// Each lane starts as the sum of a pair of neighbours. The steps add to each lane the lanes one,
+/// two and four before it, which gives the sums that end with a pair. The sums that end within a
+/// pair are those minus its second item.
 fn running(items: u8x16) -> u32x16
     ensures { result ≡ map (λ k. sum (take k items)) (range_with_len 1 16) }
 {
@@ -27,11 +29,12 @@ fn running(items: u8x16) -> u32x16
         .cast::<u32>()
 }
 
-/// Eight lanes as both halves of sixteen, which takes no instruction.
+/// Indices that repeat eight lanes in both halves of sixteen, which takes no instruction.
 const TWICE: [usize; 16] = [0, 1, 2, 3, 4, 5, 6, 7, 0, 1, 2, 3, 4, 5, 6, 7];
 
-/// Writes the sums of so many blocks of sixteen places, and returns what the row adds to the last
-/// one. This total stays in lanes, and doesn't wait for the sums that are written.
+/// Writes the sums of the first blocks, and returns the total of the row's items in them.
+///
+/// The total stays in lanes, so that the next block doesn't wait for the sums to be stored.
 fn add_blocks(row: &[u8], above: &[u32], blocks: usize, out: &mut [u32]) -> u32
     requires above_len { length above.now ≡ length row.now }
     requires out_len { length out.old ≡ length row.now }
@@ -51,7 +54,7 @@ fn add_blocks(row: &[u8], above: &[u32], blocks: usize, out: &mut [u32]) -> u32
     total.to_array()[0]
 }
 
-/// Writes for each place of a row the sum above it and of the row's items up to it.
+/// Writes for each index the sum above it plus the row's items up to it, modulo 2^32.
 pub fn running_sums(row: &[u8], above: &[u32], out: &mut [u32])
     requires above_len { length above.now ≡ length row.now }
     requires out_len { length out.old ≡ length row.now }

@@ -1,4 +1,4 @@
-//! Numbers over a power of two, rounded toward zero and clamped.
+//! Divides numbers by a power of two, rounded toward zero and clamped.
 #![tactic(auto, using(crate::proofs::ShortLaws::fit_as_bits))]
 
 ghost use Rattle.std.specs.Prelude.{◌≡◌, ◌≤◌, ◌^◌, ℤ, pos, int_div, map, length, FitsSigned};
@@ -15,8 +15,8 @@ use crate::shorts::clamped;
 use std::simd::prelude::*;
 use vx_base::{Policy, narrow_s16, narrow_u8};
 
-/// Returns the number over 2^exponent, rounded toward zero. A shift rounds down, so a number below
-/// 0 is raised first.
+/// Returns the number over 2^exponent, rounded toward zero. A shift rounds down, so 2^exponent - 1
+/// is added to a negative number first.
 pub fn scaled(number: i32, exponent: u8) -> i32
     requires { exponent ≤ 31 }
     ensures { result ≡ int_div number (pos (2 ^ exponent)) }
@@ -42,7 +42,7 @@ pub fn scaled_lanes(numbers: i32x16, exponent: u8) -> i32x16
     (numbers + added) >> i32::from(exponent)
 }
 
-/// Returns sixteen numbers of a row.
+/// Returns the 16 numbers of a block.
 pub fn sixteen(row: &[i32]) -> i32x16
     requires { length row.now ≡ 16 }
     ensures value { result ≡ row.now }
@@ -55,16 +55,16 @@ pub fn sixteen(row: &[i32]) -> i32x16
     i32x16::from_slice(row)
 }
 
-/// Items to which numbers are clamped: `u8` and `i16`.
+/// An item type to which numbers are clamped: `u8` or `i16`.
 pub trait Clamped: Item {
-    /// The format of which they are samples.
+    /// The format of the samples.
     ghost format: { Format };
 
     /// Returns the nearest item.
     fn nearest(number: i32) -> Self
         ensures { Self.value result ≡ clamp format number };
 
-    /// Writes the nearest items of sixteen numbers.
+    /// Writes the nearest items of 16 numbers.
     fn store_nearest(numbers: i32x16, out: &mut [Self])
         requires len { length numbers ≡ 16 }
         requires fits { Each1 (FitsSigned w32) numbers }
@@ -108,7 +108,7 @@ pub struct Scale {
 }
 
 impl Scale {
-    /// Writes what it gives of sixteen numbers.
+    /// Writes the results for 16 numbers.
     fn write_sixteen<T: Clamped>(&self, row: &[i32], out: &mut [T])
         requires row_len { length row.now ≡ 16 }
         requires out_len { length out.old ≡ 16 }

@@ -15,7 +15,7 @@ use crate::scales::scaled_lanes;
 use std::simd::prelude::*;
 use vx_base::Policy;
 
-/// The sums.
+/// Returns the sums.
 pub fn short_sums(a: i16x16, b: i16x16) -> i32x16
     requires a_len { length a ≡ 16 }
     requires b_len { length b ≡ 16 }
@@ -26,7 +26,7 @@ pub fn short_sums(a: i16x16, b: i16x16) -> i32x16
     a.cast::<i32>() + b.cast::<i32>()
 }
 
-/// The first less the second.
+/// Returns the first numbers minus the second.
 pub fn short_differences(a: i16x16, b: i16x16) -> i32x16
     requires a_len { length a ≡ 16 }
     requires b_len { length b ≡ 16 }
@@ -37,7 +37,7 @@ pub fn short_differences(a: i16x16, b: i16x16) -> i32x16
     a.cast::<i32>() - b.cast::<i32>()
 }
 
-/// How far the numbers are apart.
+/// Returns the absolute differences.
 pub fn short_distances(a: i16x16, b: i16x16) -> i32x16
     requires a_len { length a ≡ 16 }
     requires b_len { length b ≡ 16 }
@@ -48,7 +48,7 @@ pub fn short_distances(a: i16x16, b: i16x16) -> i32x16
     a.simd_max(b).cast::<i32>() - a.simd_min(b).cast::<i32>()
 }
 
-/// The smaller of the numbers.
+/// Returns the smaller number of each pair.
 pub fn smaller_shorts(a: i16x16, b: i16x16) -> i16x16
     requires a_len { length a ≡ 16 }
     requires b_len { length b ≡ 16 }
@@ -59,7 +59,7 @@ pub fn smaller_shorts(a: i16x16, b: i16x16) -> i16x16
     a.simd_min(b)
 }
 
-/// The greater of the numbers.
+/// Returns the greater number of each pair.
 pub fn greater_shorts(a: i16x16, b: i16x16) -> i16x16
     requires a_len { length a ≡ 16 }
     requires b_len { length b ≡ 16 }
@@ -70,10 +70,11 @@ pub fn greater_shorts(a: i16x16, b: i16x16) -> i16x16
     a.simd_max(b)
 }
 
-/// The products, the second and the third quarter of them exchanged. The two halves of each are
-/// computed by themselves: in lanes of 16 bytes a processor multiplies numbers of 16 bits, and
-/// joins the halves, in less time than it takes to widen the numbers and to multiply them in 32
-/// bits. Where its lanes have 32 bytes it joins within 16 of them, which gives this order.
+/// Returns the products, with the second and third quarters exchanged.
+///
+/// The low and high halves of each product are computed separately. A processor multiplies numbers
+/// of 16 bits and joins the halves faster than it widens the numbers and multiplies them in 32
+/// bits. With registers of 32 bytes it joins within each 16 bytes, which gives this order.
 fn products(a: i16x16, b: i16x16) -> i32x16
     requires a_len { length a ≡ 16 }
     requires b_len { length b ≡ 16 }
@@ -93,7 +94,7 @@ fn products(a: i16x16, b: i16x16) -> i32x16
     i32x16::from_le_bytes(halves.to_le_bytes())
 }
 
-/// The nearest S16 samples.
+/// Returns the nearest S16 samples.
 pub fn clamped(numbers: i32x16) -> i16x16
     requires len { length numbers ≡ 16 }
     requires fits { Each1 (FitsSigned w32) numbers }
@@ -105,7 +106,7 @@ pub fn clamped(numbers: i32x16) -> i16x16
         .cast::<i16>()
 }
 
-/// What is left in 16 bits.
+/// Returns the numbers modulo 2^16, as S16 samples.
 fn wrapped(numbers: i32x16) -> i16x16
     requires len { length numbers ≡ 16 }
     requires fits { Each1 (FitsSigned w32) numbers }
@@ -114,7 +115,7 @@ fn wrapped(numbers: i32x16) -> i16x16
     ((numbers << 16) >> 16).cast::<i16>()
 }
 
-/// The S16 samples that they become.
+/// Returns the numbers narrowed to S16 by the policy.
 pub fn narrowed(numbers: i32x16, policy: Policy) -> i16x16
     requires len { length numbers ≡ 16 }
     requires fits { Each1 (FitsSigned w32) numbers }
@@ -127,9 +128,11 @@ pub fn narrowed(numbers: i32x16, policy: Policy) -> i16x16
     }
 }
 
-/// The numbers with the second and the third quarter exchanged, as a processor whose lanes have 32
-/// bytes does by itself when it narrows twice as many. They are exchanged as lanes of 64 bits:
-/// lanes of 16 bits the compiler would exchange before they are narrowed, in more time.
+/// Returns the numbers with the second and third quarters exchanged.
+///
+/// A processor with registers of 32 bytes does this exchange itself when it narrows two of them. It
+/// is done in lanes of 64 bits here: the compiler would move an exchange of 16-bit lanes before the
+/// narrowing, which takes longer.
 fn quarters_exchanged(numbers: i16x16) -> i16x16
     requires len { length numbers ≡ 16 }
     requires fits { Each1 (FitsSigned w16) numbers }
@@ -139,7 +142,7 @@ fn quarters_exchanged(numbers: i16x16) -> i16x16
     i16x16::from_le_bytes(quarters.swizzle([0, 2, 1, 3]).to_le_bytes())
 }
 
-/// The products over 2^amount, rounded to zero and narrowed by the policy.
+/// Returns the products over 2^amount, rounded toward zero and narrowed by the policy.
 pub fn multiplied(a: i16x16, b: i16x16, amount: u8, policy: Policy) -> i16x16
     requires amount { amount ≤ 15 }
     requires a_len { length a ≡ 16 }
@@ -151,7 +154,7 @@ pub fn multiplied(a: i16x16, b: i16x16, amount: u8, policy: Policy) -> i16x16
     quarters_exchanged(narrowed(scaled_lanes(products(a, b), amount), policy))
 }
 
-/// The squares of bytes over 2^amount, rounded down.
+/// Returns the squares of bytes over 2^amount, rounded down.
 pub fn scaled_squares(row: u8x16, amount: u8) -> u16x16
     requires { amount ≤ 15 }
     ensures { map pos result ≡ map (λ a. int_div_euclid (a *ℤ a) (pos (2 ^ amount))) (map pos row) }
@@ -159,8 +162,9 @@ pub fn scaled_squares(row: u8x16, amount: u8) -> u16x16
     (row.cast::<u16>() * row.cast::<u16>()) >> u16::from(amount)
 }
 
-/// The sums with the numbers added, at most 32,767: as much of a number is added as there is room
-/// for, which the 16 bits of a sum tell as a number without a sign.
+/// Returns the sums with the numbers added, at most 32,767.
+///
+/// Each number is limited to 32,767 minus the sum. That difference fits 16 bits without a sign.
 pub fn accumulated_shorts(numbers: u16x16, sums: i16x16) -> i16x16
     requires len { length sums ≡ 16 }
     requires fits { Each1 (FitsSigned w16) sums }

@@ -1,9 +1,9 @@
-//! How lanes are stored: one half after the other, in the order of their addresses; and bytes that
-//! are computed one by one and stored in lanes.
+//! Stores of lanes: one half after the other, in the order of their addresses; and bytes that are
+//! computed one by one and stored together.
 //!
-//! Where a processor's registers have 16 bytes, the compiler stores the second half of 32 bytes
-//! before the first. Where a row doesn't begin with a line of the cache, the stores then go back
-//! and forth between two lines, which takes longer where the row isn't in the first cache.
+//! On processors with registers of 16 bytes, the compiler stores the second half of 32 bytes before
+//! the first. If a row doesn't begin at a cache line, such stores alternate between two lines. That
+//! is slower when the row isn't in the first-level cache.
 ghost use Rattle.std.specs.Prelude.{◌≡◌, pos, map, length};
 
 use crate::items::map_items;
@@ -11,7 +11,7 @@ use crate::kernel::OfItem;
 use std::simd::prelude::*;
 use vx_base::are_shorts;
 
-/// Writes what the kernel gives of sixteen bytes.
+/// Writes the kernel's results for 16 bytes.
 fn store_sixteen<K: OfItem<u8, u8>>(kernel: &K, row: &[u8], out: &mut [u8])
     requires row_len { length row.now ≡ 16 }
     requires out_len { length out.old ≡ 16 }
@@ -22,8 +22,8 @@ fn store_sixteen<K: OfItem<u8, u8>>(kernel: &K, row: &[u8], out: &mut [u8])
     u8x16::from_array(items).copy_to_slice(out);
 }
 
-/// Writes what the kernel gives of 32 bytes: the lanes of a kernel for which a processor has none.
-/// Sixteen bytes are stored in less time together than one by one.
+/// Writes the kernel's results for 32 bytes: a block of a kernel for which the processor has no
+/// vector instruction. It is faster to store 16 bytes together than one by one.
 pub fn store_bytes<K: OfItem<u8, u8>>(kernel: &K, row: &[u8], out: &mut [u8])
     requires row_len { length row.now ≡ 32 }
     requires out_len { length out.old ≡ 32 }
@@ -60,7 +60,7 @@ pub fn store_16_shorts(items: [i16; 16], out: &mut [i16])
     lanes.extract::<8, 8>().copy_to_slice(out_rest);
 }
 
-/// Stores 32 numbers of 16 bits, quarter after quarter.
+/// Stores 32 numbers of 16 bits, quarter by quarter.
 #[inline(always)]
 pub fn store_32_shorts(items: [i16; 32], out: &mut [i16])
     requires { length out.old ≡ 32 }

@@ -1,4 +1,4 @@
-//! Sums and differences.
+//! Sums and differences. OpenVX 1.3, "Arithmetic Addition" and "Arithmetic Subtraction".
 #![tactic(auto, using(crate::proofs::ShortLaws::fit_as_bits))]
 
 ghost use Rattle.std.specs.Prelude.{◌≡◌, pos, map, length};
@@ -42,7 +42,7 @@ impl<P: Overflow> Arithmetic for Sum<P> {
     }
 }
 
-/// The first less the second, narrowed by the policy.
+/// The first minus the second, narrowed by the policy.
 #[derive(Drop)]
 pub struct Difference<P>(pub P);
 
@@ -91,7 +91,7 @@ pub fn add_s16<A: Short, B: Short>(first: &[A], second: &[B], policy: Policy, ou
     })
 }
 
-/// Writes the first's items less the second's, narrowed by the policy.
+/// Writes the items of the first row minus those of the second, narrowed by the policy.
 pub fn sub_u8(first: &[u8], second: &[u8], policy: Policy, out: &mut [u8])
     requires first_len { length first.now ≡ length out.old }
     requires second_len { length second.now ≡ length out.old }
@@ -103,7 +103,8 @@ pub fn sub_u8(first: &[u8], second: &[u8], policy: Policy, out: &mut [u8])
     })
 }
 
-/// Writes the first's items less the second's, each U8 or S16, narrowed by the policy.
+/// Writes the items of the first row minus those of the second, each U8 or S16, narrowed by the
+/// policy.
 pub fn sub_s16<A: Short, B: Short>(first: &[A], second: &[B], policy: Policy, out: &mut [i16])
     requires first_len { length first.now ≡ length out.old }
     requires second_len { length second.now ≡ length out.old }

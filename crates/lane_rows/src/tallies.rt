@@ -1,10 +1,10 @@
-//! Rows of bytes that are counted by value.
+//! Histograms of rows of bytes.
 ghost use Rattle.std.specs.Prelude.{◌≡◌, ◌==◌, ◌+◌, ◌<◌, ◌^◌, ℕ, pos, if◌then◌else◌, map, length};
 ghost use Rattle.std.specs.Prelude.{slice_index, unsigned_abs};
 ghost use Rattle.std.specs.List.{All};
 ghost use Rattle.lane_rows.specs.Tallies.{count_at, count_in_all};
 
-/// Counts one more item of this value.
+/// Adds one to the count of a value.
 fn count_one(counts: &mut [u32; 256], value: u8)
     requires { slice_index counts.old value + 1 < 2 ^ 32 }
     ensures { (v : ℕ) → slice_index counts.new v
@@ -13,8 +13,8 @@ fn count_one(counts: &mut [u32; 256], value: u8)
     counts[usize::from(value)] += 1;
 }
 
-/// Counts the items of a row by value, each in the next of four tables, so that equal items one
-/// after another don't wait for each other. The tables together have the counts.
+/// Adds the histogram of a row to four tables, which together hold the counts. Successive items go
+/// to different tables, so that equal neighbours don't wait for each other.
 pub fn tally_row(
     row: &[u8],
     first: &mut [u32; 256],

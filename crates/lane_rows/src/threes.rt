@@ -1,5 +1,5 @@
-//! Sums and means of three rows of numbers that aren't negative, as windows of three columns need
-//! them: down the columns of three rows of samples, and then across three of these sums.
+//! Sums and means of three rows of non-negative numbers, for separable windows: first down the
+//! columns of three rows of samples, then across three of the sums.
 ghost use Rattle.std.specs.Prelude.{◌≡◌, ◌+◌, ◌≤◌, ◌+ℤ◌, ◌*ℤ◌, ℕ, ℤ, pos, map, length};
 ghost use Rattle.std.specs.Int.{int_div_euclid};
 ghost use Rattle.std.specs.List.{range_with_len};
@@ -14,13 +14,13 @@ use crate::places::{AtPlaces, write_places};
 use std::marker::PhantomData;
 use std::simd::prelude::*;
 
-/// Numbers that are added up: `u8` and `i16`.
+/// A number type that can be summed: `u8` or `i16`.
 pub trait Addend: Item {
     fn number(self) -> u16
         requires { IsUpTo 8191 (Self.value self) }
         ensures { pos result ≡ Self.value self };
 
-    /// The numbers at 32 places of a row.
+    /// Returns the 32 numbers of a row from the index `place` on.
     fn numbers(row: &[Self], place: usize) -> u16x32
         requires room { place + 32 ≤ length row.now }
         requires limit { AreUpTo 8191 (map Self.value row.now) }
@@ -48,9 +48,9 @@ impl Addend for i16 {
     }
 }
 
-/// Numbers that sums and means are stored as: `u8` and `i16`.
+/// A number type in which sums and means are stored: `u8` or `i16`.
 pub trait Stored: Item {
-    /// The greatest that can be stored.
+    /// The greatest number that can be stored.
     ghost most: { ℕ };
 
     /// Writes 32 numbers.
@@ -79,7 +79,7 @@ impl Stored for i16 {
 
 /// A kernel of three numbers.
 trait OfThree<T: Stored> {
-    /// The greatest of the numbers that it can be given; they are from 0 on.
+    /// The greatest number that it accepts; the least is 0.
     ghost limit: { ℕ };
 
     ghost formula: { ℤ → ℤ → ℤ → ℤ };
@@ -88,7 +88,7 @@ trait OfThree<T: Stored> {
         requires limit { (a ≤ limit) × (b ≤ limit) × (c ≤ limit) }
         ensures { T.value result ≡ formula (pos a) (pos b) (pos c) };
 
-    /// What it gives of three numbers in each of 32 lanes.
+    /// Returns the results for three numbers in each of 32 lanes.
     fn of_three_lanes(a: u16x32, b: u16x32, c: u16x32) -> u16x32
         requires len { (length a ≡ 32) × (length b ≡ 32) × (length c ≡ 32) }
         requires limit { Each1 (λ n. n ≤ limit) a × Each1 (λ n. n ≤ limit) b
@@ -99,7 +99,7 @@ trait OfThree<T: Stored> {
     ghost small: { limit ≤ 8191 };
 }
 
-/// What a kernel gives at each place of three rows.
+/// A kernel's results for three rows.
 #[derive(Drop)]
 struct ThreeAt<'a, A: Addend, T: Stored, K: OfThree<T>> {
     kernel: PhantomData<(T, K)>,
@@ -112,7 +112,7 @@ struct ThreeAt<'a, A: Addend, T: Stored, K: OfThree<T>> {
         × AreUpTo K.limit (map A.value second.now) × AreUpTo K.limit (map A.value third.now) },
 }
 
-/// What a kernel gives of three items.
+/// Returns the kernel's result for three items.
 fn of_items<A: Addend, T: Stored, K: OfThree<T>>(a: A, b: A, c: A) -> T
     requires { IsUpTo K.limit (A.value a) × IsUpTo K.limit (A.value b)
         × IsUpTo K.limit (A.value c) }
@@ -181,7 +181,7 @@ impl OfThree<i16> for SumOfThree {
     ghost small = { greatest_addend };
 }
 
-/// The sum of three numbers, the middle one counted twice.
+/// The sum of three numbers with weights 1, 2, 1.
 #[derive(Drop)]
 pub struct WeightedSumOfThree;
 
@@ -221,7 +221,7 @@ impl OfThree<u8> for Ninth {
     ghost small = { greatest_sum };
 }
 
-/// The sum of three numbers, the middle one counted twice, over 16, rounded down.
+/// The sum of three numbers with weights 1, 2, 1, over 16, rounded down.
 #[derive(Drop)]
 pub struct Sixteenth;
 
@@ -241,7 +241,7 @@ impl OfThree<u8> for Sixteenth {
     ghost small = { greatest_weighted_sum };
 }
 
-/// Writes the sums of three numbers from 0 to 8,191.
+/// Writes the sums of three numbers, which are from 0 to 8,191.
 pub fn sum3<A: Addend>(first: &[A], second: &[A], third: &[A], out: &mut [i16])
     requires first_len { length first.now ≡ length out.old }
     requires second_len { length second.now ≡ length out.old }
@@ -255,7 +255,7 @@ pub fn sum3<A: Addend>(first: &[A], second: &[A], third: &[A], out: &mut [i16])
     SumOfThree::write(first, second, third, out);
 }
 
-/// Writes the sums of three numbers from 0 to 8,191, the middle one counted twice.
+/// Writes the sums of three numbers with weights 1, 2, 1. The numbers are from 0 to 8,191.
 pub fn weighted3<A: Addend>(first: &[A], second: &[A], third: &[A], out: &mut [i16])
     requires first_len { length first.now ≡ length out.old }
     requires second_len { length second.now ≡ length out.old }

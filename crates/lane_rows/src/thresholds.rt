@@ -1,4 +1,4 @@
-//! Thresholds.
+//! Thresholds. OpenVX 1.3, "Thresholding".
 #![tactic(auto, using(crate::proofs::ShortLaws::fit_as_bits))]
 
 ghost use Rattle.std.specs.Prelude.{◌≡◌, IsTrue, pos, int_lt, int_le, map, length};
@@ -17,31 +17,32 @@ use crate::stores::store_32_bytes;
 use std::simd::prelude::*;
 use vx_base::{ThresholdKind, ThresholdRule};
 
-/// Items that a threshold tests.
+/// An item type that a threshold can test: `u8` or `i16`.
 pub trait Tested: Item {
-    /// The format of which they are samples.
+    /// The format of the samples.
     ghost format: { Format };
 
-    /// Returns a number that is a sample of the format.
+    /// Returns the item with this value, which is a sample of the format.
     fn from_short(number: i16) -> Self
         requires { IsTrue (is_sample format number) }
         ensures { Self.value result ≡ number };
 
-    /// Returns whether it is less.
+    /// Returns whether the item is less than the other.
     fn is_below(self, other: Self) -> bool
         ensures { result ≡ int_lt (Self.value self) (Self.value other) };
 
-    /// Returns whether it is less or the same.
+    /// Returns whether the item is less than the other, or equal to it.
     fn is_at_most(self, other: Self) -> bool
         ensures { result ≡ int_le (Self.value self) (Self.value other) };
 
-    /// Returns one value where an item of 32 is above the limit, another elsewhere.
+    /// Returns `true_value` where an item of 32 is above the limit, and `false_value` elsewhere.
     fn above(row: &[Self], limit: Self, true_value: u8, false_value: u8) -> u8x32
         requires { length row.now ≡ 32 }
         ensures { map pos result ≡ map (chosen (Binary (Self.value limit)) true_value false_value)
             (map Self.value row.now) };
 
-    /// Returns one value where an item of 32 is from the lower to the upper limit, or another.
+    /// Returns `true_value` where an item of 32 is between the limits or equal to one, and
+    /// `false_value` elsewhere.
     fn between(row: &[Self], lower: Self, upper: Self, true_value: u8, false_value: u8) -> u8x32
         requires { length row.now ≡ 32 }
         ensures { map pos result ≡ map
@@ -103,7 +104,7 @@ impl Tested for i16 {
     }
 }
 
-/// The true value where an item is above the limit, else the false value.
+/// The true value if an item is above the limit, and the false value if not.
 #[derive(Drop)]
 pub struct Above<A> {
     pub limit: A,
@@ -136,7 +137,7 @@ impl<A: Tested> LanesOfItem<A, u8> for Above<A> {
     }
 }
 
-/// The true value where an item is from the lower to the upper limit, else the false value.
+/// The true value if an item is between the limits or equal to one, and the false value if not.
 #[derive(Drop)]
 pub struct Between<A> {
     pub lower: A,
@@ -176,7 +177,7 @@ impl<A: Tested> LanesOfItem<A, u8> for Between<A> {
     }
 }
 
-/// Writes the rule's values; it tests items of this type.
+/// Writes the values of a rule that tests items of this type.
 fn write_tested<A: Tested>(row: &[A], rule: ThresholdRule, out: &mut [u8])
     requires len { length row.now ≡ length out.old }
     requires format { rule.format ≡ A.format }
@@ -204,7 +205,8 @@ fn write_tested<A: Tested>(row: &[A], rule: ThresholdRule, out: &mut [u8])
     }
 }
 
-/// Writes the rule's true value where an item passes, else its false value; it tests U8 samples.
+/// Writes the rule's true value where an item passes, and its false value elsewhere. The rule tests
+/// U8 samples.
 pub fn threshold_u8(row: &[u8], rule: ThresholdRule, out: &mut [u8])
     requires len { length row.now ≡ length out.old }
     requires format { rule.format ≡ U8 }
@@ -213,7 +215,8 @@ pub fn threshold_u8(row: &[u8], rule: ThresholdRule, out: &mut [u8])
     write_tested(row, rule, out);
 }
 
-/// Writes the rule's true value where an item passes, else its false value; it tests S16 samples.
+/// Writes the rule's true value where an item passes, and its false value elsewhere. The rule tests
+/// S16 samples.
 pub fn threshold_s16(row: &[i16], rule: ThresholdRule, out: &mut [u8])
     requires len { length row.now ≡ length out.old }
     requires format { rule.format ≡ S16 }
