@@ -2,7 +2,7 @@
 
 from typing import Iterator
 
-from . import comments, links, names, prose, surface, tree
+from . import comments, definitions, links, names, prose, surface, tree
 
 
 def pages() -> Iterator[str]:
@@ -20,6 +20,8 @@ def found() -> Iterator[str]:
     for crate, name, wrong in surface.faults(tree.read(surface.LIST),
                                              tree.read(surface.DECISIONS)):
         yield f"{surface.DECISIONS}: `{name}` of {crate} {wrong}"
+    for path, name, wrong in definitions.faults(list(definitions.definitions())):
+        yield f"{path}: `{name}` {wrong}"
     for path in pages():
         for line, target in links.broken(path, tree.read(path)):
             yield f"{path}:{line}: the link to {target} leads nowhere"

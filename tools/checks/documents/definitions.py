@@ -1,0 +1,38 @@
+"""Names of the definitions in crates/*/specs: each says what it is, and has one meaning."""
+
+import re
+from typing import Dict, Iterator, List, Tuple
+
+from .tree import NAME, files, read
+
+HEAD = re.compile(rf"^(?:abbrev |unfoldable )?pub (?:abbrev |record |data )?({NAME})(?=[ :])", re.M)
+# One word, which looks like a participle. `Is`, `Are` and the like before it make it a phrase.
+PARTICIPLE = re.compile(r"[A-Za-z][a-z]*(?:ed|ing|wn|rnt)$|"
+                        r"(?i:begun|given|held|kept|left|made|taken|told|written)$")
+# Prepositions and the like, which say nothing alone.
+FRAGMENTS = {"after", "at", "beside", "but_for", "inside", "look", "nearest", "once", "small",
+             "so_many", "stands", "through", "times", "unless", "whole", "within"}
+# Nouns and verbs that look like participles.
+PLAIN = {"feed", "need", "ring", "string"}
+
+
+def definitions() -> Iterator[Tuple[str, str]]:
+    """The path of each file of definitions, and a name that it defines."""
+    for path in sorted(files()):
+        if re.match(r"crates/\w+/specs/.*\.antt$", path):
+            for name in HEAD.findall(read(path)):
+                if name != "mod":
+                    yield path, name
+
+
+def faults(defined: List[Tuple[str, str]]) -> Iterator[Tuple[str, str, str]]:
+    """The path, the name, and what is wrong with it."""
+    first: Dict[str, str] = {}
+    for path, name in defined:
+        if name not in PLAIN and PARTICIPLE.match(name):
+            yield path, name, "is a bare participle: name it by a noun or a verb"
+        elif name in FRAGMENTS:
+            yield path, name, "says nothing alone: name it by a noun or a verb"
+        other = first.setdefault(name, path)
+        if other.split("/")[1] != path.split("/")[1]:
+            yield path, name, f"is also defined in {other}: give each meaning its own name"
