@@ -181,29 +181,30 @@ PUBLIC vx_context VX_API_CALL vxCreateContext(void) {
 
 void leave_context(vx_context context) {
     leave_to_parent(&context->connection);
-    context->users = 0;
+    context->users = context->depth = 0;
     make_mutexes(context);
 }
 
 void free_context(vx_context context) {
     connection_close(&context->connection);
+    while (context->first != NULL) {
+        vx_reference object = context->first;
+        context->first = object->next;
+        free_memory(object);
+    }
     free_spares(context);
     pthread_mutex_destroy(&context->calls);
     pthread_mutex_destroy(&context->objects);
     free(context);
 }
 
-/* Makes all references to a context and its objects stale, and frees the objects. */
+/* Makes all references to a context and its objects stale. The last user frees them. */
 static void close_context(vx_context context) {
     unregister_reference(&context->base);
     for (vx_status status = -1; status > VX_STATUS_MIN; status--)
         unregister_reference(&context->errors[-status]);
-    while (context->first != NULL) {
-        vx_reference object = context->first;
-        context->first = object->next;
-        free_memory(object);
-    }
-    context->connection.first = NULL;
+    for (vx_reference object = context->first; object != NULL; object = object->next)
+        unregister_reference(object);
     context->is_closed = true;
 }
 

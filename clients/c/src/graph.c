@@ -106,13 +106,16 @@ vx_node add_node(vx_graph graph, struct call call) {
 vx_status detach(vx_node node) {
     vx_graph graph = node->graph;
     vx_status status = withdraw(node->base.context, graph->base.name, &node->sent);
+    /* A log callback may have removed it. */
+    if (node->graph == NULL)
+        return status;
     vx_node *place = &graph->first;
     while (*place != node)
         place = &(*place)->next_node;
     *place = node->next_node;
     graph->nodes--;
-    change(graph);
     node->graph = NULL;
+    change(graph);
     for (int i = 0; i < OPERANDS; i++) {
         vx_reference operand = node->call.operands[i];
         node->call.operands[i] = NULL;

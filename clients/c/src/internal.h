@@ -131,7 +131,8 @@ struct _vx_reference {
 /* Locks and returns the context of a live reference of a type, VX_TYPE_REFERENCE for any. Returns
    NULL for anything else. */
 vx_context enter(const void *reference, vx_enum type);
-/* Unlocks the context. Returns the status that it is given. */
+/* Unlocks the context, and destroys what log callbacks left unused. Returns the status that it is
+   given. */
 vx_status leave(vx_context context, vx_status status);
 /* The same for a call that doesn't ask the server and changes no object except a scalar's value. */
 vx_context look(const void *reference, vx_enum type);
@@ -186,6 +187,11 @@ struct _vx_context {
     vx_uint32 extremes;
     vx_log_callback_f callback;
     bool is_logging, is_in_callback;
+    /* How many calls are nested, since a log callback may make calls; and whether callbacks left
+       objects unused. The outermost call destroys these when it leaves: the calls around a callback
+       may still have them in hand. */
+    unsigned depth;
+    bool has_unused;
     /* Buffers for the next pictures. */
     struct buffer spares[SPARES];
 };

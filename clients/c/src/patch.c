@@ -514,14 +514,18 @@ PUBLIC vx_status VX_API_CALL vxUnmapImagePatch(vx_image image, vx_map_id map_id)
     struct map *map = *place;
     if (map == NULL)
         return leave(context, VX_ERROR_INVALID_PARAMETERS);
+    /* A log callback may unmap too. */
+    *place = map->next;
     vx_status status = VX_SUCCESS;
     if (map->usage != VX_READ_ONLY && !image->is_handle)
         status = write_part(image, &map->rect, map->grid);
-    /* The program can try again, so the map stays. */
-    if (status == VX_ERROR_NO_MEMORY)
-        return leave(context, status);
-    *place = map->next;
-    free_map(context, map);
+    if (status == VX_ERROR_NO_MEMORY) {
+        /* The program can try again, so the map stays. */
+        map->next = image->maps;
+        image->maps = map;
+    } else {
+        free_map(context, map);
+    }
     return leave(context, status);
 }
 

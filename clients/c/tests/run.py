@@ -285,6 +285,9 @@ class Library(unittest.TestCase):
     def test_after_a_killed_server_each_call_fails(self):
         run("ended", env=self.server_to_kill())
 
+    def test_a_log_callback_may_release_what_the_call_at_fault_uses(self):
+        run("callbacks", env=self.server_to_kill())
+
     def interrupted(self):
         """A program in a process group of its own, as a shell starts one, that waits to be
         interrupted; and the process of its server."""
