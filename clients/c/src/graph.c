@@ -26,7 +26,9 @@ PUBLIC vx_status VX_API_CALL vxReleaseGraph(vx_graph *graph) {
 void change(vx_graph graph) {
     drop_parts(graph);
     graph->is_verified = false;
-    graph->state = VX_GRAPH_STATE_UNVERIFIED;
+    graph->has_changed = true;
+    if (!graph->is_scheduled)
+        graph->state = VX_GRAPH_STATE_UNVERIFIED;
 }
 
 /* Notes that a node couldn't be made. The graph isn't what the program meant, so it can't be

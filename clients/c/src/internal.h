@@ -517,6 +517,8 @@ struct _vx_graph {
     bool lacks_node, misses_node;
     struct call missed;
     bool is_verified, is_scheduled;
+    /* Whether it has changed since its run began. */
+    bool has_changed;
     struct request run;
     struct parts parts;
     /* Whether the current run has run a part. */
@@ -534,7 +536,8 @@ struct _vx_graph {
 vx_node add_node(vx_graph graph, struct call call);
 /* Refuses a node with a log entry. The graph can't be verified any more. */
 vx_node add_missing_node(vx_graph graph, const char *why);
-/* Notes that the graph has changed, so that it has to be verified. */
+/* Notes that the graph has changed, so that it has to be verified again. A run that is scheduled
+   goes on. */
 void change(vx_graph graph);
 /* Removes a node from its graph, here and on the server. */
 vx_status detach(vx_node node);
