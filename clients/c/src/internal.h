@@ -91,7 +91,7 @@ struct connection {
 bool connection_open(struct connection *connection, char *why, size_t room);
 void connection_close(struct connection *connection);
 /* Says in words why the connection has ended. */
-void connection_epitaph(struct connection *connection, char *words, size_t room);
+void connection_say_end(struct connection *connection, char *words, size_t room);
 /* Sends a request's frame; false where the server has ended. */
 bool connection_send(struct connection *connection, struct request *request, const uint8_t *body,
                      size_t length);
@@ -471,7 +471,7 @@ vx_uint32 count_functions(void);
 
 /* ---- graph.c ---- */
 
-/* What a graph on the server has of a node: its number there, 0 for none, and its bytes. */
+/* A graph on the server's record of a node: its number there, 0 for none, and its bytes. */
 struct sent {
     vx_uint32 number;
     uint8_t bytes[NODE_BYTES];
@@ -486,7 +486,7 @@ struct _vx_node {
     /* The status in the last verification or run. */
     vx_status status;
     struct sent sent;
-    /* In a graph that runs in parts: the number of its part, from 0, and what that has of it. */
+    /* In a graph that runs in parts: the number of its part, from 0, and that part's record. */
     vx_uint32 part;
     struct sent sent_to_part;
 };
@@ -562,7 +562,7 @@ bool runs_in_parts(const struct _vx_graph *graph);
 vx_status make_parts(vx_graph graph);
 /* Drops the parts of a graph that changes, here and on the server. */
 void drop_parts(vx_graph graph);
-/* Frees what the library has of the parts. */
+/* Frees the library's memory of the parts. */
 void free_parts(vx_graph graph);
 /* Runs all parts but the last one, and sends the nodes of that. */
 vx_status run_first_parts(vx_graph graph);
@@ -575,7 +575,7 @@ bool is_in_last_part(const struct _vx_node *node);
 
 /* Writes a node's number in order of addition, from 0, its function and its name. */
 void describe_node(vx_node node, char *words, size_t room);
-/* Checks that no two nodes write the same scalar or array, which the server doesn't have. */
+/* Checks that no two nodes write the same scalar or array. The server doesn't know these. */
 vx_status check_writers(vx_graph graph);
 /* Whether a node reads an image that another node writes. */
 bool reads_image_of(const struct _vx_node *reader, const struct _vx_node *writer);

@@ -202,23 +202,28 @@ static void unlink_object(vx_reference reference) {
         reference->next->previous = reference->previous;
 }
 
+static void destroy_slots(vx_delay delay) {
+    for (vx_size slot = 0; slot < delay->slots; slot++)
+        if (delay->images[slot] != NULL) {
+            unlink_object(REFERENCE(delay->images[slot]));
+            free_memory(REFERENCE(delay->images[slot]));
+        }
+}
+
+static void destroy_nodes(vx_graph graph) {
+    settle(graph);
+    while (graph->first != NULL)
+        detach(graph->first);
+    for (vx_uint32 i = 0; i < graph->parameter_count; i++)
+        drop(REFERENCE(graph->parameters[i]));
+}
+
 /* Destroys the slots and nodes of an object that is destroyed, and drops what it refers to. */
 static void destroy_members(vx_reference reference) {
     if (reference->type == VX_TYPE_DELAY)
-        for (vx_size slot = 0; slot < ((vx_delay)reference)->slots; slot++) {
-            vx_reference image = REFERENCE(((vx_delay)reference)->images[slot]);
-            if (image != NULL) {
-                unlink_object(image);
-                free_memory(image);
-            }
-        }
-    if (reference->type == VX_TYPE_GRAPH) {
-        settle((vx_graph)reference);
-        while (((vx_graph)reference)->first != NULL)
-            detach(((vx_graph)reference)->first);
-        for (vx_uint32 i = 0; i < ((vx_graph)reference)->parameter_count; i++)
-            drop(REFERENCE(((vx_graph)reference)->parameters[i]));
-    }
+        destroy_slots((vx_delay)reference);
+    if (reference->type == VX_TYPE_GRAPH)
+        destroy_nodes((vx_graph)reference);
     if (reference->type == VX_TYPE_PARAMETER && ((vx_parameter)reference)->node != NULL)
         drop(REFERENCE(((vx_parameter)reference)->node));
     if (reference->type == VX_TYPE_NODE)
