@@ -26,7 +26,7 @@ void connection_close(struct connection *connection) {
     end_server(connection);
 }
 
-/* Stops sending and reading. Returns false, as what fails does. */
+/* Stops sending and reading. Returns false, for the caller to return. */
 static bool end_connection(struct connection *connection) {
     connection->has_ended = true;
     shutdown(connection->in, SHUT_RDWR);
@@ -250,7 +250,7 @@ bool connection_wait(struct connection *connection, struct request *request) {
     return request->is_done;
 }
 
-void connection_epitaph(struct connection *connection, char *words, size_t room) {
+void connection_say_end(struct connection *connection, char *words, size_t room) {
     char said[256];
     if (connection->is_inherited) {
         snprintf(words, room, "the server is the parent process's: make a context in the child");

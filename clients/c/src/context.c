@@ -52,16 +52,14 @@ static const char *const OP_NAMES[] = {[OPEN_CONTEXT] = "OpenContext",
 
 static vx_status lost(vx_context context) {
     char words[VX_MAX_LOG_MESSAGE_LEN];
-    connection_epitaph(&context->connection, words, sizeof words);
+    connection_say_end(&context->connection, words, sizeof words);
     tell(REFERENCE(context), VX_FAILURE, "%s", words);
     return VX_FAILURE;
 }
 
 static vx_status status_of(vx_context context, const struct request *request) {
     vx_status status = STATUS_OF_CODE[request->code];
-    if (request->is_quiet)
-        return status;
-    if (status != VX_SUCCESS)
+    if (status != VX_SUCCESS && !request->is_quiet)
         tell(REFERENCE(context), status, "the server refused %s: %s", OP_NAMES[request->op],
              CODE_NAMES[request->code]);
     return status;
@@ -148,7 +146,7 @@ static bool open_server(vx_context context, char *why, size_t room) {
     vx_status status = ask(context, OPEN_CONTEXT, NULL, 0, NULL, 0);
     let_look(context);
     if (context->connection.has_ended)
-        connection_epitaph(&context->connection, why, room);
+        connection_say_end(&context->connection, why, room);
     else
         snprintf(why, room, "the server refused OpenContext: %s%s", name_of_status(status),
                  status == VX_ERROR_NO_RESOURCES ? ": it has too many connections" : "");
@@ -181,29 +179,30 @@ PUBLIC vx_context VX_API_CALL vxCreateContext(void) {
 
 void leave_context(vx_context context) {
     leave_to_parent(&context->connection);
-    context->users = 0;
+    context->users = context->depth = 0;
     make_mutexes(context);
 }
 
 void free_context(vx_context context) {
     connection_close(&context->connection);
+    while (context->first != NULL) {
+        vx_reference object = context->first;
+        context->first = object->next;
+        free_memory(object);
+    }
     free_spares(context);
     pthread_mutex_destroy(&context->calls);
     pthread_mutex_destroy(&context->objects);
     free(context);
 }
 
-/* Makes all references to a context and its objects stale, and frees the objects. */
+/* Makes all references to a context and its objects stale. The last user frees them. */
 static void close_context(vx_context context) {
     unregister_reference(&context->base);
     for (vx_status status = -1; status > VX_STATUS_MIN; status--)
         unregister_reference(&context->errors[-status]);
-    while (context->first != NULL) {
-        vx_reference object = context->first;
-        context->first = object->next;
-        free_memory(object);
-    }
-    context->connection.first = NULL;
+    for (vx_reference object = context->first; object != NULL; object = object->next)
+        unregister_reference(object);
     context->is_closed = true;
 }
 

@@ -26,7 +26,9 @@ PUBLIC vx_status VX_API_CALL vxReleaseGraph(vx_graph *graph) {
 void change(vx_graph graph) {
     drop_parts(graph);
     graph->is_verified = false;
-    graph->state = VX_GRAPH_STATE_UNVERIFIED;
+    graph->has_changed = true;
+    if (!graph->is_scheduled)
+        graph->state = VX_GRAPH_STATE_UNVERIFIED;
 }
 
 /* Notes that a node couldn't be made. The graph isn't what the program meant, so it can't be
@@ -106,13 +108,16 @@ vx_node add_node(vx_graph graph, struct call call) {
 vx_status detach(vx_node node) {
     vx_graph graph = node->graph;
     vx_status status = withdraw(node->base.context, graph->base.name, &node->sent);
+    /* A log callback may have removed it. */
+    if (node->graph == NULL)
+        return status;
     vx_node *place = &graph->first;
     while (*place != node)
         place = &(*place)->next_node;
     *place = node->next_node;
     graph->nodes--;
-    change(graph);
     node->graph = NULL;
+    change(graph);
     for (int i = 0; i < OPERANDS; i++) {
         vx_reference operand = node->call.operands[i];
         node->call.operands[i] = NULL;

@@ -91,7 +91,7 @@ struct connection {
 bool connection_open(struct connection *connection, char *why, size_t room);
 void connection_close(struct connection *connection);
 /* Says in words why the connection has ended. */
-void connection_epitaph(struct connection *connection, char *words, size_t room);
+void connection_say_end(struct connection *connection, char *words, size_t room);
 /* Sends a request's frame; false where the server has ended. */
 bool connection_send(struct connection *connection, struct request *request, const uint8_t *body,
                      size_t length);
@@ -131,7 +131,8 @@ struct _vx_reference {
 /* Locks and returns the context of a live reference of a type, VX_TYPE_REFERENCE for any. Returns
    NULL for anything else. */
 vx_context enter(const void *reference, vx_enum type);
-/* Unlocks the context. Returns the status that it is given. */
+/* Unlocks the context, and destroys what log callbacks left unused. Returns the status that it is
+   given. */
 vx_status leave(vx_context context, vx_status status);
 /* The same for a call that doesn't ask the server and changes no object except a scalar's value. */
 vx_context look(const void *reference, vx_enum type);
@@ -186,6 +187,11 @@ struct _vx_context {
     vx_uint32 extremes;
     vx_log_callback_f callback;
     bool is_logging, is_in_callback;
+    /* How many calls are nested, since a log callback may make calls; and whether callbacks left
+       objects unused. The outermost call destroys these when it leaves: the calls around a callback
+       may still have them in hand. */
+    unsigned depth;
+    bool has_unused;
     /* Buffers for the next pictures. */
     struct buffer spares[SPARES];
 };
@@ -465,7 +471,7 @@ vx_uint32 count_functions(void);
 
 /* ---- graph.c ---- */
 
-/* What a graph on the server has of a node: its number there, 0 for none, and its bytes. */
+/* A graph on the server's record of a node: its number there, 0 for none, and its bytes. */
 struct sent {
     vx_uint32 number;
     uint8_t bytes[NODE_BYTES];
@@ -480,7 +486,7 @@ struct _vx_node {
     /* The status in the last verification or run. */
     vx_status status;
     struct sent sent;
-    /* In a graph that runs in parts: the number of its part, from 0, and what that has of it. */
+    /* In a graph that runs in parts: the number of its part, from 0, and that part's record. */
     vx_uint32 part;
     struct sent sent_to_part;
 };
@@ -511,6 +517,8 @@ struct _vx_graph {
     bool lacks_node, misses_node;
     struct call missed;
     bool is_verified, is_scheduled;
+    /* Whether it has changed since its run began. */
+    bool has_changed;
     struct request run;
     struct parts parts;
     /* Whether the current run has run a part. */
@@ -528,7 +536,8 @@ struct _vx_graph {
 vx_node add_node(vx_graph graph, struct call call);
 /* Refuses a node with a log entry. The graph can't be verified any more. */
 vx_node add_missing_node(vx_graph graph, const char *why);
-/* Notes that the graph has changed, so that it has to be verified. */
+/* Notes that the graph has changed, so that it has to be verified again. A run that is scheduled
+   goes on. */
 void change(vx_graph graph);
 /* Removes a node from its graph, here and on the server. */
 vx_status detach(vx_node node);
@@ -553,7 +562,7 @@ bool runs_in_parts(const struct _vx_graph *graph);
 vx_status make_parts(vx_graph graph);
 /* Drops the parts of a graph that changes, here and on the server. */
 void drop_parts(vx_graph graph);
-/* Frees what the library has of the parts. */
+/* Frees the library's memory of the parts. */
 void free_parts(vx_graph graph);
 /* Runs all parts but the last one, and sends the nodes of that. */
 vx_status run_first_parts(vx_graph graph);
@@ -566,7 +575,7 @@ bool is_in_last_part(const struct _vx_node *node);
 
 /* Writes a node's number in order of addition, from 0, its function and its name. */
 void describe_node(vx_node node, char *words, size_t room);
-/* Checks that no two nodes write the same scalar or array, which the server doesn't have. */
+/* Checks that no two nodes write the same scalar or array. The server doesn't know these. */
 vx_status check_writers(vx_graph graph);
 /* Whether a node reads an image that another node writes. */
 bool reads_image_of(const struct _vx_node *reader, const struct _vx_node *writer);

@@ -1,21 +1,39 @@
 /* Copies and maps of image patches. The server reads and writes whole images, so a patch is cut out
    of one or put into one here. */
+#define _GNU_SOURCE
 #include "internal.h"
 
 #include <stdlib.h>
 #include <string.h>
+#include <sys/mman.h>
 
 /* DESCRIBED and WRITE_HEAD are the bytes before the samples in a reply and in a request. Samples
    are converted and sent PIECE bytes at a time, so that the server reads one piece while the next
-   is converted. Buffers from LEAST_KEPT to GREATEST_KEPT bytes are kept. */
+   is converted. Buffers from LEAST_KEPT to GREATEST_KEPT bytes are kept. HUGE_PAGE is the size of
+   the processor's larger pages. */
 enum { DESCRIBED = 5, WRITE_HEAD = 10, PIECE = 1 << 17, LEAST_KEPT = 1 << 16,
-       GREATEST_KEPT = 1 << 26 };
+       GREATEST_KEPT = 1 << 26, HUGE_PAGE = 1 << 21 };
 
 static vx_size samples_of(const struct _vx_image *image) {
     return (vx_size)image->width * image->height * sample_size(image->format);
 }
 
 /* ---- Buffers ---- */
+
+/* Makes a buffer of zeros, or with NULL where there is no memory. A large one is in huge pages, as
+   far as the system has them: such a buffer is filled and lent to the pipe in less time. */
+static struct buffer make_buffer(size_t length) {
+    size_t huge = (length + HUGE_PAGE / 2) / HUGE_PAGE * HUGE_PAGE;
+    struct buffer made = {NULL, length > huge ? length : huge};
+    void *bytes;
+    if (huge == 0) {
+        made.bytes = calloc(1, length);
+    } else if (posix_memalign(&bytes, HUGE_PAGE, made.room) == 0) {
+        madvise(bytes, huge, MADV_HUGEPAGE);
+        made.bytes = memset(bytes, 0, made.room);
+    }
+    return made;
+}
 
 /* Returns a buffer of at least length bytes, or with NULL where there is no memory. It holds zeros
    or old samples, so that a map which isn't wholly written never sends other memory. */
@@ -27,12 +45,9 @@ static struct buffer take_buffer(vx_context context, size_t length) {
             (best == NULL || spare->room < best->room))
             best = spare;
     }
-    struct buffer taken = {NULL, length};
-    if (best == NULL) {
-        taken.bytes = calloc(1, length);
-        return taken;
-    }
-    taken = *best;
+    if (best == NULL)
+        return make_buffer(length);
+    struct buffer taken = *best;
     *best = (struct buffer){NULL, 0};
     return taken;
 }
@@ -100,39 +115,29 @@ void turn_samples(uint8_t *to, const uint8_t *from, size_t bytes, size_t unit) {
         turn(to + at, from + at, unit);
 }
 
-static void copy_row(struct grid to, struct grid from, vx_uint32 width, ptrdiff_t size) {
-    if (to.column == size && from.column == size) {
-        turn_samples(to.first, from.first, width * (size_t)size, (size_t)size);
+/* Copies a row of samples of some size. A unit of that size converts them, and one of 1 leaves them
+   in their byte order. */
+static void copy_row(struct grid to, struct grid from, vx_uint32 width, vx_size size, size_t unit) {
+    if (to.column == (ptrdiff_t)size && from.column == (ptrdiff_t)size) {
+        turn_samples(to.first, from.first, width * size, unit);
         return;
     }
     for (vx_uint32 x = 0; x < width; x++)
-        turn(to.first + x * to.column, from.first + x * from.column, (vx_size)size);
+        turn_samples(to.first + x * to.column, from.first + x * from.column, size, unit);
 }
 
 static void copy_grid(struct grid to, struct grid from, vx_uint32 width, vx_uint32 height,
-                      vx_size size) {
+                      vx_size size, size_t unit) {
     for (vx_uint32 y = 0; y < height; y++) {
-        copy_row(to, from, width, (ptrdiff_t)size);
+        copy_row(to, from, width, size, unit);
         to.first += to.row;
         from.first += from.row;
     }
 }
 
-/* The same without a change of the byte order. */
-static void copy_plain(struct grid to, struct grid from, vx_uint32 width, vx_uint32 height,
-                       vx_size size) {
-    bool is_row = to.column == (ptrdiff_t)size && from.column == (ptrdiff_t)size;
-    for (vx_uint32 y = 0; y < height; y++) {
-        for (vx_uint32 x = 0; x < (is_row ? 1 : width); x++)
-            memcpy(to.first + x * to.column, from.first + x * from.column,
-                   is_row ? width * size : size);
-        to.first += to.row;
-        from.first += from.row;
-    }
-}
-
-static void copy_part(struct grid to, struct grid from, const vx_rectangle_t *rect, vx_size size) {
-    copy_grid(to, from, rect->end_x - rect->start_x, rect->end_y - rect->start_y, size);
+static void copy_part(struct grid to, struct grid from, const vx_rectangle_t *rect, vx_size size,
+                      size_t unit) {
+    copy_grid(to, from, rect->end_x - rect->start_x, rect->end_y - rect->start_y, size, unit);
 }
 
 /* A part of the samples of a whole image, which are in memory as in a frame. */
@@ -178,7 +183,7 @@ static vx_status read_part(vx_image image, const vx_rectangle_t *rect, struct gr
         return VX_ERROR_NO_MEMORY;
     vx_status status = read_image(image, buffer.bytes, 1);
     if (status == VX_SUCCESS)
-        copy_part(to, part_of(image, rect, buffer.bytes), rect, size);
+        copy_part(to, part_of(image, rect, buffer.bytes), rect, size, size);
     give_buffer(image->base.context, buffer);
     return status;
 }
@@ -205,7 +210,7 @@ static bool send_rows(vx_image image, struct source source) {
         struct grid from = source.users, to = {source.bytes + y * row, (ptrdiff_t)size,
                                                (ptrdiff_t)row};
         from.first += (ptrdiff_t)y * from.row;
-        copy_grid(to, from, image->width, rows, size);
+        copy_grid(to, from, image->width, rows, size, size);
         if (!connection_go_on(connection, to.first, rows * row))
             return false;
     }
@@ -238,7 +243,7 @@ static vx_status replace_part(vx_image image, const vx_rectangle_t *rect, struct
     if (!is_all) {
         status = read_image(image, buffer.bytes, 1);
         if (status == VX_SUCCESS)
-            copy_part(part_of(image, rect, buffer.bytes), from, rect, size);
+            copy_part(part_of(image, rect, buffer.bytes), from, rect, size, size);
     }
     if (status == VX_SUCCESS)
         status = write_image(image, (struct source){from, buffer.bytes, !is_all});
@@ -318,7 +323,7 @@ static vx_status fill(vx_image image, const vx_pixel_value_t *value) {
     if (!image->is_handle)
         status = write_part(image, &whole, rows);
     else
-        copy_plain(image->memory, rows, image->width, image->height, size);
+        copy_grid(image->memory, rows, image->width, image->height, size, 1);
     free(row);
     return status;
 }
@@ -383,7 +388,7 @@ static vx_status check_part(const struct _vx_image *image, const vx_rectangle_t 
     return is_part ? VX_SUCCESS : VX_ERROR_INVALID_PARAMETERS;
 }
 
-/* Whether memory as described holds a part, by rows that don't overlap. */
+/* Whether memory with this layout holds a part, in rows that don't overlap. */
 static bool has_room(const vx_imagepatch_addressing_t *addr, const vx_rectangle_t *rect,
                      vx_size size) {
     if (addr == NULL || addr->dim_x < rect->end_x - rect->start_x ||
@@ -401,8 +406,8 @@ static vx_status copy_users(vx_image image, const vx_rectangle_t *rect, struct g
         return usage == VX_READ_ONLY ? read_part(image, rect, users)
                                      : write_part(image, rect, users);
     bool is_read = usage == VX_READ_ONLY;
-    copy_plain(is_read ? users : images, is_read ? images : users, rect->end_x - rect->start_x,
-               rect->end_y - rect->start_y, sample_size(image->format));
+    copy_part(is_read ? users : images, is_read ? images : users, rect, sample_size(image->format),
+              1);
     return VX_SUCCESS;
 }
 
@@ -489,9 +494,8 @@ PUBLIC vx_status VX_API_CALL vxMapImagePatch(vx_image image, const vx_rectangle_
     if (context == NULL)
         return VX_ERROR_INVALID_REFERENCE;
     vx_status status = check_part(image, rect, plane_index, usage);
-    bool is_usage = is_copy(usage, mem_type) ||
-                    (usage == VX_READ_AND_WRITE && mem_type == VX_MEMORY_TYPE_HOST);
-    if (status == VX_SUCCESS && (map_id == NULL || addr == NULL || ptr == NULL || !is_usage))
+    if (status == VX_SUCCESS &&
+        (map_id == NULL || addr == NULL || ptr == NULL || !is_map(usage, mem_type)))
         status = VX_ERROR_INVALID_PARAMETERS;
     struct map *map = NULL;
     if (status == VX_SUCCESS)
@@ -514,14 +518,18 @@ PUBLIC vx_status VX_API_CALL vxUnmapImagePatch(vx_image image, vx_map_id map_id)
     struct map *map = *place;
     if (map == NULL)
         return leave(context, VX_ERROR_INVALID_PARAMETERS);
+    /* A log callback may unmap too. */
+    *place = map->next;
     vx_status status = VX_SUCCESS;
     if (map->usage != VX_READ_ONLY && !image->is_handle)
         status = write_part(image, &map->rect, map->grid);
-    /* The program can try again, so the map stays. */
-    if (status == VX_ERROR_NO_MEMORY)
-        return leave(context, status);
-    *place = map->next;
-    free_map(context, map);
+    if (status == VX_ERROR_NO_MEMORY) {
+        /* The program can try again, so the map stays. */
+        map->next = image->maps;
+        image->maps = map;
+    } else {
+        free_map(context, map);
+    }
     return leave(context, status);
 }
 

@@ -114,9 +114,27 @@ static int plan_descriptors(posix_spawn_file_actions_t *actions, struct ends the
     return error ? error : plan_closing(actions);
 }
 
+/* Copies the environment for the program. Its malloc is told to use huge pages, in which pictures
+   are read and computed in less time, unless the environment tells malloc something already.
+   Returns NULL where there is no memory. */
+static char **copy_environment(void) {
+    static char tunables[] = "GLIBC_TUNABLES=glibc.malloc.hugetlb=1";
+    size_t count = 0;
+    while (environ != NULL && environ[count] != NULL)
+        count++;
+    char **copy = calloc(count + 2, sizeof *copy);
+    if (copy == NULL)
+        return NULL;
+    for (size_t i = 0; i < count; i++)
+        copy[i] = environ[i];
+    if (getenv("GLIBC_TUNABLES") == NULL)
+        copy[count] = tunables;
+    return copy;
+}
+
 /* Starts a program in a session of its own, so that Ctrl-C doesn't end it, and with the default
    handling of signals. */
-static int spawn(const char *program, struct ends theirs, pid_t *process) {
+static int spawn(const char *program, char **environment, struct ends theirs, pid_t *process) {
     posix_spawn_file_actions_t actions;
     posix_spawnattr_t attributes;
     sigset_t none, all;
@@ -138,7 +156,8 @@ static int spawn(const char *program, struct ends theirs, pid_t *process) {
     char *words[] = {(char *)program, "serve", quota == NULL ? NULL : "--quota", (char *)quota,
                      NULL};
     int error = plan_descriptors(&actions, theirs);
-    error = error ? error : posix_spawnp(process, program, &actions, &attributes, words, environ);
+    if (error == 0)
+        error = posix_spawnp(process, program, &actions, &attributes, words, environment);
     posix_spawnattr_destroy(&attributes);
     posix_spawn_file_actions_destroy(&actions);
     return error;
@@ -147,10 +166,14 @@ static int spawn(const char *program, struct ends theirs, pid_t *process) {
 /* Starts the program that the environment names, or else the first one that is found. */
 static int spawn_found(struct ends theirs, pid_t *process) {
     const char *program = setting("FEQYLDAN_PROGRAM");
-    if (program != NULL)
-        return spawn(program, theirs, process);
-    int error = spawn("feqyldan", theirs, process);
-    return error == 0 ? 0 : spawn("vx_main", theirs, process);
+    char **environment = copy_environment();
+    if (environment == NULL)
+        return ENOMEM;
+    int error = spawn(program != NULL ? program : "feqyldan", environment, theirs, process);
+    if (error != 0 && program == NULL)
+        error = spawn("vx_main", environment, theirs, process);
+    free(environment);
+    return error;
 }
 
 static void close_all(int *ends, int count) {

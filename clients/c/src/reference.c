@@ -89,6 +89,8 @@ static void unuse(vx_context context) {
         free_context(context);
 }
 
+static void destroy_unused(vx_context context);
+
 vx_context look(const void *reference, vx_enum type) {
     vx_context context = use(reference, type);
     if (context == NULL)
@@ -113,6 +115,7 @@ vx_context enter(const void *reference, vx_enum type) {
         return NULL;
     pthread_mutex_lock(&context->calls);
     pthread_mutex_lock(&context->objects);
+    context->depth++;
     if (check(context, reference, type) == VX_SUCCESS)
         return context;
     leave(context, VX_SUCCESS);
@@ -120,6 +123,9 @@ vx_context enter(const void *reference, vx_enum type) {
 }
 
 vx_status leave(vx_context context, vx_status status) {
+    if (context->depth == 1 && context->has_unused)
+        destroy_unused(context);
+    context->depth--;
     pthread_mutex_unlock(&context->objects);
     pthread_mutex_unlock(&context->calls);
     unuse(context);
@@ -196,32 +202,35 @@ static void unlink_object(vx_reference reference) {
         reference->next->previous = reference->previous;
 }
 
+static void destroy_slots(vx_delay delay) {
+    for (vx_size slot = 0; slot < delay->slots; slot++)
+        if (delay->images[slot] != NULL) {
+            unlink_object(REFERENCE(delay->images[slot]));
+            free_memory(REFERENCE(delay->images[slot]));
+        }
+}
+
+static void destroy_nodes(vx_graph graph) {
+    settle(graph);
+    while (graph->first != NULL)
+        detach(graph->first);
+    for (vx_uint32 i = 0; i < graph->parameter_count; i++)
+        drop(REFERENCE(graph->parameters[i]));
+}
+
 /* Destroys the slots and nodes of an object that is destroyed, and drops what it refers to. */
 static void destroy_members(vx_reference reference) {
     if (reference->type == VX_TYPE_DELAY)
-        for (vx_size slot = 0; slot < ((vx_delay)reference)->slots; slot++) {
-            vx_reference image = REFERENCE(((vx_delay)reference)->images[slot]);
-            if (image != NULL) {
-                unlink_object(image);
-                free_memory(image);
-            }
-        }
-    if (reference->type == VX_TYPE_GRAPH) {
-        settle((vx_graph)reference);
-        while (((vx_graph)reference)->first != NULL)
-            detach(((vx_graph)reference)->first);
-        for (vx_uint32 i = 0; i < ((vx_graph)reference)->parameter_count; i++)
-            drop(REFERENCE(((vx_graph)reference)->parameters[i]));
-    }
+        destroy_slots((vx_delay)reference);
+    if (reference->type == VX_TYPE_GRAPH)
+        destroy_nodes((vx_graph)reference);
     if (reference->type == VX_TYPE_PARAMETER && ((vx_parameter)reference)->node != NULL)
         drop(REFERENCE(((vx_parameter)reference)->node));
     if (reference->type == VX_TYPE_NODE)
         forget(reference->context, ((vx_node)reference)->call.extremes);
 }
 
-static void destroy_if_unused(vx_reference reference) {
-    if (reference->count > 0 || reference->holds > 0)
-        return;
+static void destroy(vx_reference reference) {
     forget(reference->context, reference->name);
     /* The server drops a graph's nodes with it. */
     reference->name = 0;
@@ -234,6 +243,32 @@ static void destroy_if_unused(vx_reference reference) {
 static vx_reference owner_of(vx_reference reference) {
     bool is_slot = reference->type == VX_TYPE_IMAGE && ((vx_image)reference)->delay != NULL;
     return is_slot ? REFERENCE(((vx_image)reference)->delay) : reference;
+}
+
+static bool is_unused(vx_reference reference) {
+    return owner_of(reference) == reference && reference->count == 0 && reference->holds == 0;
+}
+
+static void destroy_if_unused(vx_reference reference) {
+    if (!is_unused(reference))
+        return;
+    if (reference->context->is_in_callback)
+        reference->context->has_unused = true;
+    else
+        destroy(reference);
+}
+
+/* Destroys all unused objects, unless the context is closed: then they are freed with it. */
+static void destroy_unused(vx_context context) {
+    vx_reference object = context->first;
+    context->has_unused = false;
+    while (object != NULL && !context->is_closed) {
+        bool is_over = is_unused(object);
+        if (is_over)
+            destroy(object);
+        /* Others may be destroyed with it. */
+        object = is_over ? context->first : object->next;
+    }
 }
 
 void hold(vx_reference reference) { owner_of(reference)->holds++; }

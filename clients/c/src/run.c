@@ -67,12 +67,13 @@ static vx_status send_nodes(vx_graph graph) {
     return status;
 }
 
-/* Moves the images from handles of all nodes, by send_images or take_images. */
+/* Moves the images from handles of the nodes that the server has, by send_images or take_images. */
 static vx_status move_handles(vx_graph graph,
                               vx_status (*move)(vx_reference about, const struct call *call)) {
     vx_status status = VX_SUCCESS;
     for (vx_node node = graph->first; node != NULL && status == VX_SUCCESS; node = node->next_node)
-        status = move(&node->base, &node->call);
+        if (node->sent.number != 0)
+            status = move(&node->base, &node->call);
     return status;
 }
 
@@ -115,6 +116,18 @@ static void count_time(vx_perf_t *times) {
     times->max = times->tmp > times->max ? times->tmp : times->max;
 }
 
+static void begin_run(vx_graph graph) {
+    graph->has_changed = false;
+    graph->performance.beg = now();
+}
+
+static vx_enum state_after(const struct _vx_graph *graph, vx_status status) {
+    if (status == VX_SUCCESS)
+        return graph->has_changed ? VX_GRAPH_STATE_UNVERIFIED : VX_GRAPH_STATE_COMPLETED;
+    bool is_abandoned = status == VX_FAILURE || graph->has_begun;
+    return is_abandoned ? VX_GRAPH_STATE_ABANDONED : VX_GRAPH_STATE_UNVERIFIED;
+}
+
 /* After a run: reads the outputs that the library keeps, and sets the state of the graph. */
 static vx_status end_run(vx_graph graph, vx_status status) {
     for (vx_node node = graph->first; node != NULL && status == VX_SUCCESS; node = node->next_node)
@@ -124,11 +137,8 @@ static vx_status end_run(vx_graph graph, vx_status status) {
         status = move_handles(graph, take_images);
     if (status == VX_SUCCESS)
         count_time(&graph->performance);
-    bool is_abandoned = status == VX_FAILURE || graph->has_begun;
-    graph->is_verified = status == VX_SUCCESS;
-    graph->state = status == VX_SUCCESS ? VX_GRAPH_STATE_COMPLETED
-                   : is_abandoned       ? VX_GRAPH_STATE_ABANDONED
-                                        : VX_GRAPH_STATE_UNVERIFIED;
+    graph->is_verified = status == VX_SUCCESS && !graph->has_changed;
+    graph->state = state_after(graph, status);
     graph->has_begun = false;
     return status;
 }
@@ -188,7 +198,7 @@ PUBLIC vx_status VX_API_CALL vxProcessGraph(vx_graph graph) {
         return VX_ERROR_INVALID_REFERENCE;
     if (graph->is_scheduled)
         return leave(context, VX_ERROR_GRAPH_SCHEDULED);
-    graph->performance.beg = now();
+    begin_run(graph);
     vx_status status = runs_in_parts(graph) ? run_in_parts(graph) : run_whole(graph);
     return leave(context, end_run(graph, status));
 }
@@ -209,7 +219,7 @@ static vx_status start(vx_graph graph, vx_uint32 name) {
 /* Runs all parts but the last before it returns. The server answers in order, so whatever the
    program asks for next comes after the whole run. */
 static vx_status schedule_parts(vx_graph graph) {
-    graph->performance.beg = now();
+    begin_run(graph);
     vx_status status = begin_parts(graph);
     return status == VX_SUCCESS ? start(graph, last_name(graph)) : end_run(graph, status);
 }
@@ -220,7 +230,7 @@ static vx_status schedule_whole(vx_graph graph) {
         status = move_handles(graph, send_images);
     if (status != VX_SUCCESS)
         return status;
-    graph->performance.beg = now();
+    begin_run(graph);
     return start(graph, graph->base.name);
 }
 

@@ -31,38 +31,32 @@ vx_size size_of_type(vx_enum type) {
     }
 }
 
-/* Makes a scalar if the status is VX_SUCCESS, and returns its error object otherwise. */
-static vx_reference make_scalar(vx_context context, vx_enum type, const void *ptr,
-                                vx_status status) {
-    vx_scalar made = status == VX_SUCCESS ? make(context, VX_TYPE_SCALAR, sizeof *made) : NULL;
+static vx_reference make_scalar(vx_context context, vx_enum type, const void *ptr, vx_size size) {
+    if (size_of_type(type) == 0)
+        return error_of(context, VX_ERROR_INVALID_TYPE);
+    if (size != size_of_type(type))
+        return error_of(context, VX_ERROR_INVALID_PARAMETERS);
+    vx_scalar made = make(context, VX_TYPE_SCALAR, sizeof *made);
     if (made == NULL)
-        return error_of(context, status == VX_SUCCESS ? VX_ERROR_NO_MEMORY : status);
+        return error_of(context, VX_ERROR_NO_MEMORY);
     made->item = type;
     if (ptr != NULL)
-        memcpy(&made->value, ptr, size_of_type(type));
+        memcpy(&made->value, ptr, size);
     return REFERENCE(made);
-}
-
-PUBLIC vx_scalar VX_API_CALL vxCreateScalar(vx_context context, vx_enum data_type,
-                                            const void *ptr) {
-    if (enter(context, VX_TYPE_CONTEXT) == NULL)
-        return NULL;
-    vx_status status = size_of_type(data_type) == 0 ? VX_ERROR_INVALID_TYPE : VX_SUCCESS;
-    vx_reference made = make_scalar(context, data_type, ptr, status);
-    leave(context, VX_SUCCESS);
-    return (vx_scalar)made;
 }
 
 PUBLIC vx_scalar VX_API_CALL vxCreateScalarWithSize(vx_context context, vx_enum data_type,
                                                     const void *ptr, vx_size size) {
     if (enter(context, VX_TYPE_CONTEXT) == NULL)
         return NULL;
-    vx_status status = size_of_type(data_type) == 0 ? VX_ERROR_INVALID_TYPE : VX_SUCCESS;
-    if (status == VX_SUCCESS && size != size_of_type(data_type))
-        status = VX_ERROR_INVALID_PARAMETERS;
-    vx_reference made = make_scalar(context, data_type, ptr, status);
+    vx_reference made = make_scalar(context, data_type, ptr, size);
     leave(context, VX_SUCCESS);
     return (vx_scalar)made;
+}
+
+PUBLIC vx_scalar VX_API_CALL vxCreateScalar(vx_context context, vx_enum data_type,
+                                            const void *ptr) {
+    return vxCreateScalarWithSize(context, data_type, ptr, size_of_type(data_type));
 }
 
 PUBLIC vx_status VX_API_CALL vxReleaseScalar(vx_scalar *scalar) {

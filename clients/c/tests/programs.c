@@ -277,12 +277,57 @@ static void run_many_ahead(vx_context context) {
     EXPECT(VX_SUCCESS, vxReleaseImage(&first));
 }
 
+static vx_enum state_of(vx_graph graph) {
+    vx_enum state;
+    EXPECT(VX_SUCCESS, vxQueryGraph(graph, VX_GRAPH_STATE, &state, sizeof state));
+    return state;
+}
+
+/* A graph that changes while it is scheduled: the run is of the nodes that it had, and the graph has
+   to be verified again. The node that is added writes an image from a handle. */
+static void change_while_scheduled(vx_context context) {
+    vx_uint8 own[COUNT] = {77};
+    void *memory = own;
+    const vx_imagepatch_addressing_t addr = by_rows(WIDTH, HEIGHT, 1);
+    const vx_border_t border = {.mode = VX_BORDER_REPLICATE};
+    vx_image in = vxCreateImage(context, WIDTH, HEIGHT, VX_DF_IMAGE_U8);
+    vx_image out = vxCreateImage(context, WIDTH, HEIGHT, VX_DF_IMAGE_U8);
+    vx_image kept = vxCreateImageFromHandle(context, VX_DF_IMAGE_U8, &addr, &memory,
+                                            VX_MEMORY_TYPE_HOST);
+    vx_graph graph = vxCreateGraph(context);
+    vx_node first = vxNotNode(graph, in, out), second = NULL;
+    fill(in, 10);
+    for (int change = 0; change < 3; change++) {
+        EXPECT(VX_SUCCESS, vxScheduleGraph(graph));
+        if (change == 0)
+            EXPECT(VX_SUCCESS, vxSetNodeAttribute(first, VX_NODE_BORDER, &border, sizeof border));
+        else if (change == 1)
+            second = vxNotNode(graph, out, kept);
+        else
+            EXPECT(VX_SUCCESS, vxRemoveNode(&second));
+        EXPECT(VX_SUCCESS, STATUS(first));
+        CHECK(state_of(graph) == VX_GRAPH_STATE_RUNNING && !vxIsGraphVerified(graph));
+        EXPECT(VX_SUCCESS, vxWaitGraph(graph));
+        CHECK(state_of(graph) == VX_GRAPH_STATE_UNVERIFIED && !vxIsGraphVerified(graph));
+        CHECK(first_sample(out) == 245 && own[0] == 77);
+        EXPECT(VX_SUCCESS, vxProcessGraph(graph));
+        CHECK(state_of(graph) == VX_GRAPH_STATE_COMPLETED && vxIsGraphVerified(graph));
+        CHECK(own[0] == (change == 1 ? 10 : 77));
+        own[0] = 77;
+    }
+    EXPECT(VX_SUCCESS, vxReleaseGraph(&graph));
+    EXPECT(VX_SUCCESS, vxReleaseImage(&kept));
+    EXPECT(VX_SUCCESS, vxReleaseImage(&out));
+    EXPECT(VX_SUCCESS, vxReleaseImage(&in));
+}
+
 int main(void) {
     vx_context context = vxCreateContext(), other = vxCreateContext();
     EXPECT(VX_SUCCESS, STATUS(context));
     find_edge(context);
     use_delay(context);
     age_after_runs(context);
+    change_while_scheduled(context);
     add_pictures(context);
     map_parts(context);
     use_large_pictures(context);

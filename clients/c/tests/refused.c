@@ -6,7 +6,7 @@
 #include <errno.h>
 #include <spawn.h>
 
-enum { SIDE = 4, COUNT = SIDE * SIDE };
+enum { SIDE = 4, COUNT = SIDE * SIDE, LARGE_SIDE = 1 << 10 };
 
 /* Allocations since the session began; the one that is refused, 0 for none; calls that said so. */
 static int allocations, refused, told;
@@ -18,10 +18,12 @@ static int refuses(void) { return ++allocations == refused; }
 void *__real_malloc(size_t size);
 void *__real_calloc(size_t count, size_t size);
 void *__real_realloc(void *memory, size_t size);
+int __real_posix_memalign(void **memory, size_t alignment, size_t size);
 int __real_posix_spawn_file_actions_adddup2(posix_spawn_file_actions_t *actions, int from, int to);
 void *__wrap_malloc(size_t size);
 void *__wrap_calloc(size_t count, size_t size);
 void *__wrap_realloc(void *memory, size_t size);
+int __wrap_posix_memalign(void **memory, size_t alignment, size_t size);
 int __wrap_posix_spawn_file_actions_adddup2(posix_spawn_file_actions_t *actions, int from, int to);
 
 void *__wrap_malloc(size_t size) { return refuses() ? NULL : __real_malloc(size); }
@@ -32,6 +34,10 @@ void *__wrap_calloc(size_t count, size_t size) {
 
 void *__wrap_realloc(void *memory, size_t size) {
     return refuses() ? NULL : __real_realloc(memory, size);
+}
+
+int __wrap_posix_memalign(void **memory, size_t alignment, size_t size) {
+    return refuses() ? ENOMEM : __real_posix_memalign(memory, alignment, size);
 }
 
 int __wrap_posix_spawn_file_actions_adddup2(posix_spawn_file_actions_t *actions, int from, int to) {
@@ -101,6 +107,22 @@ static void map_parts(void) {
     vx_uint8 found[COUNT];
     DO(copy_whole(image, SIDE, SIDE, 1, found, VX_READ_ONLY));
     CHECK(found[2 * SIDE + 1] == 99 && found[0] == 7);
+    EXPECT(VX_SUCCESS, vxReleaseImage(&image));
+}
+
+/* A map that is large enough for huge pages begins with zeros. */
+static void map_large(void) {
+    const vx_rectangle_t whole = {0, 0, LARGE_SIDE, LARGE_SIDE};
+    vx_image image;
+    vx_imagepatch_addressing_t addr;
+    vx_map_id map;
+    void *samples;
+    MAKE(image, vxCreateImage(context, LARGE_SIDE, LARGE_SIDE, VX_DF_IMAGE_U8));
+    DO(vxMapImagePatch(image, &whole, 0, &map, &addr, &samples, VX_WRITE_ONLY,
+                       VX_MEMORY_TYPE_HOST, 0));
+    for (size_t i = 0; i < LARGE_SIDE * LARGE_SIDE; i++)
+        CHECK(((vx_uint8 *)samples)[i] == 0);
+    DO(vxUnmapImagePatch(image, map));
     EXPECT(VX_SUCCESS, vxReleaseImage(&image));
 }
 
@@ -207,6 +229,7 @@ static int run_session(int refuse) {
     refused = refuse;
     open_context();
     map_parts();
+    map_large();
     run_graph();
     run_parts();
     run_functions();

@@ -29,7 +29,8 @@ ALL_WARNINGS = ["-Wall", "-Wextra", "-Werror", "-pedantic", "-Wconversion", "-Ws
                 "-Wshadow", "-Wundef", "-Wno-long-long"]
 WIDTH, HEIGHT = 13, 9
 # What the library calls that may find no memory.
-TAKING_MEMORY = ("malloc", "calloc", "realloc", "posix_spawn_file_actions_adddup2")
+TAKING_MEMORY = ("malloc", "calloc", "realloc", "posix_memalign",
+                 "posix_spawn_file_actions_adddup2")
 # Longer than any test program runs, in seconds.
 PATIENCE = 300
 folder = ""
@@ -282,8 +283,20 @@ class Library(unittest.TestCase):
         process = os.path.join(folder, "process")
         return {**self.server_after(f'echo $$ > "{process}"'), "SERVER_PROCESS": process}
 
+    def test_a_servers_malloc_uses_huge_pages_unless_the_environment_tells_it_something(self):
+        said = os.path.join(folder, "tunables")
+        environment = self.server_after(f'echo "$GLIBC_TUNABLES" > "{said}"')
+        own = "glibc.malloc.arena_max=1"
+        for given, expected in (({}, "glibc.malloc.hugetlb=1"), ({"GLIBC_TUNABLES": own}, own)):
+            run("queries", env={**environment, **given})
+            with open(said, encoding="utf-8") as text:
+                self.assertEqual(text.read(), expected + "\n")
+
     def test_after_a_killed_server_each_call_fails(self):
         run("ended", env=self.server_to_kill())
+
+    def test_a_log_callback_may_release_what_the_call_at_fault_uses(self):
+        run("callbacks", env=self.server_to_kill())
 
     def interrupted(self):
         """A program in a process group of its own, as a shell starts one, that waits to be
