@@ -9,7 +9,7 @@ ghost use Rattle.vx_base.specs.declared.format.Format.TheVariants.{U8, S16};
 
 use crate::item::Short;
 use crate::kernel::OfPair;
-use crate::stores::store_32_bytes;
+use crate::stores::{store_16_shorts, store_32_bytes};
 use std::simd::prelude::*;
 
 /// A function of two U8 or S16 items.
@@ -71,8 +71,7 @@ fn write_sixteen<A: Short, B: Short, K: Arithmetic>(
         (map B.value second.now) }
 {
     let (a, b) = (A::shorts(first), B::shorts(second));
-    let samples = kernel.shorts(a, b);
-    samples.copy_to_slice(out);
+    store_16_shorts(kernel.shorts(a, b).to_array(), out);
 }
 
 impl<A: Short, B: Short, K: Arithmetic> OfPair<A, B, i16> for OfSamples<'_, K> {
