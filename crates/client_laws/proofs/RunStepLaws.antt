@@ -11,6 +11,7 @@ use Rattle.vx_base.specs.declared.kind.Kind.TheVariants as kind
 use Rattle.vx_base.specs.declared.numbered.Numbered.{Numbered}
 use Rattle.vx_base.specs.Cell.{same_cell}
 use Rattle.vx_base.specs.Node.{IsNode, second_kind}
+use Rattle.vx_base.specs.Outline.{IsOutline}
 use Rattle.graph_verify.specs.Operand.{is_virtual as is_virtual_operand}
 use Rattle.graph_verify.proofs.LinkLemmas.{same_cell-refl}
 use Rattle.graph_run.specs.Graph.{begun_as, begun}
@@ -24,7 +25,7 @@ use Rattle.client_model.proofs.OutcomeLaws.{unless_keeps}
 use Rattle.client_model.proofs.DelayStepLaws.{aged_under_last}
 use Rattle.client_model.proofs.GraphStepLaws.{of_graph}
 use Rattle.client_laws.proofs.RoundLaws.{rounds_last}
-use Rattle.client_model.proofs.BegunLaws.{IsSmall, object_small, rounds_small, begun_is_object, slot_as_begun, image_as_begun, Taken, taken_as_begun, kind_as_begun, SecondTaken, give_as_taken}
+use Rattle.client_model.proofs.BegunLaws.{object_outline_is, rounds_are, begun_is_object, slot_as_begun, image_as_begun, Taken, taken_as_begun, kind_as_begun, SecondTaken, give_as_taken}
 use Rattle.graph_run.proofs.BegunLaws.{begun_if, virtual_as_operand}
 use Rattle.graph_run.proofs.SolutionStepsReturns.{forgotten_lasting}
 use Rattle.object_table.proofs.SkeletonLaws.{map-told}
@@ -73,8 +74,8 @@ module _ (objects : List Named) (nodes : List Node) (are : All (λ o. IsObject o
   abbrev whole : ℕ → Cell
   whole name = record { name = name; slot = None }
 
-  known_small : (cell : Cell) → IsSmall (outlines is nodes cell)
-  known_small = rounds_small is (λ cell. object_small (held objects cell) (held_is objects cell are)) nodes (length nodes)
+  known_are : (cell : Cell) → IsOutline (outlines is nodes cell)
+  known_are = rounds_are is (λ cell. object_outline_is (held objects cell) (held_is objects cell are)) nodes (length nodes)
 
   -- each object becomes what the cell of its name does
   begun_object : (o : Named) → (begun found_to_be nodes o).object ≡ begun_in (whole o.name) o.object
@@ -98,7 +99,7 @@ module _ (objects : List Named) (nodes : List Node) (are : All (λ o. IsObject o
       let own : is cell ≡ operand_of o.object = ap (λ found. unwrap_or (option_map operand_of (option_and_then (in_slot None) found)) Delay) (held_by_name objects names k d below) in
       subst IsObject (sym (begun_object o))
       (subst (λ operand. IsObject (begun_if (is_written nodes cell) o.object (as_known operand (outlines is nodes cell)))) (sym own)
-      (begun_is_object o.object (outlines is nodes cell) (is_written nodes cell) (are k d below) (known_small cell))))
+      (begun_is_object o.object (outlines is nodes cell) (is_written nodes cell) (are k d below) (known_are cell))))
 
   -- a cell holds what it held, as that becomes
   held_begun : (cell : Cell) → held begin cell ≡ option_map (begun_in cell) (held objects cell)

@@ -7,7 +7,6 @@ use Rattle.vx_base.specs.Object.{ImageObject, LutObject, ThresholdObject, Convol
 use Rattle.client_model.specs.declared.request.Request.TheVariants.{OpenContext, CreateImage, QueryImage, WriteImage, ReadImage, ReadImagePgm, SetValid, Release, CreateLut, CreateThreshold, CreateConvolution, CreateDistribution, ReadDistribution, CreateMinMax, ReadMinMax, CreateGraph, CreateVirtualImage, RemoveNode, CreateDelay, AgeDelay, RegisterAutoAging}
 use Rattle.client_model.proofs.StateLaws.{same_leaves}
 use Rattle.vx_base.proofs.ImageLaws.{new_image_is}
-use Rattle.vx_base.proofs.PictureLaws.{side}
 use Rattle.client_model.proofs.StateLaws.{new_context_keeps}
 use Rattle.client_model.proofs.OutcomeLaws.{StateKeeps, KeepsBut, create_keeps, same_keeps}
 use Rattle.client_model.proofs.ImageStepLaws.{write_image_keeps, write_text_keeps, set_valid_keeps}
@@ -24,7 +23,7 @@ use Rattle.client_laws.proofs.RunStepLaws.{process_graph_keeps}
 pub outcome_keeps : (limits : Allowance) (c : Context) (request : Request) → request ≢ ReleaseContext → KeepsLimits limits c → IsRequest request → KeepsBut (changes_nodes request) limits c (outcome_of limits c request)
 outcome_keeps limits c OpenContext stays h is = tt
 outcome_keeps limits c ReleaseContext stays h is = absurd (stays refl)
-outcome_keeps limits c (CreateImage d) stays h is = create_keeps limits c (ImageObject (new_image d.width d.height d.format)) h (new_image_is d.width d.height d.format (side d.width is.width) (side d.height is.height)) refl
+outcome_keeps limits c (CreateImage d) stays h is = create_keeps limits c (ImageObject (new_image d.width d.height d.format)) h (new_image_is d.width d.height d.format is.width is.height) refl
 outcome_keeps limits c (QueryImage cell) stays h is = same_keeps limits c (query_image c cell) h (grind arith)
 outcome_keeps limits c (WriteImage cell p) stays h is = write_image_keeps limits c cell p h is.1
 outcome_keeps limits c (WriteImagePgm cell text) stays h is = write_text_keeps limits c cell text h

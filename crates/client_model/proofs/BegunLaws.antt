@@ -1,8 +1,9 @@
 -- What an object is as a run begins, and what the verdict took it for.
-use Rattle.std.proofs.Common.{◌≡◌, ◌⊎◌, ℕ, zero, suc, ◌≤◌, Bool, true, List, [], ◌∷◌, Option, Some, None, IfSome, arith, is_some, unwrap_or}
+use Rattle.std.proofs.Common.{◌≡◌, ◌⊎◌, ℕ, zero, suc, Bool, true, List, [], ◌∷◌, Option, Some, None, IfSome, arith, is_some, unwrap_or}
 use Rattle.client_model.proofs.Common.{option_map, option_and_then, Kind, Node, Cell, Description, parameters, IsNode, second_kind, ObjectValue, IsObject, object_kind, Outline, in_slot, Operand, Image, operand_of, operand_kind, operand_format, stands_for, Suits, kind-operand, cond_both}
 use Rattle.vx_base.specs.Object.{VirtualObject}
-use Rattle.vx_base.specs.Outline.{closed, filled}
+use Rattle.vx_base.specs.Description.{IsDescription}
+use Rattle.vx_base.specs.Outline.{IsOutline, closed, filled}
 use Rattle.vx_base.proofs.ImageLaws.{new_image_is}
 use Rattle.graph_verify.specs.declared.operand.Operand.TheVariants.{Delay}
 use Rattle.graph_verify.specs.Links.{writes}
@@ -13,48 +14,43 @@ use Rattle.graph_run.specs.Graph.{is_virtual_object, begun_as}
 use Rattle.client_model.proofs.HoldLaws.{is_taken}
 use Rattle.client_model.proofs.NodeStepLaws.{CanGive}
 use Rattle.graph_run.proofs.BegunLaws.{begun_if}
-use Rattle.vx_base.specs.declared.desc.TheConstants.{GREATEST_SIDE}
 
--- ---- sizes of virtual images
+-- ---- outlines of virtual images
 
--- an outline whose sides, as far as they are known, aren't too great
-pub record IsSmall (o : Outline) : Type 0 where
-  pub width : IfSome o.width (λ n. n ≤ GREATEST_SIDE)
-  pub height : IfSome o.height (λ n. n ≤ GREATEST_SIDE)
+-- an outline that is filled from another is one
+filled_is : (a b : Outline) → IsOutline a → IsOutline b → IsOutline (filled a b)
+filled_is a b h k = grind arith
 
-filled_small : (a b : Outline) → IsSmall a → IsSmall b → IsSmall (filled a b)
-filled_small a b h k = grind arith
-
--- what is declared of an object is
-pub object_small : (object : Option ObjectValue) → IfSome object IsObject → IsSmall (operand_outline (unwrap_or (option_map operand_of object) Delay))
-object_small object is = grind arith
+-- what is declared of an object is one
+pub object_outline_is : (object : Option ObjectValue) → IfSome object IsObject → IsOutline (operand_outline (unwrap_or (option_map operand_of object) Delay))
+object_outline_is object is = grind arith
 
 -- so is what is known after rounds
-module _ (is : Cell → Operand) (small : (cell : Cell) → IsSmall (operand_outline (is cell))) where
-  round_small : (nodes : List Node) (known : Cell → Outline) → ((cell : Cell) → IsSmall (known cell)) → (cell : Cell) → IsSmall (round_of writes (written_outline is) nodes known cell)
-  round_small [] known h cell = h cell
-  round_small (n ∷ nodes) known h cell =
-      cond_both (writes n cell) (written_outline is n known cell) (round_of writes (written_outline is) nodes known cell) IsSmall
-      (λ e. filled_small (operand_outline (is cell)) (given_outline n.function (known n.in1)) (small cell) (record { width = (h n.in1).width; height = (h n.in1).height }))
-      (λ e. round_small nodes known h cell)
+module _ (is : Cell → Operand) (are : (cell : Cell) → IsOutline (operand_outline (is cell))) where
+  round_is : (nodes : List Node) (known : Cell → Outline) → ((cell : Cell) → IsOutline (known cell)) → (cell : Cell) → IsOutline (round_of writes (written_outline is) nodes known cell)
+  round_is [] known h cell = h cell
+  round_is (n ∷ nodes) known h cell =
+      cond_both (writes n cell) (written_outline is n known cell) (round_of writes (written_outline is) nodes known cell) IsOutline
+      (λ e. filled_is (operand_outline (is cell)) (given_outline n.function (known n.in1)) (are cell) (h n.in1))
+      (λ e. round_is nodes known h cell)
 
-  pub rounds_small : (nodes : List Node) (k : ℕ) (cell : Cell) → IsSmall (rounds_of writes (written_outline is) nodes k (λ c. operand_outline (is c)) cell)
-  rounds_small nodes zero cell = small cell
-  rounds_small nodes (suc k) cell = round_small nodes (rounds_of writes (written_outline is) nodes k (λ c. operand_outline (is c))) (rounds_small nodes k) cell
+  pub rounds_are : (nodes : List Node) (k : ℕ) (cell : Cell) → IsOutline (rounds_of writes (written_outline is) nodes k (λ c. operand_outline (is c)) cell)
+  rounds_are nodes zero cell = are cell
+  rounds_are nodes (suc k) cell = round_is nodes (rounds_of writes (written_outline is) nodes k (λ c. operand_outline (is c))) (rounds_are nodes k) cell
 
--- so is an image of which all is known
-closed_small : (o : Outline) → IsSmall o → IfSome (closed o) (λ d. (d.width ≤ GREATEST_SIDE) × (d.height ≤ GREATEST_SIDE))
-closed_small o h = grind arith
+-- an image of which all is known has allowed sides
+closed_is : (o : Outline) → IsOutline o → IfSome (closed o) IsDescription
+closed_is o h = grind arith
 
 -- ---- an object as a run begins
 
-pub begun_is_object : (object : ObjectValue) (known : Outline) (written : Bool) → IsObject object → IsSmall known → IsObject (begun_if written object (as_known (operand_of object) known))
-begun_is_object (VirtualObject image) known true is small = of_closed (closed known) (closed_small known small)
+pub begun_is_object : (object : ObjectValue) (known : Outline) (written : Bool) → IsObject object → IsOutline known → IsObject (begun_if written object (as_known (operand_of object) known))
+begun_is_object (VirtualObject image) known true is outline = of_closed (closed known) (closed_is known outline)
   where
-    of_closed : (d : Option Description) → IfSome d (λ e. (e.width ≤ GREATEST_SIDE) × (e.height ≤ GREATEST_SIDE)) → IsObject (begun_as (VirtualObject image) (virtual_or_image known d))
+    of_closed : (d : Option Description) → IfSome d IsDescription → IsObject (begun_as (VirtualObject image) (virtual_or_image known d))
     of_closed None sides = is
-    of_closed (Some d) sides = new_image_is d.width d.height d.format sides.0 sides.1
-begun_is_object other known written is small = grind arith
+    of_closed (Some d) sides = new_image_is d.width d.height d.format sides.width sides.height
+begun_is_object other known written is outline = grind arith
 
 -- the object in a slot of it does not change
 pub slot_as_begun : (k : ℕ) (object : ObjectValue) (written : Bool) (operand : Operand) → in_slot (Some k) (begun_if written object operand) ≡ in_slot (Some k) object

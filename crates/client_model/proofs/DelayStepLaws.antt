@@ -34,7 +34,7 @@ create_delay_keeps limits c cell slots h is = of_image (image_of c.objects cell)
     of_image (Ok image) image_is =
         let count = count_is slots is in
         create_keeps limits c (DelayObject (new_delay (description_of image) slots)) h
-        (new_delay_is (description_of image) slots image_is.sides.0 image_is.sides.1 count.0 count.1) refl
+        (new_delay_is (description_of image) slots image_is.sides count.0 count.1) refl
 
 -- ---- a delay one step later
 

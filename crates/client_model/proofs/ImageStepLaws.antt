@@ -1,13 +1,12 @@
 -- Writes and reads of images keep the limits, and what is held.
-use Rattle.std.proofs.Common.{ℕ, ◌≡◌, false, List, Option, Some, None, Result, Ok, Err, IfOk, refl, ap, ◌∙◌, arith, not, IsTrue}
+use Rattle.std.proofs.Common.{ℕ, ◌≡◌, false, List, Option, Some, None, Result, Ok, Err, IfOk, refl, ap, ◌∙◌, arith, not}
 use Rattle.client_model.proofs.Common.{option_map, and_parts, Cell, Description, ImageValue, IsImage, description_of, ImageObject, Named, held, with_object, Context, with_objects, Refusal, Empty, Allowance, image_of, KeepsLimits, lasting, images-last, held_is, passed, unless}
 use Rattle.vx_base.specs.Sample.{same_format}
-use Rattle.vx_base.specs.Rectangle.{Rectangle, is_rectangle, IsOrdered, IsWithin}
+use Rattle.vx_base.specs.Rectangle.{Rectangle, IsCanonical, IsWithin}
 use Rattle.vx_base.specs.Image.{with_valid}
 use Rattle.vx_base.specs.Picture.{PictureValue, IsPicture, pictured}
 use Rattle.vx_base.proofs.ImageLaws.{with_valid_is}
 use Rattle.vx_base.proofs.PictureLaws.{pictured_image}
-use Rattle.vx_base.proofs.RectangleLaws.{rectangle_ordered}
 use Rattle.client_model.specs.declared.refusal.Refusal.TheVariants.{InvalidFormat}
 use Rattle.pgm_images.specs.declared.fault.PgmFault.{PgmFault}
 use Rattle.pgm_images.specs.Reading.{reading}
@@ -59,12 +58,12 @@ write_text_to_keeps limits (Ok image) c cell (Err fault) h is found = tt
 write_text_to_keeps limits (Ok image) c cell (Ok p) h is found = write_to_keeps limits (Ok image) c cell p h (is p refl) found
 
 -- a rectangle is set where an image was
-set_valid_of_keeps : (limits : Allowance) (image : Result ImageValue Refusal) (c : Context) (cell : Cell) (valid : Rectangle) → KeepsLimits limits c → IsOrdered valid → IfOk image IsImage
+set_valid_of_keeps : (limits : Allowance) (image : Result ImageValue Refusal) (c : Context) (cell : Cell) (valid : Rectangle) → KeepsLimits limits c → IsCanonical valid → IfOk image IsImage
     → IfOk image (λ i. held c.objects cell ≡ Some (ImageObject i)) → Keeps limits c (set_valid_of image c cell valid)
-set_valid_of_keeps limits (Err refusal) c cell valid h ordered is found = tt
-set_valid_of_keeps limits (Ok image) c cell valid h ordered is found =
+set_valid_of_keeps limits (Err refusal) c cell valid h canonical is found = tt
+set_valid_of_keeps limits (Ok image) c cell valid h canonical is found =
     becomes_keeps limits c cell image (with_valid valid image) (valid_refusal (description_of image) valid) h found
-    (λ allowed. (with_valid_is image valid is ordered (within_image (description_of image) valid allowed), refl))
+    (λ allowed. (with_valid_is image valid is canonical (within_image (description_of image) valid allowed), refl))
 
 -- requests that write keep the limits
 pub write_text_keeps : (limits : Allowance) (c : Context) (cell : Cell) (text : List ℕ) → KeepsLimits limits c → Keeps limits c (write_text c cell text)
@@ -74,6 +73,6 @@ write_text_keeps limits c cell text h =
 pub write_image_keeps : (limits : Allowance) (c : Context) (cell : Cell) (p : PictureValue) → KeepsLimits limits c → IsPicture p → Keeps limits c (write_image c cell p)
 write_image_keeps limits c cell p h is = write_to_keeps limits (image_of c.objects cell) c cell p h is (image_of_held c.objects cell)
 
-pub set_valid_keeps : (limits : Allowance) (c : Context) (cell : Cell) (valid : Rectangle) → KeepsLimits limits c → IsTrue (is_rectangle valid.x0 valid.y0 valid.x1 valid.y1) → Keeps limits c (set_valid c cell valid)
+pub set_valid_keeps : (limits : Allowance) (c : Context) (cell : Cell) (valid : Rectangle) → KeepsLimits limits c → IsCanonical valid → Keeps limits c (set_valid c cell valid)
 set_valid_keeps limits c cell valid h is =
-    set_valid_of_keeps limits (image_of c.objects cell) c cell valid h (rectangle_ordered valid is) (image_of_is limits c cell h) (image_of_held c.objects cell)
+    set_valid_of_keeps limits (image_of c.objects cell) c cell valid h is (image_of_is limits c cell h) (image_of_held c.objects cell)

@@ -3,7 +3,6 @@ use Rattle.std.proofs.Common.{◌≡◌, ℕ, Bool, true, false, List, [], ◌�
 use Rattle.graph_run.proofs.Common.{AllIn, AllIn-permutation, AllIn-permutation_back, CanRun, CanRunNow, Cell, CellsStand, Description, HoldsKind, Image, In, In-from_map, In-left, In-right, IsDescription, IsNode, IsObject, IsReady, IsStrictlyIncreasing, Kind, Lasts, Named, Node, ObjectValue, Operand, Solves, Verified, VirtualImage, VirtualObject, VirtualOutput, WritesNo, begun, begun_as, cell_of, held, held_by_name, in_slot, is_virtual, is_virtual_object, is_written, label_of, map-told, names_cell, names_of, object_held, one_by_one, operand_held, operand_of, operands, resolved, with_written, written_by}
 use Rattle.vx_base.specs.declared.kind.Kind.TheVariants as kind
 use Rattle.vx_base.proofs.ImageLaws.{new_image_is}
-use Rattle.vx_base.proofs.PictureLaws.{side}
 use Rattle.graph_verify.proofs.VerdictLemmas.{can_run}
 use Rattle.graph_run.specs.Operands.{StandsFor}
 use Rattle.graph_run.specs.Results.{first_objects, last_objects}
@@ -21,7 +20,7 @@ use Rattle.graph_run.proofs.VerifiedLemmas.{can_run_now, in_outputs, output_know
 -- ---- objects as a run begins
 
 begun_as_is : (x : ObjectValue) (operand : Operand) → IsObject x → ((image : VirtualImage) (d : Description) → x ≡ VirtualObject image → operand ≡ Image d → IsDescription d) → IsObject (begun_as x operand)
-begun_as_is (VirtualObject image) (Image d) is described = let sides = described image d refl refl in new_image_is d.width d.height d.format (side d.width sides.width) (side d.height sides.height)
+begun_as_is (VirtualObject image) (Image d) is described = let sides = described image d refl refl in new_image_is d.width d.height d.format sides.width sides.height
 begun_as_is x operand is described = is
 
 begun_object : (b : Bool) (o : Named) (operand : Operand) → IsObject o.object

@@ -78,7 +78,7 @@ is_client : IsClient client_plane
 is_client = record {
   whole = record { format = refl; top = refl; size = refl; valid = record { columns = omega arith; rows = omega arith } };
   rows = refl;
-  image = new_image_is 1 4 U8 (omega arith) (omega arith);
+  image = new_image_is 1 4 U8 refl refl;
 }
 
 client_at : (c : ℕ) → KeepsBlock 3 boxes c → IsClient (plane box_planes c)
@@ -175,7 +175,7 @@ sums_client zero k = is_client
 sums_client (suc zero) k = record {
   whole = record { format = refl; top = refl; size = refl; valid = record { columns = omega arith; rows = omega arith } };
   rows = refl;
-  image = new_image_is 1 4 U32 (omega arith) (omega arith);
+  image = new_image_is 1 4 U32 refl refl;
 }
 sums_client (suc (suc c)) k = absurd (let b = k.0 in omega arith)
 

@@ -18,10 +18,10 @@ use Rattle.vx_base.specs.Object.{ObjectValue, ImageObject, IsObject, object_kind
 use Rattle.vx_base.specs.Outputs.{node_image}
 use Rattle.vx_base.specs.Pixelwise.{formula_of_two}
 use Rattle.vx_base.specs.Sample.{IsSample}
-use Rattle.vx_base.specs.Rectangle.{meet_of, IsOrdered, IsWithin}
+use Rattle.vx_base.specs.Rectangle.{meet_of, IsCanonical, IsWithin}
 use Rattle.vx_base.proofs.ImageLaws.{made_image}
 use Rattle.vx_base.proofs.NodeLaws.{node_image_is}
-use Rattle.vx_base.proofs.RectangleLaws.{bounded_ordered, bounded_within}
+use Rattle.vx_base.proofs.RectangleLaws.{bounded_canonical, bounded_within}
 use Rattle.vx_base.proofs.ResultLaws.{accumulated_is}
 use Rattle.image_core.specs.declared.band.Band.{Band}
 use Rattle.image_core.specs.declared.second.Second.{Second}
@@ -108,11 +108,11 @@ module _ (tables : List Second) (b : Description) (images : ℕ → ImageValue) 
 -- a node that accumulates makes an image of any rows
 accumulated_any : (n : Node) (which : Output) (format : Format) (a own : ImageValue) → accumulates n.function ≡ true → IsImage a → IsImage (node_image n which format a (Some (ImageObject own)))
 accumulated_any n which format a own sums is =
-    made_image a.width a.height format (meet_of a.valid own.valid) (λ x y. formula_of_two n.function format n.policy n.amount (at a x y) (at own x y)) is.sides.0 is.sides.1 ordered room
+    made_image a.width a.height format (meet_of a.valid own.valid) (λ x y. formula_of_two n.function format n.policy n.amount (at a x y) (at own x y)) is.sides.width is.sides.height canonical room
     (λ x y inside. accumulated_is n.function format n.policy n.amount (at a x y) (at own x y) sums)
   where
-    ordered : IsOrdered (meet_of a.valid own.valid)
-    ordered = bounded_ordered (max a.valid.x0 own.valid.x0) (max a.valid.y0 own.valid.y0) (min a.valid.x1 own.valid.x1) (min a.valid.y1 own.valid.y1)
+    canonical : IsCanonical (meet_of a.valid own.valid)
+    canonical = bounded_canonical (max a.valid.x0 own.valid.x0) (max a.valid.y0 own.valid.y0) (min a.valid.x1 own.valid.x1) (min a.valid.y1 own.valid.y1)
 
     room : IsWithin (meet_of a.valid own.valid) a.width a.height
     room =
@@ -149,7 +149,7 @@ pub scan_is : (start : ℕ) (s : Step) (first : ImageValue) (second : Option Obj
 scan_is start s first second out can scans is =
     let above : ℕ → ℕ = sums_above out.desc.width out.top start out.samples in
     let known = (integral_formats s.node.function first.format (option_and_then object_format second) out.desc.format scans can.formats).1 in
-    made_image first.width first.height out.desc.format first.valid (sum_on first start above) is.sides.0 is.sides.1 is.ordered is.room
+    made_image first.width first.height out.desc.format first.valid (sum_on first start above) is.sides.width is.sides.height is.canonical is.room
     (λ x y inside. subst (λ f. IsSample f (sum_on first start above x y)) (sym known) (scan_sample first start above x y))
 
 module _ (tables : List Second) (s : Step) (rows : Band) (out : PlaneValue) where

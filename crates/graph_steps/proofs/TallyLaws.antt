@@ -13,6 +13,7 @@ use Rattle.vx_base.specs.Image.{ImageValue, IsImage, at}
 use Rattle.vx_base.specs.Object.{no_extremes}
 use Rattle.vx_base.specs.Rectangle.{Rectangle, inside}
 use Rattle.vx_base.specs.Statistics.{extremes, histogram, places, row_places, samples_in, tallies, valid_samples}
+use Rattle.vx_base.proofs.PictureLaws.{side}
 use Rattle.vx_base.proofs.TableLaws.{run-same}
 use Rattle.vx_base.specs.Image.{run}
 use Rattle.std.specs.List.{flat_map}
@@ -91,7 +92,7 @@ band_few : (image : ImageValue) → IsImage image → (rows : Band) → length (
 band_few image is rows =
     let r = band_of rows image.valid in
     let high : r.y1 - r.y0 ≤ rows.count = grind (arith, nat_tests) in
-    omega (arith, length-samples r image, product (r.y1 - r.y0) (r.x1 - r.x0) rows.count high (omega (arith, is.sides.0, is.room.columns)))
+    omega (arith, length-samples r image, product (r.y1 - r.y0) (r.x1 - r.x0) rows.count high (omega (arith, side image.width is.sides.width, is.room.columns)))
   where
     product : (m k n : ℕ) → m ≤ n → k ≤ 8192 → m * k ≤ n * 8192
     product m k n rows columns = grind arith

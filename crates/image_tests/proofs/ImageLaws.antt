@@ -4,10 +4,9 @@ use Rattle.std.proofs.lemmas.Int.{ints}
 use Rattle.std.proofs.Math.ListN.{get_or-map}
 use Rattle.vx_base.specs.declared.format.Format.TheVariants.{U8}
 use Rattle.vx_base.specs.Sample.{IsSample}
-use Rattle.vx_base.specs.Rectangle.{Rectangle, inside, IsOrdered, IsWithin}
+use Rattle.vx_base.specs.Rectangle.{Rectangle, inside, IsCanonical, IsWithin}
 use Rattle.vx_base.specs.Description.{Description, IsDescription}
 use Rattle.vx_base.specs.Image.{ImageValue, IsImage, within, at, made, image_over}
-use Rattle.vx_base.proofs.PictureLaws.{side}
 use Rattle.vx_base.proofs.ImageLaws.{at-made, made_image, column_inside, row_inside}
 use Rattle.vx_base.proofs.TableLaws.{length-table}
 use Rattle.image_core.specs.declared.band.Band.{Band}
@@ -23,8 +22,8 @@ image_by a b same h = rw same h
 
 -- bytes that are what an image is made of are an image
 pub bytes_image : (d : Description) (valid : Rectangle) (bytes : List ℕ) (f : ℕ → ℕ → ℤ) → image_over d valid (map pos bytes) ≡ made d.width d.height U8 valid f
-    → IsDescription d → IsOrdered valid → IsWithin valid d.width d.height → ((k : ℕ) → get_or bytes k 0 < 256) → IsImage (image_over d valid (map pos bytes))
-bytes_image d valid bytes f same sides ordered room fits = image_by _ _ same (made_image d.width d.height U8 valid f (side d.width sides.width) (side d.height sides.height) ordered room sampled)
+    → IsDescription d → IsCanonical valid → IsWithin valid d.width d.height → ((k : ℕ) → get_or bytes k 0 < 256) → IsImage (image_over d valid (map pos bytes))
+bytes_image d valid bytes f same sides canonical room fits = image_by _ _ same (made_image d.width d.height U8 valid f sides.width sides.height canonical room sampled)
   where
     sampled : (x y : ℕ) → inside valid x y ≡ true → IsSample U8 (f x y)
     sampled x y e =

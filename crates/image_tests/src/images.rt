@@ -54,7 +54,7 @@ pub fn lend(desc: Desc, valid: Rect, samples: &mut [u8]) -> Image<'_>
     ensures desc { description_of result ≡ desc }
     ensures image { IsImage result }
 {
-    let _ordered = valid.x0();
+    valid.is_rectangle();
     desc.has_sides();
     clear(desc, valid, samples);
     are_bytes(samples);
