@@ -15,7 +15,7 @@ use Rattle.client_model.proofs.HoldLaws.{stands_parts}
 use Rattle.client_model.proofs.NamedLaws.{held_if_live}
 use Rattle.client_contexts.specs.Steps.{graph_fault as fault_of}
 
--- the name of each operand that stands is held
+-- the name of each operand that can be used is held
 pub names_held : (objects : List Named) (graph : ℕ) (n : Node) → OperandsStand objects graph n → All (λ name. IsTrue (is_some (object_held objects name))) (used_names n)
 names_held objects graph n stood =
     All-map (λ name. IsTrue (is_some (object_held objects name))) {Y = Cell} (λ cell. cell.name) (inputs n ++ outputs n)
@@ -51,7 +51,7 @@ module _ (limits : Allowance) (c : Context) (name : ℕ) (h : KeepsLimits limits
     added_or_full : add_node c name n ≡ add_to (Ok graph_now) c name n
     added_or_full = rw (← known, graph_live)
 
-    -- a node for which there is room is added
+    -- a node within the limits is added
     pub node_added : (number : ℕ) (new : Context) → can_add graph_now ≡ true → number ≡ graph_now.next → new ≡ with_objects c (with_graph c.objects name (with_node graph_now n))
         → MayComeTo (add_node c name n) c new (Ok (reply.Node number))
     node_added number new room numbered changed =
@@ -61,7 +61,7 @@ module _ (limits : Allowance) (c : Context) (name : ℕ) (h : KeepsLimits limits
           kept = tt;
         }
 
-    -- or refused, unless no memory is found
+    -- or it is refused, unless there is no memory
     pub node_refused : (why : GraphFault) → why ≡ (if can_add graph_now then graph_fault.NoMemory else graph_fault.NoResources) → SaysWhy (add_node c name n) (fault_of why)
     node_refused why fault =
         elim (cases_Bool (can_add graph_now)) [ inl room ↦ rw (fault, room) tt | inr full ↦ rw (fault, full, added_or_full, full) ]

@@ -1,4 +1,4 @@
--- A request that found no memory and is answered once more: both answers together are one.
+-- A request that found no memory and is tried once more: both calls together are like one.
 use Rattle.std.proofs.Common.{◌≡◌, ◌∙◌, ℕ, Result, Err, refl}
 use Rattle.std.proofs.lemmas.Result.{on_err_weaker}
 use Rattle.client_contexts.proofs.Common.{Request, Reply, AppliesToKept, KeepsVerified, World}
@@ -6,7 +6,7 @@ use Rattle.client_contexts.specs.World.{verified_of}
 use Rattle.client_contexts.specs.declared.memory.NoMemory.{NoMemory}
 
 module _ (client : ℕ) (request : Request) (a b c : World) (none : NoMemory) (result : Result Reply NoMemory) where
-  -- what it does to the graphs that are kept as verified
+  -- its effect on the graphs that are kept as verified
   pub kept_again : b.limits ≡ a.limits → AppliesToKept client request a b (Err none) → AppliesToKept client request b c result → AppliesToKept client request a c result
   kept_again limits first second =
       let work : b.limits.work ≡ a.limits.work = rw limits refl in

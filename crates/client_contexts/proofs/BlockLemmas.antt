@@ -1,4 +1,4 @@
--- In how many blocks a context has its samples: as one object more is held, and as objects are written.
+-- The number of blocks that hold a context's samples, when an object is added and when objects are written.
 use Rattle.std.proofs.Common.{◌≡◌, ◌∙◌, ℕ, ◌+◌, ◌-◌, true, List, [], Option, Some, length, take, drop, refl, sym, ap, subst, arith, sum, sum_by, unwrap_or, take-append-drop}
 use Rattle.client_contexts.proofs.Common.{IsStrictlyIncreasing, option_map, All-weaker, sum-map, Format, U8, Cell, cell_of, Description, GraphValue, ImageValue, new_image, image_over, description_of, ObjectValue, ImageObject, DelayObject, GraphObject, object_kind, blocks_in, KeepsBlocks, Context, with_graph, in_slot, Named, object_held, held, with_object, image_value, aged_object, IsUnder, HoldsImage, object_under, image_held, names_of, map_some}
 use Rattle.std.proofs.lemmas.List.Sums.{sum_by-append}
@@ -18,7 +18,7 @@ use Rattle.graph_run.proofs.CellLemmas.{held_once}
 
 -- ---- one object more
 
--- as many more as that has
+-- the number grows by that of the object
 pub blocks_more : (c new : Context) (object : ObjectValue) (format : Format) → new ≡ with_new c object
     → blocks_in new.objects format ≡ blocks_in c.objects format + object_blocks object format
 blocks_more c new object format is =
@@ -26,12 +26,12 @@ blocks_more c new object format is =
 
 -- ---- objects that are written
 
--- as many where as much lasts as writes leave
+-- objects with the same lasting parts have as many blocks
 pub lasting_blocks : (objects new : List Named) → Lasts objects new → KeepsBlocks objects new
 lasting_blocks objects new h =
     keeps_blocks new objects (map-told lasting_named (λ o. skeleton o.object) (λ left. left.0.object) (λ _. refl) new objects h.lasting)
 
--- as many of a delay that ages
+-- a delay that ages has as many blocks
 aged_blocks : (object : ObjectValue) (format : Format) → object_blocks (aged_object object) format ≡ object_blocks object format
 aged_blocks (DelayObject images) format =
     let n = length images - 1 in
@@ -44,7 +44,7 @@ aged_blocks (DelayObject images) format =
 aged_blocks other format = refl
 
 module _ (objects : List Named) (names : IsStrictlyIncreasing (names_of objects)) where
-  -- as many where the object of a name has as many once it is written
+  -- the context has as many blocks if the written object has as many
   blocks_replaced : (cell : Cell) (new object : ObjectValue) → object_held objects cell.name ≡ Some object
       → ((format : Format) → object_blocks (with_slot cell.slot new object) format ≡ object_blocks object format) → KeepsBlocks objects (with_object objects cell new)
   blocks_replaced cell new object found same format =
@@ -56,7 +56,7 @@ module _ (objects : List Named) (names : IsStrictlyIncreasing (names_of objects)
       objects (held_once objects cell.name object names found)))
       ∙ sum-map of_named objects
 
-  -- where a cell is written with what has the skeleton of what is there
+  -- a value with the skeleton of the old one is written to an object
   blocks_written : (cell : Cell) (new : ObjectValue) → option_map skeleton (held objects cell) ≡ Some (skeleton new) → KeepsBlocks objects (with_object objects cell new)
   blocks_written cell new there =
       let (was, held_there, alike) = map_some skeleton (held objects cell) (skeleton new) there in
@@ -64,7 +64,7 @@ module _ (objects : List Named) (names : IsStrictlyIncreasing (names_of objects)
       (λ object found at.
       blocks_replaced cell new object found (λ format. same_blocks (with_slot cell.slot new object) object format (skeleton-with_slot cell.slot new object (rw (at, alike)))))
 
-  -- where an image is written over one of its size and format
+  -- an image of the same size and format is written
   pub image_blocks_kept : (cell : Cell) (image new : ImageValue) → HoldsImage objects cell → image_held objects cell ≡ image → description_of new ≡ description_of image
       → KeepsBlocks objects (with_object objects cell (ImageObject new))
   image_blocks_kept cell image new there is same =
@@ -75,7 +75,7 @@ module _ (objects : List Named) (names : IsStrictlyIncreasing (names_of objects)
       ∙ ap (λ (x : ObjectValue). Some (skeleton x)) (image_of_kind object of_kind ∙ ap ImageObject value)
       ∙ ap (λ (d : Description). let left : Option ObjectValue = Some (ImageObject (image_over d empty [])) in left) (sym same))
 
-  -- where the object of a name ages
+  -- a delay ages
   pub age_keeps_blocks : (name : ℕ) (object : ObjectValue) → object_held objects name ≡ Some object
       → KeepsBlocks objects (with_object objects (cell_of name) (aged_object (object_under objects name)))
   age_keeps_blocks name object found =
@@ -83,7 +83,7 @@ module _ (objects : List Named) (names : IsStrictlyIncreasing (names_of objects)
       (λ format.
       ap (λ (o : Option ObjectValue). object_blocks (aged_object (unwrap_or o (ImageObject (new_image 0 0 U8)))) format) found ∙ aged_blocks object format)
 
-  -- where a graph is another
+  -- a graph changes
   pub graph_keeps_blocks : (name : ℕ) (graph : GraphValue) → IsUnder objects kind.Graph name → KeepsBlocks objects (with_graph objects name graph)
   graph_keeps_blocks name graph is =
       let (object, there, of_kind) = map_some object_kind (object_held objects name) kind.Graph is in

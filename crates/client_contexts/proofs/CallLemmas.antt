@@ -1,4 +1,4 @@
--- What is kept of a graph, from call to call.
+-- A kept graph, from call to call.
 use Rattle.std.proofs.Common.{◌≡◌, ℕ, false, List, [], ◌∷◌, Result, Ok, inl, inr, refl, sym, subst, All, OnErr, ◌==◌, eqb-true}
 use Rattle.client_contexts.proofs.Common.{All-head, All-tail, Reply, Empty, VerifyGraph, IsKeptWithin, ends_verification, World, cases_Bool}
 use Rattle.std.proofs.lemmas.Bool.{eqb-false}
@@ -30,7 +30,7 @@ module _ (client graph : ℕ) where
   kept_after_calls (call ∷ calls) old new lead spare kept =
       kept_after_calls calls lead.0 new lead.2 (All-tail Spares call calls spare) (kept_after_call call old lead.0 lead.1 (All-head Spares call calls spare) kept)
 
-  -- VerifyGraph finds memory as long
+  -- so long VerifyGraph finds memory
   pub finds_memory : (first verified later last : World) (calls : List Call) (result : Result Reply NoMemory)
       → Does (record { client = client; request = VerifyGraph graph; result = Ok Empty }) first verified → Lead calls verified later → All Spares calls
       → Does (record { client = client; request = VerifyGraph graph; result = result }) later last → OnErr result ⊥

@@ -1,4 +1,4 @@
--- The names that several proofs cite, passed on from one place. Declares nothing.
+-- Names that several proofs use. Declares nothing.
 pub use Rattle.client_contexts.specs.Applies.{AppliesToKept}
 pub use Rattle.client_contexts.specs.Blocks.{IsRuntime}
 pub use Rattle.client_contexts.specs.Kept.{AreKept, IsKept, IsKeptWithin, KeepsVerified, ends_verification, forgotten_by, verified_in}

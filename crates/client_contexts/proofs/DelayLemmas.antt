@@ -6,7 +6,7 @@ use Rattle.client_model.specs.Delays.{age_named}
 use Rattle.client_model.proofs.OutcomeLaws.{Keeps}
 use Rattle.client_model.proofs.DelayStepLaws.{age_delay_keeps}
 
--- the context, where the delay of a name is one step later
+-- the context after a delay has aged
 abbrev aged_in : Context → ℕ → ObjectValue → Context
 aged_in c name object = with_objects c (with_object c.objects (cell_of name) (aged_object object))
 

@@ -1,4 +1,4 @@
--- A node that runs at once, or is refused.
+-- A node that runs immediately, or is refused.
 use Rattle.std.proofs.Common.{◌≡◌, Bool, true, false, List, IfSome, Option, Some, None, refl, sym, ap, ◌∙◌, All, unwrap_or, ◌||◌, if◌then◌else◌, option_to_list, Err, Ok}
 use Rattle.client_contexts.proofs.Common.{list_any, option_map, option_and_then, list_any-append, Kind, Node, Cell, parameters, operands, with_kind, second_kind, ObjectValue, object_kind, Operands, is_virtual, verdict_on, Named, held, Refusal, Empty, Context, with_objects, unless, operands_refusal, immediate, operand_held, OfOperands, of_operands, IsFound, all_operands}
 use Rattle.graph_verify.specs.declared.verdict.Verdict.{Verdict}
@@ -19,17 +19,17 @@ use Rattle.graph_verify.specs.declared.operand.Operand.TheVariants.{Delay}
 use Rattle.graph_run.specs.Turns.{HoldsKind}
 use Rattle.client_contexts.proofs.ScopeLemmas.{to_operands}
 
--- an operand is a virtual image where the object is
+-- an operand is a virtual image if the object is one
 same_virtual : (object : ObjectValue) → is_virtual_object object ≡ is_virtual (operand_of object)
 same_virtual (VirtualObject image) = refl
 same_virtual other = refl
 
--- what stands for an object of a kind and is no virtual image is of that kind
+-- an object that can be used where a kind is wanted, and isn't a virtual image, is of that kind
 of_kind : (object : ObjectValue) (wanted : Kind) → is_virtual (operand_of object) ≡ false → stands_for (object_kind object) wanted ≡ true → object_kind object ≡ wanted
 of_kind (VirtualObject image) wanted solid stands = cc
 of_kind other wanted solid stands = sym (same_kind_equal wanted (object_kind other) stands)
 
--- what is found in a cell, as an operand
+-- the object that is found, as an operand
 module _ (objects : List Named) (operand : Cell × Kind) (found : IsFound objects operand) where
   operand_is : operand_held objects operand.0 ≡ operand_of found.0
   operand_is = ap (λ o. unwrap_or (option_map operand_of o) Delay) found.1
@@ -103,7 +103,7 @@ module _ (c : Context) (n : Node) where
       pub nothing_refuses : verdict_on n held_operands ≡ None → immediate c n ≡ Ok (Empty, Some (with_objects c (with_written c.objects (written_by n (held c.objects)))))
       nothing_refuses e = rw (verdict_is, e)
 
-      -- what is found is then of just the kinds that are wanted
+      -- then the objects that are found have the wanted kinds
       of_kind_if : (cell : Option Cell) (wanted : Kind) → list_any is_virtual (option_to_list (option_map (operand_held c.objects) cell)) ≡ false → IfSome cell (λ x. IsFound c.objects (x, wanted)) → IfSome cell (λ x. HoldsKind c.objects (x, wanted))
       of_kind_if None wanted plain s = tt
       of_kind_if (Some cell) wanted plain s = holds_kind c.objects (cell, wanted) s (or_parts (is_virtual (operand_held c.objects cell)) false plain).0

@@ -1,4 +1,4 @@
--- Pictures that are read from a source: what was read, and what the client's context and the world are then.
+-- Pictures that are read from a source: the samples, and then the client's context and the world.
 use Rattle.std.specs.Prelude.{⊤}
 use Rattle.std.proofs.Common.{◌≡◌, ◌∙◌, ℕ, false, List, ℤ, Some, length, Result, Ok, Err, inl, inr, OnOk, OnErr, IfErr, refl, sym, ap, subst, ne_eqb}
 use Rattle.client_contexts.proofs.Common.{is_at, lookup, nat_cmp, option_map, AppliesToKept, Cell, Description, Format, Context, Empty, Request, Reply, WriteImage, answered, write_image, Allowance, KeepsLimits, AreKept, Kept, Opened, World}
@@ -26,19 +26,19 @@ abbrev pub picture_in : Description → Samples → PictureValue
 picture_in d samples = record { description = d; samples = values samples }
 
 module _ {S E : Type 0} (fills : S → S → Format → List ℤ → Result ⊤ E → Type 0) (d : Description) (old new : S) where
-  -- what was read over samples that a description fits
+  -- samples that were read into a block that fits the description
   pub read_is : (before after : Samples) (result : Result ⊤ E) → Describes d before → length (values after) ≡ length (values before)
       → fills old new (samples_format before) (values after) result → IsRead fills d old new (picture_in d after) result
   read_is before after result h size came =
       record { described = refl; size = size ∙ h.size; came = subst (λ (f : Format). fills old new f (values after) result) h.format came }
 
-  -- what is said of a refusal may be less
+  -- the refusal may be described by a weaker property
   pub unwritten_weaker : (P Q : Code → Type 0) (fault : WriteFault E) → ((code : Code) → P code → Q code) → SaysWhyUnwritten fills d old new P fault → SaysWhyUnwritten fills d old new Q fault
   unwritten_weaker P Q (Refused code) weaker (same, inl none) = (same, inl none)
   unwritten_weaker P Q (Refused code) weaker (same, inr why) = (same, inr (weaker code why))
   unwritten_weaker P Q (Source fault) weaker read = read
 
-  -- the graphs that were found able to run still are
+  -- the kept graphs can still run
   pub incoming_keeps : (limits : Allowance) (c later : Context) (cell : Cell) (kept : List (ℕ × Kept)) (result : Result ⊤ (WriteFault E)) → KeepsLimits limits c → IsCell cell
       → OnOk result ((p : PictureValue) × IsPicture p × IsRead fills d old new p (Ok tt) × (write_image c cell p ≡ Ok (Empty, Some later))) → OnErr result (later ≡ c) → AreKept c kept → AreKept later kept
   incoming_keeps limits c later cell kept (Ok x) h is (p, picture, read, done) back are =
@@ -54,7 +54,7 @@ refused_by client world c cell d code is (refusal, told, why) = λ p described.
     let refused = write_refused (image_of c.objects cell) c cell p refusal (rw described why) in
     rw (is, refused, told) refl
 
--- the client's entry becomes another, as the request's answer has it, and all others stay
+-- the client's entry changes as by the request, and all others stay
 applies_done : (limits : Allowance) (client : ℕ) (request : Request) (reply : Reply) (old new : List (ℕ × Opened)) (o n : Opened) → lookup (is_at (nat_cmp client)) old ≡ Some o
     → lookup (is_at (nat_cmp client)) new ≡ Some n → ((other : ℕ) → is_at (nat_cmp client) other ≡ false → lookup (is_at (nat_cmp other)) new ≡ lookup (is_at (nat_cmp other)) old)
     → answer_to limits (Some o.context) request ≡ (reply, Some n.context)
@@ -95,7 +95,7 @@ module _ {S E : Type 0} (fills : S → S → Format → List ℤ → Result ⊤ 
                 (applies_to_kept limits client request reply before after (Some o) (Some n) was is others (same_keeps limits.work request refl o.verified n.verified reply same)),
           )
 
-  -- or it is told why not
+  -- or the result is the reason why not
   pub write_told : IfErr result (SaysWhyUnwritten fills d old new (IsRefusedFor o.context cell d)) → IfErr result (SaysWhyUnwritten fills d old new (IsRefused client cell d world))
   write_told told = go result told
     where
@@ -106,7 +106,7 @@ module _ {S E : Type 0} (fills : S → S → Format → List ℤ → Result ⊤ 
       go (Ok x) none = tt
       go (Err fault) said = unwritten_weaker fills d old new (IsRefusedFor o.context cell d) (IsRefused client cell d world) fault (λ code. refused_by client world o.context cell d code state) said
 
--- where nothing of the client's entry has changed, nothing of the world has
+-- if the client's entry is unchanged, the world is unchanged
 pub write_same : {T F : Type 0} (limits : Allowance) (client : ℕ) (before after : List (ℕ × Opened)) (world : World) (o n : Opened) (result : Result T F) → record { limits = limits; contexts = before } ≡ world
     → lookup (is_at (nat_cmp client)) before ≡ Some o → after ≡ set_value (is_at (nat_cmp client)) before n → OnErr result (n ≡ o) → OnErr result (record { limits = limits; contexts = after } ≡ world)
 write_same limits client before after world o n (Ok x) shown was becomes none = tt

@@ -1,10 +1,10 @@
--- What is kept of a graph, as it is lent.
+-- The data of a kept graph, as they are lent.
 use Rattle.std.proofs.Common.{◌≡◌, ◌∙◌, ℕ, List, Option, Some, None, IfSome, Bor, option_copied, refl, sym, ap}
 use Rattle.client_contexts.proofs.Common.{is_at, lookup, nat_cmp, option_map, Context, Kept, IsKept, AreKept, verified_in}
 use Rattle.client_contexts.proofs.ReadyLemmas.{kept_there}
 use Rattle.client_contexts.proofs.VerifiedLemmas.{shown}
 
--- what is found under a name is kept of the graph of that name
+-- the entry under a name belongs to the graph of that name
 pub lent_is_kept : (c : Context) (name : ℕ) (kept : List (ℕ × Kept)) (found : Option (Bor Kept)) → AreKept c kept
     → option_copied found ≡ lookup (is_at (nat_cmp name)) kept → IfSome found (λ k. IsKept c name k.now)
 lent_is_kept c name kept None are is = tt
@@ -14,7 +14,7 @@ work_of : (found : Option (Bor Kept)) → option_map {T = Bor Kept} (λ k. k.now
 work_of None = refl
 work_of (Some k) = refl
 
--- its work bytes show under the name
+-- its work bytes are those listed for the name
 pub lent_shows : (name : ℕ) (kept : List (ℕ × Kept)) (found : Option (Bor Kept)) → option_copied found ≡ lookup (is_at (nat_cmp name)) kept
     → option_map {T = Bor Kept} (λ k. k.now.work) found ≡ lookup (is_at (nat_cmp name)) (verified_in kept)
 lent_shows name kept found is = work_of found ∙ ap (option_map (λ (k : Kept). k.work)) is ∙ sym (shown name kept)

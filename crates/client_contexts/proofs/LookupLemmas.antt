@@ -1,11 +1,11 @@
--- Why the operands of a node aren't found: the refusal of several is that of each, joined.
+-- The refusal of a node's operands: the first by class among those of the single operands.
 use Rattle.std.proofs.Common.{◌≡◌, ℕ, Bool, false, List, [], ◌∷◌, ◌++◌, Option, Some, None, ap, ◌∙◌, ◌||◌, is_none, unwrap_or, if◌then◌else◌, arith}
 use Rattle.client_contexts.proofs.Common.{list_any, list_any-append, Kind, Parameters, Node, Cell, parameters, operands, with_kind, ObjectValue, object_named, Named, Refusal, operands_refusal, first_class}
 use Rattle.vx_base.specs.declared.kind.Kind.TheVariants as kind
 use Rattle.client_model.specs.declared.refusal.Refusal.TheVariants.{InvalidReference, InvalidType, InvalidScope, InvalidValue}
 use Rattle.client_model.specs.Operands.{is_unknown, holds_nothing, is_beyond, is_of_other_kind}
 
--- the refusal of operands is that of its parts: names before kinds, these before scopes, and these before slots
+-- the refusal of several operands is the first by class of their refusals: of names, kinds, scopes and slots
 abbrev classed : Bool → Bool → Bool → Bool → Option Refusal
 classed unknown other beyond empty = if unknown then Some InvalidReference else (if other then Some InvalidType else (if beyond then Some InvalidScope else (if empty then Some InvalidValue else None)))
 

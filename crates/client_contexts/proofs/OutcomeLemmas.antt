@@ -1,4 +1,4 @@
--- Images that are found and changed, and what that keeps of the limits.
+-- Images that are found and changed; the limits are still kept.
 use Rattle.std.proofs.Common.{◌≡◌, ℕ, Option, Some, None, IfOk, IfSome, subst, unwrap_or}
 use Rattle.client_contexts.proofs.Common.{option_map, option_and_then, U8, Kind, Cell, Rectangle, ImageValue, new_image, description_of, with_valid, ObjectValue, ImageObject, IsObject, object_kind, Context, with_objects, in_slot, object_held, with_object, object_under, HoldsImage, Empty, Allowance, unless, valid_refusal, KeepsLimits, IsImageOf}
 use Rattle.vx_base.specs.declared.kind.Kind.TheVariants as kind
@@ -9,22 +9,22 @@ use Rattle.client_model.specs.Images.{set_valid_of}
 use Rattle.client_model.proofs.OutcomeLaws.{Keeps}
 use Rattle.client_model.proofs.ImageStepLaws.{image_of_is, set_valid_keeps}
 
--- ---- what is found
+-- ---- lookup
 
--- the image that a reference names is one
+-- the image that a reference names is a valid image
 pub image_is : (limits : Allowance) (c : Context) (cell : Cell) (image : ImageValue) → KeepsLimits limits c → IsImageOf c.objects cell image → IsImage image
 image_is limits c cell image h found = subst (λ r. IfOk r IsImage) found.image (image_of_is limits c cell h)
 
--- so is what is held under a name, where a cell of that name holds anything
+-- the object with a name is a valid object, if a reference with that name names one
 under_is : (found : Option ObjectValue) (slot : Option ℕ) (k : Kind) → option_map object_kind (option_and_then (in_slot slot) found) ≡ Some k → IfSome found IsObject → IsObject (unwrap_or found (ImageObject (new_image 0 0 U8)))
 under_is None slot k there is = cc
 under_is (Some object) slot k there is = is
 
--- the object that holds an image is one
+-- the object of an image is a valid object
 pub holder_is : (limits : Allowance) (c : Context) (cell : Cell) → KeepsLimits limits c → HoldsImage c.objects cell → IsObject (object_under c.objects cell.name)
 holder_is limits c cell h there = under_is (object_held c.objects cell.name) cell.slot kind.Image there (object_held_has IsObject c.objects cell.name h.objects)
 
--- ---- what is changed
+-- ---- changes
 
 -- a rectangle that isn't refused becomes the valid one
 pub set_keeps : (limits : Allowance) (c : Context) (cell : Cell) (image : ImageValue) (valid : Rectangle) → KeepsLimits limits c → IsImageOf c.objects cell image → IsRectangle valid → valid_refusal (description_of image) valid ≡ None → KeepsLimits limits (with_objects c (with_object c.objects cell (ImageObject (with_valid valid image))))

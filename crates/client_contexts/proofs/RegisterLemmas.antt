@@ -8,7 +8,7 @@ use Rattle.client_model.specs.Delays.{register_named, register_auto_aging}
 use Rattle.client_contexts.specs.Lookup.{NameGraphAndDelay}
 use Rattle.client_contexts.proofs.BlockLemmas.{graph_keeps_blocks}
 
--- where the graph and the delay are there, the request is done
+-- if the graph and the delay exist, the request is done
 pub registers : (c after : Context) (graph delay : ℕ) → NameGraphAndDelay c.objects graph delay → after ≡ with_objects c (registered c.objects graph (graph_under c.objects graph) delay)
     → register_auto_aging c graph delay ≡ Ok (Empty, Some after)
 registers c after graph delay named e =
@@ -19,7 +19,7 @@ registers c after graph delay named e =
     done (GraphObject found) b is_graph is_delay held = absurd (cc)
     done a b is_graph is_delay held = absurd (cc)
 
--- as many blocks as before
+-- the number of blocks stays
 pub register_keeps_blocks : (objects : List Named) (names : IsStrictlyIncreasing (names_of objects)) (graph delay : ℕ) → IsUnder objects kind.Graph graph → KeepsBlocks objects (registered objects graph (graph_under objects graph) delay)
 register_keeps_blocks objects names graph delay is = by (is_registered (graph_under objects graph) delay)
   where

@@ -1,4 +1,4 @@
--- What a runtime keeps, as the contexts of its clients come, change and go.
+-- The invariant of a runtime, when contexts of clients are opened, change and end.
 use Rattle.std.proofs.Common.{◌≡◌, ◌∙◌, ℕ, false, List, [], Result, Option, Some, None, sym, ap, arith, sum, sum_by, unwrap_or, ne_eqb}
 use Rattle.client_contexts.proofs.Common.{insert_entry, is_at, lookup, remove_entry, option_map, nat_cmp, sum-map, Format, blocks_in, Request, Reply, Allowance, KeepsLimits, AppliesToKept, IsRuntime, KeepsVerified, Opened, All-map-remove_entry}
 use Rattle.std.proofs.lemmas.Cmp.{nat_cmp_total}
@@ -15,7 +15,7 @@ use Rattle.client_contexts.specs.declared.memory.NoMemory.{NoMemory}
 use Rattle.client_contexts.specs.Blocks.{clients_blocks}
 use Rattle.client_contexts.proofs.ForgetLemmas.{apart}
 
--- in how many blocks a client's images have their samples
+-- the number of blocks that hold samples of a client's images
 abbrev client_blocks : Format → Opened → ℕ
 client_blocks format o = blocks_in o.context.objects format
 
@@ -31,7 +31,7 @@ pub none_open : (contexts : List (ℕ × Opened)) (client : ℕ) → option_map 
 none_open contexts client none = grind arith
 
 module _ (limits : Allowance) (contexts : List (ℕ × Opened)) (pool : Pool) (h : IsRuntime limits contexts pool) (client : ℕ) where
-  -- a client's images have their samples in blocks that are lent
+  -- the samples of a client's images are in lent blocks
   pub lends_to_client : (o : Opened) → lookup (is_at (nat_cmp client)) contexts ≡ Some o → LendsAtLeast pool (blocks_in o.context.objects)
   lends_to_client o found format =
       omega (
@@ -46,7 +46,7 @@ module _ (limits : Allowance) (contexts : List (ℕ × Opened)) (pool : Pool) (h
   pub client_keeps : (o : Opened) → lookup (is_at (nat_cmp client)) contexts ≡ Some o → KeepsLimits limits o.context
   client_keeps o found = rw found at (IfSome-lookup_from_All (λ entry. KeepsLimits limits entry.context) (is_at (nat_cmp client)) contexts h.keeps)
 
-  -- its context changes, and what is lent by as much
+  -- its context changes, and the number of lent blocks by as much
   pub changed_is : (o new : Opened) (changed : Pool) → lookup (is_at (nat_cmp client)) contexts ≡ Some o → KeepsLimits limits new.context → Balances pool changed o.context.objects new.context.objects
       → IsRuntime limits (set_value (is_at (nat_cmp client)) contexts new) changed
   changed_is o new changed found keeps balances =
@@ -62,7 +62,7 @@ module _ (limits : Allowance) (contexts : List (ℕ × Opened)) (pool : Pool) (h
             );
       }
 
-  -- it is gone, and its blocks are given back
+  -- its context ends, and its blocks are given back
   pub removed_is : (o : Opened) (changed : Pool) → lookup (is_at (nat_cmp client)) contexts ≡ Some o → LendsLess pool changed (blocks_in o.context.objects)
       → IsRuntime limits (remove_entry (is_at (nat_cmp client)) contexts) changed
   removed_is o changed found less =
@@ -79,7 +79,7 @@ module _ (limits : Allowance) (contexts : List (ℕ × Opened)) (pool : Pool) (h
             );
       }
 
-  -- a client that had none opens one, which holds nothing yet
+  -- a client without a context opens an empty one
   pub opened_is : lookup (is_at (nat_cmp client)) contexts ≡ None → IsStrictlySortedBy nat_cmp (keys_of contexts)
       → IsRuntime limits (insert_entry nat_cmp contexts client (record { context = new_context; verified = [] })) pool
   opened_is none sorted =
@@ -96,14 +96,14 @@ module _ (limits : Allowance) (contexts : List (ℕ × Opened)) (pool : Pool) (h
             );
       }
 
--- ---- what is kept of graphs
+-- ---- kept graphs
 
--- which graphs are kept as verified, of a client that may have no context
+-- the graphs of a client that are kept as verified; it may have no context
 abbrev shown_of : Option Opened → List (ℕ × ℕ)
 shown_of entry = unwrap_or (option_map (λ o. o.verified) entry) []
 
 module _ (limits : Allowance) (client : ℕ) (request : Request) (result : Result Reply NoMemory) (old new : List (ℕ × Opened)) where
-  -- the client's entry becomes another, and all others stay
+  -- the client's entry changes, and all others stay
   pub applies_to_kept : (before after : Option Opened) → lookup (is_at (nat_cmp client)) old ≡ before → lookup (is_at (nat_cmp client)) new ≡ after
       → ((other : ℕ) → is_at (nat_cmp client) other ≡ false → lookup (is_at (nat_cmp other)) new ≡ lookup (is_at (nat_cmp other)) old)
       → KeepsVerified limits.work request (shown_of before) (shown_of after) result

@@ -1,4 +1,4 @@
--- Operands that are found, in the scope of a graph or of none.
+-- The lookup of operands, with or without the scope of a graph.
 use Rattle.std.proofs.Common.{◌≡◌, ℕ, IsTrue, List, [], ◌∷◌, Option, Some, None, IfSome, sym, ap, subst, ◌∙◌, All, Result, Ok, OnOk}
 use Rattle.client_contexts.proofs.Common.{All-nil, All-cons, All-append, Kind, Parameters, Node, Cell, cell_of, parameters, operands, second_kind, with_kind, ObjectValue, object_kind, Named, Operands, OfOperands, Refusal, operands_refusal, stands, OperandsStand, IsFound, first_class}
 use Rattle.vx_base.specs.declared.kind.Kind.TheVariants as kind
@@ -10,7 +10,7 @@ use Rattle.client_model.proofs.NodeStepLaws.{Passes, operands_pass}
 use Rattle.client_contexts.specs.Steps.{refusal_in}
 use Rattle.client_contexts.proofs.LookupLemmas.{refusal-append}
 
--- what holds of each operand of a node holds of all
+-- a property of each operand of a node holds for the list of all
 pub to_operands : (P : Cell × Kind → Type 0) (n : Node) → OfOperands P n → All P (operands n)
 to_operands P n h =
     let output = (parameters n.function).output in
@@ -22,7 +22,7 @@ to_operands P n h =
     each k None is = All-nil P
     each k (Some c) is = All-cons P (c, k) [] is (All-nil P)
 
--- what is found of each operand is found of all
+-- the lookup of all operands, from that of each
 pub operands_found : (objects : List Named) (n : Node) (p : Parameters) (second : Kind) → p ≡ parameters n.function → second ≡ second_kind n → IsFound objects (n.in1, kind.Image)
     → All (IsFound objects) (with_kind second n.in2) → All (IsFound objects) (with_kind p.output n.out1) → All (IsFound objects) (with_kind p.output n.out2) → All (IsFound objects) (operands n)
 operands_found objects n p second has wants in1 in2 out1 out2 =
@@ -34,20 +34,20 @@ operands_found objects n p second has wants in1 in2 out1 out2 =
     (subst (λ (k : Kind). Are (with_kind k n.out1)) output out1) (subst (λ (k : Kind). Are (with_kind k n.out2)) output out2)))
 
 module _ (graph : ℕ) (objects : List Named) where
-  -- an operand that is found and passes stands
+  -- an operand that is found without a refusal can be used
   stand_one : (operand : Cell × Kind) → IsFound objects operand → Passes (Some graph) objects operand → IsTrue (stands objects graph operand)
   stand_one operand found pass =
       let of_kind = subst (λ (o : Option ObjectValue). IfSome o (λ object. kind_held objects operand.0 ≡ Some (object_kind object))) found.1 (held_kind objects operand.0) in
       stands_from objects graph operand (record { kind = ap (is_kind operand.1) of_kind ∙ found.2; scope = pass.within; there = pass.there })
 
-  -- where operands are found without a refusal, they stand
+  -- operands that are found without a refusal can be used
   pub found_stand : (n : Node) (result : Result Operands Refusal) (found : Operands) → result ≡ Ok found → OnOk result (All (IsFound objects) (operands n)) → refusal_in result ≡ operands_refusal (Some graph) objects (operands n) → OperandsStand objects graph n
   found_stand n result found is all refused =
       let are : All (IsFound objects) (operands n) = subst (λ (r : Result Operands Refusal). OnOk r (All (IsFound objects) (operands n))) is all in
       let pass = operands_pass (Some graph) objects (operands n) (sym refused ∙ ap refusal_in is) in
       λ k d below. stand_one _ (are k d below) (pass k d below)
 
-  -- the refusal of the graph's name joined with that of the operands
+  -- the first refusal by class among those of the graph's name and the operands
   pub graph_for_refused : (n : Node) (cell : Cell) (named found both : Option Refusal) → cell ≡ cell_of graph → named ≡ operands_refusal (Some graph) objects ((cell, kind.Graph) ∷ [])
       → found ≡ operands_refusal (Some graph) objects (operands n) → both ≡ first_class named found → both ≡ operands_refusal (Some graph) objects ((cell_of graph, kind.Graph) ∷ operands n)
   graph_for_refused n cell named found both is by_name by_operands joined =

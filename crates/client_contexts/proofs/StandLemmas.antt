@@ -1,4 +1,4 @@
--- A graph of a context that keeps the limits: what the cells of its nodes hold.
+-- A graph of a context that keeps the limits: the objects that its nodes name.
 use Rattle.std.proofs.Common.{◌≡◌, ℕ, IsTrue, List, Option, Some, None, Ok, IfSome, ap, subst, ◌∙◌, All}
 use Rattle.client_contexts.proofs.Common.{All-map, All-weaker, Node, nodes_of, IsNode, operands, ObjectValue, IsObject, Context, graph_value, nodes_in, graph_of_kind, is_image, verdict, IsVerified, IsReady, operand_held, Allowance, graph_named, KeepsLimits, OperandsStand, IsNamed}
 use Rattle.client_model.specs.Graphs.{as_graph}
@@ -14,7 +14,7 @@ module _ (limits : Allowance) (c : Context) (name : ℕ) (x : ObjectValue) (h : 
   abbrev graph_nodes : List Node
   graph_nodes = nodes_of (graph_value x)
 
-  -- the nodes find what they name
+  -- the objects that the nodes name exist
   pub graph_stood : All (OperandsStand c.objects name) graph_nodes
   graph_stood =
       subst (λ (o : ObjectValue). All (OperandsStand c.objects name) (nodes_in o)) (graph_of_kind x named.kind)

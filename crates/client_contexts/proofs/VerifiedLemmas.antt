@@ -1,4 +1,4 @@
--- What shows of the graphs that are kept as verified, as a client's requests are answered.
+-- The graphs that are kept as verified, through a client's requests.
 use Rattle.std.proofs.Common.{◌≡◌, ◌≢◌, ◌∙◌, ℕ, true, false, cond, List, Some, Result, Ok, Err, ◌⊎◌, inl, inr, sym, ap, subst, IfErr, OnOk, OnErr, arith}
 use Rattle.client_contexts.proofs.Common.{cases_Bool, is_at, lookup, nat_cmp, Reply, Request, VerifyGraph, ProcessGraph, RequestFault, Kept, verified_in, IsKeptWithin, KeepsVerified, ends_verification, told_of}
 use Rattle.std.proofs.lemmas.Map.Made.{lookup-map_values}
@@ -11,11 +11,11 @@ use Rattle.client_contexts.specs.Steps.{WantsMemory}
 
 -- ---- entries
 
--- what shows under a name is what is kept
+-- the work bytes listed for a name are those of its kept graph
 pub shown : (graph : ℕ) (kept : List (ℕ × Kept)) → lookup (is_at (nat_cmp graph)) (verified_in kept) ≡ kept_within graph kept
 shown graph kept = lookup-map_values (λ (k : Kept). k.work) (is_at (nat_cmp graph)) kept
 
--- where it is kept still, it shows still
+-- a graph that is still kept is still listed
 shown_still : (work graph : ℕ) (old new : List (ℕ × Kept)) → (kept_within graph old ≡ Some work → kept_within graph new ≡ Some work)
     → IsKeptWithin work graph (verified_in old) → IsKeptWithin work graph (verified_in new)
 shown_still work graph old new still is = shown graph new ∙ still (sym (shown graph old) ∙ is)
@@ -24,7 +24,7 @@ pub shown_same : (work graph : ℕ) (old new : List (ℕ × Kept)) → kept_with
     → IsKeptWithin work graph (verified_in old) → IsKeptWithin work graph (verified_in new)
 shown_same work graph old new same = shown_still work graph old new (λ is. same ∙ is)
 
--- once a graph is kept within the work bytes, each other that was still is
+-- after a graph is kept with the work bytes, all others that were still are
 pub stay_with_one : (work graph : ℕ) (k : Kept) → k.work ≡ work → (old new : List (ℕ × Kept))
     → ((q : ℕ) → lookup (is_at (nat_cmp q)) new ≡ cond (is_at (nat_cmp graph) q) (Some k) (lookup (is_at (nat_cmp q)) old))
     → StayKept work (verified_in old) (verified_in new)
@@ -33,12 +33,12 @@ stay_with_one work graph k same old new updates = λ q.
 
 -- ---- requests
 
--- what is said where there is no memory, of what was told
+-- a fact that holds in any case also holds in the case of an error
 on_err : {A E P : Type 0} (result : Result A E) → P → OnErr result P
 on_err (Ok value) said = tt
 on_err (Err error) said = said
 
--- a VerifyGraph that took no memory while its graph was kept finds none only where it wasn't
+-- VerifyGraph takes no memory while its graph is kept, so it lacks memory only if the graph wasn't kept
 pub lost_unkept : (work graph : ℕ) (request : Request) (kept : List (ℕ × Kept)) (result : Result Reply RequestFault) → request ≡ VerifyGraph graph
     → IfErr result (λ f. WantsMemory f (kept_within graph kept ≢ Some work))
     → OnErr (told_of result) ((name : ℕ) → request ≡ VerifyGraph name → IsKeptWithin work name (verified_in kept) → ⊥)
@@ -47,7 +47,7 @@ lost_unkept work graph request kept (Err fault.NoMemory) is takes = λ name asks
     takes (sym (shown graph kept) ∙ subst (λ (n : ℕ). IsKeptWithin work n (verified_in kept)) same verified)
 lost_unkept work graph request kept other is takes = tt
 
--- what is said of no request where there is no memory
+-- a statement about VerifyGraph without memory says nothing about ProcessGraph
 pub lost_none : (P : ℕ → Type 0) (graph : ℕ) (request : Request) (result : Result Reply NoMemory) → request ≡ ProcessGraph graph → OnErr result ((name : ℕ) → request ≡ VerifyGraph name → P name)
 lost_none P graph request result is = on_err result (λ name asks. let other : ProcessGraph graph ≡ VerifyGraph name = sym is ∙ asks in absurd (cc))
 
@@ -78,13 +78,13 @@ module _ (work : ℕ) (request : Request) (others : runs_graph request ≡ false
   asks_none name (inl asks) = let runs : true ≡ false = sym (ap runs_graph asks) ∙ others in cc
   asks_none name (inr asks) = let runs : true ≡ false = sym (ap runs_graph asks) ∙ others in cc
 
-  -- which is done, and ends what is kept of no graph but those that it ends
+  -- it is done, and forgets only the graphs that it ends
   pub done_keeps : (made : Reply) → ((code : Code) → made ≢ reply.Refused code)
       → ((name : ℕ) → ends_verification request name ≡ false → IsKeptWithin work name old → IsKeptWithin work name new) → KeepsVerified work request old new (Ok made)
   done_keeps made told stays =
       record { lost = tt; found = λ _ name asks. absurd (asks_none name asks); stays = stays; refused = λ code refuses. absurd (told code (cc)); no_memory = tt }
 
-  -- and one that leaves what is kept
+  -- a request that forgets nothing
   pub same_keeps : (result : Result Reply NoMemory) → new ≡ old → KeepsVerified work request old new result
   same_keeps result same =
       let stay : StayKept work old new = λ name kept. subst (IsKeptWithin work name) (sym same) kept in

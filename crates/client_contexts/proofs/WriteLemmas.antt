@@ -1,4 +1,4 @@
--- Pictures that are written to images: whether they may be, what becomes of the context, and what that keeps.
+-- Pictures that are written to images: the refusals, the new context, and the limits that it keeps.
 use Rattle.std.proofs.Common.{◌≡◌, ◌∙◌, List, [], Option, Some, None, ℤ, Result, Ok, Err, refl, sym, ap, subst, arith, eq-eqb}
 use Rattle.client_contexts.proofs.Common.{IsStrictlyIncreasing, Cell, Description, ImageValue, image_over, description_of, ObjectValue, ImageObject, Rectangle, whole, KeepsBlocks, Context, with_objects, with_object, image_value, HoldsImage, image_held, names_of, Refusal, Empty, Allowance, write_image, unless, KeepsLimits, IsImageOf, IsImageFor, refusal_for}
 use Rattle.vx_base.specs.Picture.{PictureValue, IsPicture}
@@ -12,13 +12,13 @@ use Rattle.client_model.proofs.ImageStepLaws.{write_image_keeps}
 use Rattle.client_model.proofs.OutcomeLaws.{Keeps}
 use Rattle.client_contexts.proofs.BlockLemmas.{image_blocks_kept}
 
--- ---- whether a picture may be written
+-- ---- refusals
 
 -- a picture of the image's description isn't refused
 same_allowed : (d : Description) → picture_refusal d d ≡ None
 same_allowed d = grind (arith, same_format-refl d.format, eq-eqb d.width d.width refl, eq-eqb d.height d.height refl)
 
--- a refusal of what is looked for is one of the write
+-- a refusal of the lookup is one of the write
 pub write_refused : (image : Result ImageValue Refusal) (c : Context) (cell : Cell) (p : PictureValue) (refusal : Refusal) → refusal_for image p.description ≡ Some refusal → write_to image c cell p ≡ Err refusal
 write_refused (Err why) c cell p refusal e = cc
 write_refused (Ok image) c cell p refusal e = ap (λ (r : Option Refusal). unless r Empty (with_objects c (with_object c.objects cell (ImageObject (pictured p))))) e
@@ -41,7 +41,7 @@ module _ (c : Context) (cell : Cell) (p : PictureValue) (found : IsImageFor c.ob
   pub written_blocks : IsStrictlyIncreasing (names_of c.objects) → KeepsBlocks c.objects written.objects
   written_blocks names = image_blocks_kept c.objects names cell found.image (pictured p) found.named.there found.named.held (sym found.same)
 
--- ---- samples that are taken out, and others that are put in their place
+-- ---- samples that are taken out and replaced
 
 module _ (c : Context) (cell : Cell) (image : ImageValue) (named : IsImageOf c.objects cell image) (after : Context)
     (taken : after ≡ with_objects c (with_object c.objects cell (with_samples (cell_object c.objects cell) (image_held c.objects cell).valid []))) where
@@ -57,7 +57,7 @@ module _ (c : Context) (cell : Cell) (image : ImageValue) (named : IsImageOf c.o
   pub left_format : (image_held after.objects cell).format ≡ image.format
   left_format = ap (λ (o : ObjectValue). (image_value o).format) left_there ∙ ap (λ (i : ImageValue). i.format) named.held
 
-  -- the image is the picture then
+  -- then the image has the picture's samples
   pub given_is : (p : PictureValue) (area : Rectangle) (samples : List ℤ) (back : Context) → description_of image ≡ p.description → area ≡ whole p.description.width p.description.height → samples ≡ p.samples
       → back ≡ with_objects after (with_object after.objects cell (with_samples (cell_object after.objects cell) area samples))
       → back ≡ with_objects c (with_object c.objects cell (ImageObject (pictured p)))

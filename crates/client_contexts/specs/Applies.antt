@@ -1,4 +1,4 @@
--- What a call of apply does.
+-- The effect of a call of apply.
 use Rattle.std.specs.Prelude.{◌≡◌, ◌≢◌, ℕ, Result, IfOk, OnOk, OnErr}
 use Rattle.client_model.specs.declared.request.Request.{Request}
 use Rattle.client_model.specs.declared.reply.Reply.{Reply}
@@ -8,7 +8,8 @@ use Rattle.client_model.specs.Answer.{answer_to}
 use Rattle.client_contexts.specs.Kept.{KeepsVerified}
 use Rattle.client_contexts.specs.World.{World, state_of, verified_of}
 
--- Ok is the model's reply and the client's new state; where memory was wanted nothing is changed; other clients never are.
+-- if the result is Ok, the reply and the client's new state are those of the model; if there is no memory, nothing is changed; the states
+-- of other clients never change
 pub record Applies (client : ℕ) (request : Request) (old new : World) (result : Result Reply NoMemory) : Type 0 where
   pub limits : new.limits ≡ old.limits
   pub reply : IfOk result (λ r. r ≡ (answer_to old.limits (state_of client old) request).0)
@@ -17,11 +18,11 @@ pub record Applies (client : ℕ) (request : Request) (old new : World) (result 
   pub no_memory : OnErr result ((each : ℕ) → state_of each new ≡ state_of each old)
   pub takes : OnErr result (TakesMemory request)
 
--- and what it does to the graphs that are kept as verified: another client's are as they were
+-- its effect on the graphs that are kept as verified: those of other clients stay
 pub record AppliesToKept (client : ℕ) (request : Request) (old new : World) (result : Result Reply NoMemory) : Type 0 where
   pub own : KeepsVerified old.limits.work request (verified_of client old) (verified_of client new) result
   pub others : (other : ℕ) → other ≢ client → verified_of other new ≡ verified_of other old
 
--- a request of a client is answered so, and changes nothing
+-- the reply to a client's request, which changes nothing
 abbrev pub IsAnswered : ℕ → Request → World → Reply → Type 0
 IsAnswered client request world reply = answer_to world.limits (state_of client world) request ≡ (reply, state_of client world)

@@ -1,4 +1,4 @@
--- In how many blocks of the pool the clients' images have their samples.
+-- The number of blocks of the pool that hold samples of the clients' images.
 use Rattle.std.specs.Prelude.{ℕ, ◌≡◌, List, sum_by, All}
 use Rattle.std.specs.Map.{values_of}
 use Rattle.vx_base.specs.declared.format.Format.{Format}
@@ -9,11 +9,11 @@ use Rattle.client_model.specs.Allowance.{Allowance}
 use Rattle.client_model.specs.States.{KeepsLimits}
 use Rattle.client_contexts.specs.World.{Opened}
 
--- in how many blocks of a format the images of all clients have their samples: one for each image and each slot of a delay
+-- the number of blocks of a format that hold samples of the clients' images: one for each image and each slot of a delay
 abbrev pub clients_blocks : List (ℕ × Opened) → Format → ℕ
 clients_blocks contexts format = sum_by (λ c. blocks_in c.1.context.objects format) contexts
 
--- contexts that keep the limits, and a pool of which the blocks that are lent are those of their images, and no others
+-- all contexts keep the limits, and the lent blocks of the pool are those of their images
 pub record IsRuntime (limits : Allowance) (contexts : List (ℕ × Opened)) (pool : Pool) : Type 0 where
   pub keeps : All (λ o. KeepsLimits limits o.context) (values_of contexts)
   pub lent : (format : Format) → lent_of pool format ≡ clients_blocks contexts format

@@ -1,4 +1,4 @@
--- A picture whose samples are read from a source, to be written to an image.
+-- Pictures whose samples are read from a source and written to an image.
 use Rattle.std.specs.Prelude.{ℕ, ℤ, ◌≡◌, ◌⊎◌, ⊤, List, length, Some, Result, Err}
 use Rattle.vx_base.specs.Cell.{Cell}
 use Rattle.vx_base.specs.Description.{Description, sample_count}
@@ -18,23 +18,23 @@ use Rattle.client_contexts.specs.Lookup.{refusal_for}
 use Rattle.client_contexts.specs.World.{World}
 use Rattle.client_contexts.specs.Applies.{IsAnswered}
 
--- fills: how a call of fill changes a source, the format of the samples and those that are there then, and its result
+-- `fills` is the effect of a call of fill: on the source, the format of the samples, the samples afterwards, and the result
 module _ {S E : Type 0} (fills : S → S → Format → List ℤ → Result ⊤ E → Type 0) (d : Description) (old new : S) where
-  -- the samples of a picture of this description were read from the source, or it failed and they are any
+  -- p has this description, and its samples are those that the source gave, or any samples if it failed
   pub record IsRead (p : PictureValue) (result : Result ⊤ E) : Type 0 where
     pub described : p.description ≡ d
     pub size : length p.samples ≡ sample_count d
     pub came : fills old new d.format p.samples result
 
-  -- why a picture isn't written: for want of memory, or by a refusal, and then nothing was read; or the source failed
+  -- the reason why a picture isn't written: no memory or a refusal, in which case nothing was read; or the source failed
   abbrev pub SaysWhyUnwritten : (Code → Type 0) → WriteFault E → Type 0
   SaysWhyUnwritten refuses (Refused code) = (new ≡ old) × ((code ≡ NoMemory) ⊎ refuses code)
   SaysWhyUnwritten refuses (Source fault) = (p : PictureValue) × IsRead p (Err fault)
 
--- a picture of this description is refused with the code by the image that a reference names, or by the reference
+-- an image, or a reference that names none, refuses a picture of this description with this code
 abbrev pub IsRefusedFor : Context → Cell → Description → Code → Type 0
 IsRefusedFor c cell d code = (refusal : Refusal) × (code ≡ refusal_code refusal) × (refusal_for (image_of c.objects cell) d ≡ Some refusal)
 
--- so is each picture of this description that a client writes to an image
+-- a client's request to write any picture of this description is refused with this code
 abbrev pub IsRefused : ℕ → Cell → Description → World → Code → Type 0
 IsRefused client cell d world code = (p : PictureValue) → p.description ≡ d → IsAnswered client (WriteImage cell p) world (reply.Refused code)

@@ -1,4 +1,4 @@
--- Graphs that were found able to run, and are kept as they were verified.
+-- Graphs that are kept as verified.
 use Rattle.std.specs.Prelude.{ℕ, ◌≡◌, ◌<◌, ◌==◌, ◌⊎◌, Bool, true, false, List, map, All, Option, Some, None, IfSome, Result, Ok, OnErr}
 use Rattle.std.specs.BTreeMap.{is_at}
 use Rattle.std.specs.Map.{lookup, remove_entry}
@@ -33,17 +33,17 @@ pub record IsKept (c : Context) (name : ℕ) (k : Kept) : Type 0 where
 abbrev pub AreKept : Context → List (ℕ × Kept) → Type 0
 AreKept c kept = All (λ k. IsKept c k.0 k.1) kept
 
--- within how many work bytes the graph of a name was found able to run, where that is kept
+-- the quota of work bytes with which a graph was verified, if it is kept
 abbrev pub kept_within : ℕ → List (ℕ × Kept) → Option ℕ
 kept_within graph kept = option_map (λ k. k.work) (lookup (is_at (nat_cmp graph)) kept)
 
--- whether a request asks for a graph's verdict or its run
+-- whether a request verifies or runs a graph
 abbrev pub runs_graph : Request → Bool
 runs_graph (VerifyGraph graph) = true
 runs_graph (ProcessGraph graph) = true
 runs_graph other = false
 
--- what is kept once a request is done: nothing of a graph whose nodes it changes or whose name it ends
+-- the graphs that are kept after a request: it forgets a graph whose nodes it changes or whose name it ends
 abbrev pub forgotten_by : Request → List (ℕ × Kept) → List (ℕ × Kept)
 forgotten_by (AddNode graph n) kept = remove_entry (is_at (nat_cmp graph)) kept
 forgotten_by (RemoveNode graph number) kept = remove_entry (is_at (nat_cmp graph)) kept
@@ -52,27 +52,27 @@ forgotten_by other kept = kept
 
 -- ---- what shows of it
 
--- the names, each with the work bytes within which its graph was found able to run
+-- the names of the kept graphs, each with the quota of work bytes with which it was verified
 abbrev pub verified_in : List (ℕ × Kept) → List (ℕ × ℕ)
 verified_in kept = map (λ k. (k.0, k.1.work)) kept
 
--- the graph of a name is kept as one that can run within so many work bytes
+-- the graph is kept as verified with this quota of work bytes
 abbrev pub IsKeptWithin : ℕ → ℕ → List (ℕ × ℕ) → Type 0
 IsKeptWithin work graph verified = lookup (is_at (nat_cmp graph)) verified ≡ Some work
 
--- each graph that was kept so still is
+-- each graph that was kept with this quota still is
 abbrev pub StayKept : ℕ → List (ℕ × ℕ) → List (ℕ × ℕ) → Type 0
 StayKept work old new = (graph : ℕ) → IsKeptWithin work graph old → IsKeptWithin work graph new
 
--- whether a request, once it is done, ends what is kept of the graph of a name: it changes its nodes, or ends its name or its context
+-- whether a request, if it is done, ends what is kept of a graph: it changes the graph's nodes, or ends its name or its context
 abbrev pub ends_verification : Request → ℕ → Bool
 ends_verification ReleaseContext name = true
 ends_verification (Release released) name = released == name
 ends_verification other name = changes_nodes other name
 
--- what a request that is answered so does to what is kept of its client's graphs, within so many work bytes: VerifyGraph finds no memory
--- only where its graph wasn't kept; once VerifyGraph or ProcessGraph succeeds it is; and so it stays until its nodes change or it ends.
--- OpenVX 1.3, "Object: Graph", vxVerifyGraph and vxProcessGraph
+-- the effect of a request on the kept graphs of its client. VerifyGraph finds no memory only if its graph wasn't kept. After VerifyGraph or
+-- ProcessGraph has succeeded, the graph is kept until its nodes change or it ends. OpenVX 1.3, "Object: Graph", vxVerifyGraph and
+-- vxProcessGraph
 pub record KeepsVerified (work : ℕ) (request : Request) (old new : List (ℕ × ℕ)) (result : Result Reply NoMemory) : Type 0 where
   pub lost : OnErr result ((graph : ℕ) → request ≡ VerifyGraph graph → IsKeptWithin work graph old → ⊥)
   pub found : result ≡ Ok Empty → (graph : ℕ) → (request ≡ VerifyGraph graph) ⊎ (request ≡ ProcessGraph graph) → IsKeptWithin work graph new

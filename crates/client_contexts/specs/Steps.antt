@@ -1,4 +1,4 @@
--- What a request does in the context of its client, and where it finds what a node names.
+-- The effect of a request on the context of its client, and the lookup of a node's operands.
 use Rattle.std.specs.Prelude.{ℕ, ◌≡◌, Bool, false, not, is_none, ⊤, if◌then◌else◌, List, ◌∷◌, Option, Some, None, Result, Ok, Err, IfOk, IfErr, OnErr}
 use Rattle.vx_base.specs.declared.kind.Kind.{Kind}
 use Rattle.vx_base.specs.Object.{ObjectValue, object_kind, same_kind}
@@ -31,67 +31,68 @@ use Rattle.client_model.specs.Operands.{is_kind, is_of_other_graph}
 
 -- ---- contexts
 
--- a context that keeps some limits
+-- the context keeps some limits
 abbrev pub IsContext : Context → Type 0
 IsContext c = (limits : Allowance) × KeepsLimits limits c
 
--- it keeps all that it kept
+-- a context still keeps all limits that it kept
 abbrev pub Keeps : Context → Context → Type 0
 Keeps old new = (limits : Allowance) → KeepsLimits limits old → KeepsLimits limits new
 
 -- ---- results
 
--- a method that takes no memory comes to the outcome: its reply and the new context, or a refusal, which leaves the context
+-- a method that takes no memory has this outcome: its reply and the new context, or a refusal that leaves the context unchanged
 pub record ComesTo (outcome : Outcome) (old new : Context) (result : Result Reply Refusal) : Type 0 where
   pub done : IfOk result (λ reply. outcome ≡ Ok (reply, Some new))
   pub refused : IfErr result (λ refusal. outcome ≡ Err refusal)
   pub kept : OnErr result (new ≡ old)
 
+-- a fault is that of this outcome, or that there is no memory
 abbrev pub SaysWhy : Outcome → RequestFault → Type 0
 SaysWhy outcome (Refused refusal) = outcome ≡ Err refusal
 SaysWhy outcome NoMemory = ⊤
 
--- a method that may take memory comes to the outcome, or finds no memory and leaves the context
+-- a method that may take memory has this outcome, or finds no memory and leaves the context unchanged
 pub record MayComeTo (outcome : Outcome) (old new : Context) (result : Result Reply RequestFault) : Type 0 where
   pub done : IfOk result (λ reply. outcome ≡ Ok (reply, Some new))
   pub refused : IfErr result (SaysWhy outcome)
   pub kept : OnErr result (new ≡ old)
 
--- what the client is told: of a refusal its code
+-- the reply to the client: for a refusal its code
 abbrev pub told_of : Result Reply RequestFault → Result Reply memory.NoMemory
 told_of (Ok r) = Ok r
 told_of (Err (Refused refusal)) = Ok (reply.Refused (refusal_code refusal))
 told_of (Err NoMemory) = Err (record {})
 
--- no memory, which only some requests take
+-- if there is no memory, the request is one that takes memory
 abbrev pub WantsMemory : RequestFault → Type 0 → Type 0
 WantsMemory (Refused refusal) takes = ⊤
 WantsMemory NoMemory takes = takes
 
--- a text that can't be written: it stands for no picture, or there is no memory for that
+-- the fault of a text that can't be written: it has no picture, or there is no memory for it
 abbrev pub text_fault : PgmFault → RequestFault
 text_fault fault.NoMemory = NoMemory
 text_fault other = Refused (fault_refusal other)
 
--- an object that can't be held, or a name that isn't live
+-- the fault of an object that can't be added, or of a name that isn't live
 abbrev pub table_fault : TableFault → RequestFault
 table_fault table.NoMemory = NoMemory
 table_fault table.InvalidReference = Refused InvalidReference
 table_fault table.NoResources = Refused NoResources
 table_fault table.InvalidValue = Refused InvalidValue
 
--- a graph that can't be changed
+-- the fault of a graph that can't be changed
 abbrev pub graph_fault : GraphFault → RequestFault
 graph_fault graph.NoMemory = NoMemory
 graph_fault graph.NoResources = Refused NoResources
 graph_fault graph.InvalidReference = Refused InvalidReference
 
--- a graph that isn't verified
+-- the fault of a graph that can't be verified
 abbrev pub verify_fault : VerifyFault → RequestFault
 verify_fault verified.NoMemory = NoMemory
 verify_fault (verified.Refused verdict) = Refused (Rejected verdict)
 
--- what is said of the verdict that refuses a request, where no other refusal may
+-- a property of the verdict, if the fault is the refusal by a verdict; no other refusal is possible
 abbrev pub IfRejected : RequestFault → (Verdict → Type 0) → Type 0
 IfRejected NoMemory P = ⊤
 IfRejected (Refused (Rejected verdict)) P = P verdict
@@ -99,29 +100,29 @@ IfRejected (Refused other) P = ⊥
 
 -- ---- operands
 
--- why there is no result
+-- the refusal in a result, if it is one
 abbrev pub refusal_in : {A : Type 0} → Result A Refusal → Option Refusal
 refusal_in (Ok value) = None
 refusal_in (Err refusal) = Some refusal
 
--- why a name isn't that of an object of the kind that is wanted
+-- the reason why a name can't be used, if there is one: no object has it, or one of another kind
 abbrev pub name_refusal : Kind → Option ObjectValue → Option Refusal
 name_refusal wanted None = Some InvalidReference
 name_refusal wanted (Some object) = if same_kind wanted (object_kind object) then None else Some InvalidType
 
--- whether what a cell holds is out of a scope: a virtual image of another graph
+-- whether an object is out of a scope: a virtual image of another graph
 abbrev pub is_outside : Option ℕ → Option ObjectValue → Bool
 is_outside None object = false
 is_outside (Some graph) object = is_of_other_graph graph object
 
--- why an object, or what stands in a slot of it, isn't what is wanted
+-- the reason why an object, or the image in a slot of it, can't be used, if there is one
 abbrev pub slot_refusal : Kind → Option ℕ → Option ℕ → ObjectValue → Option Refusal
 slot_refusal wanted scope slot object =
     if not (is_kind wanted (slot_kind slot object)) then Some InvalidType
     else (if is_outside scope (in_slot slot object) then Some InvalidScope
     else (if is_none (in_slot slot object) then Some InvalidValue else None))
 
--- of two refusals of operands the one that comes first: that of a name, or of a kind, or of a scope, or of a slot
+-- the first of two refusals of operands, by class: first those of names, then of kinds, scopes and slots
 abbrev pub first_class : Option Refusal → Option Refusal → Option Refusal
 first_class None other = other
 first_class one None = one
@@ -132,6 +133,6 @@ first_class (Some one) (Some InvalidType) = Some InvalidType
 first_class (Some InvalidScope) (Some other) = Some InvalidScope
 first_class (Some one) (Some other) = Some other
 
--- a node's first input, and what it has beside that
+-- a node's first input and its other operands
 abbrev pub all_operands : Operands → List Operand
 all_operands o = o.in1 ∷ other_operands o

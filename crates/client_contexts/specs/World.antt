@@ -1,4 +1,4 @@
--- All clients: the contexts that are open, and which of their graphs are kept as verified.
+-- All clients: their open contexts, and their graphs that are kept as verified.
 use Rattle.std.specs.Prelude.{ℕ, List, [], unwrap_or}
 use Rattle.std.specs.BTreeMap.{is_at}
 use Rattle.std.specs.Map.{lookup}
@@ -8,13 +8,13 @@ use Rattle.object_table.specs.Context.{Context}
 use Rattle.client_model.specs.Allowance.{Allowance}
 use Rattle.client_model.specs.Context.{State}
 
--- a context that is open; and the names of its graphs that are kept as verified, each with the work bytes within which its graph was
--- found able to run. No reply of the model, and no state, depends on these
+-- an open context, and the names of its kept graphs, each with the quota of work bytes with which it was verified. The replies and states
+-- of the model don't depend on these
 pub record Opened : Type 0 where
   pub context : Context
   pub verified : List (ℕ × ℕ)
 
--- the limits, and the contexts that are open, each with its client
+-- the limits, and the open contexts with their clients
 pub record World : Type 0 where
   pub limits : Allowance
   pub contexts : List (ℕ × Opened)
@@ -23,6 +23,6 @@ pub record World : Type 0 where
 abbrev pub state_of : ℕ → World → State
 state_of client world = option_map (λ o. o.context) (lookup (is_at (nat_cmp client)) world.contexts)
 
--- which graphs of a client are kept as verified: none where it has no context
+-- a client's kept graphs, each with its quota of work bytes; none if it has no context
 abbrev pub verified_of : ℕ → World → List (ℕ × ℕ)
 verified_of client world = unwrap_or (option_map (λ o. o.verified) (lookup (is_at (nat_cmp client)) world.contexts)) []

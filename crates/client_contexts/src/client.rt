@@ -1,4 +1,4 @@
-//! A client's context: its objects, and its graphs that were found able to run.
+//! A client's context: its objects, and the graphs that are kept as verified.
 ghost use Rattle.std.specs.Prelude.{◌≡◌, ◌≢◌, false, [], Some, Ok, Err, IfSome, IfOk, IfErr, OnOk, OnErr};
 ghost use Rattle.std.specs.BTreeMap.{is_at};
 ghost use Rattle.std.specs.Map.{lookup};
@@ -45,8 +45,8 @@ use std::collections::BTreeMap;
 use std::marker::Model;
 use vx_base::{Desc, ObjRef};
 
-/// The objects that a client holds, and what was found of its graphs that can run. What is kept of
-/// a graph holds until a node is added to it or removed from it; nothing else changes it.
+/// The objects of a client, and its verified graphs. A verified graph is kept until its nodes
+/// change or its name ends.
 #[derive(Drop)]
 pub struct Client {
     table: Table,
@@ -65,7 +65,7 @@ impl Model for Client {
 }
 
 impl Client {
-    /// A client without objects.
+    /// Returns a client without objects.
     pub fn new(alloc: Global) -> Client
         ensures { result ≡ record { context = new_context; verified = [] } }
     {
@@ -85,7 +85,7 @@ impl Client {
         self.kept.get(&graph)
     }
 
-    /// Gives the blocks of all images back, and drops the objects. It takes no memory.
+    /// Gives back the blocks of all images, and drops the objects. Allocates nothing.
     pub fn end(self, pool: &mut Pool)
         requires { LendsAtLeast pool.old (blocks_in self.context.objects) }
         ensures { LendsLess pool.old pool.new (blocks_in self.context.objects) }
@@ -93,8 +93,8 @@ impl Client {
         self.table.end(pool);
     }
 
-    /// Answers a request of a client that keeps its context, or says why not. What is kept of a
-    /// graph is forgotten where its nodes change or its name ends.
+    /// Answers a request, other than one that opens or releases the context. A verified graph is
+    /// forgotten when its nodes change or its name ends.
     pub fn answer(
         &mut self,
         pool: &mut Pool,
@@ -127,7 +127,7 @@ impl Client {
                 *graph,
             ),
             _ => {
-                // The laws of requests speak of it.
+                // The laws of requests need this fact.
                 request.is_request();
                 let reply = answer(&mut self.table, pool, limits, alloc, request)?;
                 forget(&mut self.kept, request);
@@ -136,8 +136,8 @@ impl Client {
         }
     }
 
-    /// Writes a picture of this description to an image; its samples are read from the source. Where
-    /// it is refused, or there is no memory for it, nothing is read.
+    /// Writes a picture of this description to an image, with samples from a source. If the picture
+    /// is refused or there is no memory for it, nothing is read.
     pub fn write_from<F: FillsSamples>(
         &mut self,
         pool: &mut Pool,
@@ -158,13 +158,12 @@ impl Client {
             self.old.context.objects self.new.context.objects }
         ensures verified { self.new.verified ≡ self.old.verified }
     {
-        // The laws of requests speak of it.
+        // The laws of requests need this fact.
         reference.is_cell();
         write_from(&mut self.table, pool, reference, desc, source)
     }
 
-    /// Writes the picture for which a PGM text stands to an image; its samples are read from the
-    /// text.
+    /// Writes the picture of a PGM text to an image.
     pub fn write_text(
         &mut self,
         pool: &mut Pool,
@@ -179,12 +178,13 @@ impl Client {
             self.old.context.objects self.new.context.objects }
         ensures verified { self.new.verified ≡ self.old.verified }
     {
-        // The laws of requests speak of it.
+        // The laws of requests need this fact.
         reference.is_cell();
         write_text(&mut self.table, pool, reference, text)
     }
 
-    /// Returns the image that a reference names, or why it names no image with samples.
+    /// Returns the image that a reference names. It is refused if the reference names no image with
+    /// samples.
     pub fn image(&self, reference: ObjRef) -> Result<&Stored, Refusal>
         requires { IsContext self.now.context }
         ensures ok { IfOk result (λ image. read_image self.now.context reference
@@ -196,7 +196,7 @@ impl Client {
         find_image(&self.table, reference)
     }
 
-    /// Returns the U8 image that a reference names, or why it names none.
+    /// Returns the U8 image that a reference names. It is refused if the reference names none.
     pub fn text_image(&self, reference: ObjRef) -> Result<&Stored, Refusal>
         requires { IsContext self.now.context }
         ensures ok { IfOk result (λ image. read_text self.now.context reference
@@ -210,7 +210,7 @@ impl Client {
     }
 }
 
-/// Answers a request that needs no more than a client's objects, or says why not.
+/// Answers a request for which the objects of the client suffice.
 fn answer(
     table: &mut Table,
     pool: &mut Pool,

@@ -1,4 +1,4 @@
-//! Why a request isn't done.
+//! The faults of requests.
 use crate::memory::NoMemory;
 use client_model::Refusal;
 use graph_verify::{GraphFault, VerifyFault};
@@ -6,12 +6,12 @@ use object_table::TableFault;
 use pgm_images::PgmFault;
 use std::alloc::AllocError;
 
-/// Why a request that may take memory isn't done. It has changed nothing then.
+/// The reason why a request wasn't done. The request has changed nothing.
 #[derive(Clone, Copy, PartialEq, Eq, Debug)]
 pub enum RequestFault {
-    /// It is refused.
+    /// The request is refused.
     Refused(Refusal),
-    /// No memory was found.
+    /// There is no memory.
     NoMemory,
 }
 

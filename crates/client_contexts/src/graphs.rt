@@ -1,5 +1,5 @@
 //! Requests on graphs: creating them and their virtual images, adding and removing nodes, verifying
-//! and running them.
+//! and running them. OpenVX 1.3, "Object: Graph".
 ghost use Rattle.std.specs.Prelude.{◌≡◌, ◌≢◌, true, false, Some, OnOk, IfErr};
 ghost use Rattle.vx_base.specs.Graph.{new_graph};
 ghost use Rattle.vx_base.specs.Object.{GraphObject};
@@ -37,8 +37,8 @@ pub fn create_graph(table: &mut Table, limits: Limits) -> Result<Reply, RequestF
     hold(table, limits, Object::new(Content::Graph(graph)))
 }
 
-/// Creates a virtual image of the graph of this name. `declared` is its partial description: width,
-/// height and format, each of which may be left open.
+/// Creates a virtual image of a graph. `declared` is its partial description: width, height and
+/// format, each of which may be open.
 pub fn create_virtual_image(
     table: &mut Table,
     limits: Limits,
@@ -57,7 +57,7 @@ pub fn create_virtual_image(
     hold(table, limits, Object::new(Content::Virtual(image)))
 }
 
-/// Adds a node to the graph with this name, and says the node's number.
+/// Adds a node to a graph. The reply has the node's number.
 pub fn add_node(table: &mut Table, graph: u32, node: NodeSpec) -> Result<Reply, RequestFault>
     requires { IsContext table.old }
     ensures comes { MayComeTo (add_node table.old graph node) table.old table.new result }
@@ -68,7 +68,7 @@ pub fn add_node(table: &mut Table, graph: u32, node: NodeSpec) -> Result<Reply, 
     Ok(Reply::Node(table.add_node(graph, node)?))
 }
 
-/// Removes the node of this number from the graph with this name.
+/// Removes the node with this number from a graph.
 pub fn remove_node(
     table: &mut Table,
     pool: &mut Pool,
@@ -88,8 +88,11 @@ pub fn remove_node(
     }
 }
 
-/// Verifies the graph with this name: whether it can run, and if not why. How a graph runs is kept,
-/// so that it isn't verified again, and takes no memory, until its nodes change.
+/// Verifies a graph. OpenVX 1.3, "Object: Graph", vxVerifyGraph. The verdict is a refusal if the
+/// graph can't run.
+///
+/// The data of a verified graph are kept until its nodes change. So long, it isn't verified again,
+/// and the request takes no memory.
 pub fn verify_graph(
     table: &Table,
     kept: &mut BTreeMap<u32, Kept>,
@@ -105,7 +108,7 @@ pub fn verify_graph(
     ensures stay { StayKept limits.work (verified_in kept.old.entries)
         (verified_in kept.new.entries) }
 
-    // No memory is taken while it is kept.
+    // The request takes no memory while the graph is kept.
     ensures takes { IfErr result (λ fault. WantsMemory fault
         (kept_within graph kept.old.entries ≢ Some limits.work)) }
 {
@@ -127,7 +130,7 @@ pub fn verify_graph(
     }
 }
 
-/// Whether it is kept how a graph runs, found within so many work bytes.
+/// Returns whether a graph is kept that was verified with this quota of work bytes.
 fn is_kept(kept: &BTreeMap<u32, Kept>, graph: u32, work: u64) -> bool
     ensures kept { result ≡ true → kept_within graph kept.now.entries ≡ Some work }
     ensures other { result ≡ false → kept_within graph kept.now.entries ≢ Some work }
@@ -138,8 +141,8 @@ fn is_kept(kept: &BTreeMap<u32, Kept>, graph: u32, work: u64) -> bool
     }
 }
 
-/// Runs the graph with this name if it can run: its nodes in an order in which they can, each once.
-/// Then each delay ages that is registered with it. Otherwise says why not, as `verify_graph` does.
+/// Runs a graph, and then ages the delays that are registered with it. OpenVX 1.3, "Object: Graph",
+/// vxProcessGraph. It is refused as by `verify_graph` if it can't run.
 pub fn process_graph(
     table: &mut Table,
     kept: &mut BTreeMap<u32, Kept>,

@@ -1,5 +1,6 @@
 //! Requests on images: creating and querying them, writing and reading their samples, also as PGM
-//! texts, and making a part of them valid. `incoming` has the writes from a source and from a text.
+//! texts, and setting valid rectangles. OpenVX 1.3, "Object: Image". Writes from a source or a text
+//! are in `incoming`.
 ghost use Rattle.std.specs.Prelude.{◌≡◌, Some, Ok, Err, IfOk, IfErr, OnOk};
 ghost use Rattle.vx_base.specs.declared.format.Format.TheVariants.{U8 as FormatU8};
 ghost use Rattle.vx_base.specs.Image.{IsImage};
@@ -40,7 +41,7 @@ pub fn create_image(
     hold_images(table, pool, limits, Object::new(Content::Image(image)))
 }
 
-/// What is told of an image with samples.
+/// Returns the reply to a query of an image with samples.
 fn described(image: &Stored) -> Described
     ensures { result ≡ described image.now }
 {
@@ -53,7 +54,8 @@ fn described(image: &Stored) -> Described
     }
 }
 
-/// What is told of a virtual image: what was declared, 0 where a side is open, and no place.
+/// Returns the reply to a query of a virtual image: what was declared, 0 for an open side, and an
+/// empty valid rectangle.
 fn described_virtual(declared: Outline) -> Described
     ensures { result ≡ described_virtual declared }
 {
@@ -65,7 +67,7 @@ fn described_virtual(declared: Outline) -> Described
     }
 }
 
-/// The format, the size and the valid rectangle of an image.
+/// Returns the format, the size and the valid rectangle of an image.
 pub fn query_image(table: &Table, reference: ObjRef) -> Result<Reply, Refusal>
     requires { IsContext table.now }
     ensures { ComesTo (query_image table.now reference) table.now table.now result }
@@ -77,7 +79,8 @@ pub fn query_image(table: &Table, reference: ObjRef) -> Result<Reply, Refusal>
     }))
 }
 
-/// Why a picture can't be written to an image of this description. `None` where it can.
+/// Returns the reason why a picture can't be written to an image of this description, if there is
+/// one.
 fn picture_refusal(image: Desc, picture: Desc) -> Option<Refusal>
     ensures { result ≡ picture_refusal image picture }
 {
@@ -90,8 +93,8 @@ fn picture_refusal(image: Desc, picture: Desc) -> Option<Refusal>
     }
 }
 
-/// Whether a picture of this description can be written to the image that a reference names, which
-/// is then of the same format and size. Else the refusal.
+/// Checks that a picture of this description can be written to an image, which then has the same
+/// description.
 pub fn find_image_for(table: &Table, reference: ObjRef, picture: Desc) -> Result<(), Refusal>
     ensures ok { OnOk result (IsImageFor table.now.objects reference picture) }
     ensures err { IfErr result (λ refusal.
@@ -117,13 +120,13 @@ pub fn write_image(
     ensures blocks { KeepsBlocks table.old.objects table.new.objects }
 {
     find_image_for(table, reference, picture.desc())?;
-    // Its contract says that the picture is one.
+    // The prover learns from this call that the picture's samples are in range.
     let _samples = picture.samples();
     table.write(reference, picture);
     Ok(Reply::Empty)
 }
 
-/// The samples of an image, in memory of the allocator.
+/// Returns a copy of an image's samples, allocated with `alloc`.
 pub fn read_image(table: &Table, alloc: Global, reference: ObjRef) -> Result<Reply, RequestFault>
     requires { IsContext table.now }
     ensures { MayComeTo (read_image table.now reference) table.now table.now result }
@@ -132,7 +135,7 @@ pub fn read_image(table: &Table, alloc: Global, reference: ObjRef) -> Result<Rep
     Ok(Reply::Picture(image.picture(alloc)?))
 }
 
-/// The U8 image that a reference names, whose samples a PGM text can tell; or why there is none.
+/// Returns the U8 image that a reference names, for a PGM text.
 pub fn find_text_image(table: &Table, reference: ObjRef) -> Result<&Stored, Refusal>
     requires { IsContext table.now }
     ensures ok { IfOk result (λ image. read_text table.now reference
@@ -149,7 +152,7 @@ pub fn find_text_image(table: &Table, reference: ObjRef) -> Result<&Stored, Refu
     }
 }
 
-/// The samples of a U8 image as a PGM text, in memory of the allocator.
+/// Returns the samples of a U8 image as a PGM text, allocated with `alloc`.
 pub fn read_text(table: &Table, alloc: Global, reference: ObjRef) -> Result<Reply, RequestFault>
     requires { IsContext table.now }
     ensures { MayComeTo (read_text table.now reference) table.now table.now result }
@@ -158,7 +161,8 @@ pub fn read_text(table: &Table, alloc: Global, reference: ObjRef) -> Result<Repl
     Ok(Reply::Text(Text::new(pgm_images::write(alloc, &image.image())?)))
 }
 
-/// Why a rectangle can't be the valid one of an image of this description. `None` where it can.
+/// Returns the reason why a rectangle can't be the valid one of an image of this description, if
+/// there is one.
 fn valid_refusal(image: Desc, valid: Rect) -> Option<Refusal>
     ensures { result ≡ valid_refusal image valid }
 {
@@ -169,7 +173,7 @@ fn valid_refusal(image: Desc, valid: Rect) -> Option<Refusal>
     }
 }
 
-/// Makes this the valid rectangle of an image, and each sample outside it 0.
+/// Sets the valid rectangle of an image, and each sample outside it to 0.
 pub fn set_valid(table: &mut Table, reference: ObjRef, valid: Rect) -> Result<Reply, Refusal>
     requires { IsContext table.old }
     ensures comes { ComesTo (set_valid table.old reference valid) table.old table.new result }

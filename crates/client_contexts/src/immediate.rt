@@ -1,4 +1,4 @@
-//! Nodes that run by themselves, at once.
+//! Nodes that run by themselves: the immediate mode of OpenVX.
 ghost use Rattle.client_model.specs.Immediate.{immediate};
 ghost use Rattle.object_table.specs.Blocks.{KeepsBlocks};
 ghost use Rattle.client_contexts.specs.Steps.{ComesTo, IsContext, Keeps};
@@ -10,7 +10,7 @@ use graph_verify::verdict_on;
 use object_table::Table;
 use vx_base::NodeSpec;
 
-/// Runs a node at once: its outputs become what its function gives.
+/// Runs a node immediately: writes the results of its function to its outputs.
 pub fn run_at_once(table: &mut Table, node: NodeSpec) -> Result<Reply, Refusal>
     requires { IsContext table.old }
     ensures comes { ComesTo (immediate table.old node) table.old table.new result }

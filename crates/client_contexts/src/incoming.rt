@@ -1,5 +1,5 @@
-//! Pictures that are written to images: their samples are read into a block of the pool, which then
-//! changes its memory with the image's block. The block is given back in any case.
+//! Writes pictures to images. The samples are read into a block of the pool, which then swaps its
+//! memory with the image's block. In any case the block is given back.
 ghost use Rattle.std.specs.Prelude.{◌≡◌, length, Some, Ok, OnOk, IfOk, IfErr, OnErr};
 ghost use Rattle.vx_base.specs.Image.{ImageValue};
 ghost use Rattle.vx_base.specs.Picture.{PictureValue, IsPicture, Describes, values, samples_format};
@@ -24,8 +24,8 @@ use pixel_pool::{Block, Pool};
 use std::alloc::AllocError;
 use vx_base::{Desc, ObjRef};
 
-/// Writes a picture of this description to an image; its samples are read from the source. Where it
-/// is refused, or there is no memory for it, nothing is read.
+/// Writes a picture of this description to an image, with samples from a source. If the picture is
+/// refused or there is no memory for it, nothing is read.
 pub fn write_from<F: FillsSamples>(
     table: &mut Table,
     pool: &mut Pool,
@@ -59,7 +59,7 @@ pub fn write_from<F: FillsSamples>(
     }
 }
 
-/// Writes the picture for which a PGM text stands to an image; its samples are read from the text.
+/// Writes the picture of a PGM text to an image.
 pub fn write_text(
     table: &mut Table,
     pool: &mut Pool,
@@ -79,8 +79,8 @@ pub fn write_text(
     written
 }
 
-/// A block for the samples of a picture, which may hold anything. Where there is no memory for it,
-/// the free blocks are dropped and it is asked for once more.
+/// Takes a block for the samples of a picture, with any contents. If there is no memory for it,
+/// drops the free blocks and tries once more.
 fn take_block(pool: &mut Pool, desc: Desc) -> Result<Block, AllocError>
     ensures described { IfOk result (Describes desc) }
     ensures lends { OnOk result (Lends pool.old pool.new desc.format) }
@@ -96,7 +96,7 @@ fn take_block(pool: &mut Pool, desc: Desc) -> Result<Block, AllocError>
     }
 }
 
-/// Reads samples from a source over those of a block.
+/// Fills a block with samples from a source.
 fn fill_block<F: FillsSamples>(block: &mut Block, source: &mut F) -> Result<(), F::Fault>
     requires { F.can_fill source.old }
     ensures fills { F.fills source.old source.new
@@ -110,7 +110,7 @@ fn fill_block<F: FillsSamples>(block: &mut Block, source: &mut F) -> Result<(), 
     filled
 }
 
-/// Reads the samples of a text over those of a block.
+/// Fills a block with the samples of a text.
 fn read_text(block: &mut Block, text: &[u8]) -> Result<(), PgmFault>
     requires { HasRoom text.now block.old }
     ensures ok { OnOk result ((d : _) → description_in text.now ≡ Ok d →
@@ -125,7 +125,7 @@ fn read_text(block: &mut Block, text: &[u8]) -> Result<(), PgmFault>
     read
 }
 
-/// Reads a text into a block, and writes its picture to an image, whose memory the block has then.
+/// Reads a text into a block, and swaps the block's memory with that of an image.
 fn give_text(
     table: &mut Table,
     reference: ObjRef,
@@ -148,7 +148,7 @@ fn give_text(
     Ok(Reply::Empty)
 }
 
-/// Makes the samples of a block those of an image, which is wholly valid then. The block has the
+/// Writes the samples of a block to an image, which is then wholly valid. The block gets the
 /// image's memory.
 fn exchange(table: &mut Table, reference: ObjRef, desc: Desc, block: &mut Block)
     requires context { IsContext table.old }
@@ -163,7 +163,7 @@ fn exchange(table: &mut Table, reference: ObjRef, desc: Desc, block: &mut Block)
     ensures format { samples_format block.new ≡ samples_format block.old }
 {
     let samples = block.lift();
-    // Their contracts say that it is a picture.
+    // The prover learns from these calls that sides and samples are in range.
     desc.has_sides();
     samples.are_samples();
     let (_, left) = table.take(reference);

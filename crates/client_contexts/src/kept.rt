@@ -1,4 +1,4 @@
-//! Graphs that were found able to run, and are kept as they were verified.
+//! Verified graphs, which are kept until their nodes change.
 ghost use Rattle.std.specs.Prelude.{◌≡◌, ℕ, false, All};
 ghost use Rattle.client_model.specs.States.{changes_nodes};
 ghost use Rattle.client_contexts.specs.Kept.{ends_verification, forgotten_by, kept_within};

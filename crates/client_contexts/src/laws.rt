@@ -1,4 +1,4 @@
-//! Laws of what a runtime does.
+//! Laws of the runtime.
 ghost use Rattle.std.specs.Prelude.{◌≡◌, ℕ, false, List, All, Ok, Result, OnErr};
 ghost use Rattle.client_model.specs.declared.reply.Reply.{Reply};
 ghost use Rattle.client_model.specs.declared.reply.Reply.TheVariants.{Empty};
@@ -8,9 +8,9 @@ ghost use Rattle.client_contexts.specs.Calls.{Call, Does, Lead};
 ghost use Rattle.client_contexts.specs.Kept.{ends_verification};
 ghost use Rattle.client_contexts.specs.World.{World};
 
-/// Once VerifyGraph of a graph succeeded, and whatever requests of any clients came then of which
-/// none of this client changes the graph's nodes, or ends its name or its context, VerifyGraph of
-/// it never wants memory that isn't there.
+/// After VerifyGraph of a graph has succeeded, it never fails for want of memory. This holds until
+/// the client changes the graph's nodes, or ends its name or its context, whatever the requests of
+/// other clients.
 pub fn verified_once()
     ensures { (client graph : ℕ) (first verified later last : World) (calls : List Call)
         (result : Result Reply NoMemory) →

@@ -1,30 +1,37 @@
-//! The clients of the server: their contexts, and what their requests answer.
+//! The clients of the server: their contexts, and the replies to their requests.
 //!
-//! `Runtime::apply` is the whole of it. Its reply and the client's new state are those of the
-//! model, the other clients' states are as they were, and where memory was wanted nothing is
-//! changed; so no client sees or moves what another holds. A graph that was verified or has run is
-//! kept as verified until its nodes change or it ends, and so long VerifyGraph of it takes no
-//! memory. Three more ways move samples with no copy: `write_from` reads a picture from a source,
-//! `write_text` from a PGM text, and `image` and `text_image` lend an image to its reader. They
-//! answer what `apply` would.
-//! Each client names its objects by 1, 2, .. in the order in which it made them, and holds at most
-//! 1,024, of which images are charged against its quota. Nodes read their inputs where they stand.
-//! What a node uses is held for it after its name has ended, and a run of a graph takes all its
+//! `Runtime::apply` answers a request. The reply and the client's new state are those of the model.
+//! The states of other clients don't change. A request that finds no memory changes nothing. So no
+//! client can see or change another's objects.
+//!
+//! After a graph was verified or has run, it is kept as verified until its nodes change or it ends.
+//! As long as it is kept, VerifyGraph of it takes no memory.
+//!
+//! More methods move samples without a copy: `write_from` reads a picture from a source,
+//! `write_text` from a PGM text, and `image` and `text_image` lend an image to a reader. They
+//! answer as `apply` would.
+//!
+//! Each client names its objects 1, 2, .. in the order in which it created them. It holds at most
+//! 1,024 objects, and its images are charged against its quota. Nodes read their inputs in place.
+//! An object that a node uses is held after its name has ended. A run of a graph allocates all its
 //! memory before it changes anything.
 //!
-//! - `memory`, `fault`: why a request isn't done: it is refused, or finds no memory
-//! - `lookup`: the objects that references and the operands of nodes name
-//! - `room`: whether a client may hold one more object, and new objects that are held
-//! - the requests by family: `images` (to create, query, write and read them, and to make a part
-//!   valid), `objects` (to release any), `tables` (to create lookup tables, thresholds and
-//!   convolutions), `statistics` (to create and read distributions and extremes), `graphs` (to
-//!   create them and their virtual images, to add and remove nodes, to verify and to run them),
-//!   `immediate` (nodes that run at once), `delays` (to create and age them)
-//! - `kept`: graphs that were found able to run, and are kept as they were verified
+//! - `memory`, `fault`: the faults of requests
+//! - `lookup`: finds the objects that references and the operands of nodes name
+//! - `room`: limits on new objects, and their insertion
+//! - `images`: creates, queries, writes and reads images, and sets valid rectangles
+//! - `objects`: releases objects of any kind
+//! - `tables`: creates lookup tables, thresholds and convolutions
+//! - `statistics`: creates and reads distributions and extremes
+//! - `graphs`: creates graphs and their virtual images, adds and removes nodes, verifies and runs
+//!   graphs
+//! - `immediate`: runs single nodes
+//! - `delays`: creates and ages delays
+//! - `kept`: verified graphs
 //! - `source`, `incoming`: pictures that are read from a source or a text, into a block of the pool
 //! - `client`: a client's context, which answers all requests but those that open or release it
-//! - `runtime`: all clients, and the pool of blocks in which the samples of their images are;
-//!   contexts are opened and released there
+//! - `runtime`: all clients, the pool for the samples of their images, and opening and releasing
+//!   contexts
 //! - `laws`: as long as a graph is kept as verified, VerifyGraph of it finds memory
 #![tactic(auto)]
 

@@ -1,4 +1,4 @@
-//! The objects that references and the operands of nodes name.
+//! Finds the objects that references and the operands of nodes name.
 ghost use Rattle.std.specs.Prelude.{◌≡◌, ◌∷◌, [], is_some, Some, Ok, Err, IsTrue, All, IfOk, IfErr};
 ghost use Rattle.std.specs.Prelude.{OnOk};
 ghost use Rattle.std.specs.List.{list_any};
@@ -24,15 +24,15 @@ use graph_verify::{Operand, Operands};
 use object_table::{Content, Object, Stored, Table};
 use vx_base::{Kind, Node, ObjRef};
 
-/// Whether a kind is the one that is wanted.
+/// Returns whether a kind is the wanted one.
 fn same_kind(wanted: Kind, kind: Kind) -> bool
     ensures { result ≡ same_kind wanted kind }
 {
     kind == wanted
 }
 
-/// Whether an object of this kind, if there is one, can stand where another is wanted: a virtual
-/// image stands for an image.
+/// Returns whether an object of this kind is there and can be used where another kind is wanted: a
+/// virtual image counts as an image.
 fn is_kind(wanted: Kind, kind: Option<Kind>) -> bool
     ensures { result ≡ is_kind wanted kind }
 {
@@ -43,7 +43,7 @@ fn is_kind(wanted: Kind, kind: Option<Kind>) -> bool
     }
 }
 
-/// Whether an object is a virtual image of another graph than that of the node which names it.
+/// Returns whether an object is a virtual image of another graph than the node's.
 fn is_outside(object: &Object, slot: Option<u8>, scope: Option<u32>) -> bool
     ensures { result ≡ is_outside scope (in_slot slot object.now) }
 {
@@ -53,7 +53,7 @@ fn is_outside(object: &Object, slot: Option<u8>, scope: Option<u32>) -> bool
     }
 }
 
-/// Why an object, or what stands in a slot of it, isn't what is wanted. `None` where it is.
+/// Returns the reason why an object, or the image in a slot of it, can't be used, if there is one.
 fn slot_refusal(
     object: &Object,
     slot: Option<u8>,
@@ -73,9 +73,8 @@ fn slot_refusal(
     }
 }
 
-/// The object that has the name of a reference, in which its slot is there, and of what kind that
-/// is wanted; or why there is none. Within the scope of a graph a virtual image is one of that
-/// graph.
+/// Returns the object that a reference names, if its slot is there and of the wanted kind. In the
+/// scope of a graph, a virtual image must be one of that graph.
 pub fn find(
     table: &Table,
     reference: ObjRef,
@@ -95,7 +94,7 @@ pub fn find(
     }
 }
 
-/// The object of this kind that has a name, or why there is none.
+/// Returns the object of this kind with a name.
 pub fn find_named(table: &Table, name: u32, kind: Kind) -> Result<&Object, Refusal>
     ensures ok { IfOk result (λ object. IsNamed table.now.objects name kind object.now) }
     ensures err { refusal_in result ≡ name_refusal kind (object_named table.now.objects name) }
@@ -110,7 +109,8 @@ pub fn find_named(table: &Table, name: u32, kind: Kind) -> Result<&Object, Refus
     }
 }
 
-/// The image that a reference names, or why it names none that has samples.
+/// Returns the image that a reference names. It is refused if the image is virtual, and so has no
+/// samples.
 pub fn find_image(table: &Table, reference: ObjRef) -> Result<&Stored, Refusal>
     ensures ok { IfOk result (λ image. IsImageOf table.now.objects reference image.now) }
     ensures err { IfErr result (λ refusal. image_of table.now.objects reference ≡ Err refusal) }
@@ -122,8 +122,8 @@ pub fn find_image(table: &Table, reference: ObjRef) -> Result<&Stored, Refusal>
     }
 }
 
-/// What a cell of a node holds, as an operand of the kind that the node's function has there; or
-/// why it can't stand there.
+/// Returns the operand that a reference in a node names, of the kind that the node's function has
+/// there.
 fn find_operand(
     table: &Table,
     cell: ObjRef,
@@ -141,7 +141,7 @@ fn find_operand(
     }
 }
 
-/// The same of a cell that may be left out.
+/// Returns the same for a reference that may be left out.
 fn find_if_given(
     table: &Table,
     cell: Option<ObjRef>,
@@ -160,8 +160,8 @@ fn find_if_given(
     }
 }
 
-/// Of two refusals the one that is told: all names are looked at before any kind is, all kinds
-/// before any scope, and all scopes before any slot.
+/// Returns the first of two refusals, by class: first those of names, then of kinds, scopes and
+/// slots.
 fn first_class(one: Refusal, other: Refusal) -> Refusal
     ensures { Some result ≡ first_class (Some one) (Some other) }
 {
@@ -175,7 +175,7 @@ fn first_class(one: Refusal, other: Refusal) -> Refusal
     }
 }
 
-/// Both, or the refusal that is told.
+/// Returns both results, or the first refusal by class.
 fn both<A: Drop, B: Drop>(
     one: Result<A, Refusal>,
     other: Result<B, Refusal>,
@@ -190,7 +190,7 @@ fn both<A: Drop, B: Drop>(
     }
 }
 
-/// What the cells of a node hold, each of the kind that the node's function has there. The scope is
+/// Returns a node's operands, each of the kind that the node's function has there. The scope is
 /// that of the node's graph, if it has one.
 pub fn find_operands(table: &Table, node: &Node, scope: Option<u32>) -> Result<Operands, Refusal>
     ensures ok { IfOk result (λ found. found
@@ -213,8 +213,8 @@ pub fn find_operands(table: &Table, node: &Node, scope: Option<u32>) -> Result<O
     })
 }
 
-/// Whether the graph with a name can be given a node with these operands: each of them is found in
-/// the graph's scope. Else the refusal of the graph's name and the operands.
+/// Checks that a node with these operands can be added to a graph: each of them is found in the
+/// graph's scope. A refusal is the first by class among those of the graph's name and the operands.
 pub fn find_graph_for(table: &Table, graph: u32, node: &Node) -> Result<(), Refusal>
     ensures ok { OnOk result (IsTrue (is_some (object_named table.now.objects graph)) ×
         IsUnder table.now.objects kind.Graph graph) }
@@ -229,7 +229,7 @@ pub fn find_graph_for(table: &Table, graph: u32, node: &Node) -> Result<(), Refu
     Ok(())
 }
 
-/// Whether one of a node's operands is a virtual image.
+/// Returns whether one of a node's operands is a virtual image.
 pub fn has_virtual(operands: &Operands) -> bool
     ensures { result ≡ list_any is_virtual (all_operands operands.now) }
 {

@@ -1,7 +1,7 @@
-//! Want of memory.
+//! The fault of a request that finds no memory.
 use std::alloc::{AllocError, AllocFailed};
 
-/// No memory was found; nothing is changed.
+/// There is no memory. Nothing is changed.
 #[derive(Clone, Copy, Debug, PartialEq, Eq)]
 pub struct NoMemory;
 

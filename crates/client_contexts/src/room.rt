@@ -1,4 +1,4 @@
-//! Room for one more object of a client, and objects that are held anew.
+//! Limits on new objects of a client, and their insertion.
 ghost use Rattle.std.specs.Prelude.{◌≡◌, ◌*◌, ◌+◌, ◌≤◌, if◌then◌else◌, IsTrue, [], Ok, Err};
 ghost use Rattle.vx_base.specs.Object.{IsObject, object_bytes};
 ghost use Rattle.vx_base.specs.declared.format.Format.{Format};
@@ -18,8 +18,9 @@ use client_model::{Limits, Refusal, Reply};
 use object_table::{InsertFault, Object, Table};
 use pixel_pool::Pool;
 
-/// Room for an object that is charged so many bytes, at most those of 16 of the largest images.
-/// `NoResources` unless a name is left, fewer than 1,024 objects are held, and the quota allows it.
+/// Checks that a client can hold one more object that is charged `bytes`, at most those of 16 of
+/// the largest images. It is `NoResources` if no name is left, 1,024 objects are held, or the quota
+/// is exceeded.
 pub fn look_for_room(table: &Table, limits: Limits, bytes: usize) -> Result<(), Refusal>
     requires { bytes ≤ GREATEST_SLOTS * GREATEST_BYTES }
     ensures { result ≡ (if has_room limits table.now bytes then Ok tt else Err NoResources) }
@@ -32,8 +33,8 @@ pub fn look_for_room(table: &Table, limits: Limits, bytes: usize) -> Result<(), 
     }
 }
 
-/// Holds a new object that isn't images, for which there is room, and says its name. A graph has no
-/// nodes yet.
+/// Adds a new object without images, for which the limits were checked. The reply has its name. A
+/// graph has no nodes yet.
 pub fn hold(table: &mut Table, limits: Limits, object: Object) -> Result<Reply, RequestFault>
     requires room { IsTrue (has_room limits table.old (object_bytes object)) }
     requires object { IsObject object }
@@ -49,8 +50,8 @@ pub fn hold(table: &mut Table, limits: Limits, object: Object) -> Result<Reply, 
     }
 }
 
-/// Holds new images, for which there is room, and says their name. Where there is no memory to hold
-/// them, their blocks are given back.
+/// Adds new images, for which the limits were checked. The reply has their name. If there is no
+/// memory for the object, the blocks are given back.
 pub fn hold_images(
     table: &mut Table,
     pool: &mut Pool,

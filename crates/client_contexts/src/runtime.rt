@@ -1,4 +1,4 @@
-//! All clients, and what their requests do.
+//! All clients, and the replies to their requests.
 ghost use Rattle.std.specs.Prelude.{◌≡◌, ◌≤◌, [], None, Some, Ok, IfSome, IfOk, IfErr, OnOk, OnErr};
 ghost use Rattle.std.specs.BTreeMap.{is_at};
 ghost use Rattle.std.specs.Map.{lookup};
@@ -33,8 +33,8 @@ use std::collections::BTreeMap;
 use std::marker::Model;
 use vx_base::{Code, Desc, Format, ObjRef};
 
-/// The contexts of the clients, each of which has at most one, and the pool in whose blocks the
-/// samples of their images are.
+/// The contexts of the clients, at most one each, and the pool whose blocks hold the samples of
+/// their images.
 #[derive(Drop)]
 pub struct Runtime {
     alloc: Global,
@@ -55,8 +55,7 @@ impl Model for Runtime {
 }
 
 impl Runtime {
-    /// A runtime in which no client has a context. It takes no memory; its contexts are made with
-    /// the allocator.
+    /// Returns a runtime without contexts. Allocates nothing; contexts are allocated with `alloc`.
     pub fn new(alloc: Global, limits: Limits) -> Runtime
         ensures { result ≡ record { limits = limits; contexts = [] } }
     {
@@ -68,15 +67,15 @@ impl Runtime {
         }
     }
 
-    /// How many blocks of a format are lent: those in which the clients' images have their samples,
-    /// and no others.
+    /// Returns the number of lent blocks of a format. They hold the samples of the clients' images,
+    /// and nothing else.
     pub fn lent(&self, format: Format) -> usize
         ensures { result ≡ clients_blocks self.now.contexts format }
     {
         self.pool.lent(format)
     }
 
-    /// How many blocks of a format there are, lent and free.
+    /// Returns the number of blocks of a format, lent and free.
     pub fn blocks(&self, format: Format) -> usize
         ensures { clients_blocks self.now.contexts format ≤ result }
     {
@@ -95,15 +94,15 @@ impl Runtime {
         self.contexts.get(&client)?.kept(graph)
     }
 
-    /// Drops the free blocks: their memory goes back to the system. No client notices.
+    /// Drops the free blocks, whose memory goes back to the system. No client notices.
     pub fn drop_free(&mut self)
         ensures { self.new ≡ self.old }
     {
         self.pool.drop_free();
     }
 
-    /// Returns what `ask` gives. Where it finds no memory, the free blocks are dropped and it is
-    /// asked once more.
+    /// Returns the result of `ask`. If it finds no memory, drops the free blocks and calls it once
+    /// more.
     pub fn ask_again<T: Drop, F: Fn() -> Result<T, NoMemory> + Drop>(
         &mut self,
         ask: F,
@@ -121,17 +120,19 @@ impl Runtime {
         }
     }
 
-    /// Drops free blocks until not too many stay.
+    /// Drops free blocks above the limit on free memory.
     fn trim(&mut self)
         ensures { self.new ≡ self.old }
     {
         self.pool.trim();
     }
 
-    /// Answers a request of a client; a reply that holds samples is made with the allocator.
-    /// `NoMemory` is told only where memory was refused, and no state is changed then. Once a graph
-    /// was verified or has run it is kept as verified, until its nodes change or it ends; so long
-    /// VerifyGraph of it takes no memory. Of the blocks that are free afterwards not too many stay.
+    /// Answers a request of a client. Samples in a reply are allocated with `alloc`.
+    ///
+    /// The result is `NoMemory` only if an allocation failed; then no state is changed. After a
+    /// graph was verified or has run, it is kept as verified until its nodes change or it ends. As
+    /// long as it is kept, VerifyGraph of it takes no memory. Free blocks above the limit are
+    /// dropped at the end.
     pub fn apply(
         &mut self,
         alloc: Global,
@@ -146,8 +147,8 @@ impl Runtime {
         result
     }
 
-    /// Answers a request of a client, as `apply` does. Where it finds no memory, the free blocks are
-    /// dropped and it is answered once more.
+    /// Answers a request of a client, as `apply` does. If it finds no memory, drops the free blocks
+    /// and tries once more.
     fn answer_or_again(
         &mut self,
         alloc: Global,
@@ -185,9 +186,9 @@ impl Runtime {
         }
     }
 
-    /// Writes a picture of this description to an image of a client; its samples are read from the
-    /// source, into the block that the image has from then on. Where the picture is refused,
-    /// whatever its samples are, or there is no memory for it, nothing is read.
+    /// Writes a picture of this description to an image of a client. Its samples are read from the
+    /// source into the block that the image has from then on. If a picture of this description is
+    /// refused or there is no memory for it, nothing is read.
     pub fn write_from<F: FillsSamples>(
         &mut self,
         client: u16,
@@ -232,9 +233,9 @@ impl Runtime {
         held.write_from(&mut self.pool, reference, desc, source)
     }
 
-    /// Writes the picture for which a PGM text stands to an image of a client. Its samples are read
-    /// from the text into the block that the image has from then on. `NoMemory` is told only where
-    /// memory was refused, and nothing is changed then.
+    /// Writes the picture of a PGM text to an image of a client. Its samples are read from the text
+    /// into the block that the image has from then on. The result is `NoMemory` only if an
+    /// allocation failed; then nothing is changed.
     pub fn write_text(
         &mut self,
         client: u16,
@@ -273,8 +274,8 @@ impl Runtime {
         }
     }
 
-    /// The image with samples that a client's reference names, as ReadImage finds it, or the code
-    /// that ReadImage is answered.
+    /// Returns the image that a client's reference names, as ReadImage finds it, or the code of
+    /// ReadImage's reply.
     pub fn image(&self, client: u16, reference: ObjRef) -> Result<&Stored, Code>
         ensures ok { IfOk result (λ image. IsAnswered client (ReadImage reference) self.now
             (replies.Picture (picture_of image.now))) }
@@ -291,8 +292,8 @@ impl Runtime {
         }
     }
 
-    /// The U8 image that a client's reference names, as ReadImagePgm finds it, or the code that
-    /// ReadImagePgm is answered.
+    /// Returns the U8 image that a client's reference names, as ReadImagePgm finds it, or the code
+    /// of ReadImagePgm's reply.
     pub fn text_image(&self, client: u16, reference: ObjRef) -> Result<&Stored, Code>
         ensures ok { IfOk result (λ image. IsAnswered client (ReadImagePgm reference) self.now
             (replies.Text (pgm_text (picture_of image.now)))) }
@@ -310,8 +311,8 @@ impl Runtime {
         }
     }
 
-    /// Drops the context of a client that has one, with all of its objects; the blocks of its
-    /// images are free then.
+    /// Releases the context of a client, if it has one. All its objects are dropped, and the blocks
+    /// of its images become free.
     fn release_context(&mut self, client: u16) -> Reply
         ensures applies { Applies client ReleaseContext self.old self.new (Ok result) }
         ensures kept { AppliesToKept client ReleaseContext self.old self.new (Ok result) }
@@ -325,7 +326,7 @@ impl Runtime {
         }
     }
 
-    /// Answers a client that has no context.
+    /// Answers a request of a client that has no context.
     fn answer_without(&mut self, client: u16, request: &Request) -> Result<Reply, NoMemory>
         requires { state_of client self.old ≡ None }
         ensures applies { Applies client request.now self.old self.new result }

@@ -1,26 +1,25 @@
-//! Where the samples of a picture come from that is written to an image.
+//! Sources of the samples of pictures that are written to images.
 use client_model::Refusal;
 use std::alloc::AllocError;
 use vx_base::{Code, Samples};
 
-/// Gives the samples of a picture.
+/// A source of the samples of a picture.
 pub trait FillsSamples {
     ghost use Rattle.std.specs.Prelude.{◌≡◌, ⊤, List, ℤ, Result, length};
     ghost use Rattle.vx_base.specs.declared.format.Format.{Format};
     ghost use Rattle.vx_base.specs.Picture.{values, samples_format};
 
-    /// Why not all of the samples came.
+    /// The fault of a source that doesn't give all samples.
     type Fault: Drop;
 
-    /// It can be read.
+    /// The source can be read.
     ghost can_fill: { Self → Type 0 };
 
-    /// How a call of `fill` changes it, the format of the samples and those that are there then,
-    /// and its result.
+    /// The effect of a call of `fill`: the source before and after, the format of the samples, the
+    /// samples after, and the result.
     ghost fills: { Self → Self → Format → List ℤ → Result ⊤ Self.Fault → Type 0 };
 
-    /// Reads samples over those that are there, which are of the format and as many as are wanted.
-    /// They may be anything after a fault.
+    /// Replaces all samples with samples from the source. After a fault they may be anything.
     fn fill(&mut self, samples: &mut Samples) -> Result<(), Self::Fault>
         requires { can_fill self.old }
         ensures fills { fills self.old self.new
@@ -29,11 +28,10 @@ pub trait FillsSamples {
         ensures size { length (values samples.new) ≡ length (values samples.old) };
 }
 
-/// Why a picture isn't written. Nothing is changed then.
+/// The reason why a picture wasn't written. The image is unchanged.
 #[derive(Drop)]
 pub enum WriteFault<E> {
-    /// The image doesn't take it, or there is no memory for it: the code of the reply. Nothing was
-    /// read.
+    /// The picture is refused with this code, or there is no memory for it. Nothing was read.
     Refused(Code),
     /// The source failed.
     Source(E),

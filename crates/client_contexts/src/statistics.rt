@@ -1,4 +1,4 @@
-//! Requests on what is found in images: creating and reading distributions and extremes.
+//! Requests on distributions and extremes: creating and reading them.
 ghost use Rattle.vx_base.specs.Object.{DistributionObject, ExtremesObject, new_distribution};
 ghost use Rattle.vx_base.specs.Object.{no_extremes};
 ghost use Rattle.client_model.specs.Images.{create};
@@ -15,7 +15,7 @@ use object_table::{Content, Distribution, Object, Table};
 use std::alloc::Global;
 use vx_base::{Bins, Extremes, Kind};
 
-/// Creates a distribution of these bins, which has counted nothing.
+/// Creates a distribution with these bins and counts of 0.
 pub fn create_distribution(
     table: &mut Table,
     limits: Limits,
@@ -35,7 +35,7 @@ pub fn create_distribution(
     )
 }
 
-/// Returns a copy of the counts of the distribution of this name, in memory of `alloc`.
+/// Returns a copy of a distribution's counts, allocated with `alloc`.
 pub fn read_distribution(table: &Table, alloc: Global, name: u32) -> Result<Reply, RequestFault>
     ensures { MayComeTo (read_distribution table.now name) table.now table.now result }
 {
@@ -49,7 +49,7 @@ pub fn read_distribution(table: &Table, alloc: Global, name: u32) -> Result<Repl
     }
 }
 
-/// Creates extremes, all of whose numbers are 0.
+/// Creates extremes whose numbers are all 0.
 pub fn create_min_max(table: &mut Table, limits: Limits) -> Result<Reply, RequestFault>
     ensures comes { MayComeTo (create limits table.old (ExtremesObject no_extremes))
         table.old table.new result }
@@ -68,8 +68,8 @@ pub fn create_min_max(table: &mut Table, limits: Limits) -> Result<Reply, Reques
     hold(table, limits, Object::new(Content::Extremes(extremes)))
 }
 
-/// Returns the extremes of this name, or why there are none: the client holds no object of this
-/// name, or an object of another kind.
+/// Returns the extremes with this name. It is refused if the client holds no object of this name,
+/// or one of another kind.
 pub fn read_min_max(table: &Table, name: u32) -> Result<Reply, Refusal>
     ensures { ComesTo (read_min_max table.now name) table.now table.now result }
 {

@@ -1,5 +1,4 @@
-//! Requests that create what functions look samples up in, compare them with or convolve them by:
-//! lookup tables, thresholds and convolutions.
+//! Requests that create lookup tables, thresholds and convolutions.
 ghost use Rattle.vx_base.specs.Object.{LutObject, ThresholdObject, ConvolutionObject};
 ghost use Rattle.client_model.specs.Images.{create};
 ghost use Rattle.client_model.specs.States.{KeepsLimits};
@@ -12,7 +11,7 @@ use client_model::{Limits, Reply};
 use object_table::{Content, Object, Table};
 use vx_base::{Convolution, Lut, ThresholdRule};
 
-/// Creates a lookup table like this one.
+/// Creates a copy of this lookup table.
 pub fn create_lut(table: &mut Table, limits: Limits, lut: &Lut) -> Result<Reply, RequestFault>
     ensures comes { MayComeTo (create limits table.old (LutObject lut.now))
         table.old table.new result }
@@ -40,7 +39,7 @@ pub fn create_threshold(
     hold(table, limits, Object::new(Content::Threshold(threshold)))
 }
 
-/// Creates a convolution like this one.
+/// Creates a copy of this convolution.
 pub fn create_convolution(
     table: &mut Table,
     limits: Limits,

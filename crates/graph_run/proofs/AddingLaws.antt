@@ -1,4 +1,4 @@
--- The order in which nodes were added makes no difference.
+-- The order in which nodes are added doesn't change a run.
 use Rattle.std.proofs.Common.{◌≡◌, ℕ, zero, suc, ◌<◌, Bool, false, List, length, map, refl, sym, ap, subst, ◌∙◌, arith}
 use Rattle.graph_run.proofs.Common.{list_any, AllPairs, cases_Bool, Node, Cell, Named, Operand, AllIn, writes, resolved, two_writers, one_writer, In-from_any, any-from_In, AllIn-permutation, AllIn-permutation_back, rounds_of_nodes, run_of_graph, WritesNo, label_of}
 use Rattle.std.specs.List.Sorted.{IsPermutation}

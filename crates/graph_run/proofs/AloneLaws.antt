@@ -1,4 +1,4 @@
--- A graph of one node runs as the node does at once.
+-- A run of a graph with one node is the node by itself.
 use Rattle.std.proofs.Common.{◌≡◌, ℕ, ◌<◌, true, List, [], ◌∷◌, append-nil, Some, arith, eqb-true}
 use Rattle.graph_run.proofs.Common.{AllPairs, cases_Bool, or_left, Node, Cell, ObjectValue, written_by, Named, object_held, held, with_written, Operand, is_virtual_object, run_of_graph, WritesNo}
 use Rattle.vx_base.specs.declared.kind.Kind.TheVariants as kind
@@ -7,7 +7,7 @@ use Rattle.graph_run.proofs.NameLaws.{rising}
 use Rattle.graph_run.proofs.NodeLaws.{written_held}
 use Rattle.graph_run.proofs.BegunLaws.{nothing_begun, nothing_forgotten, object_held-unwritten, virtual_kind, no_slot_of_virtual}
 
--- nothing is written where a virtual image stands
+-- no virtual image is written
 virtual_stays : (n : Node) (objects : List Named) → WritesNo kind.VirtualImage (n ∷ []) objects → (name : ℕ) (x : ObjectValue) → object_held objects name ≡ Some x → is_virtual_object x ≡ true
     → object_held (with_written objects (written_by n (held objects))) name ≡ Some x
 virtual_stays n objects real name x at v = grind (arith, object_held-unwritten, or_left, virtual_kind, no_slot_of_virtual, written_held, cases_Bool, eqb-true)

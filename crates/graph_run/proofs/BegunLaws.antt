@@ -1,4 +1,4 @@
--- What virtual images are as a run begins and ends.
+-- Virtual images at the start and at the end of a run.
 use Rattle.std.proofs.Common.{◌≡◌, ℕ, true, false, if◌then◌else◌, eqb, List, [], ◌∷◌, map, drop, refl, sym, ap, subst, ◌∙◌, inl, inr, Option, Some, None, Bool, arith, ◌==◌, option_map}
 use Rattle.graph_run.proofs.Common.{cases_Bool, Node, Cell, ObjectValue, object_kind, in_slot, Named, object_held, with_object, with_written, Operand, In, is_written, begun_as, begun, is_virtual_object, forgotten, WritesNo, label_of, operand_of, object_held-map}
 use Rattle.vx_base.specs.declared.kind.Kind.TheVariants as kind
@@ -8,7 +8,7 @@ use Rattle.graph_verify.specs.Operand.{is_virtual as is_virtual_operand}
 
 -- ---- the begin
 
--- what an object under a name is as the run begins
+-- the object with a name at the start of a run
 abbrev pub begun_under : (Cell → Operand) → List Node → ℕ → ObjectValue → ObjectValue
 begun_under is nodes name x = if is_written nodes (record { name = name; slot = None }) then begun_as x (is (record { name = name; slot = None })) else x
 
@@ -20,7 +20,7 @@ pub labels-begun : (is : Cell → Operand) (nodes : List Node) (objects : List N
 labels-begun is nodes [] = refl
 labels-begun is nodes (o ∷ objects) = grind (arith, labels-begun is nodes objects, cases_Bool (is_written nodes (record { name = o.name; slot = None })))
 
--- what is written alike begins alike
+-- the start depends only on which objects are written
 pub begun-same : (is : Cell → Operand) (nodes others : List Node) → ((c : Cell) → is_written nodes c ≡ is_written others c) → (objects : List Named) → map (begun is nodes) objects ≡ map (begun is others) objects
 begun-same is nodes others same [] = refl
 begun-same is nodes others same (o ∷ objects) = grind (arith, begun-same is nodes others same objects)
@@ -41,13 +41,13 @@ no_slot_of_virtual k x h = grind arith
 pub nothing_begun : (is : Cell → Operand) (nodes : List Node) (objects : List Named) → Rising (map label_of objects) → WritesNo kind.VirtualImage nodes objects → map (begun is nodes) objects ≡ objects
 nothing_begun is nodes objects up real = grind (arith, labels-begun, by_names, Rising, object_held-begun, cases_Bool)
 
--- what stands under a name that isn't written stays
+-- an object that isn't written stays
 pub object_held-unwritten : (ws : List (Cell × ObjectValue)) (objects : List Named) (name : ℕ) → ((w : Cell × ObjectValue) → In w ws → eqb name (w.0).name ≡ false)
     → object_held (with_written objects ws) name ≡ object_held objects name
 object_held-unwritten [] objects name h = refl
 object_held-unwritten (w ∷ ws) objects name h = grind (arith, object_held-unwritten ws (with_object objects w.0 w.1) name (λ v i. h v (inr i)), object_held-with_object objects w.0 w.1 name)
 
--- lists of the same labels hold something under the same names
+-- lists with the same labels have objects under the same names
 pub both_held : (one other : List Named) → map label_of one ≡ map label_of other → (name : ℕ) (x : ObjectValue) → object_held one name ≡ Some x
     → (y : ObjectValue) × (object_held other name ≡ Some y)
 both_held [] other labels name x at = absurd (cc)
@@ -85,7 +85,7 @@ nothing_forgotten before after up labels stays =
     kept (Some x) (Some y) h = grind (arith, cases_Bool (is_virtual_object x))
     kept o p h = grind arith
 
--- what an object becomes that is found to be this, if a node writes it
+-- the value at the start of an object with this resolved operand, if a node writes it
 abbrev pub begun_if : Bool → ObjectValue → Operand → ObjectValue
 begun_if written object operand = if written then begun_as object operand else object
 

@@ -1,4 +1,4 @@
--- The names that several proofs cite, passed on from one place. Declares nothing.
+-- Names that several proofs use. Declares nothing.
 pub use Rattle.buffer_plan.specs.Lives.{is_used}
 pub use Rattle.buffer_plan.specs.Places.{told}
 pub use Rattle.buffer_plan.specs.Plan.{IsPlan, PlanValue}

@@ -1,4 +1,4 @@
--- What the cells of nodes hold in a table, and what it is to the nodes.
+-- The objects that nodes name in a table, as operands.
 use Rattle.std.proofs.Common.{◌≡◌, ℕ, ◌<◌, ◌+◌, List, [], ◌∷◌, ◌++◌, map, length, take, get_or, Option, Some, None, IsTrue, ap, subst, arith, IfSome, unwrap_or, All, Result, Ok, Err, IfErr, option_map, option_and_then}
 use Rattle.graph_run.proofs.Common.{map-append, take_more, All-push, All-head, All-tail, Kind, Node, Numbered, Cell, parameters, operands, second_kind, ObjectValue, in_slot, Named, object_held, All-from_map, Operand, Delay, Verified, linked_nodes, AreOperands, operand_of, operands_of, is_image, verdict, operand_held}
 use Rattle.vx_base.specs.declared.kind.Kind.TheVariants as kind
@@ -7,9 +7,9 @@ use Rattle.graph_verify.specs.declared.linked.Linked.{Linked}
 use Rattle.graph_verify.specs.declared.verified.VerifyFault.{VerifyFault}
 use Rattle.graph_verify.specs.Verified.{IfRefused}
 
--- ---- what a cell is to a node
+-- ---- the operand of a reference
 
--- what is found under its name, or not
+-- the object under its name, if there is one
 pub operand_nowhere : (objects : List Named) (cell : Cell) → None ≡ object_held objects cell.name → Delay ≡ operand_held objects cell
 operand_nowhere objects cell none = ap (λ o. unwrap_or (option_map operand_of (option_and_then (in_slot cell.slot) o)) Delay) none
 
@@ -18,7 +18,7 @@ pub operand_there : (objects : List Named) (cell : Cell) (object : ObjectValue) 
     → operand ≡ operand_held objects cell
 operand_there objects cell object found operand is in_it as_it = grind arith
 
--- ---- nodes beside what their cells are
+-- ---- nodes with their operands
 
 -- one node more
 pub linked_more : (is : Cell → Operand) (nodes : List Numbered) (i : ℕ) (numbered : Numbered) (done new : List Linked) (l : Linked) → i < length nodes → numbered ≡ get_or nodes i numbered
@@ -32,14 +32,14 @@ pub images_are : (is : Cell → Operand) (linked : List Linked) → AreOperands 
     → All (λ l. IsTrue (is_image l.operands.in1)) linked
 images_are is linked operands images k d below = grind (arith, All-from_map (λ n. IsTrue (is_image (is n.in1))) (λ (l : Linked). l.node) linked images k d below)
 
--- why these nodes can't run
+-- the verdict on these nodes
 pub refused_is : (is : Cell → Operand) (linked : List Linked) (nodes : List Node) (work : ℕ) (result : Result Verified VerifyFault) → linked_nodes linked ≡ nodes
     → AreOperands is linked → IfErr result (λ fault. (other : Cell → Operand) → AreOperands other linked → IfRefused fault (λ v. verdict work other (linked_nodes linked) ≡ Some v))
     → IfErr result (λ fault. IfRefused fault (λ v. verdict work is nodes ≡ Some v))
 refused_is is linked nodes work (Ok v) same operands said = tt
 refused_is is linked nodes work (Err fault) same operands said = subst (λ ns. IfRefused fault (λ v. verdict work is ns ≡ Some v)) same (said is operands)
 
--- what holds of a node's operands, each beside the kind that its function has there
+-- a property of a node's operands, each with the kind that its function has there
 pub record OfOperands (P : Cell × Kind → Type 0) (n : Node) : Type 0 where
   pub in1 : P (n.in1, kind.Image)
   pub in2 : IfSome n.in2 (λ cell. P (cell, second_kind n))

@@ -1,9 +1,9 @@
--- What cells hold after objects are written to some of them.
+-- Objects after some of them are written.
 use Rattle.std.proofs.Common.{◌≡◌, ℕ, Bool, true, false, ◌&&◌, if◌then◌else◌, eqb, List, [], ◌∷◌, ◌++◌, map, refl, ap, ◌∙◌, Option, Some, None, arith, rules, option_map, option_and_then, eqb-true}
 use Rattle.graph_run.proofs.Common.{cases_Bool, Cell, same_slot, same_cell, ObjectValue, object_kind, in_slot, with_slot, Named, object_held, held, with_object, with_written, with_slot_there, with_slot_beside, In, form_of, form_held, label_of, same_cell-true, option_or}
 use Rattle.graph_run.proofs.ObjectLaws.{is_delay, shown, form-shown}
 
--- what is seen of what a cell holds
+-- the value of the object that a reference names
 abbrev pub seen : List Named → Cell → Option ObjectValue
 seen objects cell = option_map shown (held objects cell)
 
@@ -26,7 +26,7 @@ kind-form_seen x = grind arith
 
 -- ---- an object that is written
 
--- it is one of the form that the cell holds, and no delay as a whole
+-- it has the form of the old object, and isn't a whole delay
 pub record IsWrite (objects : List Named) (cell : Cell) (object : ObjectValue) : Type 0 where
   pub form : form_held objects cell ≡ Some (form_of object)
   pub whole : is_delay object ≡ false
@@ -47,7 +47,7 @@ seen_written k j false new (Some x) f d = refl
 seen_written k j true new None f d = let g = f refl in absurd (cc g)
 seen_written k j true new (Some x) f d = slot_written k j new x (f refl) d
 
--- what is written stands in its cell, and what is seen of others stays
+-- the written object has the new value, and the values of others stay
 pub seen-with_object : (objects : List Named) (cell : Cell) (new : ObjectValue) → IsWrite objects cell new → (c : Cell)
     → seen (with_object objects cell new) c ≡ (if same_cell c cell then Some (shown new) else seen objects c)
 seen-with_object objects cell new is c =
@@ -83,7 +83,7 @@ one_more : (last old : Option ObjectValue) (new : ObjectValue) (same : Bool)
     → option_or (option_map shown last) (if same then Some (shown new) else old) ≡ option_or (option_map shown (option_or last (if same then Some new else None))) old
 one_more x old new same = grind arith
 
--- of each cell the last object that was written to it is seen, or where there is none what it held
+-- each object has the last value that was written to it, or its old value if there is none
 pub seen-with_written : (ws : List (Cell × ObjectValue)) (objects : List Named) → AreWrites objects ws → (c : Cell)
     → seen (with_written objects ws) c ≡ option_or (option_map shown (last_to c ws)) (seen objects c)
 seen-with_written [] objects are c = refl

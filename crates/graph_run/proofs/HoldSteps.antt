@@ -1,4 +1,4 @@
--- Blocks for the slots of a plan have room for the bands of the images in them.
+-- Blocks for the slots of a plan are large enough for the bands of their images.
 use Rattle.std.proofs.Common.{◌≡◌, ℕ, zero, suc, ◌+◌, ◌<◌, ◌≤◌, ◌==◌, List, [], ◌∷◌, length, map, get_or, max, None, Some, true, slice_get, refl, sym, ap, subst, ◌∙◌, arith, unwrap_or, eq-eqb, if◌then◌else◌}
 use Rattle.std.proofs.lemmas.List.{get_or-map, length-map}
 use Rattle.std.proofs.lemmas.Option.{get_or_from_slice_get, slice_get_within}

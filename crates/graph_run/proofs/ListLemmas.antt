@@ -1,4 +1,4 @@
--- Lists of tasks and slots, an item more at a time.
+-- Lists of tasks and slots that grow by one item.
 use Rattle.std.proofs.Common.{◌≡◌, ℕ, ◌+◌, ◌<◌, List, [], ◌∷◌, ◌++◌, length, take, drop, get_or, Some, sym, ap, ◌∙◌, arith, ◌==◌, if◌then◌else◌, length-take}
 use Rattle.std.proofs.lemmas.List.{drop_more}
 use Rattle.graph_run.proofs.Common.{take_more}

@@ -1,4 +1,4 @@
--- Objects under the same names and labels, of which the same is seen at each cell, are the same.
+-- Lists of objects are equal if they have the same names and labels and the same value for each reference.
 use Rattle.std.proofs.Common.{◌≡◌, ℕ, suc, ◌<◌, Bool, true, false, eqb, List, [], ◌∷◌, length, map, get_or, refl, sym, ap, subst, ◌∙◌, inl, inr, Option, Some, None, arith, slice_get, option_map, option_and_then, eqb-true, eq-eqb, ne_eqb}
 use Rattle.graph_run.proofs.Common.{AllPairs, cases_Bool, Cell, ImageValue, ObjectValue, ImageObject, DelayObject, in_slot, Named, object_held, label_of}
 use Rattle.graph_run.proofs.ObjectLaws.{is_delay, shown, shown_whole, is_delay-shown}
@@ -22,7 +22,7 @@ image_seen o p h = grind arith
 unshown : (o p : Option ImageValue) → option_map shown (option_map ImageObject o) ≡ option_map shown (option_map ImageObject p) → option_map ImageObject o ≡ option_map ImageObject p
 unshown o p h = grind arith
 
--- what an object shows in its own name and in each slot makes the object
+-- an object is determined by its own value and those of its slots
 from_shown : (x y : ObjectValue) → shown x ≡ shown y → ((k : ℕ) → option_map shown (in_slot (Some k) x) ≡ option_map shown (in_slot (Some k) y)) → x ≡ y
 from_shown (DelayObject xs) (DelayObject ys) h each = ap DelayObject (same_at_each xs ys (λ k. image_seen (slice_get xs k) (slice_get ys k) (unshown (slice_get xs k) (slice_get ys k) (each k))))
 from_shown (DelayObject xs) y h each = absurd (cc h)
@@ -68,7 +68,7 @@ under_own o objects = let e : eqb o.name o.name ≡ true = eq-eqb o.name o.name 
 under_other : (o : Named) (objects : List Named) (name : ℕ) → eqb o.name name ≡ false → object_held (o ∷ objects) name ≡ object_held objects name
 under_other o objects name e = rw e refl
 
--- a name that stands in front stands nowhere behind
+-- the first name doesn't occur again
 absent_both : (old new : List Named) (name : ℕ) → Above name (map label_of old) → map label_of old ≡ map label_of new → object_held old name ≡ object_held new name
 absent_both old new name above labels = absent old name above ∙ sym (absent new name (subst (λ z. Above name z) labels above))
 
@@ -90,7 +90,7 @@ by_names (o ∷ old) (p ∷ new) up labels h =
       | inr e ↦ sym (under_other o old name e) ∙ h name ∙ under_other p new name (ap (λ z. eqb z name) (sym same) ∙ e)
     ]))
 
--- objects whose names increase are told by their labels and by what is seen at each cell
+-- objects with increasing names are determined by their labels and by the value for each reference
 pub same_objects : (old new : List Named) → Rising (map label_of old) → map label_of old ≡ map label_of new → ((c : Cell) → seen old c ≡ seen new c) → old ≡ new
 same_objects old new up labels h =
     by_names old new up labels

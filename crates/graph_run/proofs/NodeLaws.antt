@@ -1,39 +1,39 @@
--- What a node writes, cell by cell.
+-- The values that a node writes, object by object.
 use Rattle.std.proofs.Common.{◌≡◌, ◌≢◌, Bool, true, false, ◌||◌, if◌then◌else◌, List, [], ◌∷◌, refl, sym, ap, ◌∙◌, inl, inr, Option, Some, None, arith, option_map, option_and_then, ◌⊎◌}
 use Rattle.graph_run.proofs.Common.{cases_Bool, or_left, or_right, or_parts, Node, Output, First, Second, Cell, same_cell, outputs, ObjectValue, object_kind, node_output, written_to, written_in, written_from, Named, held, In, writes, has_twice, kind_in, form_of, form_held, In-append, same_cell-true, option_or}
 use Rattle.vx_base.specs.declared.kind.Kind.TheVariants as kind
 use Rattle.graph_run.proofs.ObjectLaws.{is_delay, shown, is_delay-form, not_delay, form-node_output}
 use Rattle.graph_run.proofs.HeldLaws.{IsWrite, AreWrites, last_to, last_to-append, or_assoc}
 
--- ---- what a node gives to a cell
+-- ---- the value that a node gives an object
 
 -- an operand is this cell
 abbrev pub is_cell : Option Cell → Cell → Bool
 is_cell None c = false
 is_cell (Some d) c = same_cell c d
 
--- the output that a cell is
+-- the output that a reference names
 abbrev pub output_at : Node → Cell → Output
 output_at n c = if is_cell n.out2 c then Second else First
 
--- what an output becomes, where the node's cells hold anything: from what it held at first; else it stays as it is now
+-- the new value of an output, computed from its first value if the node's objects exist; otherwise it stays as it is now
 abbrev pub output_of : Node → Output → Option ObjectValue → Option ObjectValue → Option ObjectValue → Option ObjectValue → Option ObjectValue
 output_of n output (Some first) second (Some old) now = Some (node_output n output first second old)
 output_of n output first second old now = now
 
--- what a node gives to a cell that held `old` and holds `now`, where the cells hold these objects
+-- the value that a node gives an object that was `old` at first and is `now`
 abbrev pub given_to : Node → (Cell → Option ObjectValue) → Cell → Option ObjectValue → Option ObjectValue → Option ObjectValue
 given_to n held c old now = output_of n (output_at n c) (held n.in1) (option_and_then held n.in2) old now
 
--- and to a cell that holds what it holds among these, and held what it held at first
+-- the same for an object with its values among the first and the present objects
 abbrev pub given_from : (Cell → Option ObjectValue) → Node → (Cell → Option ObjectValue) → Cell → Option ObjectValue
 given_from start n held c = given_to n held c (start c) (held c)
 
--- the same where that is what it holds
+-- the same if `now` is its present value
 abbrev pub given_in : Node → (Cell → Option ObjectValue) → Cell → Option ObjectValue
 given_in n held c = given_from held n held c
 
--- where nothing is given, nothing was before
+-- if no value is given, the object didn't exist
 pub output_of_again : (n : Node) (output : Output) (first before second other old : Option ObjectValue) → option_map object_kind before ≡ option_map object_kind first
     → output_of n output first second old (output_of n output before other old old) ≡ output_of n output first second old old
 output_of_again n output first before second other old same = grind arith
@@ -45,7 +45,7 @@ shown-output_of n output first second old now = grind arith
 shown-and_then : (held : Cell → Option ObjectValue) (o : Option Cell) → option_map shown (option_and_then held o) ≡ option_and_then (λ d. option_map shown (held d)) o
 shown-and_then held y = grind arith
 
--- nothing that is hidden of delays counts
+-- the images of a delay, seen as a whole, don't matter
 pub shown-given_to : (n : Node) (held : Cell → Option ObjectValue) (c : Cell) (old now : Option ObjectValue)
     → option_map shown (given_to n held c old now) ≡ given_to n (λ d. option_map shown (held d)) c (option_map shown old) (option_map shown now)
 shown-given_to n held c old now = grind (arith, shown-output_of n (output_at n c) (held n.in1) (option_and_then held n.in2) old now, shown-and_then held n.in2)
@@ -58,7 +58,7 @@ shown-given_from start n held c = shown-given_to n held c (start c) (held c)
 pub form-output_of : (n : Node) (output : Output) (first second old now : Option ObjectValue) → option_map form_of now ≡ option_map form_of old → option_map form_of (output_of n output first second old now) ≡ option_map form_of old
 form-output_of n output first second old now h = grind arith
 
--- ---- the list of what a node writes
+-- ---- the list of values that a node writes
 
 pub writes-outputs : (n : Node) (c : Cell) → writes n c ≡ (is_cell n.out1 c || is_cell n.out2 c)
 writes-outputs n c = grind arith
@@ -71,7 +71,7 @@ last_there : (n : Node) (output : Output) (o : Option Cell) (start held : Cell �
 last_there n output None start held c h = absurd (cc h)
 last_there n output (Some d) start held c h = ap (λ z. last_to c (written_to n output z (held n.in1) (option_and_then held n.in2) (start z))) (sym (same_cell-true c d h))
 
--- it stands over what is held, and over what another output of the node gave
+-- it replaces the old value, and a value that another output of the node gave
 over_old : (n : Node) (output : Output) (c : Cell) (first second old now : Option ObjectValue) → option_or (last_to c (written_to n output c first second old)) now ≡ output_of n output first second old now
 over_old n output c u second old now = grind arith
 
@@ -79,19 +79,19 @@ over_other : (n : Node) (output other : Output) (c : Cell) (first second old now
     → option_or (last_to c (written_to n output c first second old)) (output_of n other first second old now) ≡ output_of n output first second old now
 over_other n output other c v second old now = grind arith
 
--- what is written last to a cell is what the node gives it
+-- the last value written to an object is the one that the node gives it
 pub last_written : (start : Cell → Option ObjectValue) (n : Node) (held : Cell → Option ObjectValue) (c : Cell)
     → option_or (last_to c (written_from start n held)) (held c) ≡ (if writes n c then given_from start n held c else held c)
 last_written start n held c =
     grind (arith, last_to-append c (written_in n First n.out1 start held) (written_in n Second n.out2 start held), or_assoc (last_to c (written_in n Second n.out2 start held)) (last_to c (written_in n First n.out1 start held)) (held c), last_to c (written_in n Second n.out2 start held), last_to c (written_in n First n.out1 start held), writes-outputs n c, cases_Bool (is_cell n.out1 c), cases_Bool (is_cell n.out2 c), over_old n First c (held n.in1) (option_and_then held n.in2) (start c) (held c), over_other n Second First c (held n.in1) (option_and_then held n.in2) (start c) (held c), over_old n Second c (held n.in1) (option_and_then held n.in2) (start c) (held c), last_to-append, or_assoc, last_to, writes-outputs, cases_Bool, last_there, over_old, over_other, last_beside)
 
--- nothing is written to other cells
+-- no other objects are written
 pub last_elsewhere : (start : Cell → Option ObjectValue) (n : Node) (held : Cell → Option ObjectValue) (c : Cell) → writes n c ≡ false → last_to c (written_from start n held) ≡ None
 last_elsewhere start n held c h = grind (arith, or_parts, writes-outputs, last_to-append)
 
--- ---- what stands in the list
+-- ---- members of the list
 
--- it is given to an output that was held, of a first input that is held
+-- each is given to an output that existed, from a first input that exists
 pub record IsGiven (n : Node) (output : Output) (o : Option Cell) (start held : Cell → Option ObjectValue) (c : Cell) (object : ObjectValue) : Type 0 where
   pub first : ObjectValue
   pub out : ObjectValue
@@ -110,13 +110,13 @@ first_written n c e = writes-outputs n c ∙ or_left (is_cell n.out1 c) (is_cell
 second_written : (n : Node) (c : Cell) → is_cell n.out2 c ≡ true → writes n c ≡ true
 second_written n c e = writes-outputs n c ∙ or_right (is_cell n.out1 c) (is_cell n.out2 c) e
 
--- what is written was held
+-- an object that is written existed
 pub written_held : (start : Cell → Option ObjectValue) (n : Node) (held : Cell → Option ObjectValue) (w : Cell × ObjectValue) → In w (written_from start n held)
     → (writes n w.0 ≡ true) × ((out : ObjectValue) × (start w.0 ≡ Some out))
 written_held start n held w i =
     elim (given_cases start n held w i) [ inl g ↦ (first_written n w.0 g.there, (g.out, g.old)) | inr g ↦ (second_written n w.0 g.there, (g.out, g.old)) ]
 
--- it has the form of what was held
+-- it keeps its form
 write_is : (start objects : List Named) (n : Node) (output : Output) (o : Option Cell) (c : Cell) (object : ObjectValue) → form_held objects c ≡ form_held start c → kind_in objects c ≢ Some kind.Delay
     → IsGiven n output o (held start) (held objects) c object → IsWrite objects c object
 write_is start objects n output o c object forms whole g = grind (arith, form-node_output, is_delay, not_delay, is_delay-form)
@@ -129,9 +129,9 @@ AreWrites-written start objects n forms whole w i =
       | inr g ↦ write_is start objects n Second n.out2 w.0 w.1 (forms w.0) (whole w.0 (second_written n w.0 g.there)) g
     ]
 
--- ---- cells that hold what a node gives them
+-- ---- objects with the values that a node gives them
 
--- where each output holds what the node gives it, all that the node writes is held
+-- if each output has the value that the node gives it, all written values are there
 pub given_holds : (start : Cell → Option ObjectValue) (n : Node) (held : Cell → Option ObjectValue) → has_twice (outputs n) ≡ false → ((c : Cell) → writes n c ≡ true → held c ≡ given_from start n held c)
     → (w : Cell × ObjectValue) → In w (written_from start n held) → held w.0 ≡ Some w.1
 given_holds start n held once h w i = grind (arith, given_cases start n held w i)
@@ -141,7 +141,7 @@ held_last held c [] h = refl
 held_last held c (w ∷ ws) h =
     grind (arith, or_assoc (last_to c ws) (if same_cell c w.0 then Some w.1 else None) (held c), held_last held c ws (λ v i. h v (inr i)), cases_Bool (same_cell c w.0), same_cell-true c w.0, h w (inl refl))
 
--- where all that a node writes is held, each output holds what the node gives it
+-- if all written values are there, each output has the value that the node gives it
 pub holds_given : (start : Cell → Option ObjectValue) (n : Node) (held : Cell → Option ObjectValue) → ((w : Cell × ObjectValue) → In w (written_from start n held) → held w.0 ≡ Some w.1)
     → (c : Cell) → writes n c ≡ true → held c ≡ given_from start n held c
 holds_given start n held h c e = sym (held_last held c (written_from start n held) h) ∙ last_written start n held c ∙ rw e refl

@@ -1,4 +1,4 @@
--- What of objects is kept as nodes write: kinds, formats and bins.
+-- The parts of objects that nodes don't change: kinds, formats and bins.
 use Rattle.std.proofs.Common.{arith, ◌≡◌, ◌≢◌, Bool, true, false, [], Option}
 use Rattle.graph_run.proofs.Common.{Node, Output, ObjectValue, DelayObject, object_kind, node_output, form_of}
 use Rattle.vx_base.specs.declared.kind.Kind.TheVariants as kind
@@ -9,7 +9,7 @@ abbrev pub is_delay : ObjectValue → Bool
 is_delay (DelayObject images) = true
 is_delay other = false
 
--- what is seen of an object in its own name: of a delay no image, since each has a cell of its own
+-- the value of an object as a whole: a delay's images are left out, since each has a reference of its own
 abbrev pub shown : ObjectValue → ObjectValue
 shown (DelayObject images) = DelayObject []
 shown other = other
@@ -29,7 +29,7 @@ form-shown other = grind arith
 pub not_delay : (x : ObjectValue) → object_kind x ≢ kind.Delay → is_delay x ≡ false
 not_delay other h = grind arith
 
--- ---- what a node gives
+-- ---- the results of a node
 
 -- an output keeps its form
 pub form-node_output : (n : Node) (output : Output) (first : ObjectValue) (second : Option ObjectValue) (out : ObjectValue) → form_of (node_output n output first second out) ≡ form_of out

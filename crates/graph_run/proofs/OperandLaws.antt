@@ -1,4 +1,4 @@
--- What cells hold, as operands: as a graph begins to run, and as its nodes write.
+-- Objects as operands: when a graph begins to run, and while its nodes write.
 use Rattle.std.proofs.Common.{◌≡◌, ◌≢◌, ℕ, Bool, true, false, List, map, refl, sym, ap, subst, ◌∙◌, inl, inr, Option, Some, None, arith, ◌||◌, not, if◌then◌else◌, option_to_list, option_map, option_and_then}
 use Rattle.graph_run.proofs.Common.{list_all, cases_Bool, or_cases, or_left, or_parts, or_right, Format, Function, Node, Output, VirtualImage, Cell, Description, parameters, accumulates, ImageValue, description_of, inputs, outputs, ObjectValue, VirtualObject, object_kind, node_image, node_output, written_by, in_slot, Named, object_held, held, with_written, skeleton, Operand, Image, Operands, writes, is_written, In, operand_of, operand_kind, operand_format, are_of_one_size, is_virtual, operands_of, outlines, resolved, writes_twice, reads_own_output, node_fault, verdict_on, In-from_same, In-from_any, any-from_In, fails-from_In, In-map, In-right, runs_alone, CanRun, begun, HoldsOperand, names_cell, CellsStand, WritesNo}
 use Rattle.graph_verify.specs.Links.{reads}
@@ -28,7 +28,7 @@ virtual_there x y declared e = grind arith
 pub outline_of_virtual : (operand : Operand) → is_virtual operand ≡ true → (declared : Outline) × (operand ≡ Virtual declared)
 outline_of_virtual operand h = grind arith
 
--- what isn't virtual is what it was found to be
+-- an object that isn't virtual is as it was resolved
 pub known_kept : (operand : Operand) (known : Outline) → is_virtual operand ≡ false → as_known operand known ≡ operand
 known_kept operand known h = grind arith
 
@@ -58,11 +58,11 @@ module _ (work : ℕ) (is : Cell → Operand) (nodes : List Node) (can : CanRun 
       described outline None k =
           absurd (written_described n.function (operands_of known n) image (no_fault n known (runs_alone work is nodes n can i)) (known c) (written_operand known n c w) (ap operand_format k))
 
-  -- a node has no loose end
+  -- a node reads no unwritten virtual image
   ends_met : (n : Node) → In n nodes → (reads_loose is nodes n ≡ false) × (adds_to_virtual is n ≡ false)
   ends_met n i = or_parts (reads_loose is nodes n) (adds_to_virtual is n) (fails-from_In (λ m. reads_loose is nodes m || adds_to_virtual is m) n nodes can.no_loose_end i)
 
-  -- what is virtual isn't added to
+  -- no node accumulates into a virtual image
   pub adds_to_none : (n : Node) (c : Cell) → In n nodes → writes n c ≡ true → is_virtual (is c) ≡ true → accumulates n.function ≡ false
   adds_to_none n c i w v = grind (arith, In-from_same c (outputs n) w, ends_met n i)
 
@@ -125,7 +125,7 @@ module _ (work : ℕ) (is : Cell → Operand) (nodes : List Node) (can : CanRun 
 
 -- ---- as nodes write
 
--- an operand is told by the skeleton
+-- an operand depends only on the skeleton of the object
 pub operand-skeleton : (x : ObjectValue) → operand_of (skeleton x) ≡ operand_of x
 operand-skeleton x = grind arith
 

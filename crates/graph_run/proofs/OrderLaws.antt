@@ -1,4 +1,4 @@
--- Running the nodes once, in an order, gives what the rounds give.
+-- Running the nodes once, in order, gives the result of the rounds.
 use Rattle.std.proofs.Common.{◌≡◌, ◌<◌, false, List, length, map, sym, ap, subst, ◌∙◌, Option}
 use Rattle.graph_run.proofs.Common.{AllPairs, Node, Cell, ObjectValue, Named, feeds, IsOrder, two_writers, one_writer, two_writers-permutation, rounds_of_nodes, one_by_one, WritesNo, label_of}
 use Rattle.vx_base.specs.declared.kind.Kind.TheVariants as kind

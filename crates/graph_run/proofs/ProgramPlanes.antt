@@ -1,4 +1,4 @@
--- The planes of a graph and the tables beside them: what its operands were found to be. Its steps suit them.
+-- The planes and tables of a graph match its resolved operands, so its steps can run on them.
 use Rattle.std.proofs.Common.{◌≡◌, ◌≢◌, ℕ, zero, suc, ◌+◌, ◌-◌, ◌<◌, ◌≤◌, false, List, [], ◌∷◌, length, map, get_or, Option, Some, None, IfSome, All, refl, sym, ap, subst, ◌∙◌, inl, inr, arith, option_map, option_and_then, slice_get, unwrap_or}
 use Rattle.std.proofs.lemmas.List.{get_or-append_right, get_or-map, length-append, length-map}
 use Rattle.std.proofs.lemmas.Option.{get_or_from_slice_get, slice_get_within}
@@ -31,7 +31,7 @@ use Rattle.graph_run.proofs.VerifiedLemmas.{named_by_input, output_known}
 
 -- ---- tables
 
--- what a function gives of the item at an index
+-- the value of a function at the item with an index
 read_at : {X : Type 0} {Y : Type 0} (f : X → Option Y) (xs : List X) (k : ℕ) → option_and_then f (slice_get xs k) ≡ get_or (map f xs) k None
 read_at f [] k = grind arith
 read_at f (x ∷ xs) zero = grind arith
@@ -55,7 +55,7 @@ in_image_given k c cell e i = subst (λ (x : Kind). In c (image_given x cell)) (
 no_matrix : (found : Option ObjectValue) (operand : Operand) → option_map operand_of found ≡ Some operand → StandsFor operand kind.Image → None ≡ matrix_in found
 no_matrix found operand e stands = grind arith
 
--- what isn't an image stands for itself
+-- a virtual image can be used only where an image is wanted
 real_operand : (operand : Operand) (wanted : Kind) → wanted ≢ kind.Image → StandsFor operand wanted → is_virtual operand ≡ false
 real_operand operand wanted other stands = grind arith
 

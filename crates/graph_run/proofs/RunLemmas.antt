@@ -1,4 +1,4 @@
--- Nodes on what their cells hold, and what they write.
+-- Single nodes: the objects that they read and write.
 use Rattle.std.proofs.Common.{◌≡◌, ◌≢◌, Bool, true, false, List, [], ◌∷◌, ◌++◌, Option, Some, None, refl, sym, ap, subst, ◌∙◌, arith, rules, All, ◌&&◌, is_some, is_none, unwrap_or, if◌then◌else◌, IfSome, option_to_list, option_map, option_and_then, eq-eqb}
 use Rattle.graph_run.proofs.Common.{list_any, list_all, IsStrictlyIncreasing, list_any-append, and_parts, or_parts, Function, Output, First, Second, Kind, Node, Cell, same_cell, parameters, accumulates, ImageValue, IsImage, IsNode, is_node, given, outputs, second_kind, ObjectValue, ImageObject, IsObject, object_kind, object_format, DistributionObject, node_image, beside_first, node_output, written_in, written_by, SecondHasSize, Operands, has_twice, operand_of, operands_of, operand_format, are_of_one_size, writes_twice, reads_own_output, node_fault, Named, held, with_object, with_written, cell_object, names_of, held_is, lasting, Lasts, operand_held, Holds, AreApart, RunsOn, RunsTo, with_output, HoldsKind, CanRunNow, node_image_is, accumulated_image_is}
 use Rattle.graph_run.specs.Steps.{output_of}
@@ -14,11 +14,11 @@ use Rattle.graph_run.proofs.OperandLaws.{no_delay_written}
 
 -- ---- cells
 
--- two cells that aren't one are apart
+-- two references that differ can be written independently
 apart : (objects : List Named) (a b : Cell) (k l : Kind) → k ≢ kind.Delay → l ≢ kind.Delay → HoldsKind objects (a, k) → HoldsKind objects (b, l) → same_cell a b ≡ false → AreApart a b
 apart objects a b k l no_k no_l h i differ names = grind (arith, eq-eqb a.name b.name names)
 
--- ---- what a node's function has
+-- ---- the operands of a function
 
 -- no function reads a delay as a whole
 pub second_no_delay : (function : Function) → unwrap_or (parameters function).second_input kind.Image ≢ kind.Delay
@@ -39,7 +39,7 @@ same_formats x = grind arith
 object_fits : (a : ImageValue) (object : ObjectValue) → are_of_one_size (operand_of (ImageObject a)) (operand_of object) ≡ true → SecondHasSize a (Some object)
 object_fits a other e = grind arith
 
--- the cells of two lists, none of which a second input is
+-- references in two lists, none of which is a second input
 in2_reads : (cell : Option Cell) (xs ys : List Cell) → list_any (λ a. list_any (same_cell a) (xs ++ ys)) (given cell) ≡ false
     → (list_any (λ a. list_any (same_cell a) xs) (given cell) ≡ false) × (list_any (λ a. list_any (same_cell a) ys) (given cell) ≡ false)
 in2_reads cell xs ys e = grind (arith, or_parts, list_any-append)
@@ -53,7 +53,7 @@ with_written-append objects (w ∷ written) others = with_written-append (with_o
 pub apart_back : (p q : Cell) → AreApart p q → AreApart q p
 apart_back p q h e = grind arith
 
--- what a node would write stays where another output of it is written
+-- the values that a node writes don't depend on its other output
 module _ (l : List Named) (n : Node) (one other : Cell) (x : ObjectValue) (h : RunsTo l n other) (in1 : AreApart n.in1 one) (in2 : IfSome n.in2 (λ q. AreApart q one)) (out : AreApart other one) where
   abbrev after : List Named
   after = with_object l one x
@@ -64,7 +64,7 @@ module _ (l : List Named) (n : Node) (one other : Cell) (x : ObjectValue) (h : R
   pub output_beside : (which : Output) → output_of after n which other ≡ output_of l n which other
   output_beside which = grind (arith, object_beside l one n.in1 x in1, object_if_beside l one n.in2 x in2, object_beside l one other x out)
 
--- what cells hold, as operands
+-- objects as operands
 abbrev operands_there : List Named → Node → Operands
 operands_there objects n =
     record {
@@ -81,12 +81,12 @@ module _ (n : Node) where
       → RunsOn n first second out
   runs_on node other second out h i is_first is_second is_out k suits sizes = grind (arith, object_fits)
 
-  -- a second input is what the function has there
+  -- a second input has the kind that the function reads
   second_wanted : (objects : List Named) (cell : Option Cell) (s : Option Kind) → (if is_some s then is_some cell else is_none cell) ≡ true → IfSome cell (λ c. HoldsKind objects (c, unwrap_or s kind.Image))
       → IfSome (option_map (cell_object objects) cell) (λ object. s ≡ Some (object_kind object))
   second_wanted objects y s has h = grind arith
 
-  -- what a node reads and writes, where its cells hold what its function has there
+  -- the objects that a node reads and writes, if they have the kinds of its function
   module _ (objects : List Named) (are : All (λ o. IsObject o.object) objects) (can : CanRunNow objects n) where
     h : OfOperands (HoldsKind objects) n
     h = of_operands (HoldsKind objects) n can.kinds
@@ -175,7 +175,7 @@ module _ (n : Node) where
     second_held : (cell : Option Cell) (k : Kind) → IfSome cell (λ c. HoldsKind objects (c, k)) → option_and_then (held objects) cell ≡ option_map (cell_object objects) cell
     second_held z0 k s = grind arith
 
-    -- one of the outputs is written, where perhaps the other is written already
+    -- one of the outputs is written; the other may be written already
     written_one : (l : List Named) (which : Output) (cell : Option Cell) → IfSome cell (λ c. HoldsKind objects (c, wanted)) → IfSome cell (λ c. output_of l n which c ≡ output_of objects n which c)
         → with_written l (written_in n which cell (held objects) (held objects)) ≡ with_output l n which cell
     written_one l which z2 s same = grind (arith, holds_there objects (n.in1, kind.Image) h.in1, second_held n.in2 (second_kind n) h.in2)
@@ -188,18 +188,18 @@ module _ (n : Node) where
     same_second (Some a) (Some b) r s e = output_beside objects n a b (output_of objects n First a) s r.in1_apart r.in2_apart e Second
     same_second x y r s e = grind arith
 
-    -- what the node writes is what its outputs become
+    -- the written values are those of the outputs
     pub written_is : with_written objects (written_by n (held objects)) ≡ with_output (with_output objects n First n.out1) n Second n.out2
     written_is =
         grind (arith, with_written-append objects (written_in n First n.out1 (held objects) (held objects)) (written_in n Second n.out2 (held objects) (held objects)), written_one objects First n.out1 h.out1 (same_first n.out1), same_first n.out1, written_one (with_output objects n First n.out1) Second n.out2 h.out2 (same_second n.out1 n.out2 runs_first runs_second two_outputs), same_second n.out1 n.out2 runs_first runs_second two_outputs)
 
--- ---- what is written is an object
+-- ---- written values are objects
 
--- an image, of which as much lasts as of another
+-- an image with the lasting parts of another
 abbrev LastsAs : ImageValue → ImageValue → Type 0
 LastsAs old image = IsImage image × (lasting (ImageObject image) ≡ lasting (ImageObject old))
 
--- an output becomes an object, of which as much lasts
+-- the new value of an output is an object with the same lasting parts
 output_lasts : (n : Node) (which : Output) (first : ObjectValue) (second : Option ObjectValue) (out : ObjectValue) → RunsOn n first second out
     → IsObject (node_output n which first second out) × (lasting (node_output n which first second out) ≡ lasting out)
 output_lasts n which (ImageObject a) second (ImageObject old) runs = each (accumulates n.function) refl
@@ -220,7 +220,7 @@ Lasts-with_output l n which (Some output) names are runs =
     Lasts-with_object l (output, output_of l n which output)
     (record { is_object = made.0; lasts = ap (option_map lasting) (there_is l output runs.out) ∙ ap Some (sym made.1) }) names are
 
--- so do the objects once a node has run
+-- the same for all objects after a node has run
 pub Lasts-outputs : (n : Node) (l : List Named) → All (λ o. IsObject o.object) l → CanRunNow l n → IsStrictlyIncreasing (names_of l) → Lasts l (with_output (with_output l n First n.out1) n Second n.out2)
 Lasts-outputs n l are can names =
     let between = with_output l n First n.out1 in

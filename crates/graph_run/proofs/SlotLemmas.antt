@@ -1,4 +1,4 @@
--- Slots of a plan: where they stand, and what they have room for.
+-- Slots of a plan: their indices and sizes.
 use Rattle.std.proofs.Common.{◌≡◌, ℕ, ◌+◌, ◌<◌, ◌≤◌, List, [], ◌∷◌, ◌++◌, map, length, suc, Option, Some, None, inl, inr, refl, sym, ap, subst, ◌∙◌, arith, IfSome, slice_get, is_some, unwrap_or, eq-eqb, length-append}
 use Rattle.graph_run.proofs.Common.{range_with_len, list_any, nat_tests, length-map-range_with_len, slice_get-get_or, Format, Cell, same_cell, sample_count, same_format, VirtualOutput, Node, In, any-from_In, In-filter, In-map, IsPlan, PlanValue, slot_place, place_of, planned_rooms}
 use Rattle.std.specs.List.{filter}
@@ -8,7 +8,7 @@ use Rattle.buffer_plan.specs.Slots.{is_slot, greatest, IsValid}
 use Rattle.buffer_plan.proofs.PlanLemmas.{same_format-refl}
 use Rattle.graph_run.specs.Slots.{rooms_for}
 
--- ---- elements by place
+-- ---- elements by index
 
 module _ {X : Type 0} where
   get_left : (xs ys : List X) (k : ℕ) → k < length xs → slice_get (xs ++ ys) k ≡ slice_get xs k
@@ -25,7 +25,7 @@ module _ {X : Type 0} where
       slice_get-get_or (map f (range_with_len 0 n)) k (f k) (omega (arith, long, below))
       ∙ ap (λ x. Some x) (get_or-map-range_with_len f 0 n k k (f k) below (omega arith))
 
--- ---- where slots stand
+-- ---- the indices of slots
 
 module _ (p : PlanValue) where
   long : (format : Format) → length (rooms_for p format) ≡ p.slot_count format
@@ -34,12 +34,12 @@ module _ (p : PlanValue) where
   made_at : (format : Format) (k : ℕ) → k < p.slot_count format → slice_get (rooms_for p format) k ≡ Some (format, p.slot_samples format k)
   made_at format k below = get_made (λ j. let room : Format × ℕ = (format, p.slot_samples format j) in room) (p.slot_count format) k below
 
-  -- what a slot has room for
+  -- the size of a slot
   pub planned_at : (format : Format) (k : ℕ) → k < p.slot_count format
       → slice_get (planned_rooms p) (slot_place p format k) ≡ Some (format, p.slot_samples format k)
   planned_at z0 k below = grind (arith, get_left, long, length-append, made_at, get_right)
 
-  -- one slot stands at a place
+  -- an index belongs to one slot
   one_slot : (f g : Format) (j k : ℕ) → j < p.slot_count f → k < p.slot_count g → slot_place p f j ≡ slot_place p g k → (f ≡ g) × (j ≡ k)
   one_slot f g j k a b same = grind arith
 
@@ -50,14 +50,14 @@ below_greatest n [] i = absurd i
 below_greatest n (m ∷ ns) (inl same) = grind (arith, nat_tests)
 below_greatest n (m ∷ ns) (inr i) = grind (arith, nat_tests, below_greatest n ns i)
 
--- a slot of the image's format, with room for it
+-- a slot of the image's format that is large enough for it
 pub record HasSlot (p : PlanValue) (o : VirtualOutput) : Type 0 where
   pub slot : ℕ
   pub is : p.slot_of o.cell ≡ Some slot
   pub below : slot < p.slot_count o.desc.format
   pub room : sample_count o.desc ≤ p.slot_samples o.desc.format slot
 
--- slots as a plan has them, with room for each image, and maybe for more
+-- slots as in a plan that are large enough for each image
 pub record HasSlots (steps : List Node) (outs : List VirtualOutput) (p : PlanValue) : Type 0 where
   pub given : (cell : Cell) → is_some (p.slot_of cell) ≡ list_any (λ o. same_cell o.cell cell) outs
   pub valid : IsValid steps outs p.slot_of
@@ -88,6 +88,6 @@ module _ (steps : List Node) (outs : List VirtualOutput) (p : PlanValue) (plan :
   home_at : (o : VirtualOutput) (h : HasSlot p o) → place_of p o ≡ slot_place p o.desc.format h.slot
   home_at o h = ap (λ s. slot_place p o.desc.format (unwrap_or s 0)) h.is
 
-  -- images in one place have one slot
+  -- images at the same index share a slot
   pub one_home : (a b : VirtualOutput) → In a outs → In b outs → place_of p a ≡ place_of p b → (a.desc.format ≡ b.desc.format) × (p.slot_of a.cell ≡ p.slot_of b.cell)
   one_home a b i j same = grind (arith, has_slot, one_slot, home_at)

@@ -1,4 +1,4 @@
--- What the cells of a graph that is ready to run hold as it begins to run, and once it has run.
+-- The objects of a graph that is ready to run, at the start of a run and at its end.
 use Rattle.std.proofs.Common.{◌≡◌, ℕ, Bool, true, false, List, [], ◌∷◌, ◌++◌, map, refl, sym, ap, subst, ◌∙◌, inl, arith, All, Option, Some, None, option_map, option_and_then, if◌then◌else◌}
 use Rattle.graph_run.proofs.Common.{AllIn, AllIn-permutation, AllIn-permutation_back, CanRun, CanRunNow, Cell, CellsStand, Description, HoldsKind, Image, In, In-from_map, In-left, In-right, IsDescription, IsNode, IsObject, IsReady, IsStrictlyIncreasing, Kind, Lasts, Named, Node, ObjectValue, Operand, Solves, Verified, VirtualImage, VirtualObject, VirtualOutput, WritesNo, begun, begun_as, cell_of, held, held_by_name, in_slot, is_virtual, is_virtual_object, is_written, label_of, map-told, names_cell, names_of, object_held, one_by_one, operand_held, operand_of, operands, resolved, with_written, written_by}
 use Rattle.vx_base.specs.declared.kind.Kind.TheVariants as kind
@@ -97,7 +97,7 @@ module _ (objects : List Named) (nodes : List Node) (v : Verified) (h : IsReady 
 
   -- ---- the client's objects
 
-  -- of a client's object as much is there as the run begins as before
+  -- a client's object is at the start of the run as it was before
   pub first_real : (c : Cell) → ((x : ObjectValue) → object_held objects c.name ≡ Some x → is_virtual_object x ≡ false) → held first c ≡ held objects c
   first_real c real = ap (option_and_then (in_slot c.slot)) (object_held-begun known nodes objects c.name ∙ each (object_held objects c.name) real)
     where
@@ -109,7 +109,7 @@ module _ (objects : List Named) (nodes : List Node) (v : Verified) (h : IsReady 
   named_real n i c named real x there =
       real_as_operand c.slot x (is c) (sym (ap (λ (o : Option ObjectValue). option_map operand_of (option_and_then (in_slot c.slot) o)) there) ∙ h.cells.found n c (in_nodes n i) named) real
 
-  -- what no node writes is seen as it was
+  -- an object that no node writes stays
   pub unwritten_seen : (c : Cell) → is_written nodes c ≡ false → seen last c ≡ seen first c
   unwritten_seen c none = same_seen (held last c) (held first c) (solves.forms c) (λ plain. solves.others c none plain)
 

@@ -1,4 +1,4 @@
--- The images that a graph leaves are a solution of its steps.
+-- The images after a run of a graph are a solution of its steps.
 use Rattle.std.proofs.Common.{◌≡◌, ◌≢◌, ℕ, ◌+◌, ◌<◌, ◌≤◌, Bool, true, false, List, [], map, length, drop, get_or, refl, sym, ap, subst, ◌∙◌, inl, inr, arith, All, Option, Some, None, ◌⊎◌, IfSome, nat_lt, if◌then◌else◌, unwrap_or, option_map, option_and_then}
 use Rattle.std.specs.List.{slice_get}
 use Rattle.std.proofs.lemmas.List.{get_or-append-add, get_or_append_left, get_or-map, length-map}
@@ -93,7 +93,7 @@ written_there n Second c start now a b e read there = In-right _ (written_in n F
 described_format : (image : ImageValue) (d : Description) → ◌≡◌ {A = Option Operand} (Some (Image (description_of image))) (Some (Image d)) → d.format ≡ image.format
 described_format image d e = let same : description_of image ≡ d = cc in ap (λ (x : Description). x.format) (sym same)
 
--- what a node makes depends on the format of its output, unless it accumulates
+-- unless a node accumulates, its result depends only on the format of its output
 same_image : (n : Node) (which : Output) (a own other : ImageValue) (second : Option ObjectValue) → (own ≡ other) ⊎ ((own.format ≡ other.format) × (accumulates n.function ≡ false))
     → node_image n which own.format a (beside_first n second (ImageObject own)) ≡ node_image n which other.format a (beside_first n second (ImageObject other))
 same_image n which a own other second (inl e) = ap (λ (i : ImageValue). node_image n which i.format a (beside_first n second (ImageObject i))) e
@@ -157,7 +157,7 @@ module _ (objects : List Named) (nodes : List Node) (v : Verified) (h : IsReady 
   pub cell_there : (n : Node) → In n order → (c : Cell) → In c (node_images n) → In c cells
   cell_there n i c j = all_named virtual order n i c j
 
-  -- it is of a virtual image, or of a client's
+  -- it is a virtual image, or a client's image
   pub virtual_or : (c : Cell) → In c cells → In c virtual ⊎ In c clients
   virtual_or c i = In-append c virtual clients (subst (In c) (cells_parts order (outs objects nodes v h)) i)
 
@@ -217,7 +217,7 @@ module _ (objects : List Named) (nodes : List Node) (v : Verified) (h : IsReady 
       (solves objects nodes v h).others c none (λ delay. second_no_delay n.function (one_kind (held starts c) (second_kind n) kind.Delay kinds delay))
       ∙ first_real objects nodes v h c (named_real objects nodes v h n i c named real)
 
-  -- what a node writes that writes no image is an object of the client's
+  -- a node without an output image writes an object of the client
   pub tally_kept : (n : Node) → In n order → (parameters n.function).output ≢ kind.Image → (c : Cell) → n.out1 ≡ Some c
       → ((x : ObjectValue) → object_held objects c.name ≡ Some x → is_virtual_object x ≡ false) × HoldsKind objects (c, (parameters n.function).output)
   tally_kept n i other c e =
@@ -227,7 +227,7 @@ module _ (objects : List Named) (nodes : List Node) (v : Verified) (h : IsReady 
       let real = named_real objects nodes v h n i c (named_by_output n c j) plain in
       (real, ap (option_map object_kind) (sym (first_real objects nodes v h c real)) ∙ first_kinds objects nodes v h names n i (c, (parameters n.function).output) (output_operand n c j))
 
-  -- ---- what an output becomes
+  -- ---- the new value of an output
 
   pub made : (n : Node) → In n order → (which : Output) (c : Cell) → out_at n which ≡ Some c → In c cells
       → image_held ends c ≡ node_image n which (image_held starts c).format (image_held ends n.in1) (beside_first n (option_and_then (held ends) n.in2) (ImageObject (image_held starts c)))

@@ -1,4 +1,4 @@
--- The objects that come back to a table after a run over planes are those that the run of the graph leaves.
+-- The objects written back to a table after a run over planes are the result of the graph's run.
 use Rattle.std.proofs.Common.{◌≡◌, ◌≢◌, ℕ, ◌+◌, ◌<◌, ◌≤◌, true, false, List, [], ◌∷◌, ◌++◌, map, length, drop, get_or, refl, sym, ap, subst, ◌∙◌, inl, inr, arith, All, Option, Some, None, ◌⊎◌, unwrap_or, option_map, option_and_then}
 use Rattle.std.proofs.lemmas.List.{get_or-drop, length-append, length-drop, length-map}
 use Rattle.graph_run.proofs.Common.{cases_Bool, Cell, cell_object, forgotten, form_of, held, image_held, ImageObject, ImageValue, In, in_slot, In-append, In-at, In-from_any, In-from_same, In-left, In-right, IsDescription, IsObject, IsPlan, IsReady, is_virtual_object, is_written, IsStrictlyIncreasing, Kind, label_of, Lasts, Named, given, Operand, names_of, Node, node_output, First, object_held, object_kind, ObjectValue, operand_held, option_or, outputs, parameters, place_of, PlanValue, resolved, run_of_graph, Verified, VirtualOutput, with_written, written_from, writes, operand_of}
@@ -100,7 +100,7 @@ module _ (objects : List Named) (nodes : List Node) (v : Verified) (h : IsReady 
     whole_of : (c : Cell) → In c all → whole (index_of all c) ≡ image_held last c
     whole_of c i = whole_at objects nodes v h names p plan radius tables lent planes show_all c i
 
-    -- what is written back is what the run leaves, and is no virtual image
+    -- the values written back are the result of the run, and not virtual images
     pub record IsLeft (w : Cell × ObjectValue) : Type 0 where
       pub left : held last w.0 ≡ Some w.1
       pub real : (x : ObjectValue) → object_held objects w.0.name ≡ Some x → is_virtual_object x ≡ false
@@ -291,7 +291,7 @@ module _ (objects : List Named) (nodes : List Node) (v : Verified) (h : IsReady 
         ∙ ap (λ (o : Option ObjectValue). option_map shown (option_and_then (in_slot c.slot) o)) (there ∙ sym kept)
         ∙ ap (option_map shown) (sym (forgotten_held c))
 
-    -- what no node writes is as it was, and what one writes came back
+    -- objects that no node writes are as before, and all others were written back
     untouched : (c : Cell) → ((x : ObjectValue) → object_held objects c.name ≡ Some x → is_virtual_object x ≡ false) → last_to c (images ++ tallies) ≡ None → seen objects c ≡ seen last c
     untouched c real none = elim (cases_Bool (is_written nodes c)) [
       | inl w ↦

@@ -1,4 +1,4 @@
--- Images and tallies that come back to a table make the objects that the run of a graph leaves.
+-- Images and tallies written back to a table give the objects after the run of a graph.
 use Rattle.std.proofs.Common.{◌≡◌, ◌≢◌, ℕ, suc, ◌<◌, ◌≤◌, Bool, true, false, List, [], ◌∷◌, map, length, get_or, refl, sym, ap, ◌∙◌, inl, inr, arith, All, Option, Some, None, ◌⊎◌, if◌then◌else◌}
 use Rattle.graph_run.proofs.Common.{cases_Bool, Cell, DistributionObject, ExtremesObject, ImageObject, ImageValue, In, Named, ObjectValue, forgotten, is_virtual_object, node_output, Node, Output, object_kind, option_or, same_cell, same_cell-true, same_cell-refl, lasting_named, begun, Operand, IsObject, Kind, Function, parameters, is_written}
 use Rattle.vx_base.specs.declared.kind.Kind.TheVariants as kind
@@ -15,9 +15,9 @@ use Rattle.graph_run.proofs.LastingLemmas.{Lasting}
 use Rattle.graph_run.proofs.LinkLaws.{All-from_In, In-from_All}
 use Rattle.vx_base.specs.Object.{new_distribution, no_extremes}
 
--- ---- lists of what is written
+-- ---- lists of written values
 
--- what comes back of planes is the image of the plane at a cell's place, and each cell gets one
+-- each reference gets the image of the plane at its index
 pub image_back : (cells : List Cell) (planes : List PlaneValue) (w : Cell × ObjectValue) → In w (plane_objects cells planes)
     → (k : ℕ) × (k < length cells) × (w ≡ (get_or cells k w.0, ImageObject (block_image (get_or planes k no_plane))))
 image_back [] planes w i = elim i [ ]
@@ -44,7 +44,7 @@ tally_comes (d ∷ cells) [] c enough i = absurd (omega (arith, enough))
 tally_comes (d ∷ cells) (t ∷ tallies) c enough (inl e) = (tally_object t, inl (ap (λ (x : Cell). let pair : Cell × ObjectValue = (x, tally_object t) in pair) e))
 tally_comes (d ∷ cells) (t ∷ tallies) c enough (inr i) = let r = tally_comes cells tallies c (omega (arith, enough)) i in (r.0, inr r.1)
 
--- where all that is written to a cell is one object, that is the last
+-- if all values written to an object are the same, that is its value
 module _ (c : Cell) (known : Option ObjectValue) where
   over : (last : Option ObjectValue) (own : Bool) (new : ObjectValue) → (last ≡ None) ⊎ ((x : ObjectValue) × (last ≡ Some x) × (known ≡ Some x)) → (own ≡ true → known ≡ Some new)
       → (option_or last (if own then Some new else None) ≡ None) ⊎ ((x : ObjectValue) × (option_or last (if own then Some new else None) ≡ Some x) × (known ≡ Some x))
@@ -76,7 +76,7 @@ last_some c x (w ∷ ws) (inl e) none =
 pub tally_is_new : (wanted : Kind) (object : ObjectValue) (t : Tally) → tally_by wanted object ≡ t ∷ [] → IsNew t
 tally_is_new wanted object t e = grind arith
 
--- what a node writes that writes no image is the tally of what it reads
+-- a node without an output image writes the tally of its input
 pub tally_output : (n : Node) (which : Output) (a : ImageValue) (second : Option ObjectValue) (old : ObjectValue) (t : Tally) → (object_kind old ≡ kind.Distribution) ⊎ (object_kind old ≡ kind.Extremes) → tally_by (object_kind old) old ≡ t ∷ []
     → node_output n which (ImageObject a) second old ≡ tally_object (tally_of a t)
 tally_output n which a second (DistributionObject d) t of e = let same : tally.Histogram (new_distribution d.bins) ≡ t = cc in ap (λ (x : Tally). tally_object (tally_of a x)) same
@@ -89,7 +89,7 @@ tally_output n which a second other t of e = elim of [
 pub counted_kind : (f : Function) → (parameters f).output ≢ kind.Image → ((parameters f).output ≡ kind.Distribution) ⊎ ((parameters f).output ≡ kind.Extremes)
 counted_kind f other = grind arith
 
--- ---- objects that are forgotten
+-- ---- virtual images that are restored
 
 pub kept_real : (o p : Option ObjectValue) → ((x : ObjectValue) → o ≡ Some x → is_virtual_object x ≡ false) → kept_virtual o p ≡ p
 kept_real o p real = grind (arith, real)
@@ -116,7 +116,7 @@ forgotten_are old new before after = All-from_In (λ (o : Named). IsObject o.obj
   | inr j ↦ In-from_All (λ (o : Named). IsObject o.object) new after x j
 ])
 
--- as much lasts of a list as of one that begins as a run does
+-- after virtual images are restored, the lasting parts are as before the run
 pub forgotten_lasting : (found : Cell → Operand) (nodes : List Node) (old new : List Named) → map lasting_named new ≡ map lasting_named (map (begun found nodes) old) → map lasting_named (forgotten old new) ≡ map lasting_named old
 forgotten_lasting found nodes [] [] same = refl
 forgotten_lasting found nodes [] (p ∷ new) same = absurd (cc same)

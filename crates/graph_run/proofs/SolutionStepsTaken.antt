@@ -1,4 +1,4 @@
--- The table of a graph's objects while the samples of its images are in planes, and as these come back.
+-- The table of a graph's objects while the samples of its images are in planes, and when they move back.
 use Rattle.std.proofs.Common.{◌≡◌, ◌≢◌, ℕ, suc, ◌+◌, ◌<◌, ◌≤◌, List, [], ◌∷◌, map, length, drop, get_or, refl, sym, ap, subst, ◌∙◌, inl, inr, arith, All, Option, Some, None, ◌⊎◌, IfSome, unwrap_or, option_map, option_and_then}
 use Rattle.std.proofs.lemmas.List.{get_or-drop, length-drop}
 use Rattle.graph_run.proofs.Common.{Cell, Function, held, HoldsImage, HoldsKind, image_held, ImageObject, ImageValue, In, In-at, IsDescription, IsObject, IsPlan, IsReady, IsStrictlyIncreasing, Kind, kind_in, Named, names_of, Node, object_kind, ObjectValue, operand_held, option_or, PlanValue, resolved, run_of_graph, second_kind, Verified, VirtualOutput, with_written, description_of, parameters, U8, new_image, image_value, distribution_value, DistributionObject, ExtremesObject}
@@ -32,14 +32,14 @@ use Rattle.graph_run.proofs.VerifiedLemmas.{pairs_of}
 
 -- ---- cells after writes
 
--- a cell to which nothing is written holds what it held
+-- an object that isn't written stays
 same_beside : (objects : List Named) (ws : List (Cell × ObjectValue)) → AreWrites objects ws → (c : Cell) → last_to c ws ≡ None → kind_in objects c ≢ Some kind.Delay
     → held (with_written objects ws) c ≡ held objects c
 same_beside objects ws are c none plain =
     unshown (held (with_written objects ws) c) (held objects c) plain
     (seen-with_written ws objects are c ∙ ap (λ (o : Option ObjectValue). option_or (option_map shown o) (seen objects c)) none)
 
--- and one to which an image is written holds that
+-- an object to which an image is written has that value
 image_there : (objects : List Named) (ws : List (Cell × ObjectValue)) → AreWrites objects ws → (c : Cell) (image : ImageValue) → last_to c ws ≡ Some (ImageObject image)
     → held (with_written objects ws) c ≡ Some (ImageObject image)
 image_there objects ws are c image some =
@@ -85,7 +85,7 @@ module _ (objects : List Named) (cells : List Cell) (holds : HoldImages objects 
   taken_for (c ∷ some) [] among are = are
   taken_for (c ∷ some) (q ∷ planes) among are = (are.0 ∙ taken_description c (among c (inl refl)), are.1, taken_for some planes (λ d i. among d (inr i)) are.2)
 
-  -- what is no image stays
+  -- objects other than images stay
   pub taken_other : (c : Cell) (k : Kind) → HoldsKind objects (c, k) → k ≢ kind.Image → k ≢ kind.Delay → held taken c ≡ held objects c
   taken_other c k is other no_delay =
       same_beside objects (bare_images objects cells) (bare_written objects cells holds) c
@@ -204,7 +204,7 @@ tallies_each l [] tallies enough each = tt
 tallies_each l (c ∷ cells) [] enough each = absurd (omega (arith, enough))
 tallies_each l (c ∷ cells) (t ∷ tallies) enough each = (each 0 c (omega arith), tallies_each l cells tallies (omega (arith, enough)) (λ k d below. each (suc k) d (omega (arith, below))))
 
--- ---- what comes back
+-- ---- moving back
 
 module _ (objects : List Named) (nodes : List Node) (v : Verified) (h : IsReady objects nodes v) (names : IsStrictlyIncreasing (names_of objects))
     (are : All (λ o. IsObject o.object) objects) (described : All (λ (o : VirtualOutput). IsDescription o.desc) v.virtual_outputs.items)
@@ -288,7 +288,7 @@ module _ (objects : List Named) (nodes : List Node) (v : Verified) (h : IsReady 
       (tally_for came r.cell r.old (image_held (last_objects objects nodes) r.node.in1) (tally_at (tallies_of objects v.steps.items) k) (tally_at counted k) (tally_held k below r)
       (subst (λ (x : Kind). (x ≡ kind.Distribution) ⊎ (x ≡ kind.Extremes)) (sym r.kind_is) (counted_kind r.node.function r.other)) r.own r.tallied)))
 
-  -- all that comes back makes what the run leaves
+  -- all values written back together are the result of the run
   pub value : with_written came (tally_objects (tally_cells v.steps.items) counted) ≡ run_of_graph (resolved (operand_held objects) nodes) nodes objects
   value =
       ap (λ (l : List Named). with_written l (tally_objects (tally_cells v.steps.items) counted)) came_is

@@ -1,4 +1,4 @@
--- The tasks of a graph: of which node, which output and which place in the order each step is, and of which node each reduction.
+-- The tasks of a graph: the node, the output and the index in the order of each step, and the node of each reduction.
 use Rattle.std.proofs.Common.{◌≡◌, ◌≢◌, ℕ, zero, suc, ◌+◌, ◌<◌, Bool, true, false, ◌||◌, List, [], ◌∷◌, ◌++◌, length, get_or, refl, sym, ap, subst, ◌∙◌, inl, inr, arith, Option, Some, None, ◌⊎◌, is_some, is_none, ◌&&◌, if◌then◌else◌, unwrap_or}
 use Rattle.graph_run.proofs.Common.{and_parts, Cell, Function, In, In-append, Kind, Node, Output, First, Second, given, ObjectValue, Named, cell_object, distribution_value, is_node, outputs, parameters}
 use Rattle.graph_verify.proofs.MemberLemmas.{In-flat_map}

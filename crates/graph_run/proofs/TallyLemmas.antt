@@ -11,7 +11,7 @@ use Rattle.graph_run.proofs.HeldLaws.{object_held-with_object}
 
 -- ---- one tally
 
--- a tally for what stands in a slot of an object
+-- a tally for the object in a slot
 abbrev pub IsForSlot : Tally → Option ℕ → Option ObjectValue → Type 0
 IsForSlot (tally.Histogram d) slot x =
     (option_map object_kind (option_and_then (in_slot slot) x) ≡ Some kind.Distribution)
@@ -31,7 +31,7 @@ from_slot objects d (tally.Histogram h) is = is
 from_slot objects d (tally.Extremes e) is = is
 
 module _ (objects : List Named) (c : Cell) (t : Tally) (first : IsTallyFor objects c t) where
-  -- an object in which a tally is written keeps what other tallies need
+  -- after a tally is written to an object, the other tallies still fit
   pub stays_for : (d : Cell) (u : Tally) → IsTallyFor objects d u → IsTallyFor (with_object objects c (tally_object t)) d u
   stays_for d u is =
       from_slot (with_object objects c (tally_object t)) d u

@@ -124,7 +124,7 @@ module _ (cells : List Cell) (slots : List ℕ) (radius : Node → ℕ) (objects
       let k : Kind = (parameters n.function).output in
       tallied_by at first n nodes k (tasks_from cells slots radius (at + 1) (tally_after first k) nodes) refl (tallied nodes (at + 1) (tally_after first k))
 
--- ---- what functions without an image take
+-- ---- formats that reductions take
 
 takes_bytes : (function : Function) (first : Format) (second out : Option Format) → (parameters function).output ≡ kind.Distribution → takes_formats function first second out ≡ true → first ≡ U8
 takes_bytes function first second out k h = grind arith
@@ -135,7 +135,7 @@ takes_small function first second out k h e = grind arith
 has_first : (n : Node) → (parameters n.function).output ≢ kind.Image → has_operands (parameters n.function) n ≡ true → is_some n.out1 ≡ true
 has_first n other h = grind arith
 
--- what a new tally takes
+-- the formats that a new tally takes
 takes_format : (wanted : Kind) (object : ObjectValue) (t : Tally) (format : Format) → wanted ≢ kind.Image → tally_by wanted object ≡ t ∷ [] → (wanted ≡ kind.Distribution → format ≡ U8) → format ≢ U32 → TakesFormat format t
 takes_format wanted object t format other same bytes small = grind arith
 

@@ -1,4 +1,4 @@
--- Each node of a graph that can run finds, at its turn, what its cells were found to be.
+-- When its turn comes, each node of a graph that can run finds its operands as they were resolved.
 use Rattle.std.proofs.Common.{◌≡◌, ◌<◌, ℕ, List, [], ◌∷◌, map, sym, ap, subst, inl, inr, refl, None, rules}
 use Rattle.graph_run.proofs.Common.{AllPairs, Node, Cell, written_by, Named, held, with_written, Operand, feeds, In, AllIn, operands_of, IsOrder, resolved, verdict, verdict_on, node_fault, runs_alone, begun, forgotten, one_by_one, run_of_graph, CellsStand}
 use Rattle.graph_verify.proofs.VerdictLemmas.{can_run}
@@ -7,7 +7,7 @@ use Rattle.graph_run.proofs.NameLaws.{Rising, rising}
 use Rattle.graph_run.proofs.OperandLaws.{no_fault, begun_stands, no_delay, stands_after}
 use Rattle.graph_run.proofs.OrderLaws.{rounds_in_order}
 
--- nodes that have no fault leave each cell what it was found to be, one after the other
+-- nodes without faults, run one after the other, leave each operand as it was resolved
 stand_on : (is : Cell → Operand) (nodes steps : List Node) (objects : List Named) → ((n : Node) → In n nodes → node_fault n.function (operands_of is n) ≡ None) → AllIn steps nodes
     → CellsStand is nodes objects → CellsStand is nodes (one_by_one steps objects)
 stand_on is nodes [] objects none within stand = stand
@@ -19,7 +19,7 @@ module _ (work : ℕ) (is : Cell → Operand) (nodes : List Node) (runs : verdic
   pub each_alone : (n : Node) → In n nodes → verdict_on n (operands_of (resolved is nodes) n) ≡ None
   each_alone n i = runs_alone work is nodes n (can_run work is nodes runs) i
 
-  -- whichever have run
+  -- whichever nodes have run
   pub at_its_turn : (objects : List Named) → CellsStand is nodes objects → (steps : List Node) → AllIn steps nodes → CellsStand (resolved is nodes) nodes (one_by_one steps (map (begun (resolved is nodes) nodes) objects))
   at_its_turn objects stand steps within = search (rules, stand_on, no_fault, each_alone, begun_stands, can_run)
 

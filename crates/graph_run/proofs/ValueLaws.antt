@@ -1,4 +1,4 @@
--- What a node gives, over and over, is what it gives to its outputs as they were at first.
+-- A node that runs again computes its results from its outputs as they were at first.
 use Rattle.std.proofs.Common.{◌≡◌, ℕ, zero, suc, true, false, List, [], ◌∷◌, refl, sym, ap, ◌∙◌, inl, inr, Option, arith, ◌⊎◌, option_map, option_and_then}
 use Rattle.graph_run.proofs.Common.{cases_Bool, Node, Cell, ObjectValue, object_kind, In, AllIn, fun_ext, writes, is_written, two_writers, OneWriter, form_of, In-from_any}
 use Rattle.graph_verify.specs.Links.{reads}
@@ -13,7 +13,7 @@ use Rattle.graph_run.proofs.RoundLaws.{round_written, round_other}
 abbrev pub given_first : (Cell → Option ObjectValue) → Node → (Cell → Option ObjectValue) → Cell → Option ObjectValue
 given_first start n held c = given_to n held c (start c) (start c)
 
--- that depends on the cells that the node reads alone
+-- these depend only on the objects that the node reads
 pub reads_alone : (start : Cell → Option ObjectValue) → ReadsAlone reads (given_first start)
 reads_alone start n a b h c = grind (arith, output_of, output_at, reads_first, reads_second)
 

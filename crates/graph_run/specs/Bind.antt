@@ -1,4 +1,4 @@
--- Images that leave a table for planes while a graph runs, and come back.
+-- Images that move from a table to planes while a graph runs, and back.
 use Rattle.std.specs.Prelude.{◌≡◌, ⊤, List, [], ◌∷◌, map}
 use Rattle.vx_base.specs.Cell.{Cell}
 use Rattle.vx_base.specs.Image.{ImageValue, image_over, description_of}
@@ -10,11 +10,11 @@ use Rattle.graph_verify.specs.Members.{In}
 use Rattle.graph_steps.specs.Planes.{PlaneValue, block_image}
 use Rattle.graph_run.specs.Steps.{AreApart}
 
--- each cell holds an image
+-- each reference names an image
 abbrev pub HoldImages : List Named → List Cell → Type 0
 HoldImages objects cells = (c : Cell) → In c cells → HoldsImage objects c
 
--- each two of the cells can be written without each other
+-- any two of the references can be written independently
 abbrev pub AreAllApart : List Cell → Type 0
 AreAllApart [] = ⊤
 AreAllApart (c ∷ cells) = ((p : Cell) → In p cells → AreApart p c) × AreAllApart cells
@@ -23,7 +23,7 @@ AreAllApart (c ∷ cells) = ((p : Cell) → In p cells → AreApart p c) × AreA
 abbrev pub without_samples : ImageValue → ImageValue
 without_samples image = image_over (description_of image) image.valid []
 
--- the cells, each with its image without samples
+-- the references, each with its image without samples
 abbrev pub bare_images : List Named → List Cell → List (Cell × ObjectValue)
 bare_images objects [] = []
 bare_images objects (c ∷ cells) = (c, ImageObject (without_samples (image_held objects c))) ∷ bare_images objects cells
@@ -33,16 +33,17 @@ abbrev pub image_plane : ImageValue → PlaneValue
 image_plane image =
     record { desc = description_of image; valid = image.valid; top = 0; rows = all_rows image.height; format = image.format; samples = image.samples }
 
+-- the planes of the images that the references name
 abbrev pub image_planes : List Named → List Cell → List PlaneValue
 image_planes objects cells = map (λ c. image_plane (image_held objects c)) cells
 
--- the cells, each with the image of its plane
+-- the references, each with the image of its plane
 abbrev pub plane_objects : List Cell → List PlaneValue → List (Cell × ObjectValue)
 plane_objects [] planes = []
 plane_objects (c ∷ cells) [] = []
 plane_objects (c ∷ cells) (p ∷ planes) = (c, ImageObject (block_image p)) ∷ plane_objects cells planes
 
--- planes of the images that these cells hold: for each cell one, of its size and format
+-- there is a plane for each reference, with the description and format of its image
 abbrev pub AreFor : List Named → List Cell → List PlaneValue → Type 0
 AreFor objects [] planes = ⊤
 AreFor objects (c ∷ cells) [] = ⊥

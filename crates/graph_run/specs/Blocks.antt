@@ -14,11 +14,11 @@ use Rattle.graph_steps.specs.declared.step.Task.TheVariants.{Write}
 use Rattle.graph_steps.specs.Program.{halo}
 use Rattle.graph_run.specs.Slots.{slot_place}
 
--- the format of a block, and its number of samples
+-- the format and the number of samples of a block
 abbrev pub block_size : Samples → Format × ℕ
 block_size block = (samples_format block, length (values block))
 
--- the same of the block at a place
+-- the same for the block at an index
 abbrev pub room_at : List Samples → ℕ → Format × ℕ
 room_at blocks place = slice_index_or (map block_size blocks) place (U8, 0)
 
@@ -30,19 +30,19 @@ block_count blocks format = sum_by (λ b. one_of (samples_format b) format) bloc
 abbrev pub band_samples : ℕ → ℕ → Description → ℕ
 band_samples size rows desc = min desc.height (size + rows + rows) * desc.width
 
--- the samples that the images of a slot need at most; the first image is that at index k
+-- the greatest number of samples that an image in a slot needs; the first of the images has index k
 abbrev pub samples_from : ℕ → List ℕ → ℕ → List VirtualOutput → List ℕ → ℕ → ℕ
 samples_from size halos k [] slots place = 0
 samples_from size halos k (o ∷ outs) [] place = 0
 samples_from size halos k (o ∷ outs) (s ∷ slots) place =
     max (if s == place then band_samples size (halo halos k) o.desc else 0) (samples_from size halos (k + 1) outs slots place)
 
--- a plan of which each slot has room for bands of `size` rows
+-- the plan with slots that are large enough for bands of `size` rows
 abbrev pub band_plan : ℕ → List ℕ → List VirtualOutput → List ℕ → PlanValue → PlanValue
 band_plan size halos outs slots p =
     record p { slot_samples = λ format k. samples_from size halos 0 outs slots (slot_place p format k) }
 
--- the task of a step, if there is one
+-- the task of a step, if it is given
 abbrev pub step_tasks : Option Step → List Task
 step_tasks None = []
 step_tasks (Some s) = Write s ∷ []

@@ -1,4 +1,4 @@
--- What a run lends from the table of objects, and what it writes back.
+-- The objects that a run reads as tables and writes as tallies.
 use Rattle.std.specs.Prelude.{◌≡◌, ⊤, List, [], ◌∷◌, length, All, IfSome, unwrap_or}
 use Rattle.vx_base.specs.declared.kind.Kind.{Kind}
 use Rattle.vx_base.specs.declared.kind.Kind.TheVariants as kind
@@ -16,35 +16,37 @@ use Rattle.graph_run.specs.Turns.{HoldsKind}
 
 -- ---- tables
 
--- a kind of object that is lent to a step
+-- objects of this kind are read as tables
 abbrev pub IsLent : Kind → Type 0
 IsLent kind.Lut = ⊤
 IsLent kind.Threshold = ⊤
 IsLent kind.Convolution = ⊤
 IsLent other = ⊥
 
--- the tables that nodes read can be lent
+-- the second inputs of the nodes that aren't images can be read as tables
 abbrev pub LendTables : List Named → List Node → Type 0
 LendTables objects nodes = All (λ n. IfSome (node_table objects n) (λ object. IsLent (object_kind object))) nodes
 
 -- ---- tallies
 
--- the object in which a node's tally is kept, by the kind of its output
+-- the node's output can take its tally, by the kind of the output
 abbrev pub KeepsTally : List Named → Kind → Cell → Type 0
 KeepsTally objects kind.Image cell = ⊤
 KeepsTally objects kind.Distribution cell = HoldsKind objects (cell, kind.Distribution)
 KeepsTally objects kind.Extremes cell = HoldsKind objects (cell, kind.Extremes)
 KeepsTally objects other cell = ⊥
 
+-- the outputs of all nodes can take their tallies
 abbrev pub KeepTallies : List Named → List Node → Type 0
 KeepTallies objects nodes = All (λ n. KeepsTally objects (parameters n.function).output (unwrap_or n.out1 n.in1)) nodes
 
--- a tally for the object that a cell holds
+-- the tally fits the object that a reference names
 abbrev pub IsTallyFor : List Named → Cell → Tally → Type 0
 IsTallyFor objects cell (tally.Histogram d) =
     HoldsKind objects (cell, kind.Distribution) × (d.bins ≡ (distribution_value (cell_object objects cell)).bins) × (length d.counts ≡ d.bins.bins)
 IsTallyFor objects cell (tally.Extremes e) = HoldsKind objects (cell, kind.Extremes)
 
+-- there is a fitting tally for each reference
 abbrev pub AreTalliesFor : List Named → List Cell → List Tally → Type 0
 AreTalliesFor objects [] tallies = ⊤
 AreTalliesFor objects (c ∷ cells) [] = ⊥

@@ -1,4 +1,4 @@
--- The cells of the planes of a graph: those of the virtual images that its nodes write, and then those of the client images that they name.
+-- References to the images of a graph: first the virtual images that its nodes write, then the clients' images that they read or write.
 use Rattle.std.specs.Prelude.{ℕ, ◌+◌, List, [], ◌∷◌, ◌++◌, map, Option, if◌then◌else◌}
 use Rattle.std.specs.List.{list_any, flat_map}
 use Rattle.vx_base.specs.declared.kind.Kind.{Kind}
@@ -9,12 +9,12 @@ use Rattle.vx_base.specs.Function.{parameters}
 use Rattle.vx_base.specs.Node.{given, second_kind}
 use Rattle.graph_verify.specs.declared.verified.Verified.{Verified}
 
--- the cell of an operand, where that is an image
+-- the reference of an operand, if that is given and an image
 abbrev pub image_given : Kind → Option Cell → List Cell
 image_given kind.Image cell = given cell
 image_given other cell = []
 
--- the cells of the images that a node names, and that nodes name
+-- references to the images that a node reads or writes, and that several nodes do
 abbrev pub node_images : Node → List Cell
 node_images n =
     n.in1 ∷ (image_given (second_kind n) n.in2
@@ -23,7 +23,7 @@ node_images n =
 abbrev pub images_named : List Node → List Cell
 images_named nodes = flat_map node_images nodes
 
--- the cells with one more, or several more, unless they are there
+-- the list with one more reference, or several more, unless they are in it
 abbrev pub with_cell : List Cell → Cell → List Cell
 with_cell cells c = if list_any (λ d. same_cell d c) cells then cells else cells ++ c ∷ []
 
@@ -31,14 +31,14 @@ abbrev pub with_cells : List Cell → List Cell → List Cell
 with_cells cells [] = cells
 with_cells cells (c ∷ more) = with_cells (with_cell cells c) more
 
--- the cells of the virtual images, and of all images
+-- references to the virtual images that a verified graph writes, and to all of its images
 abbrev pub virtual_cells : Verified → List Cell
 virtual_cells v = map (λ o. o.cell) v.virtual_outputs.items
 
 abbrev pub cells_of : Verified → List Cell
 cells_of v = with_cells (virtual_cells v) (images_named v.steps.items)
 
--- the index of a cell
+-- the index of a reference
 abbrev pub index_of : List Cell → Cell → ℕ
 index_of [] c = 0
 index_of (d ∷ cells) c = if same_cell d c then 0 else index_of cells c + 1

@@ -1,10 +1,10 @@
--- Small objects, of which the examples are made.
+-- Small objects for the examples.
 use Rattle.std.specs.Prelude.{ℕ, true, [], ◌∷◌, None, pos}
 use Rattle.vx_base.specs.declared.format.Format.TheVariants.{U8, S16}
 use Rattle.vx_base.specs.Object.{ImageObject, VirtualObject}
 use Rattle.object_table.specs.Named.{Named}
 
--- a valid U8 image of one sample
+-- a valid U8 image of one pixel
 abbrev pub pixel : ℕ → ℕ → Named
 pixel name sample =
     record {
@@ -13,7 +13,7 @@ pixel name sample =
       object = ImageObject (record { width = 1; height = 1; format = U8; valid = record { x0 = 0; y0 = 0; x1 = 1; y1 = 1 }; samples = pos sample ∷ [] });
     }
 
--- a valid S16 image of one sample
+-- a valid S16 image of one pixel
 abbrev pub short_pixel : ℕ → ℕ → Named
 short_pixel name sample =
     record {
@@ -22,7 +22,7 @@ short_pixel name sample =
       object = ImageObject (record { width = 1; height = 1; format = S16; valid = record { x0 = 0; y0 = 0; x1 = 1; y1 = 1 }; samples = pos sample ∷ [] });
     }
 
--- a virtual image of which nothing is declared
+-- a virtual image without a declared size or format
 abbrev pub open_image : ℕ → Named
 open_image name =
     record { name = name; live = true; object = VirtualObject (record { graph = 4; declared = record { width = None; height = None; format = None } }) }

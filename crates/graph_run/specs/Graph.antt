@@ -11,38 +11,41 @@ use Rattle.graph_verify.specs.declared.operand.Operand.{Operand}
 use Rattle.graph_verify.specs.declared.operand.Operand.TheVariants.{Image}
 use Rattle.graph_verify.specs.Links.{is_written}
 
--- one round: all nodes write at once, of what the cells held before it, and as the run began
+-- one round: all nodes write at the same time, from the objects before the round; accumulating nodes add to the objects at the start
 abbrev pub round_of_nodes : List Node → List Named → List Named → List Named
 round_of_nodes nodes start objects = with_written objects (flat_map (λ n. written_from (held start) n (held objects)) nodes)
 
+-- the objects after k rounds
 abbrev pub rounds_of_nodes : List Node → ℕ → List Named → List Named
 rounds_of_nodes nodes zero objects = objects
 rounds_of_nodes nodes (suc k) objects = round_of_nodes nodes objects (rounds_of_nodes nodes k objects)
 
--- what a virtual image is while a graph runs that writes it: an image of what it was found to be, wholly valid and 0 everywhere
+-- the value of a virtual image while a graph that writes it runs: an image of its resolved description, wholly valid and 0 everywhere
 abbrev pub begun_as : ObjectValue → Operand → ObjectValue
 begun_as (VirtualObject image) (Image d) = ImageObject (new_image d.width d.height d.format)
 begun_as object operand = object
 
+-- an object at the start of a run
 abbrev pub begun : (Cell → Operand) → List Node → Named → Named
 begun is nodes o =
     let cell : Cell = record { name = o.name; slot = None } in
     if is_written nodes cell then record o { object = begun_as o.object (is cell) } else o
 
--- virtual images are forgotten as a run ends
+-- virtual images are restored at the end of a run
 abbrev pub is_virtual_object : ObjectValue → Bool
 is_virtual_object (VirtualObject image) = true
 is_virtual_object other = false
 
+-- the objects after a run, with the virtual images of before
 abbrev pub forgotten : List Named → List Named → List Named
 forgotten (o ∷ before) (p ∷ after) = (if is_virtual_object o.object then o else p) ∷ forgotten before after
 forgotten before after = after
 
--- a run of a graph whose cells are found to be these operands: as many rounds as there are nodes
+-- a run of a graph, whose references have these resolved operands: as many rounds as there are nodes
 abbrev pub run_of_graph : (Cell → Operand) → List Node → List Named → List Named
 run_of_graph is nodes objects = forgotten objects (rounds_of_nodes nodes (length nodes) (map (begun is nodes) objects))
 
--- the nodes one after the other, each once
+-- the objects after all nodes have run in order, each once
 abbrev pub one_by_one : List Node → List Named → List Named
 one_by_one [] objects = objects
 one_by_one (n ∷ nodes) objects = one_by_one nodes (with_written objects (written_by n (held objects)))

@@ -1,4 +1,4 @@
--- What writes leave of the objects of a context.
+-- The parts of a context's objects that writes don't change.
 use Rattle.std.specs.Prelude.{◌≡◌, List, map, All}
 use Rattle.vx_base.specs.declared.node.Node.{Node}
 use Rattle.vx_base.specs.Object.{ObjectValue, IsObject}
@@ -6,15 +6,15 @@ use Rattle.object_table.specs.Named.{Named}
 use Rattle.object_table.specs.Skeleton.{skeleton}
 use Rattle.object_table.specs.Uses.{nodes_in}
 
--- the skeleton, and the nodes of a graph
+-- the part of an object that writes don't change: its skeleton, and the nodes of a graph
 abbrev pub lasting : ObjectValue → ObjectValue × List Node
 lasting object = (skeleton object, nodes_in object)
 
--- a name, whether it is live, and what writes leave of its object
+-- the same with the object's name, and whether that is live
 abbrev pub lasting_named : Named → Named × List Node
 lasting_named o = (record o { object = skeleton o.object }, nodes_in o.object)
 
--- objects that are written: each is one, and of each that lasts which writes leave
+-- the new objects are valid, and their lasting parts are as before
 pub record Lasts (old new : List Named) : Type 0 where
   pub objects : All (λ o. IsObject o.object) new
   pub lasting : map lasting_named new ≡ map lasting_named old

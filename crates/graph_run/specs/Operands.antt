@@ -1,4 +1,4 @@
--- What the cells of a graph hold, as operands of its nodes.
+-- Operands of a graph's nodes: the objects that their references name.
 use Rattle.std.specs.Prelude.{ℕ, ◌≡◌, true, ◌||◌, Bool, List, All, Some, None, unwrap_or}
 use Rattle.std.specs.Option.{option_map}
 use Rattle.vx_base.specs.declared.kind.Kind.{Kind}
@@ -17,33 +17,33 @@ use Rattle.graph_verify.specs.declared.verified.Verified.{Verified}
 use Rattle.graph_verify.specs.Verdict.{verdict}
 use Rattle.graph_verify.specs.Verified.{IsVerified}
 
--- the cell holds an object that is this operand
+-- the reference names an object with this operand
 abbrev pub HoldsOperand : List Named → Cell → Operand → Type 0
 HoldsOperand objects cell operand = option_map operand_of (held objects cell) ≡ Some operand
 
--- whether a node reads or writes a cell
+-- whether a node reads or writes an object
 abbrev pub names_cell : Node → Cell → Bool
 names_cell n cell = reads n cell || writes n cell
 
--- the operand is of this kind; a virtual image stands for an image
+-- the operand is of this kind; a virtual image counts as an image
 abbrev pub StandsFor : Operand → Kind → Type 0
 StandsFor (Virtual declared) wanted = wanted ≡ kind.Image
 StandsFor operand wanted = operand_kind operand ≡ wanted
 
--- each cell that the nodes name holds what it is found to be, and each that they write is of the kind that the function writes
+-- each reference in the nodes names an object with the resolved operand, and each output has the kind that its function writes
 pub record CellsStand (is : Cell → Operand) (nodes : List Node) (objects : List Named) : Type 0 where
   pub found : (n : Node) (cell : Cell) → In n nodes → names_cell n cell ≡ true → HoldsOperand objects cell (is cell)
   pub kinds : (n : Node) (cell : Cell) → In n nodes → writes n cell ≡ true → StandsFor (is cell) (parameters n.function).output
 
--- what a cell is that isn't held: as a delay, no function takes it
+-- the operand of a reference that names no object: a delay, since no function takes one
 abbrev pub missing : Operand
 missing = Delay
 
--- what a cell is to a graph whose node names it
+-- the operand that a reference in a node of a graph names
 abbrev pub operand_held : List Named → Cell → Operand
 operand_held objects cell = unwrap_or (option_map operand_of (held objects cell)) missing
 
--- a verified graph that can run: nothing refuses it, and each cell that its nodes name holds what their functions have there
+-- the graph is verified and can run: nothing refuses it, and each reference names an object of the kind that the function has there
 pub record IsReady (objects : List Named) (nodes : List Node) (v : Verified) : Type 0 where
   pub verified : IsVerified (operand_held objects) nodes v
   pub runs : (work : ℕ) × (verdict work (operand_held objects) nodes ≡ None)

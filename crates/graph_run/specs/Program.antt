@@ -1,4 +1,4 @@
--- The program of a graph: its tasks over the planes of its cells, with the tables that its nodes read, halos, blocks and tallies.
+-- The program of a graph: its tasks over planes, with the tables that its nodes read, halos, blocks and tallies.
 use Rattle.std.specs.Prelude.{ℕ, ◌≡◌, ◌<◌, ◌≤◌, ◌⊎◌, true, List, [], ◌∷◌, ◌++◌, length, map, drop, slice_index_or, All, Option, None, unwrap_or}
 use Rattle.std.specs.List.{flat_map, range_with_len}
 use Rattle.std.specs.Option.{option_and_then}
@@ -35,40 +35,40 @@ use Rattle.graph_run.specs.Tasks.{SlotsHold, block_at, graph_cells, graph_tasks}
 
 -- ---- tables
 
--- the object of a second input that is a table, a threshold or a matrix; images are planes
+-- the second input, if it is a table, a threshold or a matrix; images are planes
 abbrev pub table_by : Kind → Option ObjectValue → Option ObjectValue
 table_by kind.Image object = None
 table_by other object = object
 
--- the table that a node reads, if it reads one
+-- the table, threshold or matrix that a node reads, if it reads one
 abbrev pub node_table : List Named → Node → Option ObjectValue
 node_table objects n = table_by (second_kind n) (option_and_then (held objects) n.in2)
 
--- for each node its table
+-- the table of each node, if it reads one
 abbrev pub tables_of : List Named → List Node → List (Option ObjectValue)
 tables_of objects nodes = map (node_table objects) nodes
 
 -- ---- radii
 
--- the rows above and below a row of its output that a node reads; None stands for all
+-- a node's radius: the number of input rows above and below an output row that it reads; None if it reads all
 abbrev pub node_reach : List Named → Node → Option ℕ
 node_reach objects n = step_reach n.function (matrix_in (option_and_then (held objects) n.in2))
 
--- the same in images of at most this height
+-- the same for images of at most this height
 abbrev pub radius_of : List Named → ℕ → Node → ℕ
 radius_of objects high n = unwrap_or (node_reach objects n) high
 
--- radii that cover the rows that the nodes read
+-- the radii cover the rows that the nodes read
 abbrev pub AreNear : List Named → ℕ → (Node → ℕ) → List Node → Type 0
 AreNear objects high radius nodes = (n : Node) → In n nodes → Covers (node_reach objects n) (radius n) high
 
 -- ---- planes
 
--- the cells of the clients' images
+-- references to the clients' images
 abbrev pub client_cells : List Node → List VirtualOutput → List Cell
 client_cells steps outs = drop (length outs) (graph_cells steps outs)
 
--- the planes of a graph: those of its virtual images, and then those of the clients' images
+-- the planes of a graph: first those of its virtual images, then those of the clients' images
 abbrev pub planes_of : List Named → List Node → List VirtualOutput → List PlaneValue → List PlaneValue
 planes_of objects steps outs virtuals = virtuals ++ image_planes objects (client_cells steps outs)
 
@@ -76,35 +76,35 @@ planes_of objects steps outs virtuals = virtuals ++ image_planes objects (client
 abbrev pub virtual_description : List VirtualOutput → ℕ → Description
 virtual_description outs k = slice_index_or (map (λ o. o.desc) outs) k no_plane.desc
 
--- before a run each slot's block is that of the last image in it
+-- the blocks of virtual images before a run: that of a slot belongs to the last image in it
 abbrev pub first_blocks : List ℕ → (ℕ → Format × ℕ) → List (Format × ℕ)
 first_blocks slots rooms = map (block_at slots rooms 0) (range_with_len 0 (length slots))
 
 -- ---- tallies
 
--- the tally of a node that writes no image, but this object
+-- the empty tally of a node, by the kind of its output; none for an image
 abbrev pub tally_by : Kind → ObjectValue → List Tally
 tally_by kind.Image object = []
 tally_by kind.Distribution object = tally.Histogram (new_distribution (distribution_value object).bins) ∷ []
 tally_by other object = tally.Extremes no_extremes ∷ []
 
+-- the empty tally of a node
 abbrev pub node_tallies : List Named → Node → List Tally
 node_tallies objects n = tally_by (parameters n.function).output (cell_object objects (unwrap_or n.out1 n.in1))
 
--- the tallies of nodes, in their order, each without a sample
+-- the empty tallies of nodes, in their order
 abbrev pub tallies_of : List Named → List Node → List Tally
 tallies_of objects nodes = flat_map (node_tallies objects) nodes
 
 -- ---- programs
 
--- a step that reads its output writes no row twice, and to a block of all rows: its output has no halo and takes no block, or there is one
+-- a step that reads its output writes each row once, to a block of all rows: its output has no halo and takes no block, or there is one
 -- band
 abbrev pub AddOnce : ℕ → ℕ → List ℕ → List Task → Type 0
 AddOnce high size halos tasks =
     (s : Step) → IsStepOf s tasks → reads_output s.node.function ≡ true → ((halo halos s.output ≡ 0) × (s.takes ≡ None)) ⊎ (high ≤ size)
 
--- a verified graph that is ready to run, and all that its program needs: tables and radii of its nodes, planes of virtual images whose
--- blocks are those of slots, halos, and the rows of a band
+-- a verified graph can run as a program with these tables, radii, halos, band height, planes of virtual images, and sizes of slots
 pub record IsBound (objects : List Named) (nodes : List Node) (v : Verified) (p : PlanValue) (tables : List Second) (radius : Node → ℕ) (high size : ℕ) (halos : List ℕ) (virtuals : List PlaneValue) (rooms : ℕ → Format × ℕ) : Type 0 where
   pub objects_are : All (λ o. IsObject o.object) objects
   pub ready : IsReady objects nodes v

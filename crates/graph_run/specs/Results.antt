@@ -1,4 +1,4 @@
--- Results: what a run over planes leaves, and the objects of a table that this is.
+-- The results of a run over planes, as objects of the table.
 use Rattle.std.specs.Prelude.{ℕ, ◌≡◌, nat_lt, if◌then◌else◌, List, [], ◌∷◌, length, map, slice_index_or, unwrap_or}
 use Rattle.std.specs.List.{flat_map}
 use Rattle.vx_base.specs.declared.kind.Kind.{Kind}
@@ -24,14 +24,14 @@ use Rattle.graph_run.specs.Operands.{operand_held}
 
 -- ---- images
 
--- the objects as a graph begins to run, and once it has, before virtual images are forgotten
+-- the objects at the start of a run, and at its end before virtual images are restored
 abbrev pub first_objects : List Named → List Node → List Named
 first_objects objects nodes = map (begun (resolved (operand_held objects) nodes) nodes) objects
 
 abbrev pub last_objects : List Named → List Node → List Named
 last_objects objects nodes = rounds_of_nodes nodes (length nodes) (first_objects objects nodes)
 
--- the images that these cells hold; behind them others
+-- the images that these references name, and then others
 abbrev pub images_in : List Named → List Cell → (ℕ → ImageValue) → ℕ → ImageValue
 images_in objects cells others k = if nat_lt k (length cells) then image_held objects (slice_index_or cells k (cell_of 0)) else others k
 
@@ -42,7 +42,7 @@ abbrev pub tally_object : Tally → ObjectValue
 tally_object (tally.Histogram d) = DistributionObject d
 tally_object (tally.Extremes e) = ExtremesObject e
 
--- the cell of a node's tally, where it writes no image, and those of nodes, in their order
+-- the reference of a node's tally, if its output isn't an image; and those of several nodes, in their order
 abbrev pub tally_cell : Kind → Node → List Cell
 tally_cell kind.Image n = []
 tally_cell other n = unwrap_or n.out1 n.in1 ∷ []
@@ -50,7 +50,7 @@ tally_cell other n = unwrap_or n.out1 n.in1 ∷ []
 abbrev pub tally_cells : List Node → List Cell
 tally_cells nodes = flat_map (λ n. tally_cell (parameters n.function).output n) nodes
 
--- cells, each with its tally
+-- the references, each with its tally
 abbrev pub tally_objects : List Cell → List Tally → List (Cell × ObjectValue)
 tally_objects [] tallies = []
 tally_objects (c ∷ cells) [] = []
@@ -58,8 +58,7 @@ tally_objects (c ∷ cells) (t ∷ tallies) = (c, tally_object t) ∷ tally_obje
 
 -- ---- runs
 
--- planes and tallies that a run of tasks leaves: in each plane that keeps its block the image that each solution has there, and the tallies
--- of such images
+-- the results of a run of tasks: each plane that keeps its block has the image of every solution, and the tallies are those of such images
 pub record Leaves (tables : List Second) (tasks : List Task) (planes : List PlaneValue) (tallies : List Tally) (after : List PlaneValue) (counted : List Tally) : Type 0 where
   pub images : (whole : ℕ → ImageValue) → SolvesSteps tables (length planes) tasks (block_images planes) whole
       → (c : ℕ) → KeepsBlock (length planes) tasks c → block_image (plane after c) ≡ whole c

@@ -1,4 +1,4 @@
--- Schedules: how a verified graph runs over planes.
+-- Schedules: the planes, tasks and bands of a run of a verified graph.
 use Rattle.std.specs.Prelude.{◌≡◌, ◌≤◌, ◌<◌, List, drop, length, map, All}
 use Rattle.vx_base.specs.Cell.{Cell}
 use Rattle.vx_base.specs.Object.{ObjectValue}
@@ -29,7 +29,7 @@ pub record IsSchedule (objects : List Named) (v : Verified) (p : PlanValue) (s :
   pub clients : All (λ c. (image_held objects c).height ≤ s.high) (client_cells v.steps.items v.virtual_outputs.items)
   pub tally_cells : s.tally_cells.items ≡ tally_cells v.steps.items
 
--- the cells of the clients' images, and each with the image of its plane
+-- references to the clients' images; and these with the images of their planes
 abbrev pub schedule_clients : Verified → Schedule → List Cell
 schedule_clients v s = drop (length v.virtual_outputs.items) s.cells.items
 

@@ -1,4 +1,4 @@
--- The slots that a plan has for the virtual images of a graph, in one list.
+-- The slots of a plan for the virtual images of a graph, in one list.
 use Rattle.std.specs.Prelude.{ℕ, ◌+◌, List, ◌++◌, map, unwrap_or}
 use Rattle.std.specs.List.{range_with_len}
 use Rattle.vx_base.specs.declared.format.Format.{Format}
@@ -6,17 +6,17 @@ use Rattle.vx_base.specs.declared.format.Format.TheVariants.{U8, S16, U32}
 use Rattle.graph_verify.specs.declared.known.VirtualOutput.{VirtualOutput}
 use Rattle.buffer_plan.specs.Plan.{PlanValue}
 
--- the place of a slot of a format among all: those of U8 stand first, then those of S16, then those of U32
+-- the index of a format's slot among all slots: first those of U8, then those of S16, then those of U32
 abbrev pub slot_place : PlanValue → Format → ℕ → ℕ
 slot_place p U8 k = k
 slot_place p S16 k = p.slot_count U8 + k
 slot_place p U32 k = p.slot_count U8 + p.slot_count S16 + k
 
--- the place of the slot of a virtual image
+-- the index of a virtual image's slot among all slots
 abbrev pub place_of : PlanValue → VirtualOutput → ℕ
 place_of p o = slot_place p o.desc.format (unwrap_or (p.slot_of o.cell) 0)
 
--- the rooms of the slots of a format, and of all slots
+-- the formats and sizes of a format's slots, and of all slots
 abbrev pub rooms_for : PlanValue → Format → List (Format × ℕ)
 rooms_for p format = map (λ k. (format, p.slot_samples format k)) (range_with_len 0 (p.slot_count format))
 

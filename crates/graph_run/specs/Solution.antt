@@ -1,4 +1,4 @@
--- What a run gives, said without rounds: each written cell holds what its node gives of what the cells hold.
+-- Runs defined without rounds: each object that a node writes is what the node computes from the objects after the run.
 use Rattle.std.specs.Prelude.{ℕ, ◌≡◌, ◌≢◌, Bool, true, false, List, [], map, All, Option, Some}
 use Rattle.std.specs.Option.{option_map}
 use Rattle.vx_base.specs.declared.kind.Kind.{Kind}
@@ -12,11 +12,11 @@ use Rattle.object_table.specs.Named.{Named, held}
 use Rattle.object_table.specs.Skeleton.{skeleton}
 use Rattle.graph_verify.specs.Links.{is_written}
 
--- the kind of what a cell holds
+-- the kind of the object that a reference names
 abbrev pub kind_in : List Named → Cell → Option Kind
 kind_in objects cell = option_map object_kind (held objects cell)
 
--- no node writes an object of this kind; what stands in a slot of a delay is an image
+-- no node writes an object of this kind; the object in a slot of a delay is an image
 abbrev pub WritesNo : Kind → List Node → List Named → Type 0
 WritesNo k nodes objects = (cell : Cell) → is_written nodes cell ≡ true → kind_in objects cell ≢ Some k
 
@@ -24,25 +24,24 @@ WritesNo k nodes objects = (cell : Cell) → is_written nodes cell ≡ true → 
 abbrev pub ReadImages : List Node → List Named → Type 0
 ReadImages nodes objects = All (λ n. kind_in objects n.in1 ≡ Some kind.Image) nodes
 
--- what no node changes of an object, whatever stands in its cells: of an image the format, all of a graph, and of others the skeleton; a
--- delay's images are in its slots
+-- the part of an object that no node changes: the format of an image, all of a graph, and the skeleton of other objects; a delay's images
+-- are in its slots
 abbrev pub form_of : ObjectValue → ObjectValue
 form_of (ImageObject image) = ImageObject (new_image 0 0 image.format)
 form_of (DelayObject images) = DelayObject []
 form_of (GraphObject graph) = GraphObject graph
 form_of other = skeleton other
 
--- the form of what a cell holds
+-- the form of the object that a reference names
 abbrev pub form_held : List Named → Cell → Option ObjectValue
 form_held objects cell = option_map form_of (held objects cell)
 
--- an object's name, and whether that is live
+-- an object's name, and whether it is live
 abbrev pub label_of : Named → ℕ × Bool
 label_of o = (o.name, o.live)
 
--- objects that are what the nodes make of those before: each written cell holds what its node gives of what the cells hold (one that
--- accumulates, of what its output held before), and
--- every other cell what it held; labels and forms are as before
+-- the objects after a run solve the equations of its nodes. Each output is what its node computes from the objects after the run; an
+-- accumulating node adds to the object before the run. All other objects, and all labels and forms, are as before
 pub record Solves (nodes : List Node) (before after : List Named) : Type 0 where
   pub labels : map label_of after ≡ map label_of before
   pub forms : (cell : Cell) → form_held after cell ≡ form_held before cell

@@ -1,4 +1,4 @@
--- Nodes that run on what their cells hold, and what they write.
+-- Single nodes: the objects on which they run, and those that they write.
 use Rattle.std.specs.Prelude.{ℕ, ◌≡◌, ◌≢◌, IsTrue, is_some, List, Option, Some, None, IfSome}
 use Rattle.std.specs.Option.{option_map, option_and_then}
 use Rattle.vx_base.specs.declared.kind.Kind.TheVariants as kind
@@ -16,11 +16,11 @@ use Rattle.object_table.specs.Named.{Named, held, with_object}
 use Rattle.object_table.specs.Object.{image_value}
 use Rattle.object_table.specs.Table.{cell_object, image_held, HoldsImage}
 
--- a cell holds an object
+-- the reference names an object
 abbrev pub Holds : List Named → Cell → Type 0
 Holds objects cell = IsTrue (is_some (held objects cell))
 
--- a node and what it reads and writes: objects of the kinds that its function has, of formats and sizes that it takes
+-- the node can run on these inputs and this output, by their kinds, formats and sizes
 pub record RunsOn (n : Node) (first : ObjectValue) (second : Option ObjectValue) (out : ObjectValue) : Type 0 where
   pub node : IsNode n
   pub first_kind : object_kind first ≡ kind.Image
@@ -33,7 +33,7 @@ pub record RunsOn (n : Node) (first : ObjectValue) (second : Option ObjectValue)
   pub second_size : SecondHasSize (image_value first) second
   pub out_size : SecondHasSize (image_value first) (Some out)
 
--- cells of which one can be written without the other: of two names, or two slots of one
+-- one object can be written without the other: their names or their slots differ
 abbrev pub TwoSlots : Option ℕ → Option ℕ → Type 0
 TwoSlots (Some j) (Some k) = j ≢ k
 TwoSlots j k = ⊥
@@ -41,7 +41,7 @@ TwoSlots j k = ⊥
 abbrev pub AreApart : Cell → Cell → Type 0
 AreApart a b = a.name ≡ b.name → TwoSlots a.slot b.slot
 
--- an output of a node, apart from what the node reads
+-- the node can write this output, which isn't an input
 pub record RunsTo (objects : List Named) (n : Node) (output : Cell) : Type 0 where
   pub in1 : HoldsImage objects n.in1
   pub in2 : IfSome n.in2 (Holds objects)
@@ -50,7 +50,7 @@ pub record RunsTo (objects : List Named) (n : Node) (output : Cell) : Type 0 whe
   pub in2_apart : IfSome n.in2 (λ cell. AreApart cell output)
   pub runs : RunsOn n (cell_object objects n.in1) (option_map (cell_object objects) n.in2) (cell_object objects output)
 
--- the inputs of a node are there: an image, and beside it an object of the kind that its function reads
+-- the node's inputs exist: the first is an image, and the second has the kind that its function reads
 pub record CanRead (objects : List Named) (n : Node) : Type 0 where
   pub first : HoldsImage objects n.in1
   pub image : IsImage (image_held objects n.in1)
@@ -58,11 +58,11 @@ pub record CanRead (objects : List Named) (n : Node) : Type 0 where
   pub object : IfSome (option_map (cell_object objects) n.in2) IsObject
   pub kind : IfSome (option_map (cell_object objects) n.in2) (λ object. (parameters n.function).second_input ≡ Some (object_kind object))
 
--- what one of the outputs becomes
+-- the value of an output after the node has run
 abbrev pub output_of : List Named → Node → Output → Cell → ObjectValue
 output_of objects n which output = node_output n which (cell_object objects n.in1) (option_map (cell_object objects) n.in2) (cell_object objects output)
 
--- the objects once the output is written, if it is there
+-- the objects after the output is written, if it is given
 abbrev pub with_output : List Named → Node → Output → Option Cell → List Named
 with_output objects n which None = objects
 with_output objects n which (Some output) = with_object objects output (output_of objects n which output)

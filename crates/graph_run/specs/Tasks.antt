@@ -1,4 +1,4 @@
--- Tasks of a graph over planes, whose indices are those of cells: the virtual images that nodes write come first, in the order of writing.
+-- Tasks of a graph over planes. The planes of virtual images come first, in the order in which nodes write them.
 use Rattle.std.specs.Prelude.{⊤, true, ◌≡◌, ◌≢◌, ◌⊎◌, ◌<◌, ◌≤◌, ℕ, Bool, false, ◌+◌, ◌==◌, nat_lt, if◌then◌else◌, List, [], ◌∷◌, ◌++◌, length, map, take, slice_index_or, suc, Option, Some, None}
 use Rattle.std.specs.List.{filter, flat_map, range_with_len}
 use Rattle.std.specs.Option.{option_map, option_or}
@@ -28,39 +28,40 @@ use Rattle.buffer_plan.specs.Plan.{IsPlan, PlanValue}
 use Rattle.graph_run.specs.Cells.{images_named, index_of, node_images, with_cells}
 use Rattle.graph_run.specs.Slots.{place_of}
 
--- ---- blocks of virtual images, by the slots of these in the order of writing
+-- ---- blocks of virtual images, by slots in the order of writing
 
 -- the index of the last image in a slot
 abbrev pub last_in : ℕ → List ℕ → Option ℕ
 last_in slot [] = None
 last_in slot (s ∷ slots) = option_or (option_map suc (last_in slot slots)) (if s == slot then Some 0 else None)
 
--- the image that has a slot's block once this many images are written: the last of them that is in the slot; before the first the last
--- of all, which had it at the end of the band before
+-- the image that has a slot's block after `count` images are written: the last of them in the slot. Before any of them is written, it is
+-- the last image in the slot, which had the block at the end of the band before
 abbrev pub holder : List ℕ → ℕ → ℕ → Option ℕ
 holder slots slot count = option_or (last_in slot (take count slots)) (last_in slot slots)
 
--- the image whose block the image at an index takes; none where that is a client's
+-- the image whose block the image at an index takes; none if that is a client's image
 abbrev pub taken : List ℕ → ℕ → Option ℕ
 taken slots at = if nat_lt at (length slots) then holder slots (slice_index_or slots at 0) at else None
 
+-- whether this is the index k
 abbrev pub is_at : ℕ → Option ℕ → Bool
 is_at k None = false
 is_at k (Some j) = j == k
 
--- the block of a virtual image, once this many are written: that of its slot, or an empty one
+-- the block of a virtual image after `count` images are written: that of its slot, or an empty one
 abbrev pub block_at : List ℕ → (ℕ → Format × ℕ) → ℕ → ℕ → Format × ℕ
 block_at slots rooms count at =
     let room = rooms (slice_index_or slots at 0) in
     (room.0, (if is_at at (holder slots (slice_index_or slots at 0) count) then room.1 else 0))
 
--- the blocks of all planes, of which the first are those of virtual images
+-- the blocks of all planes, of which those of virtual images come first
 abbrev pub blocks_at : List ℕ → (ℕ → Format × ℕ) → List (Format × ℕ) → ℕ → List (Format × ℕ)
 blocks_at slots rooms clients count = map (block_at slots rooms count) (range_with_len 0 (length slots)) ++ clients
 
 -- ---- tasks
 
--- where the second input of the node at an index of the graph's order is
+-- the source of the second input of the node at index `at` of the order
 abbrev pub source : List Cell → ℕ → Kind → Option Cell → Source
 source cells at k None = Nothing
 source cells at kind.Image (Some c) = Plane (index_of cells c)
@@ -79,33 +80,37 @@ step_for cells slots radius at n which output =
       radius = radius n;
     }
 
+-- its task, if the output is given
 abbrev pub write_given : List Cell → List ℕ → (Node → ℕ) → ℕ → Node → Output → Option Cell → List Task
 write_given cells slots radius at n which None = []
 write_given cells slots radius at n which (Some output) = Write (step_for cells slots radius at n which output) ∷ []
 
--- the tasks of a node, by the kind of its outputs; `tally` is the index of the next reduction's
+-- the tasks of a node, by the kind of its outputs; `tally` is the index of the next tally
 abbrev pub tasks_by : List Cell → List ℕ → (Node → ℕ) → ℕ → ℕ → Node → Kind → List Task
 tasks_by cells slots radius at tally n kind.Image =
     write_given cells slots radius at n First n.out1 ++ write_given cells slots radius at n Second n.out2
 tasks_by cells slots radius at tally n other = Reduce (record { input = index_of cells n.in1; tally = tally }) ∷ []
 
+-- the index of the next tally after a node
 abbrev pub tally_after : ℕ → Kind → ℕ
 tally_after tally kind.Image = tally
 tally_after tally other = tally + 1
 
--- the tasks of nodes, the first of which is at an index of the graph's order
+-- the tasks of nodes, the first of which has index `at` in the order
 abbrev pub tasks_from : List Cell → List ℕ → (Node → ℕ) → ℕ → ℕ → List Node → List Task
 tasks_from cells slots radius at tally [] = []
 tasks_from cells slots radius at tally (n ∷ nodes) =
     tasks_by cells slots radius at tally n (parameters n.function).output
     ++ tasks_from cells slots radius (at + 1) (tally_after tally (parameters n.function).output) nodes
 
+-- the tasks of all nodes
 abbrev pub tasks_of : List Cell → List ℕ → (Node → ℕ) → List Node → List Task
 tasks_of cells slots radius nodes = tasks_from cells slots radius 0 0 nodes
 
 -- ---- blocks that tasks take
 
--- the tasks from that which writes image k on; each takes its block in its turn, and a client's image takes none
+-- the tasks from the one that writes virtual image k write the virtual images in order, each with the block that it takes then; steps that
+-- write clients' images take none
 abbrev pub TakeTurns : List ℕ → ℕ → List Task → Type 0
 TakeTurns slots k [] = k ≡ length slots
 TakeTurns slots k (Reduce r ∷ later) = TakeTurns slots k later
@@ -113,30 +118,30 @@ TakeTurns slots k (Write s ∷ later) =
     ((length slots ≤ s.output) × (s.takes ≡ None) × TakeTurns slots k later)
     ⊎ ((k < length slots) × (s.output ≡ k) × (s.takes ≡ taken slots k) × TakeTurns slots (k + 1) later)
 
--- each slot has room for the rows of the images that are in it
+-- each slot is large enough for the rows of its images
 abbrev pub SlotsHold : ℕ → List ℕ → (ℕ → Description) → List ℕ → (ℕ → Format × ℕ) → Type 0
 SlotsHold size halos descs slots rooms = (k : ℕ) → k < length slots → HoldsRows size (halo halos k) (descs k) (rooms (slice_index_or slots k 0))
 
--- nodes write virtual images as images alone
+-- the nodes' outputs other than images aren't virtual
 abbrev pub WriteImages : (Cell → Bool) → List Node → Type 0
 WriteImages is_virtual nodes =
     (n : Node) → In n nodes → (parameters n.function).output ≢ kind.Image → filter is_virtual (outputs n) ≡ []
 
 -- ---- the order of tasks
 
--- no step reads, and no reduction, a plane that a later step writes; nor does a step read its own output
+-- no task reads a plane that a later step writes, and no step reads its own output
 abbrev pub AreReadAfter : List Task → Type 0
 AreReadAfter [] = ⊤
 AreReadAfter (Write s ∷ later) = ((c : ℕ) → ReadsPlane s c → IsUnwritten (Write s ∷ later) c) × AreReadAfter later
 AreReadAfter (Reduce r ∷ later) = IsUnwritten later r.input × AreReadAfter later
 
--- each plane that a step or a reduction reads is one of so many
+-- each plane that a task reads has an index below `count`
 abbrev pub AreReadWithin : ℕ → List Task → Type 0
 AreReadWithin count [] = ⊤
 AreReadWithin count (Write s ∷ later) = ((c : ℕ) → ReadsPlane s c → c < count) × AreReadWithin count later
 AreReadWithin count (Reduce r ∷ later) = (r.input < count) × AreReadWithin count later
 
--- the images that nodes name are among the cells
+-- the list has the references to the images that nodes read or write
 abbrev pub AreNamed : List Cell → List Node → Type 0
 AreNamed cells nodes = (n : Node) → In n nodes → (c : Cell) → In c (node_images n) → In c cells
 
@@ -148,7 +153,7 @@ AreUntaken (Reduce r ∷ later) = AreUntaken later
 
 -- ---- graphs that have tasks
 
--- the steps of a verified graph, the virtual images that they write, in that order, and a plan of their slots
+-- a verified order of nodes, the virtual images that they write in this order, and a plan of their slots
 pub record HaveTasks (steps : List Node) (outs : List VirtualOutput) (p : PlanValue) (is_virtual : Cell → Bool) : Type 0 where
   pub plan : IsPlan steps outs p
   pub order : map (λ o. o.cell) outs ≡ filter is_virtual (flat_map outputs steps)
@@ -158,8 +163,10 @@ pub record HaveTasks (steps : List Node) (outs : List VirtualOutput) (p : PlanVa
   -- a node that accumulates writes a client's image
   pub adds : (n : Node) → In n steps → accumulates n.function ≡ true → (c : Cell) → In c (outputs n) → is_virtual c ≡ false
 
+-- references to the images of the graph, by its nodes in order and its virtual images
 abbrev pub graph_cells : List Node → List VirtualOutput → List Cell
 graph_cells steps outs = with_cells (map (λ o. o.cell) outs) (images_named steps)
 
+-- the tasks of the graph
 abbrev pub graph_tasks : List Node → List VirtualOutput → PlanValue → (Node → ℕ) → List Task
 graph_tasks steps outs p radius = tasks_of (graph_cells steps outs) (map (place_of p) outs) radius steps

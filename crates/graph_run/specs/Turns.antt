@@ -11,11 +11,11 @@ use Rattle.graph_verify.specs.Operand.{operands_of}
 use Rattle.graph_verify.specs.Verdict.{verdict_on}
 use Rattle.graph_run.specs.Operands.{operand_held}
 
--- a cell holds an object of this kind
+-- the reference names an object of this kind
 abbrev pub HoldsKind : List Named → Cell × Kind → Type 0
 HoldsKind objects operand = option_map object_kind (held objects operand.0) ≡ Some operand.1
 
--- a node that can run: its cells hold objects of the kinds that its function has there, and nothing refuses it
+-- the node can run now: its references name objects of the kinds that its function has there, and nothing refuses it
 pub record CanRunNow (objects : List Named) (n : Node) : Type 0 where
   pub node : IsNode n
   pub kinds : All (HoldsKind objects) (operands n)

@@ -1,4 +1,4 @@
-//! Images that leave a table for planes while a graph runs, and come back.
+//! Moves images from a table of objects to planes while a graph runs, and back.
 ghost use Rattle.std.specs.Prelude.{◌≡◌, ◌+◌, ◌≤◌, ◌++◌, length, vec_capacity};
 ghost use Rattle.vx_base.specs.Image.{description_of};
 ghost use Rattle.vx_base.specs.Object.{ImageObject};
@@ -13,7 +13,7 @@ use graph_steps::Plane;
 use object_table::Table;
 use vx_base::ObjRef;
 
-/// Takes the samples of the images that these cells hold out of the table, into planes.
+/// Moves the samples of images from the table to new planes, in the order of `cells`.
 pub fn take_out(table: &mut Table, cells: &[ObjRef], planes: &mut Vec<Plane>)
     requires images { HoldImages table.old.objects cells.now }
     requires apart { AreAllApart cells.now }
@@ -32,7 +32,7 @@ pub fn take_out(table: &mut Table, cells: &[ObjRef], planes: &mut Vec<Plane>)
     }
 }
 
-/// Takes the samples of the image that a cell holds out of the table, into a plane.
+/// Moves the samples of an image from the table to a new plane.
 pub fn take_image(table: &mut Table, cell: ObjRef) -> Plane
     requires { HoldsImage table.old.objects cell }
     ensures plane { result ≡ image_plane (image_held table.old.objects cell) }
@@ -44,7 +44,7 @@ pub fn take_image(table: &mut Table, cell: ObjRef) -> Plane
     Plane::of_image(desc, valid, samples)
 }
 
-/// Puts the images of the first planes, one for each cell, back into the table.
+/// Moves the images of the first planes back to the table, one for each of `cells`.
 pub fn put_back(table: &mut Table, cells: &[ObjRef], planes: &mut [Plane])
     requires images { HoldImages table.old.objects cells.now }
     requires apart { AreAllApart cells.now }
@@ -58,7 +58,7 @@ pub fn put_back(table: &mut Table, cells: &[ObjRef], planes: &mut [Plane])
     }
 }
 
-/// Puts the image of a plane back into the cell that it was taken from.
+/// Moves the image of a plane back to the table.
 pub fn put_image(table: &mut Table, cell: ObjRef, plane: &mut Plane)
     requires there { HoldsImage table.old.objects cell }
     requires desc { plane.old.desc ≡ description_of (image_held table.old.objects cell) }

@@ -17,21 +17,21 @@ use pixel_pool::{Block, Pool};
 use std::alloc::{AllocError, Global};
 use vx_base::{Desc, Format};
 
-/// What the slots of a graph need room for.
+/// The data that determine the sizes of a plan's blocks.
 #[derive(Clone, Copy)]
 pub struct Demand<'a> {
-    /// The rows of a band.
+    /// The number of rows of a band.
     pub size: u16,
-    /// The halo of each plane; the virtual images come first.
+    /// The halo of each plane. Those of the virtual images come first.
     pub halos: &'a [u16],
     pub images: &'a [VirtualOutput],
-    /// The slots of these images.
+    /// The slots of these images, as indices among all slots.
     pub slots: &'a [usize],
 }
 
 // ---- slots
 
-/// Returns the slots of the virtual images that a graph writes, by their places among all slots.
+/// Returns the slots of the virtual images that a graph writes, as indices among all slots.
 pub fn slots_of(alloc: Global, plan: &Plan, verified: &Verified) -> Result<Vec<usize>, AllocError>
     requires { IsPlan verified.now.steps.items verified.now.virtual_outputs.items (told plan.now) }
     ensures { IfOk result (λ slots. slots.items
@@ -45,7 +45,7 @@ pub fn slots_of(alloc: Global, plan: &Plan, verified: &Verified) -> Result<Vec<u
     Ok(slots)
 }
 
-/// Returns the place of the slot of a virtual image.
+/// Returns the slot of a virtual image, as an index among all slots.
 fn slot_of(plan: &Plan, image: &VirtualOutput) -> usize
     requires { place_of (told plan.now) image.now < 2 ^ 64 }
     ensures { result ≡ place_of (told plan.now) image.now }
@@ -136,7 +136,7 @@ fn add_blocks(
     Ok(())
 }
 
-/// Returns how many samples the images of a slot need at most.
+/// Returns the number of samples that a slot needs: the most that any of its images needs.
 fn samples_for(demand: &Demand<'_>, place: usize) -> usize
     requires slots { length demand.now.slots.now ≡ length demand.now.images.now }
     requires halos { length demand.now.images.now ≤ length demand.now.halos.now }
@@ -155,14 +155,14 @@ fn samples_for(demand: &Demand<'_>, place: usize) -> usize
     most
 }
 
-/// Returns the greater of two numbers of samples, of which the second may not count.
+/// Returns `most`, or the greater of `most` and `samples` if `samples` counts.
 fn most_of(most: usize, counts: bool, samples: usize) -> usize
     ensures { result ≡ (if counts then max most samples else most) }
 {
     if counts { most.max(samples) } else { most }
 }
 
-/// Returns the samples of a band of an image and of its halo above and below.
+/// Returns the number of samples in a band of an image with its halo above and below.
 fn band_samples(size: u16, halo: u16, desc: Desc) -> usize
     ensures { result ≡ band_samples size halo desc }
 {

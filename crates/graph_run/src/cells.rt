@@ -1,5 +1,5 @@
-//! The cells of the planes of a graph: those of the virtual images that its nodes write, and then
-//! those of the client images that they name.
+//! References to the images of a graph: first the virtual images that its nodes write, then the
+//! clients' images that they read or write.
 ghost use Rattle.std.specs.Prelude.{◌≡◌, position, IfOk, OnOk};
 ghost use Rattle.std.specs.List.{list_any};
 ghost use Rattle.vx_base.specs.Cell.{same_cell};
@@ -10,7 +10,7 @@ use graph_verify::Verified;
 use std::alloc::{AllocError, Global};
 use vx_base::{Kind, Node, ObjRef};
 
-/// Returns the cells of the images that a graph reads and writes, each once.
+/// Returns references to the images that a graph reads and writes, each once.
 pub fn cells_of(alloc: Global, verified: &Verified) -> Result<Vec<ObjRef>, AllocError>
     ensures { IfOk result (λ cells. cells.items ≡ cells_of verified.now) }
 {
@@ -23,7 +23,7 @@ pub fn cells_of(alloc: Global, verified: &Verified) -> Result<Vec<ObjRef>, Alloc
     Ok(cells)
 }
 
-/// Returns the cells of the virtual images that the nodes of a graph write.
+/// Returns references to the virtual images that the nodes of a graph write.
 fn virtual_cells(alloc: Global, verified: &Verified) -> Result<Vec<ObjRef>, AllocError>
     ensures { IfOk result (λ cells. cells.items ≡ virtual_cells verified.now) }
 {
@@ -34,7 +34,7 @@ fn virtual_cells(alloc: Global, verified: &Verified) -> Result<Vec<ObjRef>, Allo
     Ok(cells)
 }
 
-/// Adds the cells of the images that a node names, as far as they aren't there.
+/// Adds references to the images that a node reads and writes, unless they are in the list.
 fn add_images(cells: &mut Vec<ObjRef>, node: &Node) -> Result<(), AllocError>
     ensures { OnOk result (cells.new.items ≡ with_cells cells.old.items (node_images node.now)) }
 {
@@ -46,7 +46,7 @@ fn add_images(cells: &mut Vec<ObjRef>, node: &Node) -> Result<(), AllocError>
     add_given(cells, parameters.output, node.out2)
 }
 
-/// Adds the cell of an operand of this kind, if that is an image.
+/// Adds the reference of an operand of this kind, if it is given and an image.
 fn add_given(cells: &mut Vec<ObjRef>, kind: Kind, cell: Option<ObjRef>) -> Result<(), AllocError>
     ensures { OnOk result (cells.new.items ≡ with_cells cells.old.items (image_given kind cell)) }
 {
@@ -56,7 +56,7 @@ fn add_given(cells: &mut Vec<ObjRef>, kind: Kind, cell: Option<ObjRef>) -> Resul
     }
 }
 
-/// Adds a cell, unless it is there.
+/// Adds a reference, unless it is in the list.
 fn add_cell(cells: &mut Vec<ObjRef>, cell: ObjRef) -> Result<(), AllocError>
     ensures { OnOk result (cells.new.items ≡ with_cell cells.old.items cell) }
 {
@@ -66,21 +66,21 @@ fn add_cell(cells: &mut Vec<ObjRef>, cell: ObjRef) -> Result<(), AllocError>
     Ok(())
 }
 
-/// Whether a cell is one of these.
+/// Returns whether a reference is in the list.
 fn is_there(cells: &[ObjRef], cell: ObjRef) -> bool
     ensures { result ≡ list_any (λ other. same_cell other cell) cells.now }
 {
     cells.iter().any(|other| *other == cell)
 }
 
-/// Returns the index of the first of these cells that is this one.
+/// Returns the first index of a reference.
 fn position_of(cells: &[ObjRef], cell: ObjRef) -> Option<usize>
     ensures { result ≡ position (λ other. same_cell other cell) cells.now }
 {
     cells.iter().position(|other| *other == cell)
 }
 
-/// Returns the index of a cell among these: their number where it isn't one of them.
+/// Returns the first index of a reference, or the length of the list if it isn't there.
 pub fn index_of(cells: &[ObjRef], cell: ObjRef) -> usize
     ensures { result ≡ index_of cells.now cell }
 {

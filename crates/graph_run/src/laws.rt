@@ -1,4 +1,4 @@
-//! What runs mean: functions that do nothing, whose contracts are facts.
+//! Laws of runs: functions that do nothing, whose contracts are facts.
 ghost use Rattle.std.specs.Prelude.{◌≡◌, ◌<◌, ℕ, false, List, [], ◌∷◌, length, map, None};
 ghost use Rattle.std.specs.List.{AllPairs};
 ghost use Rattle.std.specs.List.Sorted.{IsPermutation};
@@ -20,8 +20,8 @@ ghost use Rattle.graph_run.specs.Graph.{run_of_graph};
 ghost use Rattle.graph_run.specs.Operands.{CellsStand};
 ghost use Rattle.graph_run.specs.Solution.{WritesNo, ReadImages, Solves};
 
-/// The nodes one after the other, each once and after those that feed it, leave what the rounds
-/// leave.
+/// Running the nodes in order, each once and after those that feed it, gives the result of the
+/// rounds.
 pub fn once_in_order()
     ensures { (nodes steps : List Node) (objects : List Named) → IsOrder feeds nodes steps →
         two_writers nodes ≡ false →
@@ -29,8 +29,8 @@ pub fn once_in_order()
         rounds_of_nodes nodes (length nodes) objects ≡ one_by_one steps objects }
 {}
 
-/// What the rounds leave solves a graph that has no cycle and no cell with two writers, and nothing
-/// else does.
+/// The result of the rounds solves the equations of the nodes, and is the only solution. The graph
+/// has no cycle, and no object has two writers.
 pub fn rounds_solve()
     ensures solves { (nodes : List Node) (before : List Named) → two_writers nodes ≡ false →
         has_cycle feeds nodes ≡ false →
@@ -43,7 +43,7 @@ pub fn rounds_solve()
         Solves nodes before after → after ≡ rounds_of_nodes nodes (length nodes) before }
 {}
 
-/// A graph of one node runs as the node does at once.
+/// A run of a graph with one node writes what the node by itself writes.
 pub fn one_node()
     ensures { (is : Cell → Operand) (n : Node) (objects : List Named) →
         AllPairs (λ a b. a.name < b.name) objects →
@@ -51,7 +51,7 @@ pub fn one_node()
         run_of_graph is (n ∷ []) objects ≡ with_written objects (written_by n (held objects)) }
 {}
 
-/// A graph runs alike in whatever order its nodes were added.
+/// The order in which nodes are added doesn't change the result of a run.
 pub fn added_in_any_order()
     ensures { (is : Cell → Operand) (nodes others : List Node) (objects : List Named) →
         IsPermutation nodes others → two_writers nodes ≡ false →
@@ -60,8 +60,9 @@ pub fn added_in_any_order()
         ≡ run_of_graph (resolved is others) others objects }
 {}
 
-/// In a graph that can run, each node can run on what its cells are found to be, and whichever of
-/// the nodes have run by then, the cells are what they were found to be.
+/// If nothing refuses a graph, each node can run when its turn comes. Nothing refuses a node by
+/// itself, for operands as they are resolved. And after any of the nodes have run, all objects
+/// still match their resolved operands.
 pub fn each_at_its_turn()
     ensures alone { (work : ℕ) (is : Cell → Operand) (nodes : List Node) (n : Node) →
         verdict work is nodes ≡ None → In n nodes →
@@ -73,8 +74,8 @@ pub fn each_at_its_turn()
         (one_by_one before (map (begun (resolved is nodes) nodes) objects)) }
 {}
 
-/// A run of a graph that can run is its nodes in an order in which they can run, each once, on what
-/// its cells are as it begins; virtual images are forgotten.
+/// A run of a graph that nothing refuses is its nodes in an order in which they can run, each once.
+/// Virtual images are restored at the end.
 pub fn runs_in_order()
     ensures { (work : ℕ) (is : Cell → Operand) (nodes steps : List Node) (objects : List Named) →
         verdict work is nodes ≡ None →

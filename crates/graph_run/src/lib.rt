@@ -5,19 +5,19 @@
 //! all its nodes at once. A graph runs over planes, by the tasks of `graph_steps`.
 //!
 //! - `operand`: objects as operands
-//! - `once`: a node by itself
-//! - `verify`: the verdict on a graph, and the order in which its nodes run
-//! - `runs`: a graph that runs
-//! - `schedule`: how it runs: its cells, slots, tasks, halos, and the rows of a band
-//! - `cells`: the cells of its planes, and their indices
-//! - `task_list`: its tasks in a list
-//! - `sizes`: the halos of its planes, and the rows of a band
-//! - `blocks`: blocks of the pool that its virtual images share
+//! - `once`: runs a single node
+//! - `verify`: the verdict on a graph, and an order in which its nodes can run
+//! - `runs`: runs a graph
+//! - `schedule`: the planes, slots, tasks, halos and bands of a run
+//! - `cells`: references to the images behind the planes, and their indices
+//! - `task_list`: the tasks of a graph
+//! - `sizes`: the halos of the planes, and the number of rows of a band
+//! - `blocks`: blocks of the pool that virtual images share
 //! - `virtual_planes`: planes of virtual images, over these blocks
-//! - `bind`: images of clients that leave a table for planes, and come back
-//! - `tables`: tables, thresholds and matrices, lent to its steps
-//! - `tallies`: its histograms and extremes
-//! - `laws`: what the definitions of runs mean
+//! - `bind`: moves clients' images to planes and back
+//! - `tables`: tables, thresholds and matrices that steps read
+//! - `tallies`: histograms and extremes
+//! - `laws`: laws of runs
 //! - `examples`: runs of small graphs
 #![tactic(auto)]
 

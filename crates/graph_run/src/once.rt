@@ -1,4 +1,4 @@
-//! A node by itself: it runs on what its cells hold in a table.
+//! Runs a single node on the objects of a table.
 ghost use Rattle.std.specs.Prelude.{◌≡◌, ◌≢◌, map, All, IfSome, Some};
 ghost use Rattle.std.specs.List.Sorted.{IsStrictlyIncreasing};
 ghost use Rattle.std.specs.Option.{option_map};
@@ -25,7 +25,7 @@ use image_core::Second;
 use object_table::Table;
 use vx_base::{Kind, Node, ObjRef, Output};
 
-/// Runs a node that nothing refuses on what its cells hold in a table. It takes no memory.
+/// Runs a node that nothing refuses on the objects that it names. Allocates nothing.
 pub fn run_once(table: &mut Table, node: &Node)
     requires objects { All (λ o. IsObject o.object) table.old.objects }
     requires names { IsStrictlyIncreasing (map (λ o. o.name) table.old.objects) }
@@ -38,7 +38,7 @@ pub fn run_once(table: &mut Table, node: &Node)
     run_to(table, node, Output::Second, node.out2);
 }
 
-/// Runs a node to one of its outputs, if it has that.
+/// Writes one of a node's outputs, if the node has it.
 fn run_to(table: &mut Table, node: &Node, which: Output, output: Option<ObjRef>)
     requires { IfSome output (RunsTo table.old.objects node.now) }
     ensures { table.new ≡ with_objects table.old
@@ -52,7 +52,7 @@ fn run_to(table: &mut Table, node: &Node, which: Output, output: Option<ObjRef>)
     }
 }
 
-/// Runs a node to an output that is an image, of which the samples are in a plane meanwhile.
+/// Writes an output image. Its samples are in a plane meanwhile.
 fn write_to(table: &mut Table, node: &Node, which: Output, output: ObjRef)
     requires runs { RunsTo table.old.objects node.now output }
     requires kind { (parameters node.now.function).output ≡ kind.Image }
@@ -64,7 +64,7 @@ fn write_to(table: &mut Table, node: &Node, which: Output, output: ObjRef)
     put_image(table, output, &mut plane);
 }
 
-/// Writes a node's image to a plane. The inputs are read where they stand.
+/// Writes a node's image to a plane. The inputs are read in the table.
 fn write_plane(table: &Table, node: &Node, which: Output, output: &mut Plane)
     requires reads { CanRead table.now.objects node.now }
     requires whole { IsWhole output.old }
@@ -88,7 +88,7 @@ fn write_plane(table: &Table, node: &Node, which: Output, output: &mut Plane)
     output.write_all(&kernel);
 }
 
-/// Lends a node's second input to its kernel.
+/// Returns a node's second input, as its kernel reads it.
 fn second_of<'a>(table: &'a Table, node: &Node) -> Second<'a>
     requires { CanRead table.now.objects node.now }
     ensures { second_object result ≡ option_map (cell_object table.now.objects) node.now.in2 }
@@ -100,7 +100,7 @@ fn second_of<'a>(table: &'a Table, node: &Node) -> Second<'a>
     }
 }
 
-/// Runs a node to an output that is a distribution, or extremes: a tally of its input.
+/// Writes an output that is a distribution or extremes: a tally of the first input.
 fn reduce_to(table: &mut Table, node: &Node, wanted: Kind, output: ObjRef)
     requires runs { RunsTo table.old.objects node.now output }
     requires wanted { (parameters node.now.function).output ≡ wanted }

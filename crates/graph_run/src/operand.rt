@@ -1,4 +1,4 @@
-//! Objects as the operands of nodes.
+//! Objects as operands of nodes.
 ghost use Rattle.std.specs.Prelude.{◌≡◌};
 ghost use Rattle.std.specs.Option.{option_map};
 ghost use Rattle.object_table.specs.Delay.{in_slot};
@@ -7,7 +7,7 @@ ghost use Rattle.graph_verify.specs.Operand.{operand_of};
 use graph_verify::Operand;
 use object_table::{Content, Object};
 
-/// An object, as an operand.
+/// Returns an object as an operand.
 pub fn operand_of(object: &Object) -> Operand
     ensures { result ≡ operand_of object.now }
 {
@@ -24,8 +24,8 @@ pub fn operand_of(object: &Object) -> Operand
     }
 }
 
-/// What stands in a slot of an object, or without a slot the object itself, as an operand. `None`:
-/// the object has no such slot.
+/// Returns the image in a slot of an object as an operand, or the object itself if `slot` is
+/// `None`. Returns `None` if the object has no such slot.
 pub fn operand_in(object: &Object, slot: Option<u8>) -> Option<Operand>
     ensures { result ≡ option_map operand_of (in_slot slot object.now) }
 {

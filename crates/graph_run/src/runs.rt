@@ -1,5 +1,5 @@
-//! A graph that runs over planes: the samples of its images leave the table of objects for planes,
-//! its tasks run, and images and tallies come back.
+//! Runs a verified graph over planes. The samples of its images move from the table of objects to
+//! planes, its tasks run, and images and tallies move back.
 ghost use Rattle.std.specs.Prelude.{◌≡◌, ◌≤◌, ◌<◌, ◌+◌, ◌++◌, ℕ, [], List, drop, length, map};
 ghost use Rattle.std.specs.Prelude.{slice_index_or, vec_capacity, All, None, OnErr, OnOk, Some};
 ghost use Rattle.std.specs.List.Sorted.{IsStrictlyIncreasing};
@@ -49,11 +49,13 @@ use pixel_pool::{Block, Pool};
 use std::alloc::{AllocError, Global};
 use vx_base::{Node, ObjRef};
 
-/// Runs a verified graph on what the cells of its nodes hold in a table: its nodes in an order in
-/// which they can run, each once, or on large images each once for each band of rows. The virtual
-/// images that the nodes write stand in blocks of the pool, which those share that the plan says;
-/// they are themselves again at the end, and the blocks are given back. All memory is taken first:
-/// an error has changed nothing but what is free in the pool.
+/// Runs a verified graph on the objects that its nodes name. OpenVX 1.3, "Graphs", vxProcessGraph.
+///
+/// The nodes run in an order in which they can run. On large images, each runs once for each band
+/// of rows. The virtual images that they write share blocks of the pool, by the slots of the plan.
+/// At the end these blocks are given back, and the virtual images are as before. All memory is
+/// allocated first, so after an error the objects are as before; only the pool may have more free
+/// blocks.
 pub fn run(
     alloc: Global,
     verified: &Verified,
@@ -77,7 +79,7 @@ pub fn run(
     ensures adds { (format : SampleFormat) → blocks_of pool.new format
         ≤ blocks_of pool.old format + (told plan.now).slot_count format }
 
-    // Those that it has used are free for the next run.
+    // The blocks that it used are free for the next run.
     ensures free { OnOk result ((format : SampleFormat) →
         (told plan.now).slot_count format ≤ free_count (free_of pool.new format)) }
 {
@@ -141,7 +143,8 @@ fn run_schedule(
     Ok(())
 }
 
-/// Descriptions have sides that are allowed, which the prover knows of each that is read.
+/// Proves that the sides of all descriptions are in range. The prover learns that only by reading
+/// each description; the compiler removes the loop.
 fn are_described(verified: &Verified)
     ensures { All (λ o. IsDescription o.desc) verified.now.virtual_outputs.items }
 {
@@ -150,7 +153,7 @@ fn are_described(verified: &Verified)
     }
 }
 
-/// Runs the tasks of a schedule over planes. Tables are lent from the objects meanwhile.
+/// Runs the tasks of a schedule over planes. Tables are read in the table of objects.
 fn run_tasks<'a>(
     table: &'a Table,
     verified: &Verified,
@@ -184,8 +187,8 @@ fn run_tasks<'a>(
     );
 }
 
-/// Moves the samples of a graph's images from the table to planes, behind planes of its virtual
-/// images over blocks.
+/// Adds planes of the graph's virtual images over blocks, and then planes with the samples of its
+/// other images, which it takes from the table.
 fn take(
     alloc: Global,
     verified: &Verified,
@@ -220,8 +223,8 @@ fn take(
     take_out(table, clients_of(&schedule.cells, images.len()), planes);
 }
 
-/// Moves the samples of a graph's images back to the table, writes its tallies there, and gives
-/// blocks back to their slots.
+/// Moves the samples of a graph's images back to the table, writes its tallies there, and returns
+/// blocks to their slots.
 fn give(
     verified: &Verified,
     schedule: &Schedule,
@@ -265,7 +268,7 @@ fn give(
     set_tallies(table, &schedule.tally_cells, tallies);
 }
 
-/// Puts the images of the planes behind those of virtual images back into the table.
+/// Moves the images of the planes behind those of virtual images back to the table.
 fn put_behind(table: &mut Table, virtuals: usize, cells: &[ObjRef], planes: &mut [Plane])
     requires cells { virtuals ≤ length cells.now }
     requires planes { virtuals ≤ length planes.old }

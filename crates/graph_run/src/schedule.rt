@@ -94,7 +94,7 @@ pub fn clients_of(cells: &[ObjRef], virtuals: usize) -> &[ObjRef]
     &cells[virtuals..]
 }
 
-/// Returns the tasks of a verified graph over planes of these cells.
+/// Returns the tasks of a verified graph over planes with these references.
 fn tasks_for(
     alloc: Global,
     table: &Table,

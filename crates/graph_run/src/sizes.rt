@@ -1,4 +1,4 @@
-//! Sizes: how high the images of a graph are, and in bands of how many rows it runs.
+//! The greatest height of a graph's images, its halos, and the number of rows of its bands.
 ghost use Rattle.std.specs.Prelude.{◌≡◌, ◌≤◌, ◌<◌, ℕ, All, true, length, None, IfOk, IfSome};
 ghost use Rattle.object_table.specs.Table.{image_held};
 ghost use Rattle.graph_steps.specs.declared.step.Step.{Step as StepValue};
@@ -15,38 +15,39 @@ use object_table::Table;
 use std::alloc::{AllocError, Global};
 use vx_base::{Desc, ObjRef};
 
-/// Images of fewer samples than this stay in the cache as a whole.
+/// Images with fewer samples fit the cache whole, so bands gain nothing.
 const LEAST_SAMPLES: usize = 131_072;
 
-/// Computing the halos of a graph with halos counts for more than the cache: below so many samples
-/// they cost what bands gain.
+/// The same for graphs with halos. With fewer samples, computing the halo rows costs as much as
+/// bands gain.
 const LEAST_SAMPLES_WITH_HALO: usize = 500_000;
 
-/// About so many samples of an image make a band: those of a few images stay in the cache.
+/// The wanted number of samples of an image in a band, so that those of a few images fit the cache.
 const BAND_SAMPLES: u32 = 65_536;
 
-/// A band has no more samples than this, whatever its halo.
+/// The greatest number of samples of an image in a band, whatever the halo.
 const GREATEST_BAND_SAMPLES: u32 = 131_072;
 
-/// In a band of fewer rows than this the calls for each step would be too great a part.
+/// The least number of rows of a band. With fewer rows, the calls for each step take too much of
+/// the time.
 const LEAST_ROWS: u32 = 16;
 
-/// More rows than this in a band gain nothing.
+/// The greatest number of rows of a band. More rows gain nothing.
 const GREATEST_ROWS: u32 = 64;
 
-/// In fewer bands than this a graph gains nothing.
+/// The least number of bands. With fewer bands, a graph gains nothing.
 const LEAST_BANDS: u16 = 4;
 
-/// Wanted rows of a band for each row of halo above it; halo rows are computed twice.
+/// Wanted rows of a band for each row of its halo; halo rows are computed twice.
 const ROWS_FOR_HALO_ROW: u32 = 16;
 
-/// With fewer rows than this for each row of halo a band costs more than it gains.
+/// Least rows of a band for each row of its halo. With fewer rows, bands cost more than they gain.
 const LEAST_FOR_HALO_ROW: u16 = 4;
 
 // ---- heights
 
-/// Returns a height that no image of a graph exceeds: of these virtual images, and of those that
-/// cells hold. It is at least 1.
+/// Returns a height that is at least that of each image of a graph, and at least 1. The images are
+/// these virtual images and those that `clients` name.
 pub fn high_of(table: &Table, images: &[VirtualOutput], clients: &[ObjRef]) -> u16
     requires { HoldImages table.now.objects clients.now }
     ensures some { 0 < result }
@@ -60,7 +61,7 @@ pub fn high_of(table: &Table, images: &[VirtualOutput], clients: &[ObjRef]) -> u
     high
 }
 
-/// Returns the height of the highest virtual image, at least 1.
+/// Returns the height of the highest virtual image, and at least 1.
 fn highest_virtual(images: &[VirtualOutput]) -> u16
     ensures some { 0 < result }
     ensures virtuals { All (λ o. o.desc.height ≤ result) images.now }
@@ -74,7 +75,7 @@ fn highest_virtual(images: &[VirtualOutput]) -> u16
 
 // ---- halos
 
-/// Returns the halo of each of these planes, in images of at most this height.
+/// Returns the halo of each plane, for images of at most this height.
 pub fn halos_of(
     alloc: Global,
     high: u16,
@@ -95,8 +96,8 @@ pub fn halos_of(
 
 // ---- bands
 
-/// Returns how many rows a band has, in which all tasks run before the next band: `high`, for one
-/// band of whole images, where bands gain nothing, or where a step would add to a row twice.
+/// Returns the number of rows of a band. That is `high`, for one band of whole images, if bands
+/// gain nothing or if a step would add to a row twice.
 pub fn band_size(
     high: u16,
     table: &Table,
@@ -118,7 +119,7 @@ pub fn band_size(
     }
 }
 
-/// Returns the description of the image that the first step reads.
+/// Returns the description of the image that the first step reads, if it is known.
 fn first_desc(table: &Table, verified: &Verified) -> Option<Desc> {
     let node = verified.steps.first()?;
     if let Some(desc) = verified.desc_of(node.in1) {
@@ -130,7 +131,7 @@ fn first_desc(table: &Table, verified: &Verified) -> Option<Desc> {
     }
 }
 
-/// Returns the greatest of these numbers of rows, 0 where there are none.
+/// Returns the greatest halo, or 0 if there are none.
 fn greatest(halos: &[u16]) -> u16 {
     let mut most = 0;
     for halo in halos {
@@ -139,8 +140,8 @@ fn greatest(halos: &[u16]) -> u16 {
     most
 }
 
-/// Returns the rows of a band of images of this description, whose greatest halo is this. `None`:
-/// whole images are as fast.
+/// Returns the number of rows of a band for images of this description, with this greatest halo.
+/// Returns `None` if bands gain nothing.
 fn rows_of(desc: Desc, halo: u16) -> Option<u16>
     ensures { IfSome result (λ rows. 0 < rows) }
 {
@@ -155,7 +156,7 @@ fn rows_of(desc: Desc, halo: u16) -> Option<u16>
     Some(rows)
 }
 
-/// Returns the wanted rows of a band.
+/// Returns the wanted number of rows of a band.
 fn wanted_rows(desc: Desc, halo: u16) -> u16
     ensures { 0 < result }
 {
@@ -165,7 +166,7 @@ fn wanted_rows(desc: Desc, halo: u16) -> u16
     wanted.min(greatest).max(LEAST_ROWS) as u16
 }
 
-/// Whether each step that reads its output writes one without a halo, and to a block of all rows.
+/// Returns whether each step that reads its output writes each row once, to a block of all rows.
 fn add_once(tasks: &[Task], halos: &[u16]) -> bool
     ensures { result ≡ true → (s : StepValue) → IsStepOf s tasks.now →
         reads_output s.node.function ≡ true →
@@ -181,7 +182,7 @@ fn add_once(tasks: &[Task], halos: &[u16]) -> bool
     true
 }
 
-/// Whether a task that reads its output writes one without a halo, and to a block of all rows.
+/// Returns whether a task that reads its output writes each row once, to a block of all rows.
 fn adds_once(task: &Task, halos: &[u16]) -> bool
     ensures { result ≡ true → (s : StepValue) → task.now ≡ Write s →
         reads_output s.node.function ≡ true →
@@ -195,7 +196,7 @@ fn adds_once(task: &Task, halos: &[u16]) -> bool
     }
 }
 
-/// Whether a plane has no halo.
+/// Returns whether a plane has no halo.
 fn is_without_halo(plane: usize, halos: &[u16]) -> bool
     ensures { result ≡ true → halo halos.now plane ≡ 0 }
 {

@@ -1,4 +1,4 @@
-//! Tables, thresholds and matrices that the steps of a graph read, lent from a table of objects.
+//! Tables, thresholds and matrices that the steps of a graph read in a table of objects.
 ghost use Rattle.std.specs.Prelude.{◌≡◌, ◌≤◌, ◌+◌, ◌++◌, length, map, vec_capacity, IfSome, Some};
 ghost use Rattle.vx_base.specs.Object.{object_kind};
 ghost use Rattle.image_core.specs.Second.{second_object};
@@ -9,7 +9,7 @@ use image_core::Second;
 use object_table::{Content, Object, Table};
 use vx_base::{Kind, Node};
 
-/// Adds for each node the table that it reads, if it reads one.
+/// Adds an entry for each node: the table that it reads, if it reads one.
 pub fn add_tables<'a>(table: &'a Table, steps: &[Node], tables: &mut Vec<Second<'a>>)
     requires room { length tables.old.items + length steps.now ≤ vec_capacity tables.old }
     requires lent { LendTables table.now.objects steps.now }
@@ -21,7 +21,7 @@ pub fn add_tables<'a>(table: &'a Table, steps: &[Node], tables: &mut Vec<Second<
     }
 }
 
-/// Returns the table that a node reads.
+/// Returns the table, threshold or matrix that a node reads, if it reads one.
 pub fn table_of<'a>(table: &'a Table, node: &Node) -> Second<'a>
     requires { IfSome (node_table table.now.objects node.now)
         (λ object. IsLent (object_kind object)) }
@@ -37,7 +37,7 @@ pub fn table_of<'a>(table: &'a Table, node: &Node) -> Second<'a>
     }
 }
 
-/// Lends an object to a step.
+/// Returns an object as a second input.
 fn lent(object: &Object) -> Second<'_>
     requires { IsLent (object_kind object.now) }
     ensures { second_object result ≡ Some object.now }

@@ -1,4 +1,4 @@
-//! Tallies of the histograms and extremes of a graph: from a table of objects, and back into it.
+//! The tallies of a graph: made for objects of a table, and written back to them.
 ghost use Rattle.std.specs.Prelude.{◌≡◌, ◌≢◌, ◌∷◌, ◌++◌, [], unwrap_or, IfOk, OnOk};
 ghost use Rattle.vx_base.specs.declared.kind.Kind.TheVariants as kind;
 ghost use Rattle.vx_base.specs.Function.{parameters};
@@ -17,7 +17,7 @@ use object_table::{Content, Distribution, Object, Table};
 use std::alloc::{AllocError, Global};
 use vx_base::{Bins, Extremes, Kind, Node, ObjRef};
 
-/// Returns the cells of the objects in which nodes keep histograms and extremes, in their order.
+/// Returns references to the histograms and extremes that nodes write, in the order of the nodes.
 pub fn tally_cells(alloc: Global, steps: &[Node]) -> Result<Vec<ObjRef>, AllocError>
     ensures { IfOk result (λ cells. cells.items ≡ tally_cells steps.now) }
 {
@@ -28,7 +28,7 @@ pub fn tally_cells(alloc: Global, steps: &[Node]) -> Result<Vec<ObjRef>, AllocEr
     Ok(cells)
 }
 
-/// Adds the cell of a node's histogram or extremes, if it keeps one.
+/// Adds the reference to a node's histogram or extremes, if it writes one.
 fn add_cell(cells: &mut Vec<ObjRef>, node: &Node) -> Result<(), AllocError>
     ensures { OnOk result (cells.new.items
         ≡ cells.old.items ++ tally_cell (parameters node.now.function).output node.now) }
@@ -42,7 +42,7 @@ fn add_cell(cells: &mut Vec<ObjRef>, node: &Node) -> Result<(), AllocError>
     }
 }
 
-/// Returns a tally for each node that keeps one, in which no sample is counted.
+/// Returns an empty tally for each node that writes a histogram or extremes.
 pub fn tallies_of(alloc: Global, table: &Table, steps: &[Node]) -> Result<Vec<Tally>, AllocError>
     requires { KeepTallies table.now.objects steps.now }
     ensures { IfOk result (λ tallies.
@@ -55,7 +55,7 @@ pub fn tallies_of(alloc: Global, table: &Table, steps: &[Node]) -> Result<Vec<Ta
     Ok(tallies)
 }
 
-/// Adds the tally of a node, if it keeps one.
+/// Adds an empty tally for a node that writes a histogram or extremes.
 fn add_tally(tallies: &mut Vec<Tally>, table: &Table, node: &Node) -> Result<(), AllocError>
     requires { KeepsTally table.now.objects (parameters node.now.function).output
         (unwrap_or node.now.out1 node.now.in1) }
@@ -72,7 +72,7 @@ fn add_tally(tallies: &mut Vec<Tally>, table: &Table, node: &Node) -> Result<(),
     }
 }
 
-/// Returns the tally for an object of this kind, in which no sample is counted.
+/// Returns an empty tally for an object of this kind.
 pub fn tally_for(table: &Table, wanted: Kind, cell: ObjRef) -> Tally
     requires keeps { KeepsTally table.now.objects wanted cell }
     requires other { wanted ≢ kind.Image }
@@ -84,7 +84,7 @@ pub fn tally_for(table: &Table, wanted: Kind, cell: ObjRef) -> Tally
     }
 }
 
-/// Returns the bins of the distribution that a cell holds.
+/// Returns the bins of a distribution.
 fn bins_of(table: &Table, cell: ObjRef) -> Bins
     requires { HoldsKind table.now.objects (cell, kind.Distribution) }
     ensures { result ≡ (distribution_value (cell_object table.now.objects cell)).bins }
@@ -95,7 +95,7 @@ fn bins_of(table: &Table, cell: ObjRef) -> Bins
     }
 }
 
-/// The distribution that an object is.
+/// Returns an object as a distribution.
 fn distribution_of(object: &Object) -> &Distribution
     requires { object_kind object.now ≡ kind.Distribution }
     ensures { result.now ≡ distribution_value object.now }
@@ -120,7 +120,7 @@ fn no_extremes() -> Extremes
     }
 }
 
-/// Writes tallies to the objects that these cells hold.
+/// Writes tallies to objects of the table, one to each of `cells`.
 pub fn set_tallies(table: &mut Table, cells: &[ObjRef], tallies: &[Tally])
     requires { AreTalliesFor table.old.objects cells.now tallies.now }
     ensures { table.new ≡ with_objects table.old
@@ -131,7 +131,7 @@ pub fn set_tallies(table: &mut Table, cells: &[ObjRef], tallies: &[Tally])
     }
 }
 
-/// Writes a tally to the object that a cell holds.
+/// Writes a tally to an object of the table.
 pub fn set_tally(table: &mut Table, cell: ObjRef, tally: &Tally)
     requires { IsTallyFor table.old.objects cell tally.now }
     ensures { table.new ≡ with_objects table.old

@@ -1,4 +1,4 @@
-//! The list of tasks of a graph, whose operands are the indices of planes.
+//! The tasks of a graph, whose operands are the indices of planes.
 ghost use Rattle.std.specs.Prelude.{◌≡◌, ◌+◌, ◌++◌, ◌≤◌, ◌<◌, ◌^◌, length, IfOk, OnOk};
 ghost use Rattle.std.specs.Option.{option_and_then, option_copied};
 ghost use Rattle.vx_base.specs.Function.{parameters};
@@ -17,20 +17,20 @@ use object_table::{Content, Table};
 use std::alloc::{AllocError, Global};
 use vx_base::{Convolution, Kind, Node, ObjRef, Output};
 
-/// What the indices and radii in the tasks of a graph depend on.
+/// The data that determine the indices and radii in a graph's tasks.
 #[derive(Clone, Copy)]
 pub struct Binding<'a> {
-    /// The objects, of which matrices are read.
+    /// The objects, for the sizes of matrices.
     pub table: &'a Table,
     /// The height of the highest image.
     pub high: u16,
-    /// The cells of the planes.
+    /// References to the planes' images.
     pub cells: &'a [ObjRef],
-    /// The slots of the virtual images, which come first among the planes.
+    /// The slots of the virtual images, whose planes come first.
     pub slots: &'a [usize],
 }
 
-/// Returns the tasks of nodes, each after those of the nodes before it.
+/// Returns the tasks of all nodes, in the order of the nodes.
 pub fn tasks_of(
     alloc: Global,
     binding: &Binding<'_>,
@@ -49,8 +49,7 @@ pub fn tasks_of(
     Ok(tasks)
 }
 
-/// Adds the tasks of the node at an index of the order. `tally` is the index of its tally, if it
-/// has one.
+/// Adds the tasks of the node at index `at` of the order. `tally` is the index of the next tally.
 fn add_tasks(
     tasks: &mut Vec<Task>,
     binding: &Binding<'_>,
@@ -77,7 +76,7 @@ fn add_tasks(
     }
 }
 
-/// Returns the index of the next tally.
+/// Returns the index of the next tally after a node.
 fn tally_after(tally: usize, node: &Node) -> usize
     requires { tally + 1 < 2 ^ 64 }
     ensures { result ≡ tally_after tally (parameters node.now.function).output }
@@ -98,7 +97,7 @@ fn add_step(tasks: &mut Vec<Task>, step: Option<Step>) -> Result<(), AllocError>
     Ok(())
 }
 
-/// Returns the step that writes an output of a node, if it is there.
+/// Returns the step that writes an output of a node, if that is given.
 fn step_given(
     binding: &Binding<'_>,
     at: usize,
@@ -133,7 +132,7 @@ fn step_for(binding: &Binding<'_>, at: usize, node: &Node, which: Output, output
     }
 }
 
-/// Returns where the second input of a node is.
+/// Returns the source of a node's second input.
 fn source(cells: &[ObjRef], at: usize, node: &Node) -> Source
     ensures { result ≡ source cells.now at (second_kind node.now) node.now.in2 }
 {
@@ -147,15 +146,15 @@ fn source(cells: &[ObjRef], at: usize, node: &Node) -> Source
 
 // ---- radii
 
-/// Returns the rows above and below a row of its output that a node reads of its inputs: all,
-/// which are at most `high`, where it reads no fixed number of rows.
+/// Returns a node's radius: the number of input rows above and below an output row that it reads.
+/// If it reads all rows, that is `high`.
 pub fn radius_of(table: &Table, high: u16, node: &Node) -> u16
     ensures { result ≡ radius_of table.now.objects high node.now }
 {
     step_reach(node.function, matrix_of(table, node)).unwrap_or(high)
 }
 
-/// The matrix that is the second input of a node.
+/// Returns the matrix that is a node's second input.
 fn matrix_of<'a>(table: &'a Table, node: &Node) -> Option<&'a Convolution>
     ensures { option_copied result
         ≡ matrix_in (option_and_then (held table.now.objects) node.now.in2) }
@@ -172,7 +171,8 @@ fn matrix_of<'a>(table: &'a Table, node: &Node) -> Option<&'a Convolution>
 
 // ---- slots
 
-/// Returns the image whose block the image at an index takes: none where that is a client's.
+/// Returns the index of the image whose block the image at index `at` takes; `None` if that is a
+/// client's image.
 fn taken(slots: &[usize], at: usize) -> Option<usize>
     ensures { result ≡ taken slots.now at }
 {
@@ -183,7 +183,7 @@ fn taken(slots: &[usize], at: usize) -> Option<usize>
     }
 }
 
-/// Returns the image that has a slot's block once this many images are written.
+/// Returns the index of the image that has a slot's block after `count` images are written.
 fn holder(slots: &[usize], slot: usize, count: usize) -> Option<usize>
     requires { count ≤ length slots.now }
     ensures { result ≡ holder slots.now slot count }

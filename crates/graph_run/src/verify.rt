@@ -1,4 +1,4 @@
-//! The verdicts on graphs, whose nodes name what a table holds.
+//! Verdicts on graphs whose nodes name objects of a table.
 ghost use Rattle.std.specs.Prelude.{◌≡◌, IsTrue, None, Some, All, map, IfOk, IfErr, OnOk};
 ghost use Rattle.std.specs.Option.{option_map};
 ghost use Rattle.vx_base.specs.Graph.{nodes_of};
@@ -14,9 +14,11 @@ use object_table::Table;
 use std::alloc::{AllocError, Global};
 use vx_base::{Node, Numbered, ObjRef};
 
-/// Verifies a graph whose nodes name what a table holds, and of which the virtual images that it
-/// writes may take so many bytes: its nodes in an order in which they can run, in memory of the
-/// allocator. The first input of each node is an image.
+/// Verifies a graph of a table: returns its nodes in an order in which they can run. The first
+/// input of each node is an image.
+///
+/// `work` is the quota of the virtual images that the graph writes, in bytes. The result is an
+/// error if there is no memory, or with the verdict if the graph can't run.
 pub fn verify_in(
     alloc: Global,
     table: &Table,
@@ -36,7 +38,7 @@ pub fn verify_in(
     verify(alloc, &nodes, work)
 }
 
-/// Nodes beside what their cells are to them.
+/// Returns nodes together with their operands.
 fn linked(alloc: Global, table: &Table, nodes: &[Numbered]) -> Result<Vec<Linked>, AllocError>
     ensures nodes { IfOk result (λ linked. linked_nodes linked.items
         ≡ map (λ n. n.node) nodes.now) }
@@ -52,7 +54,7 @@ fn linked(alloc: Global, table: &Table, nodes: &[Numbered]) -> Result<Vec<Linked
     Ok(linked)
 }
 
-/// What the cells of a node are to it.
+/// Returns a node's operands.
 fn operands_held(table: &Table, node: &Node) -> Operands
     ensures { result ≡ operands_of (operand_held table.now.objects) node.now }
 {
@@ -64,7 +66,7 @@ fn operands_held(table: &Table, node: &Node) -> Operands
     }
 }
 
-/// What a cell is to a node, if it is there.
+/// Returns the operand that a reference names, if it is given.
 fn operand_held_if(table: &Table, cell: Option<ObjRef>) -> Option<Operand>
     ensures { result ≡ option_map (operand_held table.now.objects) cell }
 {
@@ -74,7 +76,7 @@ fn operand_held_if(table: &Table, cell: Option<ObjRef>) -> Option<Operand>
     }
 }
 
-/// Returns what a reference is as an operand of a graph's node. Its name may have been released.
+/// Returns the operand that a reference in a node names. Its name may have been released.
 pub fn operand_held(table: &Table, cell: ObjRef) -> Operand
     ensures { result ≡ operand_held table.now.objects cell }
 {

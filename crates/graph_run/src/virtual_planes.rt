@@ -15,7 +15,7 @@ use pixel_pool::Block;
 use std::alloc::Global;
 use vx_base::{Format, Samples};
 
-/// Adds planes of the virtual images to none. The last image in each slot has its block.
+/// Adds planes for virtual images. In each slot, the last image has the block.
 pub fn add_virtual(
     alloc: Global,
     images: &[VirtualOutput],
@@ -42,7 +42,8 @@ pub fn add_virtual(
     }
 }
 
-/// Returns the block that the plane at an index has before a run: that of its slot, or an empty one.
+/// Returns the block of the virtual image at index `k` before a run: that of its slot, or an empty
+/// one.
 fn first_block(alloc: Global, slots: &[usize], k: usize, blocks: &mut [Block]) -> Samples
     requires there { k < length slots.now }
     requires within { slice_index_or slots.now k 0 < length blocks.old }
@@ -61,7 +62,7 @@ fn first_block(alloc: Global, slots: &[usize], k: usize, blocks: &mut [Block]) -
     }
 }
 
-/// Whether the image at an index is the last in its slot.
+/// Returns whether the image at index `k` is the last in its slot.
 fn is_last(slots: &[usize], k: usize) -> bool
     requires { k < length slots.now }
     ensures { result ≡ is_at k (last_in (slice_index_or slots.now k 0) slots.now) }
@@ -83,7 +84,7 @@ fn empty_block(alloc: Global, format: Format) -> Samples
     }
 }
 
-/// Gives the blocks of virtual planes back to the slots that they were taken from.
+/// Puts the blocks of virtual planes back into the slots from which they were taken.
 pub fn return_blocks(slots: &[usize], blocks: &mut [Block], planes: &mut [Plane])
     requires count { length slots.now ≤ length planes.old }
     requires within { (k : ℕ) → k < length slots.now →
