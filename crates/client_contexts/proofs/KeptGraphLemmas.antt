@@ -1,6 +1,11 @@
 -- How a graph runs is kept, and stays right through the requests that leave its nodes.
 use Rattle.std.proofs.Common.{◌≡◌, ◌≢◌, ℕ, ◌<◌, false, List, [], ◌∷◌, Option, Some, None, IfSome, Result, Ok, Err, get_or, refl, sym, ap, subst, ◌∙◌, arith, All, MatchOption, is_some, IfOk, OnErr}
 use Rattle.client_contexts.proofs.Common.{option_map, All-nil, All-cons, Node, ObjectValue, Context, object_held, nodes_in, verdict, operand_held, IsReady, Request, Reply, Allowance, answered, Outcome, KeepsLimits, Kept, IsKept, AreKept, forgotten_by}
+use Rattle.buffer_plan.specs.Places.{told}
+use Rattle.buffer_plan.specs.Plan.{IsPlan}
+use Rattle.graph_run.specs.Schedule.{IsSchedule}
+use Rattle.graph_run.proofs.ScheduleStays.{schedule_stays}
+use Rattle.graph_verify.proofs.MemberLemmas.{AllIn-permutation_back}
 use Rattle.client_model.specs.States.{changes_nodes}
 use Rattle.client_model.specs.declared.request.Request.TheVariants.{ReleaseContext}
 use Rattle.client_model.specs.Context.{State}
@@ -8,7 +13,7 @@ use Rattle.client_model.specs.Request.{IsRequest}
 use Rattle.client_model.specs.Answer.{answer_to}
 use Rattle.client_model.specs.States.{Stays}
 use Rattle.client_model.proofs.StateLaws.{Leaves}
-use Rattle.client_laws.proofs.StayLaws.{after_one, nodes_stay, ready_after_one, verdict_stays_held}
+use Rattle.client_laws.proofs.StayLaws.{after_one, named_skeletons_stay, nodes_stay, ready_after_one, verdict_stays_held}
 use Rattle.client_laws.proofs.StepLaws.{answer_leaves}
 use Rattle.client_contexts.proofs.ForgetLemmas.{left_by}
 
@@ -36,12 +41,27 @@ module _ (limits : Allowance) (c later : Context) (request : Request) (h : Keeps
       nodes_stay limits c later (request ∷ []) name (after_one limits c later request h is e)
       (All-cons (λ r. changes_nodes r name ≡ false) request [] leaves (All-nil (λ r. changes_nodes r name ≡ false))) known
 
+  -- the cells that its nodes name hold objects of the same skeletons, so that its schedule is still one
+  schedule_after_one : (name : ℕ) (k : Kept) (nodes : List Node) → IsReady c.objects nodes k.verified → IsPlan k.verified.steps.items k.verified.virtual_outputs.items (told k.plan)
+      → option_map nodes_in (object_held c.objects name) ≡ Some nodes → option_map nodes_in (object_held later.objects name) ≡ Some nodes
+      → IsSchedule c.objects k.verified (told k.plan) k.schedule → IsSchedule later.objects k.verified (told k.plan) k.schedule
+  schedule_after_one name k nodes ready plan was now scheduled =
+      schedule_stays c.objects later.objects k.verified (told k.plan) plan
+      (λ n cell i named. named_skeletons_stay limits c later (request ∷ []) name nodes (after_one limits c later request h is e) was now cell
+      (n, AllIn-permutation_back nodes k.verified.steps.items ready.verified.order.same_nodes n i, named))
+      k.schedule scheduled
+
   pub kept_after_one : (name : ℕ) (k : Kept) → changes_nodes request name ≡ false → IsKept c name k → IsKept later name k
   kept_after_one name k leaves kept =
       let stayed = had_nodes name leaves kept.below in
       record {
         below = omega (arith, kept.below, next_stays.next);
         plan = kept.plan;
+        schedule =
+            of_held (object_held later.objects name) stayed
+            (λ object there stays. schedule_after_one name k (nodes_in object)
+            (of_nodes (λ nodes. IsReady c.objects nodes k.verified) (object_held c.objects name) (nodes_in object) stays kept.ready) kept.plan stays (ap (option_map nodes_in) there)
+            (of_nodes (λ nodes. IsSchedule c.objects k.verified (told k.plan) k.schedule) (object_held c.objects name) (nodes_in object) stays kept.schedule));
         ready =
             of_held (object_held later.objects name) stayed
             (λ object there stays. ready_after_one limits c later request name (nodes_in object) k.verified h is e leaves kept.below stays (ap is_some there)

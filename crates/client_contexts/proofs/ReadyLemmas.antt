@@ -12,6 +12,7 @@ use Rattle.graph_verify.specs.Outlines.{resolved}
 use Rattle.buffer_plan.specs.Places.{told}
 use Rattle.buffer_plan.specs.Plan.{IsPlan}
 use Rattle.graph_run.specs.Graph.{run_of_graph}
+use Rattle.graph_run.specs.Schedule.{IsSchedule}
 use Rattle.client_model.specs.Graphs.{verify_graph, process_graph}
 use Rattle.client_laws.proofs.StayLaws.{graph_held}
 use Rattle.client_contexts.specs.declared.fault.RequestFault.TheVariants.{Refused, NoMemory}
@@ -54,19 +55,22 @@ module _ (limits : Allowance) (c : Context) (name : ℕ) (x : ObjectValue) (h : 
   held_graph : object_held c.objects name ≡ Some (GraphObject (graph_value x))
   held_graph = named.held ∙ ap {B = Option ObjectValue} Some (graph_of_kind x named.kind)
 
+  -- where nothing refuses it, it is verified
+  pub allowed_verifies : (within : Allowance) → verdict within.work (operand_held c.objects) (nodes_of (graph_value x)) ≡ None → verify_graph within c name ≡ Ok (Empty, Some c)
+  allowed_verifies within allowed = rw (graph_is_named limits c name x h named, allowed)
+
   -- what is kept of it is its verdict
   pub kept_verifies : (within : Allowance) (k : Kept) → IsKept c name k → k.work ≡ within.work → verify_graph within c name ≡ Ok (Empty, Some c)
-  kept_verifies within k kept same =
-      let allowed : verdict within.work (operand_held c.objects) (nodes_of (graph_value x)) ≡ None = rw (held_graph, same) at kept.allowed in
-      rw (graph_is_named limits c name x h named, allowed)
+  kept_verifies within k kept same = allowed_verifies within (rw (held_graph, same) at kept.allowed)
 
   -- once it is verified, so much is kept of it
   pub verified_is_kept : (k : Kept) → IsVerified (operand_held c.objects) (nodes_of (graph_value x)) k.verified
       → verdict k.work (operand_held c.objects) (nodes_of (graph_value x)) ≡ None → IsPlan k.verified.steps.items k.verified.virtual_outputs.items (told k.plan)
-      → IsKept c name k
-  verified_is_kept k verified allowed planned =
+      → IsSchedule c.objects k.verified (told k.plan) k.schedule → IsKept c name k
+  verified_is_kept k verified allowed planned scheduled =
       record {
         plan = planned;
+        schedule = rw held_graph scheduled;
         below = rw held_graph at (named_has (λ n object. n < c.next) c.objects name h.below);
         ready = rw held_graph (graph_ready limits c name x h named k.verified k.work verified allowed);
         allowed = rw held_graph allowed;
@@ -108,13 +112,16 @@ module _ (limits : Allowance) (c : Context) (name : ℕ) where
   aged_to h graph ran after is allowed e aged =
       runs_to graph after is allowed (rw (aged, graph_left h graph ran is allowed e, e))
 
-  -- what is kept of a graph that is verified runs its nodes
+  -- what is kept of a graph that is verified runs its nodes, as it is scheduled
   pub kept_runs : KeepsLimits limits c → (done : Reply × Option Context) → verify_graph limits c name ≡ Ok done → (k : Kept) (entries : List (ℕ × Kept)) → AreKept c entries
       → lookup (is_at (nat_cmp name)) entries ≡ Some k
       → (graph : GraphValue) × (graph_named c.objects name ≡ Ok graph) × (graph_verdict limits c.objects graph ≡ None) × IsReady c.objects (nodes_of graph) k.verified
+      × IsSchedule c.objects k.verified (told k.plan) k.schedule
   kept_runs h done passes k entries are is =
       let (graph, named, allowed) = passed done passes in
-      (graph, named, allowed, rw (graph_held limits c name h graph named) at (kept_there c name k entries are is).ready)
+      let kept = kept_there c name k entries are is in
+      let there = graph_held limits c name h graph named in
+      (graph, named, allowed, rw there at kept.ready, rw there at kept.schedule)
 
 -- what is kept of each graph holds after a run
 pub kept_after_run : (limits : Allowance) (c later : Context) (name : ℕ) → KeepsLimits limits c → name < 2 ^ 32 → process_graph limits c name ≡ Ok (Empty, Some later)

@@ -12,6 +12,7 @@ use Rattle.graph_verify.specs.Verdict.{verdict}
 use Rattle.buffer_plan.specs.Places.{told}
 use Rattle.buffer_plan.specs.Plan.{IsPlan}
 use Rattle.graph_run.specs.Operands.{IsReady, operand_held}
+use Rattle.graph_run.specs.Schedule.{IsSchedule}
 use Rattle.client_model.specs.declared.request.Request.{Request}
 use Rattle.client_model.specs.declared.request.Request.TheVariants.{ReleaseContext, AddNode, RemoveNode, Release, VerifyGraph, ProcessGraph}
 use Rattle.client_model.specs.declared.reply.Reply.{Reply}
@@ -22,11 +23,12 @@ use Rattle.client_contexts.specs.declared.memory.NoMemory.{NoMemory}
 
 -- under a name that was given, what is held is a graph that can run as it was verified: nothing refuses it within these work bytes, and
 -- its nodes, their order and the descriptions of the virtual images that they write are those that were found; the plan is one of slots
--- for these images along that order
+-- for these images along that order, and the schedule is one of a run over what the cells hold
 pub record IsKept (c : Context) (name : ℕ) (k : Kept) : Type 0 where
   pub below : name < c.next
   pub ready : IfSome (object_held c.objects name) (λ object. IsReady c.objects (nodes_in object) k.verified)
   pub plan : IsPlan k.verified.steps.items k.verified.virtual_outputs.items (told k.plan)
+  pub schedule : IfSome (object_held c.objects name) (λ object. IsSchedule c.objects k.verified (told k.plan) k.schedule)
   pub allowed : IfSome (object_held c.objects name) (λ object. verdict k.work (operand_held c.objects) (nodes_in object) ≡ None)
 
 -- all that is kept of a context's graphs is so

@@ -17,7 +17,7 @@ use crate::lookup::{find_graph_for, find_named};
 use crate::room::{hold, look_for_room};
 use buffer_plan::Plan;
 use client_model::{Limits, Refusal, Reply};
-use graph_run::{run, verify_in};
+use graph_run::{run_scheduled, schedule_of, verify_in};
 use graph_verify::Graph;
 use object_table::{Content, Object, Table};
 use pixel_pool::Pool;
@@ -119,10 +119,12 @@ pub fn verify_graph(
     }
     let verified = verify_in(alloc, table, object.graph(), work)?;
     let plan = Plan::new(alloc, &verified)?;
+    let schedule = schedule_of(alloc, table, &verified, &plan)?;
     let found = Kept {
         work,
         verified,
         plan,
+        schedule,
     };
     match kept.insert(graph, found) {
         Ok(_) => Ok(Reply::Empty),
@@ -165,7 +167,7 @@ pub fn process_graph(
     let Some(kept) = kept.get(&graph) else {
         unreachable!()
     };
-    run(alloc, &kept.verified, &kept.plan, table, pool)?;
+    run_scheduled(alloc, &kept.verified, &kept.schedule, table, pool)?;
     table.age_registered(graph);
     Ok(Reply::Empty)
 }

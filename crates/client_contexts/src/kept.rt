@@ -5,16 +5,18 @@ ghost use Rattle.client_contexts.specs.Kept.{ends_verification, forgotten_by, ke
 
 use buffer_plan::Plan;
 use client_model::Request;
+use graph_run::Schedule;
 use graph_verify::Verified;
 use std::collections::BTreeMap;
 
-/// How a graph runs, found within so many work bytes: its nodes in their order, and in which slots
-/// its virtual images stand. It holds until the graph's nodes change.
+/// How a graph runs, found within so many work bytes: its nodes in their order, in which slots its
+/// virtual images stand, and the schedule of a run. It holds until the graph's nodes change.
 #[derive(Drop)]
 pub struct Kept {
     pub work: u64,
     pub verified: Verified,
     pub plan: Plan,
+    pub schedule: Schedule,
 }
 
 /// Forgets how a graph runs whose nodes a request has changed, or whose name it has ended.

@@ -58,12 +58,19 @@ after_one limits c later request h is e =
     let gone : ◌≡◌ {A = State} None (Some later) = ap (λ r. (answer_to limits (Some c) r).1) (sym release) ∙ e in cc in
     record { keeps = h; are = All-replicate IsRequest 1 request is; unreleased = All-replicate (λ r. r ≢ ReleaseContext) 1 request stays; state = e }
 
+-- the skeleton of what a cell refers to stays with that of the object of its name
+cell_stays : (before after : List Named) (cell : Cell) → Stays skeleton before after cell.name → IsSome (object_held after cell.name)
+    → option_map skeleton (held after cell) ≡ option_map skeleton (held before cell)
+cell_stays before after cell stays there = slots_alike cell.slot (object_held after cell.name) (object_held before cell.name) (grind (arith, stays, there))
+
 -- an operand is the same as long as the skeleton is
+operand_told : (before after : List Named) (cell : Cell) → option_map skeleton (held after cell) ≡ option_map skeleton (held before cell)
+    → option_map operand_of (held after cell) ≡ option_map operand_of (held before cell)
+operand_told before after cell same = option_map-told skeleton operand_of operand_of operand-skeleton (held after cell) (held before cell) same
+
 pub operand_stays : (before after : List Named) (cell : Cell) → Stays skeleton before after cell.name → IsSome (object_held after cell.name)
     → option_map operand_of (held after cell) ≡ option_map operand_of (held before cell)
-operand_stays before after cell stays there =
-    option_map-told skeleton operand_of operand_of operand-skeleton (held after cell) (held before cell)
-    (slots_alike cell.slot (object_held after cell.name) (object_held before cell.name) (grind (arith, stays, there)))
+operand_stays before after cell stays there = operand_told before after cell (cell_stays before after cell stays there)
 
 -- the limits are kept later too
 pub later_keeps : (limits : Allowance) (c later : Context) (requests : List Request) → IsLater limits c requests later → KeepsLimits limits later
@@ -89,14 +96,17 @@ module _ (limits : Allowance) (c : Context) (name : ℕ) (h : KeepsLimits limits
       (named_has (λ n x. All (OperandsStand c.objects n) (nodes_in x)) c.objects name h.nodes) in
       grind (arith, (cells_stand c.objects name nodes stood).found named.0 cell named.1 named.2, named_has (λ n x. n < c.next) c.objects cell.name h.below)
 
--- each cell that the nodes of a graph name is the same operand as long as the graph has these nodes
+-- each cell that the nodes of a graph name has the same skeleton, and is the same operand, as long as the graph has these nodes
 module _ (limits : Allowance) (c later : Context) (requests : List Request) (name : ℕ) (nodes : List Node) (is : IsLater limits c requests later)
     (was : option_map nodes_in (object_held c.objects name) ≡ Some nodes) (now : option_map nodes_in (object_held later.objects name) ≡ Some nodes) where
-  named_stay : (cell : Cell) → IsNamed nodes cell → option_map operand_of (held later.objects cell) ≡ option_map operand_of (held c.objects cell)
-  named_stay cell named =
+  pub named_skeletons_stay : (cell : Cell) → IsNamed nodes cell → option_map skeleton (held later.objects cell) ≡ option_map skeleton (held c.objects cell)
+  named_skeletons_stay cell named =
       let there = nodes_find limits later name (later_keeps limits c later requests is) nodes now cell named in
       let given = nodes_find limits c name is.keeps nodes was cell named in
-      operand_stays c.objects later.objects cell (skeletons_stay limits c later requests cell.name is given.1) there.0
+      cell_stays c.objects later.objects cell (skeletons_stay limits c later requests cell.name is given.1) there.0
+
+  named_stay : (cell : Cell) → IsNamed nodes cell → option_map operand_of (held later.objects cell) ≡ option_map operand_of (held c.objects cell)
+  named_stay cell named = operand_told c.objects later.objects cell (named_skeletons_stay cell named)
 
 -- the verdict on its nodes stays, within any work bytes
 pub verdict_stays_held : (limits : Allowance) (c later : Context) (requests : List Request) (name : ℕ) (nodes : List Node) (work : ℕ) → IsLater limits c requests later

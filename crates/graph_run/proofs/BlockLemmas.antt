@@ -2,7 +2,7 @@
 use Rattle.buffer_plan.specs.Lives.{is_live}
 use Rattle.std.proofs.Common.{Bool, ◌≡◌, ◌≢◌, ℕ, zero, suc, ◌+◌, ◌*◌, ◌≤◌, ◌<◌, ◌==◌, ◌⊎◌, List, [], ◌∷◌, ◌++◌, length, map, max, get_or, drop, take, refl, sym, ap, ◌∙◌, arith, if◌then◌else◌, sum_by, append_assoc, Option, Some, None, unwrap_or, length-append}
 use Rattle.graph_run.specs.Slots.{rooms_for}
-use Rattle.graph_run.proofs.Common.{length-map, length-map-range_with_len, range_with_len, map-append, VirtualOutput, Node, In, Format, S16, U32, U8, IsPlan, PlanValue, slot_place, place_of, planned_rooms, Samples, values, samples_format, same_format, blocks_of, lent_of}
+use Rattle.graph_run.proofs.Common.{length-map, length-map-range_with_len, range_with_len, map-append, VirtualOutput, Node, In, Format, S16, U32, U8, IsPlan, PlanValue, slot_place, place_of, planned_rooms, take_more, Samples, values, samples_format, same_format, blocks_of, lent_of}
 use Rattle.std.specs.List.{filter}
 use Rattle.std.proofs.lemmas.List.{append-nil, drop_all, take_all}
 use Rattle.std.proofs.lemmas.List.FromFn.{map-range_with_len_more}
@@ -13,7 +13,7 @@ use Rattle.pixel_pool.specs.Pool.{one_of, KeepsOtherFree, Lends}
 use Rattle.graph_steps.specs.Program.{halo}
 use Rattle.graph_run.proofs.ListLemmas.{rest_at}
 use Rattle.graph_run.proofs.SlotLemmas.{HasSlot, has_slot, planned_slots}
-use Rattle.graph_run.specs.Blocks.{band_samples, block_count, block_size, samples_from}
+use Rattle.graph_run.specs.Blocks.{band_samples, block_count, block_size, room_count, samples_from}
 
 -- ---- places
 
@@ -54,14 +54,11 @@ place_below steps outs p plan o i =
 pub place_more : (p : PlanValue) (f : Format) (k : ℕ) → slot_place p f k ≡ slot_place p f 0 + k
 place_more p f k = grind arith
 
-size_count : (blocks : List Samples) → length (map block_size blocks) ≡ length blocks
-size_count blocks = simp length-map
-
--- as many blocks more as the format has slots
-pub blocks_counted : (p : PlanValue) (f : Format) (before after : List Samples) → map block_size after ≡ map block_size before ++ rooms_for p f → length after ≡ length before + p.slot_count f
-blocks_counted p f before after rooms =
+-- as many rooms more as the format has slots
+pub rooms_counted : (p : PlanValue) (f : Format) (before after : List (Format × ℕ)) → after ≡ before ++ rooms_for p f → length after ≡ length before + p.slot_count f
+rooms_counted p f before after rooms =
     let long : length (rooms_for p f) ≡ p.slot_count f = length-map-range_with_len (λ k. let room : Format × ℕ = (f, p.slot_samples f k) in room) 0 (p.slot_count f) in
-    omega (arith, size_count after, size_count before, ap length rooms, length-append (map block_size before) (rooms_for p f), long)
+    omega (arith, ap length rooms, length-append before (rooms_for p f), long)
 
 -- ---- samples that a slot needs
 
@@ -78,21 +75,27 @@ samples_next size halos outs slots place most k o s below here image slot =
     ∙ ap (λ l. max most (samples_from size halos k l (s ∷ drop (k + 1) slots) place)) (sym (rest_at outs k o o below image))
     ∙ ap (λ l. max most (samples_from size halos k (drop k outs) l place)) (sym (rest_at slots k s 0 here slot))
 
--- ---- one block more
+-- ---- one more
 
-module _ (blocks : List Samples) (b : Samples) where
-  pub rooms_more : (format : Format) (room : ℕ → ℕ) (k : ℕ) (before : List (Format × ℕ)) → map block_size blocks ≡ before ++ map (λ j. (format, room j)) (range_with_len 0 k)
-      → samples_format b ≡ format → length (values b) ≡ room k → map block_size (blocks ++ b ∷ []) ≡ before ++ map (λ j. (format, room j)) (range_with_len 0 (k + 1))
-  rooms_more format room k before rooms format_is count =
-      let made : ℕ → Format × ℕ = λ j. (format, room j) in
-      let this : block_size b ≡ made k = ap (λ f. (f, length (values b))) format_is ∙ ap (λ n. (format, n)) count in
-      map-append block_size blocks (b ∷ []) ∙ ap (λ l. l ++ block_size b ∷ []) rooms
-      ∙ append_assoc before (map made (range_with_len 0 k)) (block_size b ∷ [])
-      ∙ ap (λ l. before ++ l) (ap (λ r. map made (range_with_len 0 k) ++ r ∷ []) this ∙ sym (map-range_with_len_more made 0 k k (omega arith)))
+-- a room more of a format
+pub rooms_more : (format : Format) (room : ℕ → ℕ) (k n : ℕ) (before rooms : List (Format × ℕ)) → rooms ≡ before ++ map (λ j. (format, room j)) (range_with_len 0 k) → n ≡ room k
+    → rooms ++ (format, n) ∷ [] ≡ before ++ map (λ j. (format, room j)) (range_with_len 0 (k + 1))
+rooms_more format room k n before rooms are count =
+    let made : ℕ → Format × ℕ = λ j. (format, room j) in
+    ap (λ (l : List (Format × ℕ)). l ++ (format, n) ∷ []) are ∙ append_assoc before (map made (range_with_len 0 k)) ((format, n) ∷ [])
+    ∙ ap (λ (l : List (Format × ℕ)). before ++ l) (ap (λ (m : ℕ). map made (range_with_len 0 k) ++ (format, m) ∷ []) count ∙ sym (map-range_with_len_more made 0 k k (omega arith)))
 
-  pub lends_more : (format : Format) → samples_format b ≡ format → (old now new : Pool) (f : Format) (count : ℕ) → Lends now new format → lent_of now f + count ≡ lent_of old f + block_count blocks f
-      → lent_of new f + count ≡ lent_of old f + block_count (blocks ++ b ∷ []) f
-  lends_more format format_is old now new f count lends before = grind (arith, sum_by_push)
+-- a block more has its room
+pub sizes_more : (rooms : List (Format × ℕ)) (blocks : List Samples) (b : Samples) (k : ℕ) (r d : Format × ℕ) → k < length rooms → r ≡ get_or rooms k d
+    → map block_size blocks ≡ take k rooms → samples_format b ≡ r.0 → length (values b) ≡ r.1 → map block_size (blocks ++ b ∷ []) ≡ take (k + 1) rooms
+sizes_more rooms blocks b k r d below is sizes format count =
+    let this : block_size b ≡ get_or rooms k d = ap (λ (f : Format). (f, length (values b))) format ∙ ap (λ (n : ℕ). (r.0, n)) count ∙ is in
+    map-append block_size blocks (b ∷ []) ∙ ap (λ (l : List (Format × ℕ)). l ++ block_size b ∷ []) sizes
+    ∙ ap (λ (x : Format × ℕ). take k rooms ++ x ∷ []) this ∙ sym (take_more rooms k d below)
+
+pub lends_more : (blocks : List Samples) (b : Samples) (format : Format) → samples_format b ≡ format → (old now new : Pool) (f : Format) → Lends now new format
+    → lent_of now f ≡ lent_of old f + block_count blocks f → lent_of new f ≡ lent_of old f + block_count (blocks ++ b ∷ []) f
+lends_more blocks b format format_is old now new f lends before = grind (arith, sum_by_push)
 
 -- two formats are one or not
 formats : (f g : Format) → ((f ≡ g) × (one_of g f ≡ 1)) ⊎ ((f ≢ g) × (one_of g f ≡ 0))
@@ -103,10 +106,11 @@ pub taken_adds : (old new : Pool) (format : Format) → Lends old new format →
     → (f : Format) → blocks_of new f ≤ blocks_of old f + one_of format f
 taken_adds old new format lends most others f = grind (arith, formats)
 
--- so many of them add at most so many
-pub adds_more : (format f : Format) (k old now new : ℕ) → new ≤ now + one_of format f → now ≤ old + (if same_format format f then k else 0)
-    → new ≤ old + (if same_format format f then k + 1 else 0)
-adds_more format f k old now new more before = grind arith
+-- the rooms that are left, of which this is the first
+pub rooms_left : (rooms : List (Format × ℕ)) (k : ℕ) (r d : Format × ℕ) → k < length rooms → r ≡ get_or rooms k d
+    → (f : Format) → room_count (drop k rooms) f ≡ one_of r.0 f + room_count (drop (k + 1) rooms) f
+rooms_left rooms k r d below is f =
+    ap (λ (l : List (Format × ℕ)). room_count l f) (rest_at rooms k r d below is) ∙ sum_by-cons (λ (x : Format × ℕ). one_of x.0 f) r (drop (k + 1) rooms)
 
 -- ---- blocks that come back
 
@@ -140,16 +144,15 @@ by_formats p U8 u8s s16s u32s a b c = omega (arith, a, b, c)
 by_formats p S16 u8s s16s u32s a b c = omega (arith, a, b, c)
 by_formats p U32 u8s s16s u32s a b c = omega (arith, a, b, c)
 
-planned_sum : (p : PlanValue) (f : Format) → sum_by (λ (r : Format × ℕ). one_of r.0 f) (planned_rooms p) ≡ p.slot_count f
-planned_sum p f =
-    let each : Format → ℕ = λ g. sum_by (λ (r : Format × ℕ). one_of r.0 f) (rooms_for p g) in
+-- as many rooms of a format as it has slots
+pub planned_count : (p : PlanValue) (f : Format) → room_count (planned_rooms p) f ≡ p.slot_count f
+planned_count p f =
+    let each : Format → ℕ = λ g. room_count (rooms_for p g) f in
     sum_by-append (λ (r : Format × ℕ). one_of r.0 f) (rooms_for p U8 ++ rooms_for p S16) (rooms_for p U32)
     ∙ ap (λ n. n + each U32) (sum_by-append (λ (r : Format × ℕ). one_of r.0 f) (rooms_for p U8) (rooms_for p S16))
     ∙ by_formats p f (each U8) (each S16) (each U32) (rooms_count U8 f (p.slot_samples U8) 0 (p.slot_count U8))
     (rooms_count S16 f (p.slot_samples S16) 0 (p.slot_count S16)) (rooms_count U32 f (p.slot_samples U32) 0 (p.slot_count U32))
 
--- are as many of a format as it has slots
-pub planned_blocks : (blocks : List Samples) (p : PlanValue) → map block_size blocks ≡ planned_rooms p → (f : Format) → block_count blocks f ≡ p.slot_count f
-planned_blocks blocks p rooms f =
-    let one : Format × ℕ → ℕ = λ r. one_of r.0 f in
-    sum_told block_size one blocks ∙ ap (sum_by one) rooms ∙ planned_sum p f
+-- as many blocks of a format as rooms
+pub blocks_counted : (blocks : List Samples) (rooms : List (Format × ℕ)) → map block_size blocks ≡ rooms → (f : Format) → block_count blocks f ≡ room_count rooms f
+blocks_counted blocks rooms are f = sum_told block_size (λ (r : Format × ℕ). one_of r.0 f) blocks ∙ ap (λ (l : List (Format × ℕ)). room_count l f) are

@@ -33,6 +33,7 @@ pub mod BlockLemmas
 pub mod VirtualLemmas
 pub mod TallyLemmas
 pub mod ScheduleLemmas
+pub mod ScheduleStays
 pub mod OverLemmas
 pub mod SolutionStepsEnds
 pub mod SolutionStepsTasks

@@ -1,8 +1,8 @@
 -- Blocks that planes of virtual images have, and that they leave to their slots.
-use Rattle.std.proofs.Common.{Bool, true, false, zero, suc, eqb-true, eq-eqb, ◌≡◌, ◌≢◌, ℕ, ◌+◌, ◌≤◌, ◌<◌, ◌==◌, List, [], ◌∷◌, ◌++◌, length, map, take, get_or, slice_set, refl, sym, ap, ◌∙◌, arith, if◌then◌else◌, Option, Some, None}
+use Rattle.std.proofs.Common.{Bool, true, false, zero, suc, eqb-true, eq-eqb, ◌≡◌, ◌≢◌, ℕ, ◌+◌, ◌-◌, ◌≤◌, ◌<◌, ◌==◌, List, [], ◌∷◌, ◌++◌, length, drop, map, take, get_or, slice_set, refl, sym, ap, ◌∙◌, arith, if◌then◌else◌, is_none, not, Option, Some, None}
 use Rattle.std.proofs.lemmas.List.{map-set, ext_get_or, get_or_default, get_or-map, get_or-set_other, get_or-set_same, length-map, take_more}
 use Rattle.std.proofs.lemmas.List.FromFn.{map-range_with_len_more}
-use Rattle.graph_run.proofs.Common.{range_with_len, map-append, nat_tests, Format, U8, Samples, samples_format, values, VirtualOutput}
+use Rattle.graph_run.proofs.Common.{list_any, range_with_len, map-append, nat_tests, Format, U8, Samples, samples_format, values, VirtualOutput}
 use Rattle.graph_steps.specs.Planes.{PlaneValue, no_plane, plane}
 use Rattle.graph_steps.specs.Steps.{capacities, capacity}
 use Rattle.graph_run.specs.Blocks.{block_size, room_at}
@@ -57,6 +57,19 @@ last_is slots s k is = by_last (last_in s slots) is
     by_last : (last : Option ℕ) → is_at k last ≡ true → last ≡ Some k
     by_last None e = absurd (cc e)
     by_last (Some j) e = ap Some (eqb-true j k e)
+
+none_last : (slots : List ℕ) (s : ℕ) → is_none (last_in s slots) ≡ not (list_any (λ t. t == s) slots)
+none_last [] s = refl
+none_last (t ∷ slots) s = grind (arith, none_last slots s)
+
+-- an image is the last in its slot where no later one is in it
+pub last_if_none_later : (slots : List ℕ) (k s : ℕ) → k < length slots → get_or slots k 0 ≡ s → is_at k (last_in s slots) ≡ not (list_any (λ t. t == s) (drop (k + 1) slots))
+last_if_none_later [] k s below here = absurd (omega (arith, below))
+last_if_none_later (t ∷ slots) zero s below here = grind (arith, none_last slots s)
+last_if_none_later (t ∷ slots) (suc k) s below here =
+    let later = last_if_none_later slots k s (omega (arith, below)) here in
+    let same : drop (suc k + 1) (t ∷ slots) ≡ drop (k + 1) slots = ap (λ n. drop n (t ∷ slots)) (let e : suc k + 1 ≡ suc (k + 1) = omega arith in e) in
+    grind (arith, nat_tests, later, same)
 
 pub last_differs : (slots : List ℕ) (s t j k : ℕ) → is_at k (last_in t slots) ≡ true → last_in s slots ≡ Some j → k < j → s ≢ t
 last_differs slots s t j k is there later same =

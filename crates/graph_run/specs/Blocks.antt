@@ -26,6 +26,10 @@ room_at blocks place = slice_index_or (map block_size blocks) place (U8, 0)
 abbrev pub block_count : List Samples → Format → ℕ
 block_count blocks format = sum_by (λ b. one_of (samples_format b) format) blocks
 
+-- how many of the rooms are for blocks of a format
+abbrev pub room_count : List (Format × ℕ) → Format → ℕ
+room_count rooms format = sum_by (λ r. one_of r.0 format) rooms
+
 -- the samples of a band of `size` rows of an image, and of its halo above and below
 abbrev pub band_samples : ℕ → ℕ → Description → ℕ
 band_samples size rows desc = min desc.height (size + rows + rows) * desc.width

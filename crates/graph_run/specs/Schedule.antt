@@ -10,9 +10,10 @@ use Rattle.graph_steps.specs.Planes.{PlaneValue}
 use Rattle.graph_steps.specs.Program.{Suffice}
 use Rattle.graph_run.specs.declared.schedule.Schedule.{Schedule}
 use Rattle.graph_run.specs.Bind.{plane_objects}
+use Rattle.graph_run.specs.Blocks.{band_plan}
 use Rattle.graph_run.specs.Program.{AddOnce, client_cells, radius_of}
 use Rattle.graph_run.specs.Results.{tally_cells}
-use Rattle.graph_run.specs.Slots.{place_of}
+use Rattle.graph_run.specs.Slots.{place_of, planned_rooms}
 use Rattle.graph_run.specs.Tasks.{graph_cells, graph_tasks}
 
 -- a schedule of a verified graph, by a plan of its slots
@@ -24,6 +25,7 @@ pub record IsSchedule (objects : List Named) (v : Verified) (p : PlanValue) (s :
   pub enough : Suffice s.high s.halos.items s.tasks.items
   pub some : 0 < s.high
   pub forward : 0 < s.size
+  pub rooms : s.rooms.items ≡ planned_rooms (band_plan s.size s.halos.items v.virtual_outputs.items s.slots.items p)
   pub once : AddOnce s.high s.size s.halos.items s.tasks.items
   pub virtuals : All (λ o. o.desc.height ≤ s.high) v.virtual_outputs.items
   pub clients : All (λ c. (image_held objects c).height ≤ s.high) (client_cells v.steps.items v.virtual_outputs.items)

@@ -1,14 +1,13 @@
 //! Blocks of the pool that the virtual images of a graph share, by the slots of its plan.
 ghost use Rattle.std.specs.Prelude.{◌≡◌, ◌≤◌, ◌<◌, ◌+◌, ◌++◌, ◌^◌, [], length, map};
-ghost use Rattle.std.specs.Prelude.{IfOk, OnOk, OnErr, if◌then◌else◌, max};
+ghost use Rattle.std.specs.Prelude.{IfOk, OnOk, OnErr, if◌then◌else◌, max, vec_capacity};
 ghost use Rattle.vx_base.specs.declared.format.Format.{Format as SampleFormat};
-ghost use Rattle.vx_base.specs.Sample.{same_format};
-ghost use Rattle.pixel_pool.specs.Pool.{KeepsLent, KeepsBlockCounts, blocks_of, lent_of};
+ghost use Rattle.pixel_pool.specs.Pool.{KeepsLent, KeepsBlockCounts, blocks_of};
 ghost use Rattle.object_table.specs.Blocks.{LendsAtLeast, LendsMore, LendsLess};
 ghost use Rattle.buffer_plan.specs.Places.{told};
 ghost use Rattle.buffer_plan.specs.Plan.{IsPlan};
 ghost use Rattle.graph_run.specs.Blocks.{band_plan, band_samples, block_count, block_size};
-ghost use Rattle.graph_run.specs.Blocks.{samples_from};
+ghost use Rattle.graph_run.specs.Blocks.{room_count, samples_from};
 ghost use Rattle.graph_run.specs.Slots.{place_of, planned_rooms, rooms_for, slot_place};
 
 use buffer_plan::Plan;
@@ -37,8 +36,8 @@ pub fn slots_of(alloc: Global, plan: &Plan, verified: &Verified) -> Result<Vec<u
     ensures { IfOk result (λ slots. slots.items
         ≡ map (place_of (told plan.now)) verified.now.virtual_outputs.items) }
 {
-    let mut slots = Vec::new(alloc);
     let images = verified.virtual_outputs.as_slice();
+    let mut slots = Vec::with_capacity(alloc, images.len())?;
     for at in 0..images.len() {
         slots.push(slot_of(plan, &images[at]))?;
     }
@@ -54,84 +53,46 @@ fn slot_of(plan: &Plan, image: &VirtualOutput) -> usize
     slot_place(plan, image.desc.format(), slot)
 }
 
-// ---- blocks
+// ---- rooms
 
-/// Takes a block for each slot of a plan, with room for the bands of the images in it. An error has
-/// given back those that were taken.
-pub fn blocks_for(
+/// Returns for the slots of a plan, by their places, the format and the number of samples that the
+/// block of each needs: room for the bands of the images in it.
+pub fn rooms_of(
     alloc: Global,
-    pool: &mut Pool,
     plan: &Plan,
     demand: &Demand<'_>,
-) -> Result<Vec<Block>, AllocError>
+) -> Result<Vec<(Format, usize)>, AllocError>
     requires slots { length demand.now.slots.now ≡ length demand.now.images.now }
     requires halos { length demand.now.images.now ≤ length demand.now.halos.now }
-    ensures rooms { IfOk result (λ blocks. map block_size blocks.items
-        ≡ planned_rooms (band_plan demand.now.size demand.now.halos.now demand.now.images.now
-        demand.now.slots.now (told plan.now))) }
-    ensures lends { IfOk result (λ blocks.
-        LendsMore pool.old pool.new (block_count blocks.items)) }
-    ensures err { OnErr result (KeepsLent pool.old pool.new) }
-    ensures adds { (format : SampleFormat) → blocks_of pool.new format
-        ≤ blocks_of pool.old format + (told plan.now).slot_count format }
+    ensures { IfOk result (λ rooms. rooms.items ≡ planned_rooms (band_plan demand.now.size
+        demand.now.halos.now demand.now.images.now demand.now.slots.now (told plan.now))) }
 {
-    let mut blocks = Vec::new(alloc);
-    match add_all(&mut blocks, pool, plan, demand) {
-        Ok(()) => Ok(blocks),
-        Err(fault) => {
-            give_back(blocks, pool);
-            Err(fault)
-        }
-    }
+    let mut rooms = Vec::new(alloc);
+    add_rooms(&mut rooms, plan, demand, Format::U8)?;
+    add_rooms(&mut rooms, plan, demand, Format::S16)?;
+    add_rooms(&mut rooms, plan, demand, Format::U32)?;
+    Ok(rooms)
 }
 
-/// Adds the blocks of all slots to none.
-fn add_all(
-    blocks: &mut Vec<Block>,
-    pool: &mut Pool,
-    plan: &Plan,
-    demand: &Demand<'_>,
-) -> Result<(), AllocError>
-    requires none { blocks.old.items ≡ [] }
-    requires slots { length demand.now.slots.now ≡ length demand.now.images.now }
-    requires halos { length demand.now.images.now ≤ length demand.now.halos.now }
-    ensures rooms { OnOk result (map block_size blocks.new.items
-        ≡ planned_rooms (band_plan demand.now.size demand.now.halos.now demand.now.images.now
-        demand.now.slots.now (told plan.now))) }
-    ensures lends { LendsMore pool.old pool.new (block_count blocks.new.items) }
-    ensures adds { (format : SampleFormat) → blocks_of pool.new format
-        ≤ blocks_of pool.old format + (told plan.now).slot_count format }
-{
-    add_blocks(blocks, pool, plan, demand, Format::U8)?;
-    add_blocks(blocks, pool, plan, demand, Format::S16)?;
-    add_blocks(blocks, pool, plan, demand, Format::U32)
-}
-
-/// Adds the blocks of the slots of a format.
-fn add_blocks(
-    blocks: &mut Vec<Block>,
-    pool: &mut Pool,
+/// Adds the rooms of the slots of a format.
+fn add_rooms(
+    rooms: &mut Vec<(Format, usize)>,
     plan: &Plan,
     demand: &Demand<'_>,
     format: Format,
 ) -> Result<(), AllocError>
-    requires behind { length blocks.old.items ≡ slot_place (told plan.now) format 0 }
+    requires behind { length rooms.old.items ≡ slot_place (told plan.now) format 0 }
     requires slots { length demand.now.slots.now ≡ length demand.now.images.now }
     requires halos { length demand.now.images.now ≤ length demand.now.halos.now }
-    ensures rooms { OnOk result (map block_size blocks.new.items
-        ≡ map block_size blocks.old.items ++ rooms_for (band_plan demand.now.size
-        demand.now.halos.now demand.now.images.now demand.now.slots.now (told plan.now)) format) }
-    ensures lends { (f : SampleFormat) → lent_of pool.new f + block_count blocks.old.items f
-        ≡ lent_of pool.old f + block_count blocks.new.items f }
-    ensures adds { (f : SampleFormat) → blocks_of pool.new f ≤ blocks_of pool.old f
-        + (if same_format format f then (told plan.now).slot_count format else 0) }
+    ensures { OnOk result (rooms.new.items ≡ rooms.old.items ++ rooms_for (band_plan
+        demand.now.size demand.now.halos.now demand.now.images.now demand.now.slots.now
+        (told plan.now)) format) }
 {
     let count = plan.slot_count(format);
-    blocks.reserve(count)?;
-    for k in 0..count {
-        let samples = samples_for(demand, blocks.len());
-        let block = pool.take(format, samples)?;
-        blocks.push_reserved(block);
+    rooms.reserve(count)?;
+    for _k in 0..count {
+        let samples = samples_for(demand, rooms.len());
+        rooms.push_reserved((format, samples));
     }
     Ok(())
 }
@@ -170,17 +131,6 @@ fn band_samples(size: u16, halo: u16, desc: Desc) -> usize
     usize::from(desc.height()).min(rows) * usize::from(desc.width())
 }
 
-/// Gives blocks back.
-pub fn give_back(blocks: Vec<Block>, pool: &mut Pool)
-    requires { LendsAtLeast pool.old (block_count blocks.items) }
-    ensures lent { LendsLess pool.old pool.new (block_count blocks.items) }
-    ensures blocks { KeepsBlockCounts pool.old pool.new }
-{
-    for block in blocks {
-        pool.give_back(block);
-    }
-}
-
 /// The place of a slot of a format among all slots.
 fn slot_place(plan: &Plan, format: Format, slot: usize) -> usize
     requires { slot_place (told plan.now) format slot < 2 ^ 64 }
@@ -190,5 +140,62 @@ fn slot_place(plan: &Plan, format: Format, slot: usize) -> usize
         Format::U8 => slot,
         Format::S16 => plan.slot_count(Format::U8) + slot,
         Format::U32 => plan.slot_count(Format::U8) + plan.slot_count(Format::S16) + slot,
+    }
+}
+
+// ---- blocks
+
+/// Takes a block for each of these rooms. An error has given back those that were taken.
+pub fn blocks_for(
+    alloc: Global,
+    pool: &mut Pool,
+    rooms: &[(Format, usize)],
+) -> Result<Vec<Block>, AllocError>
+    ensures rooms { IfOk result (λ blocks. map block_size blocks.items ≡ rooms.now) }
+    ensures lends { IfOk result (λ blocks.
+        LendsMore pool.old pool.new (block_count blocks.items)) }
+    ensures err { OnErr result (KeepsLent pool.old pool.new) }
+    ensures adds { (format : SampleFormat) → blocks_of pool.new format
+        ≤ blocks_of pool.old format + room_count rooms.now format }
+{
+    let mut blocks = Vec::with_capacity(alloc, rooms.len())?;
+    match add_blocks(&mut blocks, pool, rooms) {
+        Ok(()) => Ok(blocks),
+        Err(fault) => {
+            give_back(blocks, pool);
+            Err(fault)
+        }
+    }
+}
+
+/// Adds a block for each of these rooms to none.
+fn add_blocks(
+    blocks: &mut Vec<Block>,
+    pool: &mut Pool,
+    rooms: &[(Format, usize)],
+) -> Result<(), AllocError>
+    requires none { blocks.old.items ≡ [] }
+    requires room { length rooms.now ≤ vec_capacity blocks.old }
+    ensures rooms { OnOk result (map block_size blocks.new.items ≡ rooms.now) }
+    ensures lends { LendsMore pool.old pool.new (block_count blocks.new.items) }
+    ensures adds { (format : SampleFormat) → blocks_of pool.new format
+        ≤ blocks_of pool.old format + room_count rooms.now format }
+{
+    for k in 0..rooms.len() {
+        let room = rooms[k];
+        let block = pool.take(room.0, room.1)?;
+        blocks.push_reserved(block);
+    }
+    Ok(())
+}
+
+/// Gives blocks back.
+pub fn give_back(blocks: Vec<Block>, pool: &mut Pool)
+    requires { LendsAtLeast pool.old (block_count blocks.items) }
+    ensures lent { LendsLess pool.old pool.new (block_count blocks.items) }
+    ensures blocks { KeepsBlockCounts pool.old pool.new }
+{
+    for block in blocks {
+        pool.give_back(block);
     }
 }

@@ -2,7 +2,8 @@
 //!
 //! `run_once` runs a node on the objects of a table, `verify_in` verifies a graph whose nodes name
 //! what a table holds, and `run` runs it there. What a run of a graph means is defined in rounds of
-//! all its nodes at once. A graph runs over planes, by the tasks of `graph_steps`.
+//! all its nodes at once. A graph runs over planes, by the tasks of `graph_steps`; who runs it often
+//! keeps its `Schedule`, with which `run_scheduled` runs it.
 //!
 //! - `operand`: objects as operands
 //! - `once`: runs a single node
@@ -39,5 +40,6 @@ mod virtual_planes;
 
 pub use once::run_once;
 pub use operand::{operand_in, operand_of};
-pub use runs::run;
+pub use runs::{run, run_scheduled};
+pub use schedule::{Schedule, schedule_of};
 pub use verify::verify_in;

@@ -26,7 +26,7 @@ ghost use Rattle.graph_steps.specs.Runs.{CanReduceBand};
 ghost use Rattle.graph_steps.specs.Steps.{capacities, capacity};
 ghost use Rattle.graph_run.specs.Bind.{AreAllApart, AreFor, HoldImages, bare_images};
 ghost use Rattle.graph_run.specs.Bind.{image_planes, plane_objects};
-ghost use Rattle.graph_run.specs.Blocks.{band_plan, block_size, room_at};
+ghost use Rattle.graph_run.specs.Blocks.{band_plan, block_size, room_at, room_count};
 ghost use Rattle.graph_run.specs.Bound.{AreTalliesFor, LendTables};
 ghost use Rattle.graph_run.specs.Program.{first_blocks, tables_of, tallies_of};
 ghost use Rattle.graph_run.specs.Results.{Leaves, tally_objects};
@@ -84,14 +84,46 @@ pub fn run(
         (told plan.now).slot_count format ≤ free_count (free_of pool.new format)) }
 {
     let schedule = schedule_of(alloc, table, verified, plan)?;
+    run_scheduled(alloc, verified, &schedule, table, pool)
+}
+
+/// Runs a verified graph as `run` does, by a schedule that was made for it. That holds as long as
+/// the cells of its nodes hold images of the same size and the same matrices.
+pub fn run_scheduled(
+    alloc: Global,
+    verified: &Verified,
+    schedule: &Schedule,
+    table: &mut Table,
+    pool: &mut Pool,
+) -> Result<(), AllocError>
+    requires objects { All (λ o. IsObject o.object) table.old.objects }
+    requires names { IsStrictlyIncreasing (map (λ o. o.name) table.old.objects) }
+    requires ready { (nodes : List NodeFields) ×
+        IsReady table.old.objects nodes verified.now }
+    requires schedule { (p : PlanValue) ×
+        IsPlan verified.now.steps.items verified.now.virtual_outputs.items p ×
+        IsSchedule table.old.objects verified.now p schedule.now }
+    ensures value { OnOk result ((nodes : List NodeFields) →
+        IsReady table.old.objects nodes verified.now →
+        table.new ≡ with_objects table.old
+        (run_of_graph (resolved (operand_held table.old.objects) nodes) nodes table.old.objects)) }
+    ensures lasts { Lasts table.old.objects table.new.objects }
+    ensures lent { KeepsLent pool.old pool.new }
+    ensures err { OnErr result (table.new ≡ table.old) }
+    ensures adds { (format : SampleFormat) → blocks_of pool.new format
+        ≤ blocks_of pool.old format + room_count schedule.now.rooms.items format }
+
+    // Those that it has used are free for the next run.
+    ensures free { OnOk result ((format : SampleFormat) →
+        room_count schedule.now.rooms.items format ≤ free_count (free_of pool.new format)) }
+{
     let mut tallies = tallies_of(alloc, table, &verified.steps)?;
     let mut planes = Vec::with_capacity(alloc, schedule.cells.len())?;
-    let demand = schedule.demand(&verified.virtual_outputs);
-    let mut blocks = blocks_for(alloc, pool, plan, &demand)?;
-    let done = run_schedule(
+    let mut blocks = blocks_for(alloc, pool, &schedule.rooms)?;
+    let done = run_over(
         alloc,
         verified,
-        &schedule,
+        schedule,
         table,
         &mut blocks,
         &mut planes,
@@ -101,8 +133,8 @@ pub fn run(
     done
 }
 
-/// Runs a schedule of a verified graph. An error has changed nothing.
-fn run_schedule(
+/// Runs a schedule of a verified graph over blocks. An error has changed nothing.
+fn run_over(
     alloc: Global,
     verified: &Verified,
     schedule: &Schedule,

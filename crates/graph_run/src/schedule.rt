@@ -8,34 +8,36 @@ ghost use Rattle.graph_run.specs.Program.{radius_of};
 ghost use Rattle.graph_run.specs.Schedule.{IsSchedule};
 ghost use Rattle.graph_run.specs.Tasks.{tasks_of};
 
-use crate::blocks::{Demand, slots_of};
+use crate::blocks::{Demand, rooms_of, slots_of};
 use crate::cells::cells_of;
 use crate::sizes::{band_size, halos_of, high_of};
 use crate::tallies::tally_cells;
 use crate::task_list::{Binding, tasks_of};
 use buffer_plan::Plan;
 use graph_steps::Task;
-use graph_verify::{Verified, VirtualOutput};
+use graph_verify::Verified;
 use object_table::Table;
 use std::alloc::{AllocError, Global};
-use vx_base::ObjRef;
+use vx_base::{Format, ObjRef};
 
 /// How a verified graph runs over planes.
 #[derive(Drop)]
 pub struct Schedule {
     /// The cells of the planes: of the virtual images, and then of the clients' images.
-    pub cells: Vec<ObjRef>,
+    pub(crate) cells: Vec<ObjRef>,
     /// The slots of the virtual images.
-    pub slots: Vec<usize>,
-    pub tasks: Vec<Task>,
+    pub(crate) slots: Vec<usize>,
+    pub(crate) tasks: Vec<Task>,
     /// The halo of each plane.
-    pub halos: Vec<u16>,
+    pub(crate) halos: Vec<u16>,
     /// A height that no image exceeds.
-    pub high: u16,
+    pub(crate) high: u16,
     /// The rows of a band.
-    pub size: u16,
+    pub(crate) size: u16,
+    /// The format and the number of samples of the block of each slot.
+    pub(crate) rooms: Vec<(Format, usize)>,
     /// The cells of the tallies.
-    pub tally_cells: Vec<ObjRef>,
+    pub(crate) tally_cells: Vec<ObjRef>,
 }
 
 /// Returns how a verified graph runs, with the slots of a plan.
@@ -57,6 +59,13 @@ pub fn schedule_of(
     let tasks = tasks_for(alloc, table, verified, high, &cells, &slots)?;
     let halos = halos_of(alloc, high, &tasks, cells.len())?;
     let size = band_size(high, table, verified, &tasks, &halos);
+    let demand = Demand {
+        size,
+        halos: &halos,
+        images,
+        slots: &slots,
+    };
+    let rooms = rooms_of(alloc, plan, &demand)?;
     let tally_cells = tally_cells(alloc, &verified.steps)?;
     Ok(Schedule {
         cells,
@@ -65,25 +74,9 @@ pub fn schedule_of(
         halos,
         high,
         size,
+        rooms,
         tally_cells,
     })
-}
-
-impl Schedule {
-    /// Returns what the slots of these virtual images need room for.
-    pub fn demand<'a>(&'a self, images: &'a [VirtualOutput]) -> Demand<'a>
-        ensures size { result.size ≡ self.now.size }
-        ensures halos { result.halos.now ≡ self.now.halos.items }
-        ensures images { result.images.now ≡ images.now }
-        ensures slots { result.slots.now ≡ self.now.slots.items }
-    {
-        Demand {
-            size: self.size,
-            halos: &self.halos,
-            images,
-            slots: &self.slots,
-        }
-    }
 }
 
 /// Returns the cells behind those of the virtual images.

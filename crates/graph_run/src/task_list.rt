@@ -40,7 +40,7 @@ pub fn tasks_of(
         binding.now.slots.now (radius_of binding.now.table.now.objects binding.now.high)
         steps.now) }
 {
-    let mut tasks = Vec::new(alloc);
+    let mut tasks = Vec::with_capacity(alloc, steps.len())?;
     let mut tally = 0;
     for at in 0..steps.len() {
         add_tasks(&mut tasks, binding, at, tally, &steps[at])?;
@@ -195,7 +195,7 @@ fn holder(slots: &[usize], slot: usize, count: usize) -> Option<usize>
 }
 
 /// Returns the index of the last image in a slot.
-pub fn last_in(slot: usize, slots: &[usize]) -> Option<usize>
+fn last_in(slot: usize, slots: &[usize]) -> Option<usize>
     ensures { result ≡ last_in slot slots.now }
 {
     let mut found = None;

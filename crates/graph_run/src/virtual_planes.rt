@@ -8,7 +8,6 @@ ghost use Rattle.graph_run.specs.Blocks.{block_size, room_at};
 ghost use Rattle.graph_run.specs.Program.{first_blocks};
 ghost use Rattle.graph_run.specs.Tasks.{block_at, is_at, last_in};
 
-use crate::task_list::last_in;
 use graph_steps::Plane;
 use graph_verify::VirtualOutput;
 use pixel_pool::Block;
@@ -67,10 +66,7 @@ fn is_last(slots: &[usize], k: usize) -> bool
     requires { k < length slots.now }
     ensures { result ≡ is_at k (last_in (slice_index_or slots.now k 0) slots.now) }
 {
-    match last_in(slots[k], slots) {
-        Some(last) => last == k,
-        None => false,
-    }
+    !slots[k + 1..].contains(&slots[k])
 }
 
 /// Returns no samples, of a format. It takes no memory.

@@ -1,5 +1,5 @@
 -- Nodes of one image that find what they name: once their graph is verified it is ready to run.
-use Rattle.std.proofs.Common.{◌≡◌, ℕ, ◌<◌, ◌^◌, true, List, map, Option, Some, None, inl, inr, refl, sym, subst, arith, All, unwrap_or, option_map, ◌⊎◌}
+use Rattle.std.proofs.Common.{◌≡◌, ℕ, ◌<◌, ◌^◌, true, List, Option, Some, None, inl, inr, sym, subst, arith, All, unwrap_or, option_map, ◌⊎◌}
 use Rattle.std.proofs.lemmas.Bool.{or_cases}
 use Rattle.std.proofs.lemmas.List.Elements.{All-from_recursion, All-weaker}
 use Rattle.vx_base.specs.declared.function.Function.{Function}
@@ -15,7 +15,6 @@ use Rattle.graph_verify.specs.declared.operand.Operand.{Operand}
 use Rattle.graph_verify.specs.declared.verified.Verified.{Verified}
 use Rattle.graph_verify.specs.Examples.{node_to}
 use Rattle.graph_verify.specs.Links.{reads, writes}
-use Rattle.graph_verify.specs.Members.{In}
 use Rattle.graph_verify.specs.Operand.{is_image, operand_of}
 use Rattle.graph_verify.specs.Verdict.{verdict}
 use Rattle.graph_verify.specs.Verified.{IsVerified}

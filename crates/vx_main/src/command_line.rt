@@ -20,7 +20,7 @@ Images may take twice their quota, and the graph that runs twice its work bytes.
   free blocks     of images that are gone, which others use again: at most 16384 of each format,
                   with room for 67108864 samples together, so 469762048 bytes in all
   kept plans      of each graph that was found able to run, until its nodes change or its name
-                  ends: with its nodes up to 70000 bytes each
+                  ends: with its nodes up to 150000 bytes each
   next picture    the one that is being read, in a block of its own: at most 268435456 bytes
   frame, reply    those that it is at
 Free blocks and kept plans are charged to no client. Where memory is refused, free blocks are given

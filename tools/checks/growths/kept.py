@@ -6,9 +6,8 @@ from feqyldan import wire
 from checks.growths.refusing import Refusing, check
 
 CLIENT, TIMES = 7, 20
-# How often a run of the graph below takes memory: for the cells of its planes, their slots, its
-# tasks, halos and tables, the planes, and the blocks.
-OF_A_RUN = 7
+# How often a run of the graph below takes memory: for the lists of its planes, blocks and tables.
+OF_A_RUN = 3
 SAMPLES = bytes(range(256))
 # Images 1 and 2, graph 3 with virtual image 4, delay 5, extremes 6 and image 7 of S16. The graph
 # has run, so that it is known how it runs, and there are free blocks for its virtual image.
@@ -65,8 +64,8 @@ def changed_graphs() -> List[bytes]:
 
 
 def check_kept(program: Refusing) -> str:
-    """That what takes no memory takes none, that a run takes it for how its graph runs alone, and
-    that a graph that has changed takes it again."""
+    """That what takes no memory takes none, that a run takes it for its own lists alone, and that a
+    graph that has changed takes it again for how it runs."""
     def more(asked: List[bytes], first: int = 1) -> int:
         """How much more often it asks for memory than with the first of these requests alone."""
         return growths_of(program, asked) - growths_of(program, asked[:first])

@@ -1,5 +1,7 @@
 use Rattle.std.proofs.Common.{◌≡◌, Some, None, Ok, Err, rules, arith, subst, sym, ap}
 use Rattle.client_contexts.proofs.Common.{option_map, GraphValue, nodes_of, object_kind, blocks_in, Context, graph_under, IsReady, graph_named, graph_verdict}
+use Rattle.buffer_plan.specs.Places.{told}
+use Rattle.graph_run.specs.Schedule.{IsSchedule}
 use Rattle.client_model.proofs.DelayStepLaws.{aged_under_last}
 use Rattle.client_model.proofs.OutcomeLaws.{Keeps}
 use Rattle.client_laws.proofs.RunStepLaws.{process_graph_keeps}
@@ -18,29 +20,32 @@ returns-in_err-verify_graph-clause-comes c =
 kept_graph : (c : In-Some)
     → (graph : GraphValue) × (graph_named c.args.table.now.objects c.args.graph ≡ Ok graph) × (graph_verdict c.args.limits c.args.table.now.objects graph ≡ None)
     × IsReady c.args.table.now.objects (nodes_of graph) c.in-Some.kept.now.verified
+    × IsSchedule c.args.table.now.objects c.in-Some.kept.now.verified (told c.in-Some.kept.now.plan) c.in-Some.kept.now.schedule
 kept_graph c =
     let t = c.args.table.now in
     kept_runs c.args.limits t c.args.graph c.requires.context (c.in_ok-verify_graph.field-0, Some t) c.in_ok-verify_graph.ensures.comes.done c.in-Some.kept.now
     c.verify_graph.new.kept.entries c.verify_graph.ensures.kept (sym c.in-Some.ensures.value)
 
-pub run-requires-clause-ready : goal.run-requires-clause-ready
-run-requires-clause-ready c = let graph = kept_graph (goal.at.run-requires-clause-ready c).In-Some in (nodes_of graph.0, graph.3)
+pub run_scheduled-requires-clause-ready : goal.run_scheduled-requires-clause-ready
+run_scheduled-requires-clause-ready c = let graph = kept_graph (goal.at.run_scheduled-requires-clause-ready c).In-Some in (nodes_of graph.0, graph.3)
 
-pub run-requires-clause-plan : goal.run-requires-clause-plan
-run-requires-clause-plan c =
-    (kept_there c.args.table.now c.args.graph c.in-Some.kept.now c.verify_graph.new.kept.entries c.verify_graph.ensures.kept (sym c.in-Some.ensures.value)).plan
+pub run_scheduled-requires-clause-schedule : goal.run_scheduled-requires-clause-schedule
+run_scheduled-requires-clause-schedule c =
+    let k = c.in-Some.kept.now in
+    let kept = kept_there c.args.table.now c.args.graph k c.verify_graph.new.kept.entries c.verify_graph.ensures.kept (sym c.in-Some.ensures.value) in
+    (told k.plan, kept.plan, (kept_graph (goal.at.run_scheduled-requires-clause-schedule c).In-Some).4)
 
 pub age_registered-requires : goal.age_registered-requires
 age_registered-requires c =
     let t = c.args.table.now in
     let graph = kept_graph (goal.at.age_registered-requires c).In-Some in
-    ap (option_map object_kind) (graph_left c.args.limits t c.args.graph c.requires.context graph.0 c.run.new.table graph.1 graph.2 (c.in_ok-run.ensures.value (nodes_of graph.0) graph.3))
+    ap (option_map object_kind) (graph_left c.args.limits t c.args.graph c.requires.context graph.0 c.run_scheduled.new.table graph.1 graph.2 (c.in_ok-run_scheduled.ensures.value (nodes_of graph.0) graph.3))
 
 pub returns-clause-comes : goal.returns-clause-comes
 returns-clause-comes c =
     let t = c.args.table.now in
     let graph = kept_graph (goal.at.returns-clause-comes c).In-Some in
-    let done = aged_to c.args.limits t c.args.graph c.requires.context graph.0 c.run.new.table c.age_registered.new.self graph.1 graph.2 (c.in_ok-run.ensures.value (nodes_of graph.0) graph.3)
+    let done = aged_to c.args.limits t c.args.graph c.requires.context graph.0 c.run_scheduled.new.table c.age_registered.new.self graph.1 graph.2 (c.in_ok-run_scheduled.ensures.value (nodes_of graph.0) graph.3)
     c.age_registered.ensures in
     record { done = done; refused = tt; kept = tt }
 
@@ -50,11 +55,11 @@ returns-clause-limits c =
 
 pub returns-clause-balances : goal.returns-clause-balances
 returns-clause-balances c = λ format.
-    let lasts = c.in_ok-run.ensures.lasts in
-    let ran = c.run.new.table.objects in
+    let lasts = c.in_ok-run_scheduled.ensures.lasts in
+    let ran = c.run_scheduled.new.table.objects in
     omega (
       arith,
-      c.in_ok-run.ensures.lent format,
+      c.in_ok-run_scheduled.ensures.lent format,
       lasting_blocks c.args.table.now.objects ran lasts format,
       ap (λ (t : Context). blocks_in t.objects format) c.age_registered.ensures,
       lasting_blocks ran _ (aged_under_last (graph_under ran c.args.graph).delays ran lasts.objects) format,

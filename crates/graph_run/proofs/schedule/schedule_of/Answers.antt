@@ -1,8 +1,12 @@
-use Rattle.std.proofs.Common.{◌≡◌, List, length, drop, ap, sym, subst, ◌∙◌, arith}
-use Rattle.graph_run.proofs.Common.{Cell, told}
+use Rattle.std.proofs.Common.{◌≡◌, ◌≤◌, ℕ, List, length, drop, ap, sym, subst, ◌∙◌, arith, All}
+use Rattle.graph_run.proofs.Common.{Cell, VirtualOutput, image_held, planned_rooms, told}
+use Rattle.graph_steps.specs.declared.step.Task.{Task}
+use Rattle.graph_steps.specs.Program.{Suffice}
 use Rattle.graph_run.specs.Bind.{HoldImages}
-use Rattle.graph_run.specs.Program.{client_cells, radius_of}
-use Rattle.graph_run.specs.Tasks.{graph_cells}
+use Rattle.graph_run.specs.Blocks.{band_plan}
+use Rattle.graph_run.specs.Program.{AddOnce, client_cells, radius_of}
+use Rattle.graph_run.specs.Results.{tally_cells}
+use Rattle.graph_run.specs.Tasks.{graph_cells, tasks_of}
 use Rattle.graph_run.proofs.ReadyLemmas.{clients_hold}
 use Rattle.graph_run.proofs.ScheduleLemmas.{in_order, virtuals_below, within}
 use Rattle.graph_run.proofs.schedule.schedule_of.Goals as goal
@@ -47,3 +51,53 @@ halos_of-requires-clause-output c = λ s i.
     (c.deref-4.ensures.value ∙ c.in_ok-tasks.ensures) s i
     in
     omega (arith, names.output, c.deref-2.ensures.len, c.len.ensures)
+
+pub rooms_of-requires-clause-halos : goal.rooms_of-requires-clause-halos
+rooms_of-requires-clause-halos c =
+    let v = c.args.verified.now in
+    omega (
+      arith,
+      virtuals_below v.steps.items v.virtual_outputs.items,
+      ap length c.as_slice-images.ensures.value,
+      ap length c.in_ok-cells.ensures,
+      c.in_ok-halos.ensures.count,
+      c.len.ensures,
+      c.in_ok-cells.cells.ok.0,
+      c.deref-5.ensures.len,
+    )
+
+pub returns : goal.returns
+returns c =
+    let v = c.args.verified.now in
+    let p = told c.args.plan.now in
+    let outs = v.virtual_outputs.items in
+    let objects = c.args.table.now.objects in
+    let high = c.high_of-high.result in
+    let size = c.band_size-size.result in
+    let halos = c.in_ok-halos.halos.items in
+    let slots = c.in_ok-slots.slots.items in
+    let radius = radius_of objects high in
+    let clients : c.clients_of.result.now ≡ client_cells v.steps.items outs =
+    c.clients_of.ensures ∙ ap (λ (l : List Cell). drop (length c.as_slice-images.result.now) l) (c.deref.ensures.value ∙ c.in_ok-cells.ensures)
+    ∙ ap (λ l. drop (length l) (graph_cells v.steps.items outs)) c.as_slice-images.ensures.value
+    in
+    record {
+      cells = c.in_ok-cells.ensures;
+      slots = c.in_ok-slots.ensures;
+      tasks = c.in_ok-tasks.ensures
+          ∙ ap (λ (l : List Cell). tasks_of l c.deref-3.result.now radius v.steps.items) (c.deref-2.ensures.value ∙ c.in_ok-cells.ensures)
+          ∙ ap (λ (l : List ℕ). tasks_of (graph_cells v.steps.items outs) l radius v.steps.items) (c.deref-3.ensures.value ∙ c.in_ok-slots.ensures);
+      halo_count = omega (arith, c.in_ok-halos.ensures.count, c.len.ensures, c.in_ok-cells.cells.ok.0, ap length c.in_ok-cells.ensures);
+      enough = subst (λ (l : List Task). Suffice high halos l) c.deref-4.ensures.value c.in_ok-halos.ensures.enough;
+      some = c.high_of-high.ensures.some;
+      forward = c.band_size-size.ensures.forward;
+      rooms = c.in_ok-rooms.ensures
+          ∙ ap (λ (l : List ℕ). planned_rooms (band_plan size l c.as_slice-images.result.now c.deref-8.result.now p)) c.deref-7.ensures.value
+          ∙ ap (λ (l : List VirtualOutput). planned_rooms (band_plan size halos l c.deref-8.result.now p)) c.as_slice-images.ensures.value
+          ∙ ap (λ (l : List ℕ). planned_rooms (band_plan size halos outs l p)) c.deref-8.ensures.value;
+      once = subst (λ (l : List Task). AddOnce high size halos l) c.deref-5.ensures.value
+          (subst (λ (l : List ℕ). AddOnce high size l c.deref-5.result.now) c.deref-6.ensures.value c.band_size-size.ensures.once);
+      virtuals = subst (λ (l : List VirtualOutput). All (λ o. o.desc.height ≤ high) l) c.as_slice-images.ensures.value c.high_of-high.ensures.virtuals;
+      clients = subst (λ (l : List Cell). All (λ d. (image_held objects d).height ≤ high) l) clients c.high_of-high.ensures.clients;
+      tally_cells = c.in_ok-tally_cells.ensures ∙ ap tally_cells c.deref-9.ensures.value;
+    }

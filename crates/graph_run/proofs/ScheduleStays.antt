@@ -1,0 +1,110 @@
+-- A schedule stays one while the cells that its nodes name hold objects of the same skeletons.
+use Rattle.std.proofs.Common.{◌≡◌, ◌≤◌, ◌+◌, ℕ, true, false, List, [], ◌∷◌, ◌++◌, map, All, Option, Some, None, inl, inr, refl, sym, ap, subst, ◌∙◌, arith, option_map, option_and_then, unwrap_or}
+use Rattle.graph_run.proofs.Common.{Node, Kind, Cell, Output, parameters, ObjectValue, ImageObject, new_image, U8, Named, held, skeleton, image_value, image_held, names_cell, In, In-right, In-from_flat_map, or_left, has_twice, writes, Verified, VirtualOutput, IsPlan, PlanValue, place_of}
+use Rattle.vx_base.specs.declared.kind.Kind.TheVariants as kind
+use Rattle.node_rows.specs.Reach.{matrix_in}
+use Rattle.graph_verify.specs.Links.{reads}
+use Rattle.graph_verify.proofs.LinkLemmas.{once_across}
+use Rattle.graph_steps.specs.declared.step.Task.{Task}
+use Rattle.graph_steps.specs.Steps.{step_reach}
+use Rattle.graph_run.specs.declared.schedule.Schedule.{Schedule}
+use Rattle.graph_run.specs.Cells.{images_named, node_images}
+use Rattle.graph_run.specs.Program.{client_cells, radius_of}
+use Rattle.graph_run.specs.Schedule.{IsSchedule}
+use Rattle.graph_run.specs.Tasks.{graph_cells, graph_tasks, tally_after, tasks_by, tasks_from, write_given}
+use Rattle.graph_run.proofs.IndexLemmas.{cells_parts, in_either, once_all}
+use Rattle.graph_run.proofs.LinkLaws.{All-from_In, In-from_All, reads_second}
+use Rattle.graph_run.proofs.ReadyLemmas.{image_operand}
+use Rattle.graph_run.proofs.VerifiedLemmas.{operand_named}
+
+-- ---- what the skeleton tells
+
+-- a matrix
+matrix_told : (o : Option ObjectValue) → matrix_in (option_map skeleton o) ≡ matrix_in o
+matrix_told z0 = grind arith
+
+-- how high an image is
+height_of : Option ObjectValue → ℕ
+height_of o = (image_value (unwrap_or o (ImageObject (new_image 0 0 U8)))).height
+
+height_told : (o : Option ObjectValue) → height_of (option_map skeleton o) ≡ height_of o
+unfolding height_of
+height_told z0 = grind arith
+
+-- what it tells is the same of objects of the same skeleton
+told_alike : {X : Type 0} (tells : Option ObjectValue → X) → ((o : Option ObjectValue) → tells (option_map skeleton o) ≡ tells o)
+    → (one other : Option ObjectValue) → option_map skeleton one ≡ option_map skeleton other → tells one ≡ tells other
+told_alike tells told one other same = sym (told one) ∙ ap tells same ∙ told other
+
+-- ---- tasks with the same radii
+
+module _ (cells : List Cell) (slots : List ℕ) (one two : Node → ℕ) where
+  write_alike : (at : ℕ) (n : Node) (which : Output) (output : Option Cell) → one n ≡ two n → write_given cells slots one at n which output ≡ write_given cells slots two at n which output
+  write_alike at n which None same = refl
+  write_alike at n which (Some c) same = rw same refl
+
+  by_alike : (at tally : ℕ) (n : Node) (k : Kind) → one n ≡ two n → tasks_by cells slots one at tally n k ≡ tasks_by cells slots two at tally n k
+  by_alike at tally n kind.Image same = rw (write_alike at n _ n.out1 same, write_alike at n _ n.out2 same) refl
+  by_alike at tally n other same = refl
+
+  tasks_alike : (nodes : List Node) (at tally : ℕ) → ((n : Node) → In n nodes → one n ≡ two n) → tasks_from cells slots one at tally nodes ≡ tasks_from cells slots two at tally nodes
+  tasks_alike [] at tally same = refl
+  tasks_alike (n ∷ nodes) at tally same =
+      let k = (parameters n.function).output in
+      ap (λ (l : List Task). l ++ tasks_from cells slots one (at + 1) (tally_after tally k) nodes) (by_alike at tally n k (same n (inl refl)))
+      ∙ ap (λ (l : List Task). tasks_by cells slots two at tally n k ++ l) (tasks_alike nodes (at + 1) (tally_after tally k) (λ m i. same m (inr i)))
+
+-- ---- schedules
+
+module _ (before after : List Named) (v : Verified) (p : PlanValue) (plan : IsPlan v.steps.items v.virtual_outputs.items p)
+    (same : (n : Node) (c : Cell) → In n v.steps.items → names_cell n c ≡ true → option_map skeleton (held after c) ≡ option_map skeleton (held before c)) where
+  abbrev steps : List Node
+  steps = v.steps.items
+
+  abbrev outs : List VirtualOutput
+  outs = v.virtual_outputs.items
+
+  abbrev virtual_ones : List Cell
+  virtual_ones = map (λ (o : VirtualOutput). o.cell) outs
+
+  radius_stays : (high : ℕ) (n : Node) → In n steps → radius_of before high n ≡ radius_of after high n
+  radius_stays high n i = ap (λ m. unwrap_or (step_reach n.function m) high) (of_second n.in2 refl)
+    where
+      of_second : (cell : Option Cell) → n.in2 ≡ cell → matrix_in (option_and_then (held before) cell) ≡ matrix_in (option_and_then (held after) cell)
+      of_second None e = refl
+      of_second (Some c) e =
+          told_alike matrix_in matrix_told (held before c) (held after c) (sym (same n c i (or_left (reads n c) (writes n c) (reads_second n c e))))
+
+  -- a client's image is one that a node names
+  client_named : (c : Cell) → In c (client_cells steps outs) → (n : Node) × In n steps × (names_cell n c ≡ true)
+  client_named c i = elim (in_either virtual_ones (images_named steps) c (subst (In c) (sym (cells_parts steps outs)) (In-right c virtual_ones (client_cells steps outs) i))) [
+    | inl virtual ↦
+        (let once : has_twice (virtual_ones ++ client_cells steps outs) ≡ false = ap has_twice (sym (cells_parts steps outs)) ∙ once_all virtual_ones (images_named steps) plan.once in
+        absurd (once_across c virtual_ones (client_cells steps outs) once virtual i))
+    | inr named ↦ (let n = In-from_flat_map node_images c steps named in (n.0, n.1, operand_named n.0 (c, kind.Image) (image_operand n.0 c n.2)))
+  ]
+
+  height_stays : (c : Cell) → In c (client_cells steps outs) → (image_held before c).height ≡ (image_held after c).height
+  unfolding height_of
+  height_stays c i =
+      let n = client_named c i in
+      told_alike height_of height_told (held before c) (held after c) (sym (same n.0 c n.1 n.2))
+
+  pub schedule_stays : (s : Schedule) → IsSchedule before v p s → IsSchedule after v p s
+  schedule_stays s h =
+      record {
+        cells = h.cells;
+        slots = h.slots;
+        tasks = h.tasks ∙ tasks_alike (graph_cells steps outs) (map (place_of p) outs) (radius_of before s.high) (radius_of after s.high) steps 0 0 (radius_stays s.high);
+        halo_count = h.halo_count;
+        enough = h.enough;
+        some = h.some;
+        forward = h.forward;
+        rooms = h.rooms;
+        once = h.once;
+        virtuals = h.virtuals;
+        clients =
+            All-from_In (λ (c : Cell). (image_held after c).height ≤ s.high) (client_cells steps outs)
+            (λ c i. subst (λ (rows : ℕ). rows ≤ s.high) (height_stays c i) (In-from_All (λ (d : Cell). (image_held before d).height ≤ s.high) (client_cells steps outs) h.clients c i));
+        tally_cells = h.tally_cells;
+      }
