@@ -21,9 +21,9 @@ use Rattle.client_model.specs.States.{changes_nodes}
 use Rattle.client_contexts.specs.declared.kept.Kept.{Kept}
 use Rattle.client_contexts.specs.declared.memory.NoMemory.{NoMemory}
 
--- under a name that was given, what is held is a graph that can run as it was verified: nothing refuses it within these work bytes, and
--- its nodes, their order and the descriptions of the virtual images that they write are those that were found; the plan is one of slots
--- for these images along that order, and the schedule is one of a run over what the cells hold
+-- What is kept under a name is a verification of the graph that has the name now, and nothing refuses this graph within the quota of
+-- work bytes. The plan gives slots to the virtual images along the order of the nodes. The schedule is one of a run on the objects that
+-- the nodes name.
 pub record IsKept (c : Context) (name : ℕ) (k : Kept) : Type 0 where
   pub below : name < c.next
   pub ready : IfSome (object_held c.objects name) (λ object. IsReady c.objects (nodes_in object) k.verified)
@@ -31,7 +31,7 @@ pub record IsKept (c : Context) (name : ℕ) (k : Kept) : Type 0 where
   pub schedule : IfSome (object_held c.objects name) (λ object. IsSchedule c.objects k.verified (told k.plan) k.schedule)
   pub allowed : IfSome (object_held c.objects name) (λ object. verdict k.work (operand_held c.objects) (nodes_in object) ≡ None)
 
--- all that is kept of a context's graphs is so
+-- the same of each graph that is kept
 abbrev pub AreKept : Context → List (ℕ × Kept) → Type 0
 AreKept c kept = All (λ k. IsKept c k.0 k.1) kept
 

@@ -75,8 +75,8 @@ impl Client {
         }
     }
 
-    /// What is kept of the graph of a name, if anything: its verification, a plan of the slots of its
-    /// virtual images and the schedule of its runs, all of the nodes that the graph has now.
+    /// Returns what is kept of the graph of a name, if anything: its verification, the slots of its
+    /// virtual images and the schedule of its runs, all for the nodes that the graph has now.
     pub fn kept(&self, graph: u32) -> Option<&Kept>
         ensures holds { IfSome result (λ kept. IsKept self.now.context graph kept.now) }
         ensures work { option_map (λ kept. kept.now.work) result

@@ -9,8 +9,9 @@ use graph_run::Schedule;
 use graph_verify::Verified;
 use std::collections::BTreeMap;
 
-/// How a graph runs, found within so many work bytes: its nodes in their order, in which slots its
-/// virtual images stand, and the schedule of a run. It holds until the graph's nodes change.
+/// A verified graph: its nodes in order, the slots of its virtual images, and the schedule of a run.
+/// `work` is the quota of work bytes with which it was verified. It holds until the graph's nodes
+/// change.
 #[derive(Drop)]
 pub struct Kept {
     pub work: u64,
@@ -19,7 +20,7 @@ pub struct Kept {
     pub schedule: Schedule,
 }
 
-/// Forgets how a graph runs whose nodes a request has changed, or whose name it has ended.
+/// Drops what is kept of a graph whose nodes the request has changed, or whose name it has ended.
 pub fn forget(kept: &mut BTreeMap<u32, Kept>, request: &Request)
     ensures forgotten { kept.new.entries ≡ forgotten_by request.now kept.old.entries }
     ensures stay { (name : ℕ) → ends_verification request.now name ≡ false →

@@ -82,10 +82,10 @@ impl Runtime {
         self.pool.blocks(format)
     }
 
-    /// What is kept of a client's graph, if anything: its verification, a plan of the slots of its
-    /// virtual images and the schedule of its runs, all of the nodes that the graph has now.
-    /// VerifyGraph and ProcessGraph that succeed keep them; a change of the graph's nodes and its
-    /// end drop them.
+    /// Returns what is kept of a client's graph, if anything: its verification, the slots of its
+    /// virtual images and the schedule of its runs, all for the nodes that the graph has now.
+    /// VerifyGraph and ProcessGraph keep them when they succeed. They are dropped when the graph's
+    /// nodes change or the graph ends.
     pub fn kept(&self, client: u16, graph: u32) -> Option<&Kept>
         ensures holds { IfSome result (λ kept. (context : Context) ×
             (state_of client self.now ≡ Some context) × IsKept context graph kept.now) }

@@ -22,11 +22,11 @@ block_size block = (samples_format block, length (values block))
 abbrev pub room_at : List Samples → ℕ → Format × ℕ
 room_at blocks place = slice_index_or (map block_size blocks) place (U8, 0)
 
--- how many of the blocks are of a format
+-- the number of blocks of a format
 abbrev pub block_count : List Samples → Format → ℕ
 block_count blocks format = sum_by (λ b. one_of (samples_format b) format) blocks
 
--- how many of the rooms are for blocks of a format
+-- the number of formats and sizes that are of this format
 abbrev pub room_count : List (Format × ℕ) → Format → ℕ
 room_count rooms format = sum_by (λ r. one_of r.0 format) rooms
 

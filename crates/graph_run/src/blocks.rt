@@ -55,8 +55,8 @@ fn slot_of(plan: &Plan, image: &VirtualOutput) -> usize
 
 // ---- rooms
 
-/// Returns for the slots of a plan, by their places, the format and the number of samples that the
-/// block of each needs: room for the bands of the images in it.
+/// Returns the format and the number of samples of the block of each slot: enough for a band of
+/// each image in the slot.
 pub fn rooms_of(
     alloc: Global,
     plan: &Plan,
@@ -74,7 +74,7 @@ pub fn rooms_of(
     Ok(rooms)
 }
 
-/// Adds the rooms of the slots of a format.
+/// Adds these for the slots of one format.
 fn add_rooms(
     rooms: &mut Vec<(Format, usize)>,
     plan: &Plan,
@@ -131,7 +131,7 @@ fn band_samples(size: u16, halo: u16, desc: Desc) -> usize
     usize::from(desc.height()).min(rows) * usize::from(desc.width())
 }
 
-/// The place of a slot of a format among all slots.
+/// Returns the index of a format's slot among all slots.
 fn slot_place(plan: &Plan, format: Format, slot: usize) -> usize
     requires { slot_place (told plan.now) format slot < 2 ^ 64 }
     ensures { result ≡ slot_place (told plan.now) format slot }
@@ -145,7 +145,7 @@ fn slot_place(plan: &Plan, format: Format, slot: usize) -> usize
 
 // ---- blocks
 
-/// Takes a block for each of these rooms. An error has given back those that were taken.
+/// Takes a block of each of these formats and sizes. On an error, those taken are given back.
 pub fn blocks_for(
     alloc: Global,
     pool: &mut Pool,
@@ -168,7 +168,7 @@ pub fn blocks_for(
     }
 }
 
-/// Adds a block for each of these rooms to none.
+/// Adds a block of each of these formats and sizes to an empty list.
 fn add_blocks(
     blocks: &mut Vec<Block>,
     pool: &mut Pool,
@@ -189,7 +189,7 @@ fn add_blocks(
     Ok(())
 }
 
-/// Gives blocks back.
+/// Gives blocks back to the pool.
 pub fn give_back(blocks: Vec<Block>, pool: &mut Pool)
     requires { LendsAtLeast pool.old (block_count blocks.items) }
     ensures lent { LendsLess pool.old pool.new (block_count blocks.items) }

@@ -1,9 +1,13 @@
-//! Nodes and graphs that are run.
+//! Runs nodes and graphs on a table of objects. OpenVX 1.3, "Graphs".
 //!
-//! `run_once` runs a node on the objects of a table, `verify_in` verifies a graph whose nodes name
-//! what a table holds, and `run` runs it there. What a run of a graph means is defined in rounds of
-//! all its nodes at once. A graph runs over planes, by the tasks of `graph_steps`; who runs it often
-//! keeps its `Schedule`, with which `run_scheduled` runs it.
+//! - `run_once` runs a single node.
+//! - `verify_in` verifies a graph.
+//! - `run` runs a verified graph.
+//! - `schedule_of` makes the schedule of a verified graph, and `run_scheduled` runs it any number of
+//!   times.
+//!
+//! The definition of a run has rounds, in each of which all nodes write at the same time. The code
+//! runs a graph as tasks over planes (`graph_steps`).
 //!
 //! - `operand`: objects as operands
 //! - `once`: runs a single node

@@ -87,8 +87,8 @@ pub fn run(
     run_scheduled(alloc, verified, &schedule, table, pool)
 }
 
-/// Runs a verified graph as `run` does, by a schedule that was made for it. That holds as long as
-/// the cells of its nodes hold images of the same size and the same matrices.
+/// Runs a verified graph as `run` does, by a schedule that was made for it before. The schedule
+/// holds as long as the images that the nodes name have the same sizes, and the matrices too.
 pub fn run_scheduled(
     alloc: Global,
     verified: &Verified,
@@ -133,7 +133,7 @@ pub fn run_scheduled(
     done
 }
 
-/// Runs a schedule of a verified graph over blocks. An error has changed nothing.
+/// Runs a schedule of a verified graph over blocks. After an error everything is as before.
 fn run_over(
     alloc: Global,
     verified: &Verified,

@@ -1,4 +1,4 @@
-//! Schedules: how a verified graph runs over planes.
+//! The schedule of a verified graph: its tasks over planes, and the blocks that they need.
 ghost use Rattle.std.specs.Prelude.{◌≡◌, ◌≤◌, List, length, drop, IfOk};
 ghost use Rattle.vx_base.specs.declared.node.Node.{Node as NodeFields};
 ghost use Rattle.buffer_plan.specs.Places.{told};
@@ -20,27 +20,28 @@ use object_table::Table;
 use std::alloc::{AllocError, Global};
 use vx_base::{Format, ObjRef};
 
-/// How a verified graph runs over planes.
+/// What each run of a verified graph needs to know. It is made once, and holds until the graph's
+/// nodes change.
 #[derive(Drop)]
 pub struct Schedule {
-    /// The cells of the planes: of the virtual images, and then of the clients' images.
+    /// References to the images of the planes: first the virtual images, then the clients'.
     pub(crate) cells: Vec<ObjRef>,
-    /// The slots of the virtual images.
+    /// The slots of the virtual images, as indices among all slots.
     pub(crate) slots: Vec<usize>,
     pub(crate) tasks: Vec<Task>,
     /// The halo of each plane.
     pub(crate) halos: Vec<u16>,
-    /// A height that no image exceeds.
+    /// The greatest height of an image.
     pub(crate) high: u16,
-    /// The rows of a band.
+    /// The number of rows of a band.
     pub(crate) size: u16,
     /// The format and the number of samples of the block of each slot.
     pub(crate) rooms: Vec<(Format, usize)>,
-    /// The cells of the tallies.
+    /// References to the distributions and extremes that the tallies are written to.
     pub(crate) tally_cells: Vec<ObjRef>,
 }
 
-/// Returns how a verified graph runs, with the slots of a plan.
+/// Returns the schedule of a verified graph, with the slots of a plan.
 pub fn schedule_of(
     alloc: Global,
     table: &Table,
@@ -79,7 +80,7 @@ pub fn schedule_of(
     })
 }
 
-/// Returns the cells behind those of the virtual images.
+/// Returns the references to the clients' images, which come after those of the virtual images.
 pub fn clients_of(cells: &[ObjRef], virtuals: usize) -> &[ObjRef]
     requires { virtuals ≤ length cells.now }
     ensures { result.now ≡ drop virtuals cells.now }

@@ -69,7 +69,7 @@ fn is_last(slots: &[usize], k: usize) -> bool
     !slots[k + 1..].contains(&slots[k])
 }
 
-/// Returns no samples, of a format. It takes no memory.
+/// Returns an empty list of samples of a format. Allocates nothing.
 fn empty_block(alloc: Global, format: Format) -> Samples
     ensures { block_size result ≡ (format, 0) }
 {

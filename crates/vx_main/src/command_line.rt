@@ -16,15 +16,16 @@ const DEFAULT_BYTES: &str = "268435456";
 
 /// The help text on memory that the options do not limit.
 const MEMORY_TAKEN: &str = "\
-Images may take twice their quota, and the graph that runs twice its work bytes. Beside that:
-  free blocks     of images that are gone, which others use again: at most 16384 of each format,
-                  with room for 67108864 samples together, so 469762048 bytes in all
-  kept plans      of each graph that was found able to run, until its nodes change or its name
-                  ends: with its nodes up to 150000 bytes each
-  next picture    the one that is being read, in a block of its own: at most 268435456 bytes
-  frame, reply    those that it is at
-Free blocks and kept plans are charged to no client. Where memory is refused, free blocks are given
-up; a request that finds none is answered NO_MEMORY.";
+Images may take up to twice their quota, and a graph that runs up to twice its work bytes. No client
+is charged for:
+  free blocks     memory of released images, kept for reuse: of each format at most 16384 blocks
+                  and 67108864 samples, 469762048 bytes in all
+  kept graphs     each graph that was verified or has run, until its nodes change or it is
+                  released: up to 150000 bytes with its nodes
+  next picture    the picture that is being read: up to 268435456 bytes
+  frames          the request and the reply in progress
+If memory is refused, the server gives up its free blocks and tries again. A request that still gets
+none is answered NO_MEMORY.";
 
 /// What a command line tells the program to do.
 #[derive(Clone, Copy, PartialEq, Eq, Debug)]

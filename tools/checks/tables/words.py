@@ -75,7 +75,7 @@ WORDS: Tuple[Tuple[Tuple[Word, ...], int, bytes, bytes], ...] = (
      b"--quota <BYTES>  Sample bytes for each client's images, 1 to 1099511627776 "
      b"[default: 268435456]", b""),
     (("serve", "--help"), 0, b"--work <BYTES> ", b""),
-    (("serve", "--help"), 0, b"\n  kept plans  ", b""),
+    (("serve", "--help"), 0, b"\n  kept graphs  ", b""),
     ((), 2, b"", b"Usage: vx_main"),
     (("apply", "--help"), 0, b"Usage: vx_main apply", b""),
     (("apply",), 2, b"", b"Usage: vx_main"),
