@@ -2,7 +2,7 @@
 use Rattle.buffer_plan.specs.Lives.{is_live}
 use Rattle.std.proofs.Common.{Bool, ◌≡◌, ◌≢◌, ℕ, zero, suc, ◌+◌, ◌*◌, ◌≤◌, ◌<◌, ◌==◌, ◌⊎◌, List, [], ◌∷◌, ◌++◌, length, map, max, get_or, drop, take, refl, sym, ap, ◌∙◌, arith, if◌then◌else◌, sum_by, append_assoc, Option, Some, None, unwrap_or, length-append}
 use Rattle.graph_run.specs.Slots.{rooms_for}
-use Rattle.graph_run.proofs.Common.{length-map, length-map-range_with_len, range_with_len, map-append, VirtualOutput, Node, In, Format, S16, U32, U8, IsPlan, PlanValue, slot_place, place_of, planned_rooms, take_more, Samples, values, samples_format, same_format, blocks_of, lent_of}
+use Rattle.graph_run.proofs.Common.{length-map-range_with_len, range_with_len, map-append, VirtualOutput, Node, In, Format, S16, U32, U8, IsPlan, PlanValue, slot_place, place_of, planned_rooms, take_more, Samples, values, samples_format, blocks_of, lent_of}
 use Rattle.std.specs.List.{filter}
 use Rattle.std.proofs.lemmas.List.{append-nil, drop_all, take_all}
 use Rattle.std.proofs.lemmas.List.FromFn.{map-range_with_len_more}

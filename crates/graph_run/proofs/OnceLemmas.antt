@@ -3,7 +3,6 @@ use Rattle.std.proofs.Common.{◌≡◌, ◌≢◌, ◌⊎◌, List, [], ◌∷�
 use Rattle.graph_run.proofs.Common.{First, Second, Output, Kind, Node, Cell, parameters, ImageValue, IsImage, description_of, ObjectValue, ImageObject, IsObject, object_kind, node_image, node_output, beside_first, written_by, Context, with_objects, Named, held, with_object, with_written, image_value, cell_object, image_held, HoldsImage, IsStrictlyIncreasing, names_of, Lasts, RunsOn, RunsTo, with_output, CanRunNow, Holds}
 use Rattle.vx_base.specs.declared.kind.Kind.TheVariants as kind
 use Rattle.graph_steps.specs.declared.tally.Tally.{Tally}
-use Rattle.graph_steps.specs.declared.tally.Tally.TheVariants as tally
 use Rattle.graph_steps.specs.Planes.{IsWhole, PlaneValue, block_image}
 use Rattle.graph_steps.specs.Steps.{CanMake, lent_step}
 use Rattle.graph_steps.specs.Tallies.{tally_of}

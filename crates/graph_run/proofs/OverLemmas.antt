@@ -1,5 +1,5 @@
 -- A scheduled graph that runs over planes: what its images and tallies need on their way out of a table and back.
-use Rattle.std.proofs.Common.{◌≡◌, ℕ, ◌+◌, ◌<◌, ◌≤◌, List, ◌++◌, length, map, drop, get_or, All, Some, None, sym, ap, subst, ◌∙◌, arith, length-append}
+use Rattle.std.proofs.Common.{◌≡◌, ℕ, ◌<◌, ◌≤◌, List, ◌++◌, length, map, drop, get_or, All, Some, None, sym, ap, subst, ◌∙◌, arith, length-append}
 use Rattle.std.proofs.lemmas.List.{get_or-map, length-map}
 use Rattle.graph_run.proofs.Common.{IsStrictlyIncreasing, names_of, Node, Cell, IsObject, Named, with_written, VirtualOutput, Verified, IsReady, IsPlan, PlanValue, place_of, planned_rooms, Samples, samples_format, second_object, IsDescription, resolved, operand_held, run_of_graph, Format, U8}
 use Rattle.image_core.specs.declared.second.Second.{Second}

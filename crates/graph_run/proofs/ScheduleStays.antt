@@ -1,5 +1,5 @@
 -- A schedule stays one while the cells that its nodes name hold objects of the same skeletons.
-use Rattle.std.proofs.Common.{◌≡◌, ◌≤◌, ◌+◌, ℕ, true, false, List, [], ◌∷◌, ◌++◌, map, All, Option, Some, None, inl, inr, refl, sym, ap, subst, ◌∙◌, arith, option_map, option_and_then, unwrap_or}
+use Rattle.std.proofs.Common.{◌≡◌, ◌≤◌, ◌+◌, ℕ, true, false, List, [], ◌∷◌, ◌++◌, map, Option, Some, None, inl, inr, refl, sym, ap, subst, ◌∙◌, arith, option_map, option_and_then, unwrap_or}
 use Rattle.graph_run.proofs.Common.{Node, Kind, Cell, Output, parameters, ObjectValue, ImageObject, new_image, U8, Named, held, skeleton, image_value, image_held, names_cell, In, In-right, In-from_flat_map, or_left, has_twice, writes, Verified, VirtualOutput, IsPlan, PlanValue, place_of}
 use Rattle.vx_base.specs.declared.kind.Kind.TheVariants as kind
 use Rattle.node_rows.specs.Reach.{matrix_in}
@@ -11,7 +11,7 @@ use Rattle.graph_run.specs.declared.schedule.Schedule.{Schedule}
 use Rattle.graph_run.specs.Cells.{images_named, node_images}
 use Rattle.graph_run.specs.Program.{client_cells, radius_of}
 use Rattle.graph_run.specs.Schedule.{IsSchedule}
-use Rattle.graph_run.specs.Tasks.{graph_cells, graph_tasks, tally_after, tasks_by, tasks_from, write_given}
+use Rattle.graph_run.specs.Tasks.{graph_cells, tally_after, tasks_by, tasks_from, write_given}
 use Rattle.graph_run.proofs.IndexLemmas.{cells_parts, in_either, once_all}
 use Rattle.graph_run.proofs.LinkLaws.{All-from_In, In-from_All, reads_second}
 use Rattle.graph_run.proofs.ReadyLemmas.{image_operand}

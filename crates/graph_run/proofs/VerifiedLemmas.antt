@@ -5,7 +5,6 @@ use Rattle.graph_verify.specs.Links.{reads}
 use Rattle.graph_verify.proofs.VerdictLemmas.{can_run}
 use Rattle.graph_run.specs.Operands.{StandsFor}
 use Rattle.std.proofs.lemmas.List.Kept.{AllPairs-from_increasing}
-use Rattle.vx_base.specs.declared.kind.Kind.TheVariants as kind
 use Rattle.graph_verify.specs.Operand.{is_virtual as is_virtual_operand}
 use Rattle.graph_run.proofs.LinkLaws.{All-from_In, In-from_All}
 use Rattle.graph_run.proofs.OperandLaws.{outline_of_virtual, known_kept, virtual_written}

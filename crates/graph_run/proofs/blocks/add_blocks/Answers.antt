@@ -1,5 +1,5 @@
 use Rattle.std.proofs.Common.{◌≡◌, ℕ, ◌+◌, [], ◌∷◌, ◌++◌, List, length, map, ap, get_or, refl, sym, subst, ◌∙◌, arith}
-use Rattle.graph_run.proofs.Common.{Format, U8, values, lent_of, Samples}
+use Rattle.graph_run.proofs.Common.{Format, U8, lent_of, Samples}
 use Rattle.std.proofs.lemmas.List.{length_push}
 use Rattle.graph_run.specs.Blocks.{block_count, block_size}
 use Rattle.graph_run.proofs.BlockLemmas.{lends_more, rooms_left, sizes_more, taken_adds}
