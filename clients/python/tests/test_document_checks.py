@@ -27,7 +27,7 @@ class TestNames(unittest.TestCase):
 
     def test_what_is_there_is_not(self):
         self.assertEqual(self.planted("`Session` of `crates/vx_requests/specs`, `vxCreateImage`, "
-                                      "`rt check`, `made width height format valid f`"), [])
+                                      "`rt check`, `image_from width height format valid f`"), [])
 
 
 class TestSurface(unittest.TestCase):

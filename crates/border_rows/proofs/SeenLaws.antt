@@ -6,11 +6,11 @@ use Rattle.std.proofs.Math.ListN.{get_or-map}
 use Rattle.vx_base.specs.declared.border.Border.{Border}
 use Rattle.vx_base.specs.declared.border.Border.TheVariants.{Undefined, Constant, Replicate}
 use Rattle.vx_base.specs.Rectangle.{Rectangle}
-use Rattle.vx_base.specs.Image.{ImageValue, run, at}
-use Rattle.vx_base.specs.Window.{nearest, beside, look}
+use Rattle.vx_base.specs.Image.{ImageValue, run, pixel_at}
+use Rattle.vx_base.specs.Window.{clamp_coordinate, border_sample, sample_or_border}
 use Rattle.vx_base.proofs.TableLaws.{run-append, run-same, run-constant, get_or-run}
 use Rattle.vx_base.proofs.WindowLaws.{run_shifted}
-use Rattle.border_rows.specs.Seen.{value_beside, row_beside, row_seen, seen_along}
+use Rattle.border_rows.specs.Seen.{border_value, border_row, row_seen, seen_along}
 
 -- ---- tests
 
@@ -28,16 +28,16 @@ not_at_most a b h = grind (arith, ints)
 
 -- ---- the nearest
 
-nearest_below : (low high : ℕ) (v : ℤ) → low < high → v <ℤ pos low → nearest low high v ≡ low
+nearest_below : (low high : ℕ) (v : ℤ) → low < high → v <ℤ pos low → clamp_coordinate low high v ≡ low
 nearest_below low high v some h = grind (arith, ints)
 
-nearest_inside : (low high : ℕ) (v : ℤ) → pos low ≤ℤ v → v <ℤ pos high → nearest low high v ≡ unsigned_abs v
+nearest_inside : (low high : ℕ) (v : ℤ) → pos low ≤ℤ v → v <ℤ pos high → clamp_coordinate low high v ≡ unsigned_abs v
 nearest_inside low high v a b = grind (arith, ints)
 
-nearest_tested : (low high : ℕ) (v : ℤ) → (int_le (pos low) v && int_lt v (pos high)) ≡ true → nearest low high v ≡ unsigned_abs v
+nearest_tested : (low high : ℕ) (v : ℤ) → (int_le (pos low) v && int_lt v (pos high)) ≡ true → clamp_coordinate low high v ≡ unsigned_abs v
 nearest_tested low high v h = grind (arith, ints)
 
-nearest_above : (low high : ℕ) (v : ℤ) → low < high → pos high ≤ℤ v → nearest low high v ≡ high - 1
+nearest_above : (low high : ℕ) (v : ℤ) → low < high → pos high ≤ℤ v → clamp_coordinate low high v ≡ high - 1
 nearest_above low high v some h = grind (arith, ints)
 
 -- ---- runs
@@ -53,66 +53,66 @@ run_in_three g start b m r left right middle before between after =
 
 -- ---- along a valid row
 
-pub seen_left : (image : ImageValue) (border : Border) (x : ℤ) (line : ℕ) → x <ℤ pos image.valid.x0 → seen_along image border line x ≡ value_beside border (at image image.valid.x0 line)
+pub seen_left : (image : ImageValue) (border : Border) (x : ℤ) (line : ℕ) → x <ℤ pos image.valid.x0 → seen_along image border line x ≡ border_value border (pixel_at image image.valid.x0 line)
 seen_left image border x line h = rw (below x (pos image.valid.x0) h) refl
 
-pub seen_inside : (image : ImageValue) (border : Border) (x : ℤ) (line : ℕ) → pos image.valid.x0 ≤ℤ x → x <ℤ pos image.valid.x1 → seen_along image border line x ≡ at image (unsigned_abs x) line
+pub seen_inside : (image : ImageValue) (border : Border) (x : ℤ) (line : ℕ) → pos image.valid.x0 ≤ℤ x → x <ℤ pos image.valid.x1 → seen_along image border line x ≡ pixel_at image (unsigned_abs x) line
 seen_inside image border x line a b = rw (not_below x (pos image.valid.x0) a, below x (pos image.valid.x1) b) refl
 
-pub seen_right : (image : ImageValue) (border : Border) (x : ℤ) (line : ℕ) → pos image.valid.x0 ≤ℤ x → pos image.valid.x1 ≤ℤ x → seen_along image border line x ≡ value_beside border (at image (image.valid.x1 - 1) line)
+pub seen_right : (image : ImageValue) (border : Border) (x : ℤ) (line : ℕ) → pos image.valid.x0 ≤ℤ x → pos image.valid.x1 ≤ℤ x → seen_along image border line x ≡ border_value border (pixel_at image (image.valid.x1 - 1) line)
 seen_right image border x line a b = rw (not_below x (pos image.valid.x0) a, not_below x (pos image.valid.x1) b) refl
 
 -- ---- rows
 
 -- a row that is seen in row y under Replicate is the nearest
-line_near : (valid : Rectangle) (y : ℤ) (line : ℕ) → row_seen valid Replicate y ≡ Some line → nearest valid.y0 valid.y1 y ≡ line
+line_near : (valid : Rectangle) (y : ℤ) (line : ℕ) → row_seen valid Replicate y ≡ Some line → clamp_coordinate valid.y0 valid.y1 y ≡ line
 line_near valid y line e = known (int_le (pos valid.y0) y && int_lt y (pos valid.y1)) refl e
   where
-    known : (b : Bool) → (int_le (pos valid.y0) y && int_lt y (pos valid.y1)) ≡ b → cond b (Some (unsigned_abs y)) (Some (nearest valid.y0 valid.y1 y)) ≡ Some line → nearest valid.y0 valid.y1 y ≡ line
+    known : (b : Bool) → (int_le (pos valid.y0) y && int_lt y (pos valid.y1)) ≡ b → cond b (Some (unsigned_abs y)) (Some (clamp_coordinate valid.y0 valid.y1 y)) ≡ Some line → clamp_coordinate valid.y0 valid.y1 y ≡ line
     known true inside e = cc (nearest_tested valid.y0 valid.y1 y inside)
     known false outside e = cc
 
 -- the border's sample in a row that takes the samples of a valid row
-beside_line : (image : ImageValue) (border : Border) (x y : ℤ) (line edge : ℕ) → row_seen image.valid border y ≡ Some line → nearest image.valid.x0 image.valid.x1 x ≡ edge → beside image border x y ≡ value_beside border (at image edge line)
+beside_line : (image : ImageValue) (border : Border) (x y : ℤ) (line edge : ℕ) → row_seen image.valid border y ≡ Some line → clamp_coordinate image.valid.x0 image.valid.x1 x ≡ edge → border_sample image border x y ≡ border_value border (pixel_at image edge line)
 beside_line image Undefined x y line edge e near = refl
 beside_line image (Constant value) x y line edge e near = refl
-beside_line image Replicate x y line edge e near = ap (λ n. at image n (nearest image.valid.y0 image.valid.y1 y)) near ∙ ap (at image edge) (line_near image.valid y line e)
+beside_line image Replicate x y line edge e near = ap (λ n. pixel_at image n (clamp_coordinate image.valid.y0 image.valid.y1 y)) near ∙ ap (pixel_at image edge) (line_near image.valid y line e)
 
 -- outside the valid columns
-look_beside : (image : ImageValue) (border : Border) (x y : ℤ) (line edge : ℕ) → row_seen image.valid border y ≡ Some line → nearest image.valid.x0 image.valid.x1 x ≡ edge → (int_le (pos image.valid.x0) x && int_lt x (pos image.valid.x1)) ≡ false → look image border x y ≡ value_beside border (at image edge line)
+look_beside : (image : ImageValue) (border : Border) (x y : ℤ) (line edge : ℕ) → row_seen image.valid border y ≡ Some line → clamp_coordinate image.valid.x0 image.valid.x1 x ≡ edge → (int_le (pos image.valid.x0) x && int_lt x (pos image.valid.x1)) ≡ false → sample_or_border image border x y ≡ border_value border (pixel_at image edge line)
 look_beside image border x y line edge e near out = rw out (beside_line image border x y line edge e near)
 
 -- in the columns
-inner_row : (image : ImageValue) (border : Border) (x y : ℤ) (line : ℕ) (b : Bool) → cond b (Some (unsigned_abs y)) (row_beside image.valid border y) ≡ Some line → row_seen image.valid border y ≡ Some line → nearest image.valid.x0 image.valid.x1 x ≡ unsigned_abs x → cond b (at image (unsigned_abs x) (unsigned_abs y)) (beside image border x y) ≡ at image (unsigned_abs x) line
-inner_row image border x y line true e seen near = let same : unsigned_abs y ≡ line = cc in ap (at image (unsigned_abs x)) same
+inner_row : (image : ImageValue) (border : Border) (x y : ℤ) (line : ℕ) (b : Bool) → cond b (Some (unsigned_abs y)) (border_row image.valid border y) ≡ Some line → row_seen image.valid border y ≡ Some line → clamp_coordinate image.valid.x0 image.valid.x1 x ≡ unsigned_abs x → cond b (pixel_at image (unsigned_abs x) (unsigned_abs y)) (border_sample image border x y) ≡ pixel_at image (unsigned_abs x) line
+inner_row image border x y line true e seen near = let same : unsigned_abs y ≡ line = cc in ap (pixel_at image (unsigned_abs x)) same
 inner_row image Undefined x y line false e seen near = cc
 inner_row image (Constant value) x y line false e seen near = cc
 inner_row image Replicate x y line false e seen near = beside_line image Replicate x y line (unsigned_abs x) seen near
 
-pub look_inside : (image : ImageValue) (border : Border) (x y : ℤ) (line : ℕ) → row_seen image.valid border y ≡ Some line → pos image.valid.x0 ≤ℤ x → x <ℤ pos image.valid.x1 → look image border x y ≡ at image (unsigned_abs x) line
+pub look_inside : (image : ImageValue) (border : Border) (x y : ℤ) (line : ℕ) → row_seen image.valid border y ≡ Some line → pos image.valid.x0 ≤ℤ x → x <ℤ pos image.valid.x1 → sample_or_border image border x y ≡ pixel_at image (unsigned_abs x) line
 look_inside image border x y line e a b =
     rw (at_most (pos image.valid.x0) x a, below x (pos image.valid.x1) b)
     (inner_row image border x y line (int_le (pos image.valid.y0) y && int_lt y (pos image.valid.y1)) e e (nearest_inside image.valid.x0 image.valid.x1 x a b))
 
 -- a window reads in row y what it reads along the valid row that the border takes for it
-pub look_along : (image : ImageValue) (border : Border) (x y : ℤ) (line : ℕ) → image.valid.x0 < image.valid.x1 → row_seen image.valid border y ≡ Some line → look image border x y ≡ seen_along image border line x
+pub look_along : (image : ImageValue) (border : Border) (x y : ℤ) (line : ℕ) → image.valid.x0 < image.valid.x1 → row_seen image.valid border y ≡ Some line → sample_or_border image border x y ≡ seen_along image border line x
 look_along image border x y line some e = by_lt_z x (pos image.valid.x0) left (λ a. by_lt_z x (pos image.valid.x1) (λ b. between a b) (λ b. right a b))
   where
-    left : x <ℤ pos image.valid.x0 → look image border x y ≡ seen_along image border line x
+    left : x <ℤ pos image.valid.x0 → sample_or_border image border x y ≡ seen_along image border line x
     left h =
         look_beside image border x y line image.valid.x0 e (nearest_below image.valid.x0 image.valid.x1 x some h) (cc (not_at_most (pos image.valid.x0) x h))
         ∙ sym (seen_left image border x line h)
 
-    between : pos image.valid.x0 ≤ℤ x → x <ℤ pos image.valid.x1 → look image border x y ≡ seen_along image border line x
+    between : pos image.valid.x0 ≤ℤ x → x <ℤ pos image.valid.x1 → sample_or_border image border x y ≡ seen_along image border line x
     between a b = look_inside image border x y line e a b ∙ sym (seen_inside image border x line a b)
 
-    right : pos image.valid.x0 ≤ℤ x → pos image.valid.x1 ≤ℤ x → look image border x y ≡ seen_along image border line x
+    right : pos image.valid.x0 ≤ℤ x → pos image.valid.x1 ≤ℤ x → sample_or_border image border x y ≡ seen_along image border line x
     right a b =
         look_beside image border x y line (image.valid.x1 - 1) e (nearest_above image.valid.x0 image.valid.x1 x some b) (cc (at_most (pos image.valid.x0) x a, not_below x (pos image.valid.x1) b))
         ∙ sym (seen_right image border x line a b)
 
 -- where the border takes no valid row
-off_row : (image : ImageValue) (border : Border) (x y : ℤ) (b c : Bool) → cond b (Some (unsigned_abs y)) (row_beside image.valid border y) ≡ None → cond (c && b) (at image (unsigned_abs x) (unsigned_abs y)) (beside image border x y) ≡ value_beside border (pos 0)
+off_row : (image : ImageValue) (border : Border) (x y : ℤ) (b c : Bool) → cond b (Some (unsigned_abs y)) (border_row image.valid border y) ≡ None → cond (c && b) (pixel_at image (unsigned_abs x) (unsigned_abs y)) (border_sample image border x y) ≡ border_value border (pos 0)
 off_row image border x y true c e = cc
 off_row image Undefined x y false true e = refl
 off_row image Undefined x y false false e = refl
@@ -120,7 +120,7 @@ off_row image (Constant value) x y false true e = refl
 off_row image (Constant value) x y false false e = refl
 off_row image Replicate x y false c e = cc
 
-pub look_off : (image : ImageValue) (border : Border) (x y : ℤ) → row_seen image.valid border y ≡ None → look image border x y ≡ value_beside border (pos 0)
+pub look_off : (image : ImageValue) (border : Border) (x y : ℤ) → row_seen image.valid border y ≡ None → sample_or_border image border x y ≡ border_value border (pos 0)
 look_off image border x y e = off_row image border x y (int_le (pos image.valid.y0) y && int_lt y (pos image.valid.y1)) (int_le (pos image.valid.x0) x && int_lt x (pos image.valid.x1)) e
 
 -- ---- a part of a row
@@ -129,7 +129,7 @@ look_off image border x y e = off_row image border x y (int_le (pos image.valid.
 pub seen_in_three : (image : ImageValue) (border : Border) (line start radius n b m first left right : ℕ) (samples : List ℕ)
     → image.valid.x0 < image.valid.x1 → length samples ≡ m
     → b ≡ min (image.valid.x0 + radius - start) n → m ≡ min (image.valid.x1 + radius - start) n - b → first ≡ min (max (start - radius) image.valid.x0) image.valid.x1
-    → pos left ≡ value_beside border (at image image.valid.x0 line) → pos right ≡ value_beside border (at image (image.valid.x1 - 1) line) → map pos samples ≡ run first m (λ k. at image k line)
+    → pos left ≡ border_value border (pixel_at image image.valid.x0 line) → pos right ≡ border_value border (pixel_at image (image.valid.x1 - 1) line) → map pos samples ≡ run first m (λ k. pixel_at image k line)
     → replicate b (pos left) ++ (map pos samples ++ replicate (n - (b + length samples)) (pos right)) ≡ run start n (λ c. seen_along image border line (pos c -ℤ pos radius))
 seen_in_three image border line start radius n b m first left right samples some long at_before at_middle at_first is_left is_right is_middle =
     ap (λ k. replicate b (pos left) ++ (map pos samples ++ replicate k (pos right))) rest
@@ -145,11 +145,11 @@ seen_in_three image border line start radius n b m first left right samples some
     before : (c : ℕ) → c < start + b → start ≤ c → g c ≡ pos left
     before c h k = seen_left image border (pos c -ℤ pos radius) line (omega (arith, ints)) ∙ sym is_left
 
-    between : run (start + b) m g ≡ run first m (λ k. at image k line)
-    between = run_shifted g (λ k. at image k line) (start + b) first m place
+    between : run (start + b) m g ≡ run first m (λ k. pixel_at image k line)
+    between = run_shifted g (λ k. pixel_at image k line) (start + b) first m place
       where
-        place : (k : ℕ) → k < m → g (start + b + k) ≡ at image (first + k) line
-        place k h = seen_inside image border (pos (start + b + k) -ℤ pos radius) line (omega (arith, ints)) (omega (arith, ints)) ∙ ap (λ j. at image j line) (omega (arith, ints))
+        place : (k : ℕ) → k < m → g (start + b + k) ≡ pixel_at image (first + k) line
+        place k h = seen_inside image border (pos (start + b + k) -ℤ pos radius) line (omega (arith, ints)) (omega (arith, ints)) ∙ ap (λ j. pixel_at image j line) (omega (arith, ints))
 
     after : (c : ℕ) → start + b + m ≤ c → c < start + b + m + (n - (b + m)) → g c ≡ pos right
     after c h k = seen_right image border (pos c -ℤ pos radius) line (omega (arith, ints)) (omega (arith, ints)) ∙ sym is_right
@@ -163,57 +163,57 @@ item_of_row row g w i same long below =
 
 -- at valid columns of a row in which a valid row is seen
 pub seen_there : (image : ImageValue) (border : Border) (x line count : ℕ) (y : ℤ) → row_seen image.valid border y ≡ Some line → image.valid.x0 ≤ x → x + count ≤ image.valid.x1
-    → run x count (λ k. at image k line) ≡ run x count (λ c. look image border (pos c) y)
+    → run x count (λ k. pixel_at image k line) ≡ run x count (λ c. sample_or_border image border (pos c) y)
 seen_there image border x line count y seen left right =
-    run-same (λ k. at image k line) (λ c. look image border (pos c) y) x count
+    run-same (λ k. pixel_at image k line) (λ c. sample_or_border image border (pos c) y) x count
     (λ k a b. sym (look_inside image border (pos k) y line seen (omega (arith, ints)) (omega (arith, ints))))
 
 -- in a row in which none is seen
-pub seen_nowhere : (image : ImageValue) (border : Border) (x count : ℕ) (y : ℤ) (all : List ℕ) → row_seen image.valid border y ≡ None → map pos all ≡ replicate (length all) (value_beside border (pos 0)) → count ≤ length all
-    → map pos (take count all) ≡ run x count (λ c. look image border (pos c) y)
+pub seen_nowhere : (image : ImageValue) (border : Border) (x count : ℕ) (y : ℤ) (all : List ℕ) → row_seen image.valid border y ≡ None → map pos all ≡ replicate (length all) (border_value border (pos 0)) → count ≤ length all
+    → map pos (take count all) ≡ run x count (λ c. sample_or_border image border (pos c) y)
 seen_nowhere image border x count y all off same room =
-    rw (← take-map pos count all, same, take-replicate count (length all) (value_beside border (pos 0)) room, ← run-constant (value_beside border (pos 0)) x count)
-    (run-same (λ _. value_beside border (pos 0)) (λ c. look image border (pos c) y) x count (λ k a b. sym (look_off image border (pos k) y off)))
+    rw (← take-map pos count all, same, take-replicate count (length all) (border_value border (pos 0)) room, ← run-constant (border_value border (pos 0)) x count)
+    (run-same (λ _. border_value border (pos 0)) (λ c. sample_or_border image border (pos c) y) x count (λ k a b. sym (look_off image border (pos k) y off)))
 
 -- ---- outside the valid columns the border depends on the nearest one
 
-beside_again : (border : Border) (z : ℤ) → value_beside border (value_beside border z) ≡ value_beside border z
+beside_again : (border : Border) (z : ℤ) → border_value border (border_value border z) ≡ border_value border z
 beside_again Undefined z = refl
 beside_again (Constant value) z = refl
 beside_again Replicate z = refl
 
 -- column x outside the valid ones; column e is the nearest of them
 look_from_edge : (image : ImageValue) (border : Border) (x y : ℤ) (e : ℕ) (seen : Option ℕ) → row_seen image.valid border y ≡ seen → image.valid.x0 < image.valid.x1
-    → ((line : ℕ) → seen_along image border line x ≡ value_beside border (at image e line)) → image.valid.x0 ≤ e → e < image.valid.x1 → look image border x y ≡ value_beside border (look image border (pos e) y)
+    → ((line : ℕ) → seen_along image border line x ≡ border_value border (pixel_at image e line)) → image.valid.x0 ≤ e → e < image.valid.x1 → sample_or_border image border x y ≡ border_value border (sample_or_border image border (pos e) y)
 look_from_edge image border x y e (Some line) is some along left right =
     rw (look_along image border x y line some is, along line, look_inside image border (pos e) y line is (omega (arith, ints)) (omega (arith, ints))) refl
 look_from_edge image border x y e None is some along left right =
     rw (look_off image border x y is, look_off image border (pos e) y is) (sym (beside_again border (pos 0)))
 
-pub look_left : (image : ImageValue) (border : Border) (x y : ℤ) → image.valid.x0 < image.valid.x1 → x <ℤ pos image.valid.x0 → look image border x y ≡ value_beside border (look image border (pos image.valid.x0) y)
+pub look_left : (image : ImageValue) (border : Border) (x y : ℤ) → image.valid.x0 < image.valid.x1 → x <ℤ pos image.valid.x0 → sample_or_border image border x y ≡ border_value border (sample_or_border image border (pos image.valid.x0) y)
 look_left image border x y some h =
     look_from_edge image border x y image.valid.x0 (row_seen image.valid border y) refl some (λ line. seen_left image border x line h) (omega arith) some
 
-pub look_right : (image : ImageValue) (border : Border) (x y : ℤ) → image.valid.x0 < image.valid.x1 → pos image.valid.x1 ≤ℤ x → look image border x y ≡ value_beside border (look image border (pos (image.valid.x1 - 1)) y)
+pub look_right : (image : ImageValue) (border : Border) (x y : ℤ) → image.valid.x0 < image.valid.x1 → pos image.valid.x1 ≤ℤ x → sample_or_border image border x y ≡ border_value border (sample_or_border image border (pos (image.valid.x1 - 1)) y)
 look_right image border x y some h =
     look_from_edge image border x y (image.valid.x1 - 1) (row_seen image.valid border y) refl some (λ line. seen_right image border x line (omega (arith, ints)) h) (omega arith) (omega arith)
 
 -- ---- the neighbours of a column
 
 -- the left neighbour of the first valid column, and of another one
-pub left_of_first : (image : ImageValue) (border : Border) (x line : ℕ) (v : ℕ) → x ≡ image.valid.x0 → pos v ≡ at image x line → value_beside border (pos v) ≡ seen_along image border line (pos x -ℤ pos 1)
+pub left_of_first : (image : ImageValue) (border : Border) (x line : ℕ) (v : ℕ) → x ≡ image.valid.x0 → pos v ≡ pixel_at image x line → border_value border (pos v) ≡ seen_along image border line (pos x -ℤ pos 1)
 left_of_first image border x line v first is =
-    ap (value_beside border) (is ∙ ap (λ k. at image k line) first) ∙ sym (seen_left image border (pos x -ℤ pos 1) line (omega (arith, ints)))
+    ap (border_value border) (is ∙ ap (λ k. pixel_at image k line) first) ∙ sym (seen_left image border (pos x -ℤ pos 1) line (omega (arith, ints)))
 
-pub left_of_other : (image : ImageValue) (border : Border) (x line k v : ℕ) → image.valid.x0 < x → x < image.valid.x1 → k ≡ x - 1 → pos v ≡ at image k line → pos v ≡ seen_along image border line (pos x -ℤ pos 1)
+pub left_of_other : (image : ImageValue) (border : Border) (x line k v : ℕ) → image.valid.x0 < x → x < image.valid.x1 → k ≡ x - 1 → pos v ≡ pixel_at image k line → pos v ≡ seen_along image border line (pos x -ℤ pos 1)
 left_of_other image border x line k v after before here is =
-    is ∙ ap (λ j. at image j line) (let e : k ≡ unsigned_abs (pos x -ℤ pos 1) = omega (arith, ints) in e) ∙ sym (seen_inside image border (pos x -ℤ pos 1) line (omega (arith, ints)) (omega (arith, ints)))
+    is ∙ ap (λ j. pixel_at image j line) (let e : k ≡ unsigned_abs (pos x -ℤ pos 1) = omega (arith, ints) in e) ∙ sym (seen_inside image border (pos x -ℤ pos 1) line (omega (arith, ints)) (omega (arith, ints)))
 
 -- the right neighbour of the last valid column, and of another one
-pub right_of_last : (image : ImageValue) (border : Border) (x line : ℕ) (v : ℕ) → image.valid.x0 ≤ x → x + 1 ≡ image.valid.x1 → pos v ≡ at image x line → value_beside border (pos v) ≡ seen_along image border line (pos x +ℤ pos 1)
+pub right_of_last : (image : ImageValue) (border : Border) (x line : ℕ) (v : ℕ) → image.valid.x0 ≤ x → x + 1 ≡ image.valid.x1 → pos v ≡ pixel_at image x line → border_value border (pos v) ≡ seen_along image border line (pos x +ℤ pos 1)
 right_of_last image border x line v inside last is =
-    ap (value_beside border) (is ∙ ap (λ k. at image k line) (let e : x ≡ image.valid.x1 - 1 = omega arith in e)) ∙ sym (seen_right image border (pos x +ℤ pos 1) line (omega (arith, ints)) (omega (arith, ints)))
+    ap (border_value border) (is ∙ ap (λ k. pixel_at image k line) (let e : x ≡ image.valid.x1 - 1 = omega arith in e)) ∙ sym (seen_right image border (pos x +ℤ pos 1) line (omega (arith, ints)) (omega (arith, ints)))
 
-pub right_of_other : (image : ImageValue) (border : Border) (x line k v : ℕ) → image.valid.x0 ≤ x → x + 1 < image.valid.x1 → k ≡ x + 1 → pos v ≡ at image k line → pos v ≡ seen_along image border line (pos x +ℤ pos 1)
+pub right_of_other : (image : ImageValue) (border : Border) (x line k v : ℕ) → image.valid.x0 ≤ x → x + 1 < image.valid.x1 → k ≡ x + 1 → pos v ≡ pixel_at image k line → pos v ≡ seen_along image border line (pos x +ℤ pos 1)
 right_of_other image border x line k v after before here is =
-    is ∙ ap (λ j. at image j line) (let e : k ≡ unsigned_abs (pos x +ℤ pos 1) = omega (arith, ints) in e) ∙ sym (seen_inside image border (pos x +ℤ pos 1) line (omega (arith, ints)) (omega (arith, ints)))
+    is ∙ ap (λ j. pixel_at image j line) (let e : k ≡ unsigned_abs (pos x +ℤ pos 1) = omega (arith, ints) in e) ∙ sym (seen_inside image border (pos x +ℤ pos 1) line (omega (arith, ints)) (omega (arith, ints)))

@@ -3,29 +3,29 @@ use Rattle.std.specs.Prelude.{ℕ, ℤ, pos, ◌-◌, ◌&&◌, Option, Some, No
 use Rattle.vx_base.specs.declared.border.Border.{Border}
 use Rattle.vx_base.specs.declared.border.Border.TheVariants.{Undefined, Constant, Replicate}
 use Rattle.vx_base.specs.Rectangle.{Rectangle}
-use Rattle.vx_base.specs.Image.{ImageValue, at}
-use Rattle.vx_base.specs.Window.{nearest}
+use Rattle.vx_base.specs.Image.{ImageValue, pixel_at}
+use Rattle.vx_base.specs.Window.{clamp_coordinate}
 
 -- the border's sample next to a valid edge sample
-abbrev pub value_beside : Border → ℤ → ℤ
-value_beside Undefined edge = pos 0
-value_beside (Constant value) edge = pos value
-value_beside Replicate edge = edge
+abbrev pub border_value : Border → ℤ → ℤ
+border_value Undefined edge = pos 0
+border_value (Constant value) edge = pos value
+border_value Replicate edge = edge
 
 -- the valid row that a window reads in place of row y outside the valid rectangle, if the border takes one
-abbrev pub row_beside : Rectangle → Border → ℤ → Option ℕ
-row_beside valid Undefined y = None
-row_beside valid (Constant value) y = None
-row_beside valid Replicate y = Some (nearest valid.y0 valid.y1 y)
+abbrev pub border_row : Rectangle → Border → ℤ → Option ℕ
+border_row valid Undefined y = None
+border_row valid (Constant value) y = None
+border_row valid Replicate y = Some (clamp_coordinate valid.y0 valid.y1 y)
 
 -- the valid row that a window reads in row y, if there is one: row y itself, or the border's
 abbrev pub row_seen : Rectangle → Border → ℤ → Option ℕ
 row_seen valid border y =
-    if int_le (pos valid.y0) y && int_lt y (pos valid.y1) then Some (unsigned_abs y) else row_beside valid border y
+    if int_le (pos valid.y0) y && int_lt y (pos valid.y1) then Some (unsigned_abs y) else border_row valid border y
 
 -- what a window reads in column x of a row that takes the samples of valid row `line`
 abbrev pub seen_along : ImageValue → Border → ℕ → ℤ → ℤ
 seen_along image border line x =
-    if int_lt x (pos image.valid.x0) then value_beside border (at image image.valid.x0 line)
-    else if int_lt x (pos image.valid.x1) then at image (unsigned_abs x) line
-    else value_beside border (at image (image.valid.x1 - 1) line)
+    if int_lt x (pos image.valid.x0) then border_value border (pixel_at image image.valid.x0 line)
+    else if int_lt x (pos image.valid.x1) then pixel_at image (unsigned_abs x) line
+    else border_value border (pixel_at image (image.valid.x1 - 1) line)

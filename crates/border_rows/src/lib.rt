@@ -1,6 +1,6 @@
 //! Rows of U8 images as window functions read them, border included.
 //!
-//! - `row_in_place` borrows a row's samples at valid columns without a copy; `value_beside` gives
+//! - `row_in_place` borrows a row's samples at valid columns without a copy; `border_value` gives
 //!   the border's sample at the row's ends.
 //! - `seen_around` returns the sample at a valid column with its left and right neighbours.
 //! - `load_row` writes part of a row, border included, as U8 or wider numbers; a `RowWindow` keeps
@@ -14,5 +14,5 @@ mod seen;
 mod valid;
 
 pub use row_window::RowWindow;
-pub use seen::{Loaded, load_row, row_in_place, seen_around, value_beside};
+pub use seen::{Loaded, border_value, load_row, row_in_place, seen_around};
 pub use valid::window_valid;

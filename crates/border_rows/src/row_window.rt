@@ -2,7 +2,7 @@
 ghost use Rattle.std.specs.Prelude.{◌≡◌, ◌+◌, ◌*◌, ◌<◌, pos, ◌-ℤ◌, IfOk, length, map, replicate};
 ghost use Rattle.vx_base.specs.declared.format.Format.TheVariants.{U8};
 ghost use Rattle.vx_base.specs.Image.{run};
-ghost use Rattle.vx_base.specs.Window.{look};
+ghost use Rattle.vx_base.specs.Window.{sample_or_border};
 
 use crate::seen::load_row;
 use image_core::Image;
@@ -64,7 +64,7 @@ impl RowWindow {
         ensures radius { self.new.radius ≡ self.old.radius }
         ensures samples { self.new.samples
             ≡ run 0 (self.old.width + 2 * self.old.radius)
-            (λ i. look image.now border (pos i -ℤ pos self.old.radius) y) }
+            (λ i. sample_or_border image.now border (pos i -ℤ pos self.old.radius) y) }
     {
         let samples = self.samples.as_mut_slice();
         load_row(image, 0, self.radius, y, border, samples);

@@ -2,9 +2,9 @@
 ghost use Rattle.std.specs.Prelude.{◌≡◌, ◌+◌, ◌-◌, ◌<◌, ◌≤◌, ◌++◌, pos, ◌+ℤ◌, ◌-ℤ◌, IfSome, length};
 ghost use Rattle.std.specs.Prelude.{map, replicate};
 ghost use Rattle.vx_base.specs.declared.format.Format.TheVariants.{U8};
-ghost use Rattle.vx_base.specs.Image.{run, at};
-ghost use Rattle.vx_base.specs.Window.{look};
-ghost use Rattle.border_rows.specs.Seen.{value_beside, row_seen, seen_along};
+ghost use Rattle.vx_base.specs.Image.{run, pixel_at};
+ghost use Rattle.vx_base.specs.Window.{sample_or_border};
+ghost use Rattle.border_rows.specs.Seen.{border_value, row_seen, seen_along};
 
 use image_core::{Image, Number, set_all};
 use vx_base::{Border, Rect};
@@ -29,8 +29,8 @@ impl Loaded for i16 {
 }
 
 /// Returns the border's sample next to a valid edge sample; 0 under an undefined border.
-pub fn value_beside(border: Border, edge: u8) -> u8
-    ensures { pos result ≡ value_beside border (pos edge) }
+pub fn border_value(border: Border, edge: u8) -> u8
+    ensures { pos result ≡ border_value border (pos edge) }
 {
     match border {
         Border::Undefined => 0,
@@ -98,8 +98,8 @@ fn load_line<T: Loaded>(
 {
     let valid = image.valid();
     let row = image.row::<u8>(line);
-    let left = value_beside(border, row[usize::from(valid.x0())]);
-    let right = value_beside(border, row[usize::from(valid.x1()) - 1]);
+    let left = border_value(border, row[usize::from(valid.x0())]);
+    let right = border_value(border, row[usize::from(valid.x1()) - 1]);
     let (shift, begin) = (usize::from(radius), usize::from(start));
     let before = (usize::from(valid.x0()) + shift)
         .saturating_sub(begin)
@@ -126,11 +126,11 @@ pub fn load_row<T: Loaded>(
     requires columns { image.now.valid.x0 < image.now.valid.x1 }
     requires rows { image.now.valid.y0 < image.now.valid.y1 }
     ensures { map T.value out.new ≡ run start (length out.old)
-        (λ c. look image.now border (pos c -ℤ pos radius) y) }
+        (λ c. sample_or_border image.now border (pos c -ℤ pos radius) y) }
 {
     match row_seen(image.valid(), border, y) {
         Some(line) => load_line(image, start, radius, line, border, out),
-        None => set_all(out, T::loaded(value_beside(border, 0))),
+        None => set_all(out, T::loaded(border_value(border, 0))),
     }
 }
 
@@ -149,9 +149,9 @@ pub fn row_in_place<'a>(
     requires rows { image.now.valid.y0 < image.now.valid.y1 }
     requires columns { (image.now.valid.x0 ≤ x) × (x + count ≤ image.now.valid.x1) }
     requires off_rows { map pos off_rows.now
-        ≡ replicate (length off_rows.now) (value_beside border (pos 0)) }
+        ≡ replicate (length off_rows.now) (border_value border (pos 0)) }
     requires room { count ≤ length off_rows.now }
-    ensures value { map pos result.now ≡ run x count (λ c. look image.now border (pos c) y) }
+    ensures value { map pos result.now ≡ run x count (λ c. sample_or_border image.now border (pos c) y) }
     ensures len { length result.now ≡ count }
 {
     match row_seen(image.valid(), border, y) {
@@ -169,7 +169,7 @@ fn left_of(image: &Image<'_>, x: u16, line: u16, border: Border) -> u8
 {
     let (valid, row) = (image.valid(), image.row::<u8>(line));
     if x == valid.x0() {
-        return value_beside(border, row[usize::from(x)]);
+        return border_value(border, row[usize::from(x)]);
     }
     row[usize::from(x) - 1]
 }
@@ -183,7 +183,7 @@ fn right_of(image: &Image<'_>, x: u16, line: u16, border: Border) -> u8
 {
     let (valid, row) = (image.valid(), image.row::<u8>(line));
     if x + 1 == valid.x1() {
-        return value_beside(border, row[usize::from(x)]);
+        return border_value(border, row[usize::from(x)]);
     }
     row[usize::from(x) + 1]
 }
@@ -194,9 +194,9 @@ pub fn seen_around(image: &Image<'_>, x: u16, y: i32, border: Border) -> (u8, u8
     requires format { image.now.format ≡ U8 }
     requires rows { image.now.valid.y0 < image.now.valid.y1 }
     requires columns { (image.now.valid.x0 ≤ x) × (x < image.now.valid.x1) }
-    ensures left { pos result.0 ≡ look image.now border (pos x -ℤ pos 1) y }
-    ensures middle { pos result.1 ≡ look image.now border (pos x) y }
-    ensures right { pos result.2 ≡ look image.now border (pos x +ℤ pos 1) y }
+    ensures left { pos result.0 ≡ sample_or_border image.now border (pos x -ℤ pos 1) y }
+    ensures middle { pos result.1 ≡ sample_or_border image.now border (pos x) y }
+    ensures right { pos result.2 ≡ sample_or_border image.now border (pos x +ℤ pos 1) y }
 {
     match row_seen(image.valid(), border, y) {
         Some(line) => (
@@ -205,7 +205,7 @@ pub fn seen_around(image: &Image<'_>, x: u16, y: i32, border: Border) -> (u8, u8
             right_of(image, x, line, border),
         ),
         None => {
-            let off = value_beside(border, 0);
+            let off = border_value(border, 0);
             (off, off, off)
         }
     }

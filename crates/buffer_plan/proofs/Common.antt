@@ -1,9 +1,9 @@
 -- The names that several proofs cite, passed on from one place. Declares nothing.
-pub use Rattle.buffer_plan.specs.Lives.{AreLives, IsLife, is_in, is_live, is_used}
-pub use Rattle.buffer_plan.specs.Placed.{AllApart, IsReached, Rising, count_in, samples_in}
-pub use Rattle.buffer_plan.specs.Places.{places_in, told}
-pub use Rattle.buffer_plan.specs.Plan.{IsPlan, PlanValue}
-pub use Rattle.buffer_plan.specs.Slots.{IsValid, greatest, live_images, of_format}
+pub use Rattle.buffer_plan.specs.Lives.{AreLives, IsLife, is_in, is_live, is_node_operand}
+pub use Rattle.buffer_plan.specs.Placed.{AllApart, IsReached, AreRising, count_in, slot_capacity}
+pub use Rattle.buffer_plan.specs.Places.{places_in, plan_view}
+pub use Rattle.buffer_plan.specs.Plan.{IsPlan, PlanView}
+pub use Rattle.buffer_plan.specs.Slots.{IsValid, maximum_of, live_images, of_format}
 pub use Rattle.buffer_plan.specs.declared.lives.Life.{Life}
 pub use Rattle.buffer_plan.specs.declared.plan.Plan.{Plan}
 pub use Rattle.buffer_plan.specs.declared.slots.Placed.{Placed}
@@ -18,7 +18,7 @@ pub use Rattle.std.proofs.lemmas.Grind.{common_steps}
 pub use Rattle.std.proofs.lemmas.List.{map-append, take_more}
 pub use Rattle.std.proofs.lemmas.List.Elements.{filter-append}
 pub use Rattle.std.specs.List.{filter, flat_map, list_any, position_or_len}
-pub use Rattle.vx_base.specs.Cell.{Cell, same_cell}
+pub use Rattle.vx_base.specs.Reference.{Reference, same_reference}
 pub use Rattle.vx_base.specs.Description.{sample_count}
 pub use Rattle.vx_base.specs.Node.{outputs}
 pub use Rattle.vx_base.specs.Sample.{same_format}

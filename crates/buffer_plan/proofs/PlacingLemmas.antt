@@ -1,6 +1,6 @@
 -- Images that get slots one after the other.
 use Rattle.std.proofs.Common.{◌≡◌, ◌≢◌, ℕ, ◌+◌, ◌<◌, ◌≤◌, inl, inr, suc, zero, true, false, List, [], ◌∷◌, ◌++◌, length, take, get_or, set, map, eqb, refl, sym, ◌∙◌, ap, subst, arith, length-append, get_or-set_other, get_or-set_same, length-set, Option, Some, None, if◌then◌else◌, ◌==◌, take_all, eq-eqb, eqb-true, ne_eqb}
-use Rattle.buffer_plan.proofs.Common.{filter, map-append, take_more, filter-append, nat_tests, cases_Bool, cases_eq, In, In-from_any, any-from_In, In-filter, In-from_filter, In-map, In-from_map, In-at, Life, Placed, is_in, Rising, count_in, AllApart, IsReached}
+use Rattle.buffer_plan.proofs.Common.{filter, map-append, take_more, filter-append, nat_tests, cases_Bool, cases_eq, In, In-from_any, any-from_In, In-filter, In-from_filter, In-map, In-from_map, In-at, Life, Placed, is_in, AreRising, count_in, AllApart, IsReached}
 use Rattle.std.specs.List.{IsDistinct}
 use Rattle.std.proofs.Math.Seq.{get_or-append_seam}
 use Rattle.std.proofs.Math.ListN.{get_or-append}
@@ -151,11 +151,11 @@ peaking-reused step count placed q earlier peak =
 
 -- ---- lives in the order of their beginnings
 
-rising-proper : (lives : List Life) (i : ℕ) (d : Life) → Rising lives → i < length lives → (get_or lives i d).first ≤ (get_or lives i d).last
+rising-proper : (lives : List Life) (i : ℕ) (d : Life) → AreRising lives → i < length lives → (get_or lives i d).first ≤ (get_or lives i d).last
 rising-proper [] i d rising h = absurd (omega (arith, h))
 rising-proper (l ∷ lives) i d rising h = grind (arith, rising-proper lives)
 
-rising-before : (lives : List Life) (i : ℕ) (d m : Life) → Rising lives → i < length lives → In m (take i lives) → m.first ≤ (get_or lives i d).first
+rising-before : (lives : List Life) (i : ℕ) (d m : Life) → AreRising lives → i < length lives → In m (take i lives) → m.first ≤ (get_or lives i d).first
 rising-before [] i d m rising h before = absurd (omega (arith, h))
 rising-before (l ∷ lives) zero d m rising h before = absurd before
 rising-before (l ∷ lives) (suc i) d m rising h before =
@@ -166,8 +166,8 @@ pub record IsPlacing (lives : List Life) (i : ℕ) (ends : List ℕ) (placed : L
   pub each : map (λ (p : Placed). p.life) placed ≡ take i lives
   pub below : (p : Placed) → In p placed → p.slot < length ends
   pub none : peak ≡ None → length ends ≡ 0
-  pub fine : Rising lives → IsFine ends placed
-  pub peaking : Rising lives → (step : ℕ) → peak ≡ Some step → IsPeaking step (length ends) placed
+  pub fine : AreRising lives → IsFine ends placed
+  pub peaking : AreRising lives → (step : ℕ) → peak ≡ Some step → IsPeaking step (length ends) placed
 
 module _ (lives : List Life) (i : ℕ) (ends : List ℕ) (placed : List Placed) (peak : Option ℕ) (q : Placed)
     (within : i < length lives) (here : q.life ≡ get_or lives i q.life) (was : IsPlacing lives i ends placed peak)
@@ -176,12 +176,12 @@ module _ (lives : List Life) (i : ℕ) (ends : List ℕ) (placed : List Placed) 
     all_lives = map-append (λ (p : Placed). p.life) placed (q ∷ []) ∙ ap (λ ls. ls ++ q.life ∷ []) was.each
         ∙ ap (λ l. take i lives ++ l ∷ []) here ∙ sym (take_more lives i q.life within)
 
-    earlier : Rising lives → (p : Placed) → In p placed → p.life.first ≤ q.life.first
+    earlier : AreRising lives → (p : Placed) → In p placed → p.life.first ≤ q.life.first
     earlier rising p h =
         let before = rising-before lives i q.life p.life rising within (subst (In p.life) was.each (In-map (λ (z : Placed). z.life) p placed h)) in
         omega (arith, before, ap (λ (z : Life). z.first) here)
 
-    proper : Rising lives → q.life.first ≤ q.life.last
+    proper : AreRising lives → q.life.first ≤ q.life.last
     proper rising = omega (arith, rising-proper lives i q.life rising within, ap (λ (z : Life). z.first) here, ap (λ (z : Life). z.last) here)
 
     placing_reused : q.slot < length ends → get_or ends q.slot 0 < q.life.first → IsPlacing lives (i + 1) (set ends q.slot q.life.last) (placed ++ q ∷ []) peak
@@ -218,7 +218,7 @@ module _ (lives : List Life) (i : ℕ) (ends : List ℕ) (placed : List Placed) 
     ]
 
 -- what holds in the end
-pub reached_in_all : (lives : List Life) (i : ℕ) (ends : List ℕ) (placed : List Placed) (peak : Option ℕ) (step : ℕ) → length lives ≤ i → Rising lives → IsPlacing lives i ends placed peak → peak ≡ Some step
+pub reached_in_all : (lives : List Life) (i : ℕ) (ends : List ℕ) (placed : List Placed) (peak : Option ℕ) (step : ℕ) → length lives ≤ i → AreRising lives → IsPlacing lives i ends placed peak → peak ≡ Some step
     → IsReached lives (length ends) step
 reached_in_all lives i ends placed peak step all rising was e =
     let p = was.peaking rising step e in

@@ -2,20 +2,20 @@
 use Rattle.std.specs.Prelude.{◌≡◌, ℕ, ◌+◌, ◌-◌, Bool, ◌&&◌, ◌||◌, nat_le, List, map, take, drop}
 use Rattle.std.specs.List.{list_any, position_or_len}
 use Rattle.vx_base.specs.declared.node.Node.{Node}
-use Rattle.vx_base.specs.Cell.{Cell}
+use Rattle.vx_base.specs.Reference.{Reference}
 use Rattle.graph_verify.specs.declared.known.VirtualOutput.{VirtualOutput}
 use Rattle.graph_verify.specs.Links.{reads, writes, is_written}
 use Rattle.graph_verify.specs.Members.{In}
 use Rattle.buffer_plan.specs.declared.lives.Life.{Life}
 
 -- whether a node of the list reads or writes an operand
-abbrev pub is_used : List Node → Cell → Bool
-is_used nodes cell = list_any (λ n. reads n cell || writes n cell) nodes
+abbrev pub is_node_operand : List Node → Reference → Bool
+is_node_operand nodes cell = list_any (λ n. reads n cell || writes n cell) nodes
 
 -- whether an operand is live at a step: a step up to this one writes it, and a step from this one
 -- on uses it
-abbrev pub is_live : List Node → Cell → ℕ → Bool
-is_live steps cell step = is_written (take step steps) cell && is_used (drop (step - 1) steps) cell
+abbrev pub is_live : List Node → Reference → ℕ → Bool
+is_live steps cell step = is_written (take step steps) cell && is_node_operand (drop (step - 1) steps) cell
 
 -- ---- lives as they are computed
 

@@ -2,33 +2,33 @@
 use Rattle.std.specs.Prelude.{◌≡◌, ◌≢◌, ℕ, ◌<◌, ◌≤◌, ◌==◌, ◌⊎◌, List, [], ◌∷◌, ◌++◌, length, map, find, slice_index, slice_index_or, slice_set, Option, Some, None, true}
 use Rattle.std.specs.List.{filter}
 use Rattle.std.specs.Option.{option_map}
-use Rattle.vx_base.specs.Cell.{Cell, same_cell}
+use Rattle.vx_base.specs.Reference.{Reference, same_reference}
 use Rattle.vx_base.specs.Description.{sample_count}
 use Rattle.graph_verify.specs.Members.{In}
 use Rattle.buffer_plan.specs.declared.lives.Life.{Life}
 use Rattle.buffer_plan.specs.declared.slots.Placed.{Placed}
 use Rattle.buffer_plan.specs.declared.slots.Places.{Places}
 use Rattle.buffer_plan.specs.Lives.{is_in}
-use Rattle.buffer_plan.specs.Slots.{greatest}
+use Rattle.buffer_plan.specs.Slots.{maximum_of}
 
 -- lives in the order of their first steps, each of which ends no earlier than it begins
-abbrev pub Rising : List Life → Type 0
-Rising [] = Unit {0}
-Rising (l ∷ ls) = (l.first ≤ l.last) × ((m : Life) → In m ls → l.first ≤ m.first) × Rising ls
+abbrev pub AreRising : List Life → Type 0
+AreRising [] = Unit {0}
+AreRising (l ∷ ls) = (l.first ≤ l.last) × ((m : Life) → In m ls → l.first ≤ m.first) × AreRising ls
 
 -- the number of images that are live at a step
 abbrev pub count_in : ℕ → List Life → ℕ
 count_in step lives = length (filter (is_in step) lives)
 
 -- the slot of an image, if it has one
-abbrev pub slot_among : List Placed → Cell → Option ℕ
+abbrev pub slot_among : List Placed → Reference → Option ℕ
 slot_among placed cell =
-    option_map (λ p. p.slot) (find (λ p. same_cell p.life.image.cell cell) placed)
+    option_map (λ p. p.slot) (find (λ p. same_reference p.life.image.cell cell) placed)
 
 -- the greatest sample count of the images that share a slot
-abbrev pub samples_in : List Placed → ℕ → ℕ
-samples_in placed k =
-    greatest (map (λ p. sample_count p.life.image.desc) (filter (λ p. p.slot == k) placed))
+abbrev pub slot_capacity : List Placed → ℕ → ℕ
+slot_capacity placed k =
+    maximum_of (map (λ p. sample_count p.life.image.desc) (filter (λ p. p.slot == k) placed))
 
 -- a life takes a slot that is free again, or a new one if none is free; `ends` and `ends'` have the
 -- last live step of each slot before and after
@@ -60,8 +60,8 @@ pub record IsReached (lives : List Life) (count step : ℕ) : Type 0 where
 pub record ArePlaced (lives : List Life) (p : Places) : Type 0 where
   pub each : map (λ q. q.life) p.placed.items ≡ lives
   pub below : (q : Placed) → In q p.placed.items → q.slot < length p.samples.items
-  pub apart : Rising lives → AllApart p.placed.items
-  pub samples : (k : ℕ) → slice_index p.samples.items k ≡ samples_in p.placed.items k
+  pub apart : AreRising lives → AllApart p.placed.items
+  pub samples : (k : ℕ) → slice_index p.samples.items k ≡ slot_capacity p.placed.items k
   pub none : p.peak_step ≡ None → length p.samples.items ≡ 0
-  pub reached : Rising lives → (step : ℕ) → p.peak_step ≡ Some step →
+  pub reached : AreRising lives → (step : ℕ) → p.peak_step ≡ Some step →
       IsReached lives (length p.samples.items) step

@@ -10,7 +10,7 @@ use Rattle.buffer_plan.specs.declared.plan.Plan.{Plan}
 use Rattle.buffer_plan.specs.declared.slots.Places.{Places}
 use Rattle.buffer_plan.specs.Lives.{AreLives}
 use Rattle.buffer_plan.specs.Placed.{slot_among, ArePlaced}
-use Rattle.buffer_plan.specs.Plan.{PlanValue}
+use Rattle.buffer_plan.specs.Plan.{PlanView}
 use Rattle.buffer_plan.specs.Slots.{of_format}
 
 -- the slots of the images of a format
@@ -20,8 +20,8 @@ places_in p S16 = p.s16s
 places_in p U32 = p.u32s
 
 -- the plan's view
-abbrev pub told : Plan → PlanValue
-told p =
+abbrev pub plan_view : Plan → PlanView
+plan_view p =
     record {
       slot_of = λ cell. option_or
           (option_or (slot_among p.u8s.placed.items cell) (slot_among p.s16s.placed.items cell))

@@ -3,32 +3,32 @@ use Rattle.std.specs.Prelude.{◌≡◌, ℕ, ◌<◌, false, List, map, Option,
 use Rattle.std.specs.List.{list_any, filter}
 use Rattle.vx_base.specs.declared.format.Format.{Format}
 use Rattle.vx_base.specs.declared.node.Node.{Node}
-use Rattle.vx_base.specs.Cell.{Cell, same_cell}
+use Rattle.vx_base.specs.Reference.{Reference, same_reference}
 use Rattle.vx_base.specs.Description.{sample_count}
 use Rattle.graph_verify.specs.declared.known.VirtualOutput.{VirtualOutput}
 use Rattle.graph_verify.specs.Links.{has_twice}
 use Rattle.graph_verify.specs.Members.{In}
-use Rattle.buffer_plan.specs.Slots.{of_format, is_slot, greatest, IsValid, IsPeak}
+use Rattle.buffer_plan.specs.Slots.{of_format, is_slot, maximum_of, IsValid, IsPeak}
 
 -- a plan's view: the slot of each image; for each format the number of slots, the sample count of
 -- each slot, and the first step that needs all of them
-pub record PlanValue : Type 0 where
-  pub slot_of : Cell → Option ℕ
+pub record PlanView : Type 0 where
+  pub slot_of : Reference → Option ℕ
   pub slot_count : Format → ℕ
   pub slot_samples : Format → ℕ → ℕ
   pub peak_step : Format → Option ℕ
 
 -- a valid plan with a slot for each image and for nothing else. Each format has as many slots as
 -- its peak, and each slot has the greatest sample count of the images that share it.
-pub record IsPlan (steps : List Node) (images : List VirtualOutput) (p : PlanValue) : Type 0 where
+pub record IsPlan (steps : List Node) (images : List VirtualOutput) (p : PlanView) : Type 0 where
   pub once : has_twice (map (λ o. o.cell) images) ≡ false
-  pub given : (cell : Cell) →
-      is_some (p.slot_of cell) ≡ list_any (λ o. same_cell o.cell cell) images
+  pub given : (cell : Reference) →
+      is_some (p.slot_of cell) ≡ list_any (λ o. same_reference o.cell cell) images
   pub valid : IsValid steps images p.slot_of
   pub below : (o : VirtualOutput) → In o images →
       IfSome (p.slot_of o.cell) (λ k. k < p.slot_count o.desc.format)
   pub peak : (format : Format) →
       IsPeak steps images format (p.slot_count format) (p.peak_step format)
   pub samples : (format : Format) (k : ℕ) →
-      p.slot_samples format k ≡ greatest (map (λ o. sample_count o.desc)
+      p.slot_samples format k ≡ maximum_of (map (λ o. sample_count o.desc)
       (filter (λ o. is_slot k (p.slot_of o.cell)) (of_format format images)))

@@ -3,7 +3,7 @@ use Rattle.std.specs.Prelude.{◌≡◌, ℕ, ◌<◌, ◌≤◌, ◌==◌, Bool
 use Rattle.std.specs.List.{filter}
 use Rattle.vx_base.specs.declared.format.Format.{Format}
 use Rattle.vx_base.specs.declared.node.Node.{Node}
-use Rattle.vx_base.specs.Cell.{Cell}
+use Rattle.vx_base.specs.Reference.{Reference}
 use Rattle.vx_base.specs.Sample.{same_format}
 use Rattle.graph_verify.specs.declared.known.VirtualOutput.{VirtualOutput}
 use Rattle.graph_verify.specs.Members.{In}
@@ -19,13 +19,13 @@ live_images steps images format step =
     filter (λ o. is_live steps o.cell step) (of_format format images)
 
 -- a valid assignment: no two images of one format that are live at one step share a slot
-abbrev pub IsValid : {S : Type 0} → List Node → List VirtualOutput → (Cell → S) → Type 0
+abbrev pub IsValid : {S : Type 0} → List Node → List VirtualOutput → (Reference → S) → Type 0
 IsValid steps images slot = (format : Format) (step : ℕ) (a b : VirtualOutput) →
     In a (live_images steps images format step) → In b (live_images steps images format step) →
     slot a.cell ≡ slot b.cell → a ≡ b
 
 -- a list that includes the slot of each image of the format
-abbrev pub AreSlotsOf : {S : Type 0} → (Cell → S) → Format → List VirtualOutput → List S → Type 0
+abbrev pub AreSlotsOf : {S : Type 0} → (Reference → S) → Format → List VirtualOutput → List S → Type 0
 AreSlotsOf slot format images slots = (o : VirtualOutput) → In o (of_format format images) →
     In (slot o.cell) slots
 
@@ -46,9 +46,9 @@ pub record IsPeak (steps : List Node) (images : List VirtualOutput) (format : Fo
   pub some : (step : ℕ) → first ≡ Some step → IsFirstWith steps images format count step
 
 -- the greatest of these numbers, or 0 if there are none
-abbrev pub greatest : List ℕ → ℕ
-greatest [] = 0
-greatest (n ∷ ns) = if nat_le n (greatest ns) then greatest ns else n
+abbrev pub maximum_of : List ℕ → ℕ
+maximum_of [] = 0
+maximum_of (n ∷ ns) = if nat_le n (maximum_of ns) then maximum_of ns else n
 
 -- whether the slot is k
 abbrev pub is_slot : ℕ → Option ℕ → Bool

@@ -3,7 +3,7 @@ ghost use Rattle.std.specs.Prelude.{◌≡◌, ℕ, ◌+◌, ◌||◌, drop, nat
 ghost use Rattle.std.specs.List.{position_or_len};
 ghost use Rattle.vx_base.specs.Sample.{same_format};
 ghost use Rattle.graph_verify.specs.Links.{reads, writes};
-ghost use Rattle.buffer_plan.specs.Lives.{is_used, IsLife, AreLives};
+ghost use Rattle.buffer_plan.specs.Lives.{is_node_operand, IsLife, AreLives};
 ghost use Rattle.buffer_plan.specs.Slots.{of_format};
 
 use graph_verify::VirtualOutput;
@@ -51,7 +51,7 @@ fn first_writing(steps: &[Node], cell: ObjRef) -> usize
 
 /// The last step that reads or writes an operand, or 0 if none does.
 fn last_use(steps: &[Node], cell: ObjRef) -> usize
-    ensures { (j : ℕ) → is_used (drop j steps.now) cell ≡ nat_lt j result }
+    ensures { (j : ℕ) → is_node_operand (drop j steps.now) cell ≡ nat_lt j result }
 {
     let mut rest = steps;
     while let Some((node, before)) = rest.split_last() {

@@ -1,14 +1,14 @@
 //! The plan of a verified graph.
 ghost use Rattle.std.specs.Prelude.{◌≡◌, ℕ, ◌≤◌, ◌&&◌, List, length, is_some, IfOk, None};
 ghost use Rattle.vx_base.specs.declared.node.Node.{Node as NodeFields};
-ghost use Rattle.vx_base.specs.Cell.{Cell};
+ghost use Rattle.vx_base.specs.Reference.{Reference};
 ghost use Rattle.graph_verify.specs.declared.known.VirtualOutput.{VirtualOutput as Image};
 ghost use Rattle.graph_verify.specs.declared.operand.Operand.{Operand};
 ghost use Rattle.graph_verify.specs.Links.{is_written};
 ghost use Rattle.graph_verify.specs.Operand.{is_virtual};
 ghost use Rattle.graph_verify.specs.Verdict.{verdict};
 ghost use Rattle.graph_verify.specs.Verified.{IsVerified};
-ghost use Rattle.buffer_plan.specs.Places.{IsPlacedFor, places_in, told};
+ghost use Rattle.buffer_plan.specs.Places.{IsPlacedFor, places_in, plan_view};
 ghost use Rattle.buffer_plan.specs.Slots.{IsValid, AreSlotsOf};
 ghost use Rattle.buffer_plan.specs.Plan.{IsPlan};
 
@@ -30,13 +30,13 @@ impl Plan {
     /// Plans the slots of the virtual images that a verified graph writes, for its order of nodes.
     /// An error means that there is no memory for the plan.
     pub fn new(alloc: Global, verified: &Verified) -> Result<Plan, AllocError>
-        ensures plan { IfOk result (λ p. (work : ℕ) (is : Cell → Operand)
+        ensures plan { IfOk result (λ p. (work : ℕ) (is : Reference → Operand)
             (nodes : List NodeFields) →
             verdict work is nodes ≡ None → IsVerified is nodes verified.now →
-            IsPlan verified.now.steps.items verified.now.virtual_outputs.items (told p)) }
-        ensures images { IfOk result (λ p. (is : Cell → Operand) (nodes : List NodeFields) →
+            IsPlan verified.now.steps.items verified.now.virtual_outputs.items (plan_view p)) }
+        ensures images { IfOk result (λ p. (is : Reference → Operand) (nodes : List NodeFields) →
             IsVerified is nodes verified.now →
-            (cell : Cell) → is_some ((told p).slot_of cell) ≡
+            (cell : Reference) → is_some ((plan_view p).slot_of cell) ≡
             (is_virtual (is cell) && is_written nodes cell)) }
     {
         Ok(Plan {
@@ -60,7 +60,7 @@ impl Plan {
     /// Returns the slot of a virtual image, among those of its format, or `None` if no node of the
     /// graph writes this operand or it isn't virtual.
     pub fn slot_of(&self, cell: ObjRef) -> Option<usize>
-        ensures { result ≡ (told self.now).slot_of cell }
+        ensures { result ≡ (plan_view self.now).slot_of cell }
     {
         let (u8s, s16s) = (self.u8s.slot_of(cell), self.s16s.slot_of(cell));
         u8s.or(s16s).or(self.u32s.slot_of(cell))
@@ -68,9 +68,9 @@ impl Plan {
 
     /// Returns the number of slots of a format: no plan for this order of the nodes has fewer.
     pub fn slot_count(&self, format: Format) -> usize
-        ensures value { result ≡ (told self.now).slot_count format }
+        ensures value { result ≡ (plan_view self.now).slot_count format }
         ensures least { (steps : List NodeFields) (images : List Image) →
-            IsPlan steps images (told self.now) → (slot : Cell → ℕ) → IsValid steps images slot →
+            IsPlan steps images (plan_view self.now) → (slot : Reference → ℕ) → IsValid steps images slot →
             (slots : List ℕ) → AreSlotsOf slot format images slots → result ≤ length slots }
     {
         self.places(format).samples.len()
@@ -79,7 +79,7 @@ impl Plan {
     /// Returns the size of a slot in samples: the greatest sample count of the images that share
     /// it, or 0 if there is no such slot.
     pub fn slot_samples(&self, format: Format, slot: usize) -> usize
-        ensures { result ≡ (told self.now).slot_samples format slot }
+        ensures { result ≡ (plan_view self.now).slot_samples format slot }
     {
         let samples = &self.places(format).samples;
         samples.get(slot).copied().unwrap_or(0)
@@ -88,7 +88,7 @@ impl Plan {
     /// Returns the first step, counted from 1, at which as many images of the format are live as it
     /// has slots, or `None` if it has none.
     pub fn peak_step(&self, format: Format) -> Option<usize>
-        ensures { result ≡ (told self.now).peak_step format }
+        ensures { result ≡ (plan_view self.now).peak_step format }
     {
         self.places(format).peak_step
     }

@@ -2,10 +2,10 @@
 ghost use Rattle.std.specs.Prelude.{◌≡◌, ℕ, ◌<◌, List, length, map, position, nat_lt, IfOk, Some};
 ghost use Rattle.std.specs.Prelude.{if◌then◌else◌, slice_index};
 ghost use Rattle.std.specs.List.{filter};
-ghost use Rattle.vx_base.specs.Cell.{Cell};
+ghost use Rattle.vx_base.specs.Reference.{Reference};
 ghost use Rattle.graph_verify.specs.Members.{In};
 ghost use Rattle.buffer_plan.specs.declared.slots.Placed.{Placed as PlacedLife};
-ghost use Rattle.buffer_plan.specs.Placed.{TakesSlot, ArePlaced, slot_among, samples_in};
+ghost use Rattle.buffer_plan.specs.Placed.{TakesSlot, ArePlaced, slot_among, slot_capacity};
 
 use crate::lives::Life;
 use std::alloc::{AllocError, Global};
@@ -70,7 +70,7 @@ fn greatest_samples(
     requires { (p : PlacedLife) → In p placed.now → p.slot < count }
     ensures count { IfOk result (λ samples. length samples.items ≡ count) }
     ensures greatest { IfOk result (λ samples. (k : ℕ) →
-        slice_index samples.items k ≡ samples_in placed.now k) }
+        slice_index samples.items k ≡ slot_capacity placed.now k) }
 {
     let mut samples = vec![in alloc; 0; count]?;
     for placed in placed {

@@ -1,11 +1,11 @@
 -- Nodes that are added to a graph.
 use Rattle.std.proofs.Common.{◌≡◌, ℕ, true, false, IsTrue, List, [], ◌∷◌, ◌++◌, Option, Some, None, Ok, IfSome, refl, All, is_some, is_none, if◌then◌else◌, inl, inr, arith}
-use Rattle.client_contexts.proofs.Common.{cases_Bool, option_and_then, All-nil, All-cons, All-append, All-map, Kind, Node, Cell, cell_of, GraphValue, with_node, operands, ObjectValue, GraphObject, OfOperands, of_operands, Context, object_named, with_objects, with_graph, in_slot, Named, object_held, IsUnder, graph_under, graph_of_kind, Allowance, operands_refusal, KeepsLimits, stands, OperandsStand, MayComeTo}
+use Rattle.client_contexts.proofs.Common.{cases_Bool, option_and_then, All-nil, All-cons, All-append, All-map, Kind, Node, Reference, reference_to, GraphValue, with_node, operands, ObjectValue, GraphObject, OfOperands, of_operands, Context, object_named, with_objects, with_graph, in_slot, NamedObject, object_held, IsUnder, graph_under, graph_of_kind, LimitsValue, operands_refusal, KeepsLimits, holds_operand, OperandsStand, MayComeTo}
 use Rattle.client_model.specs.Graphs.{add_node}
 use Rattle.client_contexts.specs.Steps.{SaysWhy}
 use Rattle.vx_base.specs.declared.kind.Kind.TheVariants as kind
 use Rattle.vx_base.specs.Graph.{can_add}
-use Rattle.vx_base.specs.Node.{given, inputs, outputs}
+use Rattle.vx_base.specs.Node.{optional_cells, inputs, outputs}
 use Rattle.graph_verify.specs.declared.fault.GraphFault.{GraphFault}
 use Rattle.graph_verify.specs.declared.fault.GraphFault.TheVariants as graph_fault
 use Rattle.object_table.specs.Uses.{used_names}
@@ -16,35 +16,35 @@ use Rattle.client_model.proofs.NamedLaws.{held_if_live}
 use Rattle.client_contexts.specs.Steps.{graph_fault as fault_of}
 
 -- the name of each operand that can be used is held
-pub names_held : (objects : List Named) (graph : ℕ) (n : Node) → OperandsStand objects graph n → All (λ name. IsTrue (is_some (object_held objects name))) (used_names n)
+pub names_held : (objects : List NamedObject) (graph : ℕ) (n : Node) → OperandsStand objects graph n → All (λ name. IsTrue (is_some (object_held objects name))) (used_names n)
 names_held objects graph n stood =
-    All-map (λ name. IsTrue (is_some (object_held objects name))) {Y = Cell} (λ cell. cell.name) (inputs n ++ outputs n)
-    (All-append Held (inputs n) (outputs n) (All-cons Held n.in1 (given n.in2) (one kind.Image n.in1 each.in1) (if_given _ n.in2 each.in2))
-    (All-append Held (given n.out1) (given n.out2) (if_given _ n.out1 each.out1) (if_given _ n.out2 each.out2)))
+    All-map (λ name. IsTrue (is_some (object_held objects name))) {Y = Reference} (λ cell. cell.name) (inputs n ++ outputs n)
+    (All-append Held (inputs n) (outputs n) (All-cons Held n.in1 (optional_cells n.in2) (one kind.Image n.in1 each.in1) (if_given _ n.in2 each.in2))
+    (All-append Held (optional_cells n.out1) (optional_cells n.out2) (if_given _ n.out1 each.out1) (if_given _ n.out2 each.out2)))
   where
-    each : OfOperands (λ operand. IsTrue (stands objects graph operand)) n
-    each = of_operands (λ operand. IsTrue (stands objects graph operand)) n stood
+    each : OfOperands (λ operand. IsTrue (holds_operand objects graph operand)) n
+    each = of_operands (λ operand. IsTrue (holds_operand objects graph operand)) n stood
 
-    Held : Cell → Type 0
+    Held : Reference → Type 0
     Held cell = IsTrue (is_some (object_held objects cell.name))
 
     there : (slot : Option ℕ) (found : Option ObjectValue) → is_none (option_and_then (in_slot slot) found) ≡ false → IsTrue (is_some found)
     there slot None h = cc
     there slot (Some object) h = refl
 
-    one : (k : Kind) (cell : Cell) → IsTrue (stands objects graph (cell, k)) → Held cell
+    one : (k : Kind) (cell : Reference) → IsTrue (holds_operand objects graph (cell, k)) → Held cell
     one k cell is = there cell.slot (object_held objects cell.name) (stands_parts objects graph (cell, k) is).there
 
-    if_given : (k : Kind) (cell : Option Cell) → IfSome cell (λ x. IsTrue (stands objects graph (x, k))) → All Held (given cell)
+    if_given : (k : Kind) (cell : Option Reference) → IfSome cell (λ x. IsTrue (holds_operand objects graph (x, k))) → All Held (optional_cells cell)
     if_given k None is = All-nil Held
     if_given k (Some cell) is = All-cons Held cell [] (one k cell is) (All-nil Held)
 
-module _ (limits : Allowance) (c : Context) (name : ℕ) (h : KeepsLimits limits c) (live : IsTrue (is_some (object_named c.objects name))) (is : IsUnder c.objects kind.Graph name) where
+module _ (limits : LimitsValue) (c : Context) (name : ℕ) (h : KeepsLimits limits c) (live : IsTrue (is_some (object_named c.objects name))) (is : IsUnder c.objects kind.Graph name) where
   -- the graph under a live name
   graph_live : object_named c.objects name ≡ Some (GraphObject (graph_under c.objects name))
   graph_live = grind (arith, held_if_live c.objects name h.names, graph_of_kind)
 
-  module _ (n : Node) (known : None ≡ operands_refusal (Some name) c.objects ((cell_of name, kind.Graph) ∷ operands n)) where
+  module _ (n : Node) (known : None ≡ operands_refusal (Some name) c.objects ((reference_to name, kind.Graph) ∷ operands n)) where
     abbrev graph_now : GraphValue
     graph_now = graph_under c.objects name
 

@@ -1,10 +1,10 @@
 -- The number of blocks that hold a context's samples, when an object is added and when objects are written.
 use Rattle.std.proofs.Common.{◌≡◌, ◌∙◌, ℕ, ◌+◌, ◌-◌, true, List, [], Option, Some, length, take, drop, refl, sym, ap, subst, arith, sum, sum_by, unwrap_or, take-append-drop}
-use Rattle.client_contexts.proofs.Common.{IsStrictlyIncreasing, option_map, All-weaker, sum-map, Format, U8, Cell, cell_of, Description, GraphValue, ImageValue, new_image, image_over, description_of, ObjectValue, ImageObject, DelayObject, GraphObject, object_kind, blocks_in, KeepsBlocks, Context, with_graph, in_slot, Named, object_held, held, with_object, image_value, aged_object, IsUnder, HoldsImage, object_under, image_held, names_of, map_some}
+use Rattle.client_contexts.proofs.Common.{IsStrictlyIncreasing, option_map, All-weaker, sum-map, Format, U8, Reference, reference_to, Description, GraphValue, ImageValue, new_image, image_over, description_of, ObjectValue, ImageObject, DelayObject, GraphObject, object_kind, blocks_in, KeepsBlocks, Context, with_graph, in_slot, NamedObject, object_held, object_at, with_object, image_value, aged_object, IsUnder, HoldsImage, object_under, image_held, names_of, map_some}
 use Rattle.std.proofs.lemmas.List.Sums.{sum_by-append}
 use Rattle.std.proofs.lemmas.Option.{option_and_then_some}
 use Rattle.vx_base.specs.declared.kind.Kind.TheVariants as kind
-use Rattle.vx_base.specs.Rectangle.{empty}
+use Rattle.vx_base.specs.Rectangle.{empty_rectangle}
 use Rattle.object_table.specs.Blocks.{image_blocks, object_blocks}
 use Rattle.object_table.specs.Context.{with_new}
 use Rattle.object_table.specs.Delay.{with_slot}
@@ -27,7 +27,7 @@ blocks_more c new object format is =
 -- ---- objects that are written
 
 -- objects with the same lasting parts have as many blocks
-pub lasting_blocks : (objects new : List Named) → Lasts objects new → KeepsBlocks objects new
+pub lasting_blocks : (objects new : List NamedObject) → Lasts objects new → KeepsBlocks objects new
 lasting_blocks objects new h =
     keeps_blocks new objects (map-told lasting_named (λ o. skeleton o.object) (λ left. left.0.object) (λ _. refl) new objects h.lasting)
 
@@ -43,12 +43,12 @@ aged_blocks (DelayObject images) format =
     )
 aged_blocks other format = refl
 
-module _ (objects : List Named) (names : IsStrictlyIncreasing (names_of objects)) where
+module _ (objects : List NamedObject) (names : IsStrictlyIncreasing (names_of objects)) where
   -- the context has as many blocks if the written object has as many
-  blocks_replaced : (cell : Cell) (new object : ObjectValue) → object_held objects cell.name ≡ Some object
+  blocks_replaced : (cell : Reference) (new object : ObjectValue) → object_held objects cell.name ≡ Some object
       → ((format : Format) → object_blocks (with_slot cell.slot new object) format ≡ object_blocks object format) → KeepsBlocks objects (with_object objects cell new)
   blocks_replaced cell new object found same format =
-      let of_named : Named → ℕ = λ o. object_blocks o.object format in
+      let of_named : NamedObject → ℕ = λ o. object_blocks o.object format in
       sym (sum-map of_named (with_object objects cell new))
       ∙ ap sum (map-with_object of_named objects cell new
       (All-weaker (HasObject cell.name object) (λ o. o.name ≡ cell.name → of_named (record o { object = with_slot cell.slot new o.object }) ≡ of_named o)
@@ -57,29 +57,29 @@ module _ (objects : List Named) (names : IsStrictlyIncreasing (names_of objects)
       ∙ sum-map of_named objects
 
   -- a value with the skeleton of the old one is written to an object
-  blocks_written : (cell : Cell) (new : ObjectValue) → option_map skeleton (held objects cell) ≡ Some (skeleton new) → KeepsBlocks objects (with_object objects cell new)
+  blocks_written : (cell : Reference) (new : ObjectValue) → option_map skeleton (object_at objects cell) ≡ Some (skeleton new) → KeepsBlocks objects (with_object objects cell new)
   blocks_written cell new there =
-      let (was, held_there, alike) = map_some skeleton (held objects cell) (skeleton new) there in
+      let (was, held_there, alike) = map_some skeleton (object_at objects cell) (skeleton new) there in
       option_and_then_some (in_slot cell.slot) (object_held objects cell.name) was held_there
       (λ object found at.
       blocks_replaced cell new object found (λ format. same_blocks (with_slot cell.slot new object) object format (skeleton-with_slot cell.slot new object (rw (at, alike)))))
 
   -- an image of the same size and format is written
-  pub image_blocks_kept : (cell : Cell) (image new : ImageValue) → HoldsImage objects cell → image_held objects cell ≡ image → description_of new ≡ description_of image
+  pub image_blocks_kept : (cell : Reference) (image new : ImageValue) → HoldsImage objects cell → image_held objects cell ≡ image → description_of new ≡ description_of image
       → KeepsBlocks objects (with_object objects cell (ImageObject new))
   image_blocks_kept cell image new there is same =
-      let (object, at, of_kind) = map_some object_kind (held objects cell) kind.Image there in
+      let (object, at, of_kind) = map_some object_kind (object_at objects cell) kind.Image there in
       let value : image_value object ≡ image = ap (λ (o : Option ObjectValue). image_value (unwrap_or o (ImageObject (new_image 0 0 U8)))) (sym at) ∙ is in
       blocks_written cell (ImageObject new)
       (ap (option_map skeleton) at
       ∙ ap (λ (x : ObjectValue). Some (skeleton x)) (image_of_kind object of_kind ∙ ap ImageObject value)
-      ∙ ap (λ (d : Description). let left : Option ObjectValue = Some (ImageObject (image_over d empty [])) in left) (sym same))
+      ∙ ap (λ (d : Description). let left : Option ObjectValue = Some (ImageObject (image_over d empty_rectangle [])) in left) (sym same))
 
   -- a delay ages
   pub age_keeps_blocks : (name : ℕ) (object : ObjectValue) → object_held objects name ≡ Some object
-      → KeepsBlocks objects (with_object objects (cell_of name) (aged_object (object_under objects name)))
+      → KeepsBlocks objects (with_object objects (reference_to name) (aged_object (object_under objects name)))
   age_keeps_blocks name object found =
-      blocks_replaced (cell_of name) (aged_object (object_under objects name)) object found
+      blocks_replaced (reference_to name) (aged_object (object_under objects name)) object found
       (λ format.
       ap (λ (o : Option ObjectValue). object_blocks (aged_object (unwrap_or o (ImageObject (new_image 0 0 U8)))) format) found ∙ aged_blocks object format)
 
@@ -87,7 +87,7 @@ module _ (objects : List Named) (names : IsStrictlyIncreasing (names_of objects)
   pub graph_keeps_blocks : (name : ℕ) (graph : GraphValue) → IsUnder objects kind.Graph name → KeepsBlocks objects (with_graph objects name graph)
   graph_keeps_blocks name graph is =
       let (object, there, of_kind) = map_some object_kind (object_held objects name) kind.Graph is in
-      blocks_replaced (cell_of name) (GraphObject graph) object there (none object of_kind)
+      blocks_replaced (reference_to name) (GraphObject graph) object there (none object of_kind)
     where
       none : (object : ObjectValue) → object_kind object ≡ kind.Graph → (format : Format) → 0 ≡ object_blocks object format
       none (GraphObject was) e format = refl

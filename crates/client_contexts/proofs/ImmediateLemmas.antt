@@ -1,6 +1,6 @@
 -- A node that runs immediately, or is refused.
 use Rattle.std.proofs.Common.{◌≡◌, Bool, true, false, List, IfSome, Option, Some, None, refl, sym, ap, ◌∙◌, All, unwrap_or, ◌||◌, if◌then◌else◌, option_to_list, Err, Ok}
-use Rattle.client_contexts.proofs.Common.{list_any, option_map, option_and_then, list_any-append, Kind, Node, Cell, parameters, operands, with_kind, second_kind, ObjectValue, object_kind, Operands, is_virtual, verdict_on, Named, held, Refusal, Empty, Context, with_objects, unless, operands_refusal, immediate, operand_held, OfOperands, of_operands, IsFound, all_operands}
+use Rattle.client_contexts.proofs.Common.{list_any, option_map, option_and_then, list_any-append, Kind, Node, Reference, parameters, operands, with_kind, second_kind, ObjectValue, object_kind, Operands, is_virtual, verdict_on, NamedObject, object_at, Refusal, Empty, Context, with_objects, reply_unless, operands_refusal, immediate, operand_held, OfOperands, of_operands, IsFound, all_operands}
 use Rattle.graph_verify.specs.declared.verdict.Verdict.{Verdict}
 use Rattle.client_model.specs.declared.refusal.Refusal.TheVariants.{Rejected}
 use Rattle.std.specs.Option.{option_or}
@@ -11,7 +11,7 @@ use Rattle.vx_base.specs.Outputs.{written_by}
 use Rattle.vx_base.proofs.NodeLaws.{same_kind_equal}
 use Rattle.graph_verify.specs.Operand.{operand_of, operands_of, written_operands, other_operands}
 use Rattle.graph_run.specs.Graph.{is_virtual_object}
-use Rattle.object_table.specs.Named.{with_written}
+use Rattle.object_table.specs.NamedObject.{with_written}
 use Rattle.client_model.specs.declared.refusal.Refusal.TheVariants.{OptimizedAway}
 use Rattle.client_model.specs.Operands.{stands_for}
 use Rattle.client_model.specs.Immediate.{operand_in, operand_if, operands_in, is_some_virtual, node_refusal}
@@ -30,14 +30,14 @@ of_kind (VirtualObject image) wanted solid stands = cc
 of_kind other wanted solid stands = sym (same_kind_equal wanted (object_kind other) stands)
 
 -- the object that is found, as an operand
-module _ (objects : List Named) (operand : Cell × Kind) (found : IsFound objects operand) where
+module _ (objects : List NamedObject) (operand : Reference × Kind) (found : IsFound objects operand) where
   operand_is : operand_held objects operand.0 ≡ operand_of found.0
   operand_is = ap (λ o. unwrap_or (option_map operand_of o) Delay) found.1
 
   operand_there : operand_in objects operand.0 ≡ Some (operand_held objects operand.0)
   operand_there = ap (option_map operand_of) found.1 ∙ ap Some (sym operand_is)
 
-  away_there : is_some_virtual (held objects operand.0) ≡ is_virtual (operand_held objects operand.0)
+  away_there : is_some_virtual (object_at objects operand.0) ≡ is_virtual (operand_held objects operand.0)
   away_there = ap is_some_virtual found.1 ∙ same_virtual found.0 ∙ ap is_virtual (sym operand_is)
 
   holds_kind : is_virtual (operand_held objects operand.0) ≡ false → HoldsKind objects operand
@@ -45,7 +45,7 @@ module _ (objects : List Named) (operand : Cell × Kind) (found : IsFound object
 
 module _ (c : Context) (n : Node) where
   refused_is : (refusal : Refusal) → node_refusal c.objects n ≡ Some refusal → immediate c n ≡ Err refusal
-  refused_is refusal e = ap (λ r. unless r Empty (with_objects c (with_written c.objects (written_by n (held c.objects))))) e
+  refused_is refusal e = ap (λ r. reply_unless r Empty (with_objects c (with_written c.objects (written_by n (object_at c.objects))))) e
 
   abbrev verdict_part : Option Refusal
   verdict_part = option_map Rejected (option_and_then (verdict_on n) (operands_in c.objects n))
@@ -57,7 +57,7 @@ module _ (c : Context) (n : Node) where
     each : OfOperands (IsFound c.objects) n
     each = of_operands (IsFound c.objects) n found
 
-    operand_if_there : (cell : Option Cell) (wanted : Kind) → IfSome cell (λ x. IsFound c.objects (x, wanted)) → operand_if c.objects cell ≡ option_map (operand_held c.objects) cell
+    operand_if_there : (cell : Option Reference) (wanted : Kind) → IfSome cell (λ x. IsFound c.objects (x, wanted)) → operand_if c.objects cell ≡ option_map (operand_held c.objects) cell
     operand_if_there None wanted s = refl
     operand_if_there (Some cell) wanted s = operand_there c.objects (cell, wanted) s
 
@@ -72,10 +72,10 @@ module _ (c : Context) (n : Node) where
 
     -- ---- virtual images
 
-    abbrev is_away : Cell × Kind → Bool
-    is_away operand = is_some_virtual (held c.objects operand.0)
+    abbrev is_away : Reference × Kind → Bool
+    is_away operand = is_some_virtual (object_at c.objects operand.0)
 
-    away_if_there : (cell : Option Cell) (wanted : Kind) → IfSome cell (λ x. IsFound c.objects (x, wanted))
+    away_if_there : (cell : Option Reference) (wanted : Kind) → IfSome cell (λ x. IsFound c.objects (x, wanted))
         → list_any is_away (with_kind wanted cell) ≡ list_any is_virtual (option_to_list (option_map (operand_held c.objects) cell))
     away_if_there None wanted s = refl
     away_if_there (Some cell) wanted s = ap (λ b. b || false) (away_there c.objects (cell, wanted) s)
@@ -100,11 +100,11 @@ module _ (c : Context) (n : Node) where
       pub verdict_refuses : (verdict : Verdict) → verdict_on n held_operands ≡ Some verdict → immediate c n ≡ Err (Rejected verdict)
       verdict_refuses verdict e = refused_is (Rejected verdict) (rw (verdict_is, e))
 
-      pub nothing_refuses : verdict_on n held_operands ≡ None → immediate c n ≡ Ok (Empty, Some (with_objects c (with_written c.objects (written_by n (held c.objects)))))
+      pub nothing_refuses : verdict_on n held_operands ≡ None → immediate c n ≡ Ok (Empty, Some (with_objects c (with_written c.objects (written_by n (object_at c.objects)))))
       nothing_refuses e = rw (verdict_is, e)
 
       -- then the objects that are found have the wanted kinds
-      of_kind_if : (cell : Option Cell) (wanted : Kind) → list_any is_virtual (option_to_list (option_map (operand_held c.objects) cell)) ≡ false → IfSome cell (λ x. IsFound c.objects (x, wanted)) → IfSome cell (λ x. HoldsKind c.objects (x, wanted))
+      of_kind_if : (cell : Option Reference) (wanted : Kind) → list_any is_virtual (option_to_list (option_map (operand_held c.objects) cell)) ≡ false → IfSome cell (λ x. IsFound c.objects (x, wanted)) → IfSome cell (λ x. HoldsKind c.objects (x, wanted))
       of_kind_if None wanted plain s = tt
       of_kind_if (Some cell) wanted plain s = holds_kind c.objects (cell, wanted) s (or_parts (is_virtual (operand_held c.objects cell)) false plain).0
 

@@ -1,8 +1,8 @@
 -- Pictures that are read from a source: the samples, and then the client's context and the world.
 use Rattle.std.specs.Prelude.{⊤}
 use Rattle.std.proofs.Common.{◌≡◌, ◌∙◌, ℕ, false, List, ℤ, Some, length, Result, Ok, Err, inl, inr, OnOk, OnErr, IfErr, refl, sym, ap, subst, ne_eqb}
-use Rattle.client_contexts.proofs.Common.{is_at, lookup, nat_cmp, option_map, AppliesToKept, Cell, Description, Format, Context, Empty, Request, Reply, WriteImage, answered, write_image, Allowance, KeepsLimits, AreKept, Kept, Opened, World}
-use Rattle.vx_base.specs.Cell.{IsCell}
+use Rattle.client_contexts.proofs.Common.{is_at, lookup, nat_cmp, option_map, AppliesToKept, Reference, Description, Format, Context, Empty, Request, Reply, WriteImage, reply_and_state, write_image, LimitsValue, KeepsLimits, AreKept, Kept, ClientContext, World}
+use Rattle.vx_base.specs.Reference.{IsReference}
 use Rattle.vx_base.specs.Picture.{PictureValue, IsPicture, Describes, values, samples_format}
 use Rattle.vx_base.specs.declared.code.Code.{Code}
 use Rattle.vx_base.specs.declared.samples.Samples.{Samples}
@@ -39,7 +39,7 @@ module _ {S E : Type 0} (fills : S → S → Format → List ℤ → Result ⊤ 
   unwritten_weaker P Q (Source fault) weaker read = read
 
   -- the kept graphs can still run
-  pub incoming_keeps : (limits : Allowance) (c later : Context) (cell : Cell) (kept : List (ℕ × Kept)) (result : Result ⊤ (WriteFault E)) → KeepsLimits limits c → IsCell cell
+  pub incoming_keeps : (limits : LimitsValue) (c later : Context) (cell : Reference) (kept : List (ℕ × Kept)) (result : Result ⊤ (WriteFault E)) → KeepsLimits limits c → IsReference cell
       → OnOk result ((p : PictureValue) × IsPicture p × IsRead fills d old new p (Ok tt) × (write_image c cell p ≡ Ok (Empty, Some later))) → OnErr result (later ≡ c) → AreKept c kept → AreKept later kept
   incoming_keeps limits c later cell kept (Ok x) h is (p, picture, read, done) back are =
       let written : Result Reply ⊤ = Ok Empty in
@@ -49,13 +49,13 @@ module _ {S E : Type 0} (fills : S → S → Format → List ℤ → Result ⊤ 
 -- ---- the world
 
 -- a client's picture is refused by its context
-refused_by : (client : ℕ) (world : World) (c : Context) (cell : Cell) (d : Description) (code : Code) → state_of client world ≡ Some c → IsRefusedFor c cell d code → IsRefused client cell d world code
+refused_by : (client : ℕ) (world : World) (c : Context) (cell : Reference) (d : Description) (code : Code) → state_of client world ≡ Some c → IsRefusedFor c cell d code → IsRefused client cell d world code
 refused_by client world c cell d code is (refusal, told, why) = λ p described.
     let refused = write_refused (image_of c.objects cell) c cell p refusal (rw described why) in
     rw (is, refused, told) refl
 
 -- the client's entry changes as by the request, and all others stay
-applies_done : (limits : Allowance) (client : ℕ) (request : Request) (reply : Reply) (old new : List (ℕ × Opened)) (o n : Opened) → lookup (is_at (nat_cmp client)) old ≡ Some o
+applies_done : (limits : LimitsValue) (client : ℕ) (request : Request) (reply : Reply) (old new : List (ℕ × ClientContext)) (o n : ClientContext) → lookup (is_at (nat_cmp client)) old ≡ Some o
     → lookup (is_at (nat_cmp client)) new ≡ Some n → ((other : ℕ) → is_at (nat_cmp client) other ≡ false → lookup (is_at (nat_cmp other)) new ≡ lookup (is_at (nat_cmp other)) old)
     → answer_to limits (Some o.context) request ≡ (reply, Some n.context)
     → Applies client request (record { limits = limits; contexts = old }) (record { limits = limits; contexts = new }) (Ok reply)
@@ -69,8 +69,8 @@ applies_done limits client request reply old new o n was is others answers =
       takes = tt;
     }
 
-module _ {S E : Type 0} (fills : S → S → Format → List ℤ → Result ⊤ E → Type 0) (d : Description) (old new : S) (limits : Allowance) (client : ℕ) (before after : List (ℕ × Opened)) (world : World)
-    (shown : record { limits = limits; contexts = before } ≡ world) (o n : Opened) (was : lookup (is_at (nat_cmp client)) before ≡ Some o) (result : Result ⊤ (WriteFault E)) (cell : Cell) where
+module _ {S E : Type 0} (fills : S → S → Format → List ℤ → Result ⊤ E → Type 0) (d : Description) (old new : S) (limits : LimitsValue) (client : ℕ) (before after : List (ℕ × ClientContext)) (world : World)
+    (shown : record { limits = limits; contexts = before } ≡ world) (o n : ClientContext) (was : lookup (is_at (nat_cmp client)) before ≡ Some o) (result : Result ⊤ (WriteFault E)) (cell : Reference) where
   abbrev later : World
   later = record { limits = limits; contexts = after }
 
@@ -87,7 +87,7 @@ module _ {S E : Type 0} (fills : S → S → Format → List ℤ → Result ⊤ 
       go (Ok x) (p, read, written) =
           let request : Request = WriteImage cell p in
           let reply : Result Reply NoMemory = Ok Empty in
-          let answers : answer_to limits (Some o.context) request ≡ (Empty, Some n.context) = ap (answered o.context) written in (
+          let answers : answer_to limits (Some o.context) request ≡ (Empty, Some n.context) = ap (reply_and_state o.context) written in (
             p,
             read,
             subst (λ (w : World). Applies client request w later reply) shown (applies_done limits client request Empty before after o n was is others answers),
@@ -100,16 +100,16 @@ module _ {S E : Type 0} (fills : S → S → Format → List ℤ → Result ⊤ 
   write_told told = go result told
     where
       state : state_of client world ≡ Some o.context
-      state = ap (λ (w : World). state_of client w) (sym shown) ∙ ap (option_map (λ (x : Opened). x.context)) was
+      state = ap (λ (w : World). state_of client w) (sym shown) ∙ ap (option_map (λ (x : ClientContext). x.context)) was
 
       go : (r : Result ⊤ (WriteFault E)) → IfErr r (SaysWhyUnwritten fills d old new (IsRefusedFor o.context cell d)) → IfErr r (SaysWhyUnwritten fills d old new (IsRefused client cell d world))
       go (Ok x) none = tt
       go (Err fault) said = unwritten_weaker fills d old new (IsRefusedFor o.context cell d) (IsRefused client cell d world) fault (λ code. refused_by client world o.context cell d code state) said
 
 -- if the client's entry is unchanged, the world is unchanged
-pub write_same : {T F : Type 0} (limits : Allowance) (client : ℕ) (before after : List (ℕ × Opened)) (world : World) (o n : Opened) (result : Result T F) → record { limits = limits; contexts = before } ≡ world
+pub write_same : {T F : Type 0} (limits : LimitsValue) (client : ℕ) (before after : List (ℕ × ClientContext)) (world : World) (o n : ClientContext) (result : Result T F) → record { limits = limits; contexts = before } ≡ world
     → lookup (is_at (nat_cmp client)) before ≡ Some o → after ≡ set_value (is_at (nat_cmp client)) before n → OnErr result (n ≡ o) → OnErr result (record { limits = limits; contexts = after } ≡ world)
 write_same limits client before after world o n (Ok x) shown was becomes none = tt
 write_same limits client before after world o n (Err fault) shown was becomes is =
     let stays : after ≡ before = becomes ∙ ap (set_value (is_at (nat_cmp client)) before) is ∙ set_value_same (is_at (nat_cmp client)) before o was in
-    ap (λ (contexts : List (ℕ × Opened)). let w : World = record { limits = limits; contexts = contexts } in w) stays ∙ shown
+    ap (λ (contexts : List (ℕ × ClientContext)). let w : World = record { limits = limits; contexts = contexts } in w) stays ∙ shown

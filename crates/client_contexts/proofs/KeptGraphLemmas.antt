@@ -1,7 +1,7 @@
 -- How a graph runs is kept, and stays right through the requests that leave its nodes.
 use Rattle.std.proofs.Common.{◌≡◌, ◌≢◌, ℕ, ◌<◌, false, List, [], ◌∷◌, Option, Some, None, IfSome, Result, Ok, Err, get_or, refl, sym, ap, subst, ◌∙◌, arith, All, MatchOption, is_some, IfOk, OnErr}
-use Rattle.client_contexts.proofs.Common.{option_map, All-nil, All-cons, Node, ObjectValue, Context, object_held, nodes_in, verdict, operand_held, IsReady, Request, Reply, Allowance, answered, Outcome, KeepsLimits, Kept, IsKept, AreKept, forgotten_by}
-use Rattle.buffer_plan.specs.Places.{told}
+use Rattle.client_contexts.proofs.Common.{option_map, All-nil, All-cons, Node, ObjectValue, Context, object_held, nodes_in, verdict, operand_held, IsReady, Request, Reply, LimitsValue, reply_and_state, Outcome, KeepsLimits, Kept, IsKept, AreKept, forgotten_by}
+use Rattle.buffer_plan.specs.Places.{plan_view}
 use Rattle.buffer_plan.specs.Plan.{IsPlan}
 use Rattle.graph_run.specs.Schedule.{IsSchedule}
 use Rattle.graph_run.proofs.ScheduleStays.{schedule_stays}
@@ -28,7 +28,7 @@ of_nodes P None nodes e said = absurd (cc)
 of_nodes P (Some object) nodes e said = let same : nodes_in object ≡ nodes = cc in subst P same said
 
 -- what is kept of a graph holds after a request that leaves its nodes
-module _ (limits : Allowance) (c later : Context) (request : Request) (h : KeepsLimits limits c) (is : IsRequest request)
+module _ (limits : LimitsValue) (c later : Context) (request : Request) (h : KeepsLimits limits c) (is : IsRequest request)
     (e : (answer_to limits (Some c) request).1 ≡ Some later) where
   next_stays : Leaves limits (changes_nodes request) c later
   next_stays =
@@ -42,11 +42,11 @@ module _ (limits : Allowance) (c later : Context) (request : Request) (h : Keeps
       (All-cons (λ r. changes_nodes r name ≡ false) request [] leaves (All-nil (λ r. changes_nodes r name ≡ false))) known
 
   -- the cells that its nodes name hold objects of the same skeletons, so that its schedule is still one
-  schedule_after_one : (name : ℕ) (k : Kept) (nodes : List Node) → IsReady c.objects nodes k.verified → IsPlan k.verified.steps.items k.verified.virtual_outputs.items (told k.plan)
+  schedule_after_one : (name : ℕ) (k : Kept) (nodes : List Node) → IsReady c.objects nodes k.verified → IsPlan k.verified.steps.items k.verified.virtual_outputs.items (plan_view k.plan)
       → option_map nodes_in (object_held c.objects name) ≡ Some nodes → option_map nodes_in (object_held later.objects name) ≡ Some nodes
-      → IsSchedule c.objects k.verified (told k.plan) k.schedule → IsSchedule later.objects k.verified (told k.plan) k.schedule
+      → IsSchedule c.objects k.verified (plan_view k.plan) k.schedule → IsSchedule later.objects k.verified (plan_view k.plan) k.schedule
   schedule_after_one name k nodes ready plan was now scheduled =
-      schedule_stays c.objects later.objects k.verified (told k.plan) plan
+      schedule_stays c.objects later.objects k.verified (plan_view k.plan) plan
       (λ n cell i named. named_skeletons_stay limits c later (request ∷ []) name nodes (after_one limits c later request h is e) was now cell
       (n, AllIn-permutation_back nodes k.verified.steps.items ready.verified.order.same_nodes n i, named))
       k.schedule scheduled
@@ -61,7 +61,7 @@ module _ (limits : Allowance) (c later : Context) (request : Request) (h : Keeps
             of_held (object_held later.objects name) stayed
             (λ object there stays. schedule_after_one name k (nodes_in object)
             (of_nodes (λ nodes. IsReady c.objects nodes k.verified) (object_held c.objects name) (nodes_in object) stays kept.ready) kept.plan stays (ap (option_map nodes_in) there)
-            (of_nodes (λ nodes. IsSchedule c.objects k.verified (told k.plan) k.schedule) (object_held c.objects name) (nodes_in object) stays kept.schedule));
+            (of_nodes (λ nodes. IsSchedule c.objects k.verified (plan_view k.plan) k.schedule) (object_held c.objects name) (nodes_in object) stays kept.schedule));
         ready =
             of_held (object_held later.objects name) stayed
             (λ object there stays. ready_after_one limits c later request name (nodes_in object) k.verified h is e leaves kept.below stays (ap is_some there)
@@ -79,8 +79,8 @@ module _ (limits : Allowance) (c later : Context) (request : Request) (h : Keeps
       λ n d below. kept_after_one (get_or left n d).0 (get_or left n d).1 (leave n d below) (held n d below)
 
 -- so is all of it where a picture or a text is written, which leaves the nodes of all graphs
-pub kept_written : {E : Type 0} (limits : Allowance) (c later : Context) (request : Request) (outcome : Outcome) (result : Result Reply E) (kept : List (ℕ × Kept)) → KeepsLimits limits c → IsRequest request
-    → answer_to limits (Some c) request ≡ answered c outcome → ((name : ℕ) → changes_nodes request name ≡ false) → forgotten_by request kept ≡ kept
+pub kept_written : {E : Type 0} (limits : LimitsValue) (c later : Context) (request : Request) (outcome : Outcome) (result : Result Reply E) (kept : List (ℕ × Kept)) → KeepsLimits limits c → IsRequest request
+    → answer_to limits (Some c) request ≡ reply_and_state c outcome → ((name : ℕ) → changes_nodes request name ≡ false) → forgotten_by request kept ≡ kept
     → IfOk result (λ reply. outcome ≡ Ok (reply, Some later)) → OnErr result (later ≡ c) → AreKept c kept → AreKept later kept
 kept_written limits c later request outcome (Ok reply) kept h is answers leaves forgets done back are =
     left_are_kept limits c later request h is (rw (answers, done)) kept kept are (sym forgets) (λ n d below. leaves (get_or kept n d).0)

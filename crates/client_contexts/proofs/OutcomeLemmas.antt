@@ -1,6 +1,6 @@
 -- Images that are found and changed; the limits are still kept.
 use Rattle.std.proofs.Common.{◌≡◌, ℕ, Option, Some, None, IfOk, IfSome, subst, unwrap_or}
-use Rattle.client_contexts.proofs.Common.{option_map, option_and_then, U8, Kind, Cell, Rectangle, ImageValue, new_image, description_of, with_valid, ObjectValue, ImageObject, IsObject, object_kind, Context, with_objects, in_slot, object_held, with_object, object_under, HoldsImage, Empty, Allowance, unless, valid_refusal, KeepsLimits, IsImageOf}
+use Rattle.client_contexts.proofs.Common.{option_map, option_and_then, U8, Kind, Reference, Rectangle, ImageValue, new_image, description_of, with_valid, ObjectValue, ImageObject, IsObject, object_kind, Context, with_objects, in_slot, object_held, with_object, object_under, HoldsImage, Empty, LimitsValue, reply_unless, valid_refusal, KeepsLimits, IsImageOf}
 use Rattle.vx_base.specs.declared.kind.Kind.TheVariants as kind
 use Rattle.vx_base.specs.Rectangle.{IsRectangle}
 use Rattle.vx_base.specs.Image.{IsImage}
@@ -12,7 +12,7 @@ use Rattle.client_model.proofs.ImageStepLaws.{image_of_is, set_valid_keeps}
 -- ---- lookup
 
 -- the image that a reference names is a valid image
-pub image_is : (limits : Allowance) (c : Context) (cell : Cell) (image : ImageValue) → KeepsLimits limits c → IsImageOf c.objects cell image → IsImage image
+pub image_is : (limits : LimitsValue) (c : Context) (cell : Reference) (image : ImageValue) → KeepsLimits limits c → IsImageOf c.objects cell image → IsImage image
 image_is limits c cell image h found = subst (λ r. IfOk r IsImage) found.image (image_of_is limits c cell h)
 
 -- the object with a name is a valid object, if a reference with that name names one
@@ -21,13 +21,13 @@ under_is None slot k there is = cc
 under_is (Some object) slot k there is = is
 
 -- the object of an image is a valid object
-pub holder_is : (limits : Allowance) (c : Context) (cell : Cell) → KeepsLimits limits c → HoldsImage c.objects cell → IsObject (object_under c.objects cell.name)
+pub holder_is : (limits : LimitsValue) (c : Context) (cell : Reference) → KeepsLimits limits c → HoldsImage c.objects cell → IsObject (object_under c.objects cell.name)
 holder_is limits c cell h there = under_is (object_held c.objects cell.name) cell.slot kind.Image there (object_held_has IsObject c.objects cell.name h.objects)
 
 -- ---- changes
 
 -- a rectangle that isn't refused becomes the valid one
-pub set_keeps : (limits : Allowance) (c : Context) (cell : Cell) (image : ImageValue) (valid : Rectangle) → KeepsLimits limits c → IsImageOf c.objects cell image → IsRectangle valid → valid_refusal (description_of image) valid ≡ None → KeepsLimits limits (with_objects c (with_object c.objects cell (ImageObject (with_valid valid image))))
+pub set_keeps : (limits : LimitsValue) (c : Context) (cell : Reference) (image : ImageValue) (valid : Rectangle) → KeepsLimits limits c → IsImageOf c.objects cell image → IsRectangle valid → valid_refusal (description_of image) valid ≡ None → KeepsLimits limits (with_objects c (with_object c.objects cell (ImageObject (with_valid valid image))))
 set_keeps limits c cell image valid h found is allowed =
-    (subst (λ refusal. Keeps limits c (unless refusal Empty (with_objects c (with_object c.objects cell (ImageObject (with_valid valid image)))))) allowed
+    (subst (λ refusal. Keeps limits c (reply_unless refusal Empty (with_objects c (with_object c.objects cell (ImageObject (with_valid valid image)))))) allowed
     (subst (λ i. Keeps limits c (set_valid_of i c cell valid)) found.image (set_valid_keeps limits c cell valid h is.bounds))).keeps

@@ -1,6 +1,6 @@
 -- What is kept of a graph: what it says of the graph's verdict and run, and that it is so once the graph is verified.
 use Rattle.std.proofs.Common.{◌≡◌, ℕ, ◌<◌, ◌^◌, List, [], ◌∷◌, Option, Some, None, Result, Ok, Err, Ordering, Less, Equal, Greater, refl, ap, subst, ◌∙◌, All, arith}
-use Rattle.client_contexts.proofs.Common.{graph_under, insert_entry, is_at, lookup, option_map, nat_cmp, All-nil, All-cons, All-head, All-tail, All-weaker, exact_unsigned, GraphValue, nodes_of, ObjectValue, GraphObject, Context, with_objects, object_held, graph_value, graph_of_kind, verdict, IsVerified, IsReady, operand_held, Refusal, Reply, Empty, ProcessGraph, Allowance, answered, graph_named, graph_verdict, Outcome, KeepsLimits, RequestFault, Kept, IsKept, AreKept, IsNamed, MayComeTo, map_some}
+use Rattle.client_contexts.proofs.Common.{graph_under, insert_entry, is_at, lookup, option_map, nat_cmp, All-nil, All-cons, All-head, All-tail, All-weaker, exact_unsigned, GraphValue, nodes_of, ObjectValue, GraphObject, Context, with_objects, object_held, graph_value, graph_of_kind, verdict, IsVerified, IsReady, operand_held, Refusal, Reply, Empty, ProcessGraph, LimitsValue, reply_and_state, graph_named, graph_verdict, Outcome, KeepsLimits, RequestFault, Kept, IsKept, AreKept, IsNamed, MayComeTo, map_some}
 use Rattle.client_laws.proofs.RunLaws.{graph_stays}
 use Rattle.object_table.specs.Ageing.{aged_under}
 use Rattle.std.specs.Ordering.{match_ordering, eq_by_cmp}
@@ -8,8 +8,8 @@ use Rattle.std.proofs.lemmas.List.Elements.{All-contains}
 use Rattle.std.proofs.lemmas.Map.Views.{Contains-from_lookup, tells_apart}
 use Rattle.vx_base.specs.declared.kind.Kind.TheVariants as kind
 use Rattle.object_table.proofs.HeldLemmas.{named_has}
-use Rattle.graph_verify.specs.Outlines.{resolved}
-use Rattle.buffer_plan.specs.Places.{told}
+use Rattle.graph_verify.specs.PartialDescriptions.{resolved_operand}
+use Rattle.buffer_plan.specs.Places.{plan_view}
 use Rattle.buffer_plan.specs.Plan.{IsPlan}
 use Rattle.graph_run.specs.Graph.{run_of_graph}
 use Rattle.graph_run.specs.Schedule.{IsSchedule}
@@ -50,23 +50,23 @@ found_kept c name work entries are same =
 
 -- ---- a graph that is found under its name
 
-module _ (limits : Allowance) (c : Context) (name : ℕ) (x : ObjectValue) (h : KeepsLimits limits c) (named : IsNamed c.objects name kind.Graph x) where
+module _ (limits : LimitsValue) (c : Context) (name : ℕ) (x : ObjectValue) (h : KeepsLimits limits c) (named : IsNamed c.objects name kind.Graph x) where
   -- it is held as a graph
   held_graph : object_held c.objects name ≡ Some (GraphObject (graph_value x))
   held_graph = named.held ∙ ap {B = Option ObjectValue} Some (graph_of_kind x named.kind)
 
   -- where nothing refuses it, it is verified
-  pub allowed_verifies : (within : Allowance) → verdict within.work (operand_held c.objects) (nodes_of (graph_value x)) ≡ None → verify_graph within c name ≡ Ok (Empty, Some c)
+  pub allowed_verifies : (within : LimitsValue) → verdict within.work (operand_held c.objects) (nodes_of (graph_value x)) ≡ None → verify_graph within c name ≡ Ok (Empty, Some c)
   allowed_verifies within allowed = rw (graph_is_named limits c name x h named, allowed)
 
   -- what is kept of it is its verdict
-  pub kept_verifies : (within : Allowance) (k : Kept) → IsKept c name k → k.work ≡ within.work → verify_graph within c name ≡ Ok (Empty, Some c)
+  pub kept_verifies : (within : LimitsValue) (k : Kept) → IsKept c name k → k.work ≡ within.work → verify_graph within c name ≡ Ok (Empty, Some c)
   kept_verifies within k kept same = allowed_verifies within (rw (held_graph, same) at kept.allowed)
 
   -- once it is verified, so much is kept of it
   pub verified_is_kept : (k : Kept) → IsVerified (operand_held c.objects) (nodes_of (graph_value x)) k.verified
-      → verdict k.work (operand_held c.objects) (nodes_of (graph_value x)) ≡ None → IsPlan k.verified.steps.items k.verified.virtual_outputs.items (told k.plan)
-      → IsSchedule c.objects k.verified (told k.plan) k.schedule → IsKept c name k
+      → verdict k.work (operand_held c.objects) (nodes_of (graph_value x)) ≡ None → IsPlan k.verified.steps.items k.verified.virtual_outputs.items (plan_view k.plan)
+      → IsSchedule c.objects k.verified (plan_view k.plan) k.schedule → IsKept c name k
   verified_is_kept k verified allowed planned scheduled =
       record {
         plan = planned;
@@ -78,7 +78,7 @@ module _ (limits : Allowance) (c : Context) (name : ℕ) (x : ObjectValue) (h : 
 
 -- ---- a graph that runs
 
-module _ (limits : Allowance) (c : Context) (name : ℕ) where
+module _ (limits : LimitsValue) (c : Context) (name : ℕ) where
   -- what refuses its verification refuses its run
   refuses_run : (refusal : Refusal) → verify_graph limits c name ≡ Err refusal → process_graph limits c name ≡ Err refusal
   refuses_run refusal e = grind arith
@@ -95,19 +95,19 @@ module _ (limits : Allowance) (c : Context) (name : ℕ) where
 
   -- its run leaves this
   pub runs_to : (graph : GraphValue) (after : Context) → graph_named c.objects name ≡ Ok graph → graph_verdict limits c.objects graph ≡ None
-      → after ≡ with_objects c (aged_under graph.delays (run_of_graph (resolved (operand_held c.objects) (nodes_of graph)) (nodes_of graph) c.objects))
+      → after ≡ with_objects c (aged_under graph.delays (run_of_graph (resolved_operand (operand_held c.objects) (nodes_of graph)) (nodes_of graph) c.objects))
       → process_graph limits c name ≡ Ok (Empty, Some after)
   runs_to graph after is allowed e =
       rw (is, allowed, e)
 
   -- the graph is as it was as its run ends
   pub graph_left : KeepsLimits limits c → (graph : GraphValue) (ran : Context) → graph_named c.objects name ≡ Ok graph → graph_verdict limits c.objects graph ≡ None
-      → ran ≡ with_objects c (run_of_graph (resolved (operand_held c.objects) (nodes_of graph)) (nodes_of graph) c.objects) → object_held ran.objects name ≡ Some (GraphObject graph)
+      → ran ≡ with_objects c (run_of_graph (resolved_operand (operand_held c.objects) (nodes_of graph)) (nodes_of graph) c.objects) → object_held ran.objects name ≡ Some (GraphObject graph)
   graph_left h graph ran is allowed e = ap (λ (k : Context). object_held k.objects name) e ∙ graph_stays limits c name graph h is allowed
 
   -- and then each delay ages that is registered with it
   pub aged_to : KeepsLimits limits c → (graph : GraphValue) (ran after : Context) → graph_named c.objects name ≡ Ok graph → graph_verdict limits c.objects graph ≡ None
-      → ran ≡ with_objects c (run_of_graph (resolved (operand_held c.objects) (nodes_of graph)) (nodes_of graph) c.objects)
+      → ran ≡ with_objects c (run_of_graph (resolved_operand (operand_held c.objects) (nodes_of graph)) (nodes_of graph) c.objects)
       → after ≡ with_objects ran (aged_under (graph_under ran.objects name).delays ran.objects) → process_graph limits c name ≡ Ok (Empty, Some after)
   aged_to h graph ran after is allowed e aged =
       runs_to graph after is allowed (rw (aged, graph_left h graph ran is allowed e, e))
@@ -116,7 +116,7 @@ module _ (limits : Allowance) (c : Context) (name : ℕ) where
   pub kept_runs : KeepsLimits limits c → (done : Reply × Option Context) → verify_graph limits c name ≡ Ok done → (k : Kept) (entries : List (ℕ × Kept)) → AreKept c entries
       → lookup (is_at (nat_cmp name)) entries ≡ Some k
       → (graph : GraphValue) × (graph_named c.objects name ≡ Ok graph) × (graph_verdict limits c.objects graph ≡ None) × IsReady c.objects (nodes_of graph) k.verified
-      × IsSchedule c.objects k.verified (told k.plan) k.schedule
+      × IsSchedule c.objects k.verified (plan_view k.plan) k.schedule
   kept_runs h done passes k entries are is =
       let (graph, named, allowed) = passed done passes in
       let kept = kept_there c name k entries are is in
@@ -124,8 +124,8 @@ module _ (limits : Allowance) (c : Context) (name : ℕ) where
       (graph, named, allowed, rw there at kept.ready, rw there at kept.schedule)
 
 -- what is kept of each graph holds after a run
-pub kept_after_run : (limits : Allowance) (c later : Context) (name : ℕ) → KeepsLimits limits c → name < 2 ^ 32 → process_graph limits c name ≡ Ok (Empty, Some later)
+pub kept_after_run : (limits : LimitsValue) (c later : Context) (name : ℕ) → KeepsLimits limits c → name < 2 ^ 32 → process_graph limits c name ≡ Ok (Empty, Some later)
     → (entries : List (ℕ × Kept)) → AreKept c entries → AreKept later entries
 kept_after_run limits c later name h fits done entries are =
     All-weaker (λ (e : ℕ × Kept). IsKept c e.0 e.1) (λ (e : ℕ × Kept). IsKept later e.0 e.1)
-    (λ e kept. kept_after_one limits c later (ProcessGraph name) h fits (ap (λ (o : Outcome). (answered c o).1) done) e.0 e.1 refl kept) entries are
+    (λ e kept. kept_after_one limits c later (ProcessGraph name) h fits (ap (λ (o : Outcome). (reply_and_state c o).1) done) e.0 e.1 refl kept) entries are

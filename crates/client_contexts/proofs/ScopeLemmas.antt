@@ -1,6 +1,6 @@
 -- The lookup of operands, with or without the scope of a graph.
 use Rattle.std.proofs.Common.{◌≡◌, ℕ, IsTrue, List, [], ◌∷◌, Option, Some, None, IfSome, sym, ap, subst, ◌∙◌, All, Result, Ok, OnOk}
-use Rattle.client_contexts.proofs.Common.{All-nil, All-cons, All-append, Kind, Parameters, Node, Cell, cell_of, parameters, operands, second_kind, with_kind, ObjectValue, object_kind, Named, Operands, OfOperands, Refusal, operands_refusal, stands, OperandsStand, IsFound, first_class}
+use Rattle.client_contexts.proofs.Common.{All-nil, All-cons, All-append, Kind, Parameters, Node, Reference, reference_to, parameters, operands, second_kind, with_kind, ObjectValue, object_kind, NamedObject, Operands, OfOperands, Refusal, operands_refusal, holds_operand, OperandsStand, IsFound, first_class}
 use Rattle.vx_base.specs.declared.kind.Kind.TheVariants as kind
 use Rattle.client_model.specs.Operands.{is_kind}
 use Rattle.client_model.specs.States.{kind_held}
@@ -11,31 +11,31 @@ use Rattle.client_contexts.specs.Steps.{refusal_in}
 use Rattle.client_contexts.proofs.LookupLemmas.{refusal-append}
 
 -- a property of each operand of a node holds for the list of all
-pub to_operands : (P : Cell × Kind → Type 0) (n : Node) → OfOperands P n → All P (operands n)
+pub to_operands : (P : Reference × Kind → Type 0) (n : Node) → OfOperands P n → All P (operands n)
 to_operands P n h =
     let output = (parameters n.function).output in
     All-cons P (n.in1, kind.Image) _ h.in1
     (All-append P (with_kind (second_kind n) n.in2) _ (each (second_kind n) n.in2 h.in2)
     (All-append P (with_kind output n.out1) (with_kind output n.out2) (each output n.out1 h.out1) (each output n.out2 h.out2)))
   where
-    each : (k : Kind) (cell : Option Cell) → IfSome cell (λ c. P (c, k)) → All P (with_kind k cell)
+    each : (k : Kind) (cell : Option Reference) → IfSome cell (λ c. P (c, k)) → All P (with_kind k cell)
     each k None is = All-nil P
     each k (Some c) is = All-cons P (c, k) [] is (All-nil P)
 
 -- the lookup of all operands, from that of each
-pub operands_found : (objects : List Named) (n : Node) (p : Parameters) (second : Kind) → p ≡ parameters n.function → second ≡ second_kind n → IsFound objects (n.in1, kind.Image)
+pub operands_found : (objects : List NamedObject) (n : Node) (p : Parameters) (second : Kind) → p ≡ parameters n.function → second ≡ second_kind n → IsFound objects (n.in1, kind.Image)
     → All (IsFound objects) (with_kind second n.in2) → All (IsFound objects) (with_kind p.output n.out1) → All (IsFound objects) (with_kind p.output n.out2) → All (IsFound objects) (operands n)
 operands_found objects n p second has wants in1 in2 out1 out2 =
-    let Are : List (Cell × Kind) → Type 0 = All (IsFound objects) in
+    let Are : List (Reference × Kind) → Type 0 = All (IsFound objects) in
     let output : ◌≡◌ {A = Kind} p.output (parameters n.function).output = ap (λ (q : Parameters). q.output) has in
     All-cons (IsFound objects) (n.in1, kind.Image) _ in1
     (All-append (IsFound objects) (with_kind (second_kind n) n.in2) _ (subst (λ (k : Kind). Are (with_kind k n.in2)) wants in2)
     (All-append (IsFound objects) (with_kind (parameters n.function).output n.out1) (with_kind (parameters n.function).output n.out2)
     (subst (λ (k : Kind). Are (with_kind k n.out1)) output out1) (subst (λ (k : Kind). Are (with_kind k n.out2)) output out2)))
 
-module _ (graph : ℕ) (objects : List Named) where
+module _ (graph : ℕ) (objects : List NamedObject) where
   -- an operand that is found without a refusal can be used
-  stand_one : (operand : Cell × Kind) → IsFound objects operand → Passes (Some graph) objects operand → IsTrue (stands objects graph operand)
+  stand_one : (operand : Reference × Kind) → IsFound objects operand → Passes (Some graph) objects operand → IsTrue (holds_operand objects graph operand)
   stand_one operand found pass =
       let of_kind = subst (λ (o : Option ObjectValue). IfSome o (λ object. kind_held objects operand.0 ≡ Some (object_kind object))) found.1 (held_kind objects operand.0) in
       stands_from objects graph operand (record { kind = ap (is_kind operand.1) of_kind ∙ found.2; scope = pass.within; there = pass.there })
@@ -48,7 +48,7 @@ module _ (graph : ℕ) (objects : List Named) where
       λ k d below. stand_one _ (are k d below) (pass k d below)
 
   -- the first refusal by class among those of the graph's name and the operands
-  pub graph_for_refused : (n : Node) (cell : Cell) (named found both : Option Refusal) → cell ≡ cell_of graph → named ≡ operands_refusal (Some graph) objects ((cell, kind.Graph) ∷ [])
-      → found ≡ operands_refusal (Some graph) objects (operands n) → both ≡ first_class named found → both ≡ operands_refusal (Some graph) objects ((cell_of graph, kind.Graph) ∷ operands n)
+  pub graph_for_refused : (n : Node) (cell : Reference) (named found both : Option Refusal) → cell ≡ reference_to graph → named ≡ operands_refusal (Some graph) objects ((cell, kind.Graph) ∷ [])
+      → found ≡ operands_refusal (Some graph) objects (operands n) → both ≡ first_class named found → both ≡ operands_refusal (Some graph) objects ((reference_to graph, kind.Graph) ∷ operands n)
   graph_for_refused n cell named found both is by_name by_operands joined =
       rw (joined, by_name, by_operands, refusal-append (Some graph) objects ((cell, kind.Graph) ∷ []) (operands n), is)

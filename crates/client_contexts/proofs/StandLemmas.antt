@@ -1,6 +1,6 @@
 -- A graph of a context that keeps the limits: the objects that its nodes name.
 use Rattle.std.proofs.Common.{◌≡◌, ℕ, IsTrue, List, Option, Some, None, Ok, IfSome, ap, subst, ◌∙◌, All}
-use Rattle.client_contexts.proofs.Common.{All-map, All-weaker, Node, nodes_of, IsNode, operands, ObjectValue, IsObject, Context, graph_value, nodes_in, graph_of_kind, is_image, verdict, IsVerified, IsReady, operand_held, Allowance, graph_named, KeepsLimits, OperandsStand, IsNamed}
+use Rattle.client_contexts.proofs.Common.{All-map, All-weaker, Node, nodes_of, IsNode, operands, ObjectValue, IsObject, Context, graph_value, nodes_in, graph_of_kind, is_image, verdict, IsVerified, IsReady, operand_held, LimitsValue, graph_named, KeepsLimits, OperandsStand, IsNamed}
 use Rattle.client_model.specs.Graphs.{as_graph}
 use Rattle.vx_base.specs.declared.kind.Kind.TheVariants as kind
 use Rattle.vx_base.specs.declared.numbered.Numbered.{Numbered}
@@ -10,7 +10,7 @@ use Rattle.graph_run.specs.Operands.{StandsFor}
 use Rattle.client_model.proofs.GraphStepLaws.{graph_is, graph_stands}
 use Rattle.client_laws.proofs.StandLaws.{cells_stand, operands_stand, firsts_are_images}
 
-module _ (limits : Allowance) (c : Context) (name : ℕ) (x : ObjectValue) (h : KeepsLimits limits c) (named : IsNamed c.objects name kind.Graph x) where
+module _ (limits : LimitsValue) (c : Context) (name : ℕ) (x : ObjectValue) (h : KeepsLimits limits c) (named : IsNamed c.objects name kind.Graph x) where
   abbrev graph_nodes : List Node
   graph_nodes = nodes_of (graph_value x)
 

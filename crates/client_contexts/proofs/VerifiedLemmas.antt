@@ -1,6 +1,6 @@
 -- The graphs that are kept as verified, through a client's requests.
 use Rattle.std.proofs.Common.{◌≡◌, ◌≢◌, ◌∙◌, ℕ, true, false, cond, List, Some, Result, Ok, Err, ◌⊎◌, inl, inr, sym, ap, subst, IfErr, OnOk, OnErr, arith}
-use Rattle.client_contexts.proofs.Common.{cases_Bool, is_at, lookup, nat_cmp, Reply, Request, VerifyGraph, ProcessGraph, RequestFault, Kept, verified_in, IsKeptWithin, KeepsVerified, ends_verification, told_of}
+use Rattle.client_contexts.proofs.Common.{cases_Bool, is_at, lookup, nat_cmp, Reply, Request, VerifyGraph, ProcessGraph, RequestFault, Kept, verified_in, IsKeptWithin, KeepsVerified, ends_verification, client_result}
 use Rattle.std.proofs.lemmas.Map.Made.{lookup-map_values}
 use Rattle.vx_base.specs.declared.code.Code.{Code}
 use Rattle.client_model.specs.declared.reply.Reply.TheVariants as reply
@@ -41,7 +41,7 @@ on_err (Err error) said = said
 -- VerifyGraph takes no memory while its graph is kept, so it lacks memory only if the graph wasn't kept
 pub lost_unkept : (work graph : ℕ) (request : Request) (kept : List (ℕ × Kept)) (result : Result Reply RequestFault) → request ≡ VerifyGraph graph
     → IfErr result (λ f. WantsMemory f (kept_within graph kept ≢ Some work))
-    → OnErr (told_of result) ((name : ℕ) → request ≡ VerifyGraph name → IsKeptWithin work name (verified_in kept) → ⊥)
+    → OnErr (client_result result) ((name : ℕ) → request ≡ VerifyGraph name → IsKeptWithin work name (verified_in kept) → ⊥)
 lost_unkept work graph request kept (Err fault.NoMemory) is takes = λ name asks verified.
     let same : name ≡ graph = cc in
     takes (sym (shown graph kept) ∙ subst (λ (n : ℕ). IsKeptWithin work n (verified_in kept)) same verified)
@@ -53,21 +53,21 @@ lost_none P graph request result is = on_err result (λ name asks. let other : P
 
 -- a request to verify or to run a graph
 pub ran_keeps : (work graph : ℕ) (request : Request) (old new : List (ℕ × Kept)) (result : Result Reply RequestFault) → (request ≡ VerifyGraph graph) ⊎ (request ≡ ProcessGraph graph)
-    → OnErr (told_of result) ((name : ℕ) → request ≡ VerifyGraph name → IsKeptWithin work name (verified_in old) → ⊥) → OnOk result (kept_within graph new ≡ Some work)
-    → StayKept work (verified_in old) (verified_in new) → KeepsVerified work request (verified_in old) (verified_in new) (told_of result)
+    → OnErr (client_result result) ((name : ℕ) → request ≡ VerifyGraph name → IsKeptWithin work name (verified_in old) → ⊥) → OnOk result (kept_within graph new ≡ Some work)
+    → StayKept work (verified_in old) (verified_in new) → KeepsVerified work request (verified_in old) (verified_in new) (client_result result)
 ran_keeps work graph request old new result is lost found stay =
     record {
       lost = lost;
       found = λ told name asks. subst (λ (n : ℕ). IsKeptWithin work n (verified_in new)) (same_graph name is asks) (of_result result told found);
       stays = λ name _. stay name;
       refused = λ code _. stay;
-      no_memory = on_err (told_of result) stay;
+      no_memory = on_err (client_result result) stay;
     }
   where
     same_graph : (name : ℕ) → (request ≡ VerifyGraph graph) ⊎ (request ≡ ProcessGraph graph) → (request ≡ VerifyGraph name) ⊎ (request ≡ ProcessGraph name) → graph ≡ name
     same_graph name first second = grind arith
 
-    of_result : (r : Result Reply RequestFault) → told_of r ≡ Ok reply.Empty → OnOk r (kept_within graph new ≡ Some work) → IsKeptWithin work graph (verified_in new)
+    of_result : (r : Result Reply RequestFault) → client_result r ≡ Ok reply.Empty → OnOk r (kept_within graph new ≡ Some work) → IsKeptWithin work graph (verified_in new)
     of_result (Ok made) told said = shown graph new ∙ said
     of_result (Err (fault.Refused refusal)) told said = absurd (cc)
     of_result (Err fault.NoMemory) told said = absurd (cc)

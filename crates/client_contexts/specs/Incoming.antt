@@ -1,6 +1,6 @@
 -- Pictures whose samples are read from a source and written to an image.
 use Rattle.std.specs.Prelude.{ℕ, ℤ, ◌≡◌, ◌⊎◌, ⊤, List, length, Some, Result, Err}
-use Rattle.vx_base.specs.Cell.{Cell}
+use Rattle.vx_base.specs.Reference.{Reference}
 use Rattle.vx_base.specs.Description.{Description, sample_count}
 use Rattle.vx_base.specs.Picture.{PictureValue}
 use Rattle.vx_base.specs.declared.code.Code.{Code}
@@ -32,9 +32,9 @@ module _ {S E : Type 0} (fills : S → S → Format → List ℤ → Result ⊤ 
   SaysWhyUnwritten refuses (Source fault) = (p : PictureValue) × IsRead p (Err fault)
 
 -- an image, or a reference that names none, refuses a picture of this description with this code
-abbrev pub IsRefusedFor : Context → Cell → Description → Code → Type 0
+abbrev pub IsRefusedFor : Context → Reference → Description → Code → Type 0
 IsRefusedFor c cell d code = (refusal : Refusal) × (code ≡ refusal_code refusal) × (refusal_for (image_of c.objects cell) d ≡ Some refusal)
 
 -- a client's request to write any picture of this description is refused with this code
-abbrev pub IsRefused : ℕ → Cell → Description → World → Code → Type 0
+abbrev pub IsRefused : ℕ → Reference → Description → World → Code → Type 0
 IsRefused client cell d world code = (p : PictureValue) → p.description ≡ d → IsAnswered client (WriteImage cell p) world (reply.Refused code)

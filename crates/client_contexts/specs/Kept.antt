@@ -6,10 +6,10 @@ use Rattle.std.specs.Option.{option_map}
 use Rattle.std.specs.Ordering.{nat_cmp}
 use Rattle.vx_base.specs.declared.code.Code.{Code}
 use Rattle.object_table.specs.Context.{Context}
-use Rattle.object_table.specs.Named.{object_held}
+use Rattle.object_table.specs.NamedObject.{object_held}
 use Rattle.object_table.specs.Uses.{nodes_in}
 use Rattle.graph_verify.specs.Verdict.{verdict}
-use Rattle.buffer_plan.specs.Places.{told}
+use Rattle.buffer_plan.specs.Places.{plan_view}
 use Rattle.buffer_plan.specs.Plan.{IsPlan}
 use Rattle.graph_run.specs.Operands.{IsReady, operand_held}
 use Rattle.graph_run.specs.Schedule.{IsSchedule}
@@ -27,8 +27,8 @@ use Rattle.client_contexts.specs.declared.memory.NoMemory.{NoMemory}
 pub record IsKept (c : Context) (name : ℕ) (k : Kept) : Type 0 where
   pub below : name < c.next
   pub ready : IfSome (object_held c.objects name) (λ object. IsReady c.objects (nodes_in object) k.verified)
-  pub plan : IsPlan k.verified.steps.items k.verified.virtual_outputs.items (told k.plan)
-  pub schedule : IfSome (object_held c.objects name) (λ object. IsSchedule c.objects k.verified (told k.plan) k.schedule)
+  pub plan : IsPlan k.verified.steps.items k.verified.virtual_outputs.items (plan_view k.plan)
+  pub schedule : IfSome (object_held c.objects name) (λ object. IsSchedule c.objects k.verified (plan_view k.plan) k.schedule)
   pub allowed : IfSome (object_held c.objects name) (λ object. verdict k.work (operand_held c.objects) (nodes_in object) ≡ None)
 
 -- the same of each graph that is kept

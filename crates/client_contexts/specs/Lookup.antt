@@ -2,33 +2,33 @@
 use Rattle.std.specs.Prelude.{ℕ, ◌≡◌, IsTrue, is_some, List, Option, Some, Result, Ok, Err}
 use Rattle.vx_base.specs.declared.kind.Kind.{Kind}
 use Rattle.vx_base.specs.declared.kind.Kind.TheVariants as kind
-use Rattle.vx_base.specs.Cell.{Cell}
+use Rattle.vx_base.specs.Reference.{Reference}
 use Rattle.vx_base.specs.Description.{Description}
 use Rattle.vx_base.specs.Image.{ImageValue, description_of}
 use Rattle.vx_base.specs.Object.{ObjectValue, object_kind}
 use Rattle.object_table.specs.Context.{object_named}
 use Rattle.object_table.specs.Delay.{in_slot, object_in}
-use Rattle.object_table.specs.Named.{Named, object_held, held}
+use Rattle.object_table.specs.NamedObject.{NamedObject, object_held, object_at}
 use Rattle.object_table.specs.Table.{image_held, HoldsImage}
 use Rattle.client_model.specs.declared.refusal.Refusal.{Refusal}
 use Rattle.client_model.specs.Images.{picture_refusal}
 use Rattle.client_model.specs.Operands.{stands_for, image_of}
 
 -- the reference names this object, and its slot is there and of the wanted kind; a virtual image counts as an image
-pub record Found (objects : List Named) (cell : Cell) (wanted : Kind) (object : ObjectValue) : Type 0 where
+pub record Found (objects : List NamedObject) (cell : Reference) (wanted : Kind) (object : ObjectValue) : Type 0 where
   pub live : object_named objects cell.name ≡ Some object
   pub held : object_held objects cell.name ≡ Some object
   pub there : IsTrue (is_some (in_slot cell.slot object))
   pub kind : IsTrue (stands_for (object_kind (object_in cell.slot object)) wanted)
 
 -- the object of this kind has this name
-pub record IsNamed (objects : List Named) (name : ℕ) (wanted : Kind) (object : ObjectValue) : Type 0 where
+pub record IsNamed (objects : List NamedObject) (name : ℕ) (wanted : Kind) (object : ObjectValue) : Type 0 where
   pub live : object_named objects name ≡ Some object
   pub held : object_held objects name ≡ Some object
   pub kind : object_kind object ≡ wanted
 
 -- these are the names of a graph and of a delay
-pub record NameGraphAndDelay (objects : List Named) (graph delay : ℕ) : Type 0 where
+pub record NameGraphAndDelay (objects : List NamedObject) (graph delay : ℕ) : Type 0 where
   pub first : ObjectValue
   pub second : ObjectValue
   pub is_graph : IsNamed objects graph kind.Graph first
@@ -36,13 +36,13 @@ pub record NameGraphAndDelay (objects : List Named) (graph delay : ℕ) : Type 0
   pub is_delay : object_kind second ≡ kind.Delay
 
 -- the reference names this image
-pub record IsImageOf (objects : List Named) (cell : Cell) (is : ImageValue) : Type 0 where
+pub record IsImageOf (objects : List NamedObject) (cell : Reference) (is : ImageValue) : Type 0 where
   pub there : HoldsImage objects cell
   pub held : image_held objects cell ≡ is
   pub image : image_of objects cell ≡ Ok is
 
 -- the reference names an image of this description
-pub record IsImageFor (objects : List Named) (cell : Cell) (d : Description) : Type 0 where
+pub record IsImageFor (objects : List NamedObject) (cell : Reference) (d : Description) : Type 0 where
   pub image : ImageValue
   pub named : IsImageOf objects cell image
   pub same : description_of image ≡ d
@@ -53,5 +53,5 @@ refusal_for (Err refusal) d = Some refusal
 refusal_for (Ok image) d = picture_refusal (description_of image) d
 
 -- the reference in a node names an object of the kind that its function has there; a virtual image counts as an image
-abbrev pub IsFound : List Named → Cell × Kind → Type 0
-IsFound objects operand = (object : ObjectValue) × (held objects operand.0 ≡ Some object) × IsTrue (stands_for (object_kind object) operand.1)
+abbrev pub IsFound : List NamedObject → Reference × Kind → Type 0
+IsFound objects operand = (object : ObjectValue) × (object_at objects operand.0 ≡ Some object) × IsTrue (stands_for (object_kind object) operand.1)

@@ -21,7 +21,7 @@ use Rattle.client_model.specs.declared.refusal.Refusal.TheVariants.{InvalidRefer
 use Rattle.client_model.specs.declared.reply.Reply.{Reply}
 use Rattle.client_model.specs.declared.reply.Reply.TheVariants as reply
 use Rattle.client_model.specs.Refusal.{Outcome, refusal_code}
-use Rattle.client_model.specs.Allowance.{Allowance}
+use Rattle.client_model.specs.Limits.{LimitsValue}
 use Rattle.client_model.specs.States.{KeepsLimits}
 use Rattle.object_table.specs.Context.{Context}
 use Rattle.object_table.specs.declared.fault.TableFault.{TableFault}
@@ -33,11 +33,11 @@ use Rattle.client_model.specs.Operands.{is_kind, is_of_other_graph}
 
 -- the context keeps some limits
 abbrev pub IsContext : Context → Type 0
-IsContext c = (limits : Allowance) × KeepsLimits limits c
+IsContext c = (limits : LimitsValue) × KeepsLimits limits c
 
 -- a context still keeps all limits that it kept
 abbrev pub Keeps : Context → Context → Type 0
-Keeps old new = (limits : Allowance) → KeepsLimits limits old → KeepsLimits limits new
+Keeps old new = (limits : LimitsValue) → KeepsLimits limits old → KeepsLimits limits new
 
 -- ---- results
 
@@ -59,10 +59,10 @@ pub record MayComeTo (outcome : Outcome) (old new : Context) (result : Result Re
   pub kept : OnErr result (new ≡ old)
 
 -- the reply to the client: for a refusal its code
-abbrev pub told_of : Result Reply RequestFault → Result Reply memory.NoMemory
-told_of (Ok r) = Ok r
-told_of (Err (Refused refusal)) = Ok (reply.Refused (refusal_code refusal))
-told_of (Err NoMemory) = Err (record {})
+abbrev pub client_result : Result Reply RequestFault → Result Reply memory.NoMemory
+client_result (Ok r) = Ok r
+client_result (Err (Refused refusal)) = Ok (reply.Refused (refusal_code refusal))
+client_result (Err NoMemory) = Err (record {})
 
 -- if there is no memory, the request is one that takes memory
 abbrev pub WantsMemory : RequestFault → Type 0 → Type 0

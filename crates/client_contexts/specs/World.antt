@@ -5,19 +5,19 @@ use Rattle.std.specs.Map.{lookup}
 use Rattle.std.specs.Option.{option_map}
 use Rattle.std.specs.Ordering.{nat_cmp}
 use Rattle.object_table.specs.Context.{Context}
-use Rattle.client_model.specs.Allowance.{Allowance}
+use Rattle.client_model.specs.Limits.{LimitsValue}
 use Rattle.client_model.specs.Context.{State}
 
 -- an open context, and the names of its kept graphs, each with the quota of work bytes with which it was verified. The replies and states
 -- of the model don't depend on these
-pub record Opened : Type 0 where
+pub record ClientContext : Type 0 where
   pub context : Context
   pub verified : List (ℕ × ℕ)
 
 -- the limits, and the open contexts with their clients
 pub record World : Type 0 where
-  pub limits : Allowance
-  pub contexts : List (ℕ × Opened)
+  pub limits : LimitsValue
+  pub contexts : List (ℕ × ClientContext)
 
 -- a client's state
 abbrev pub state_of : ℕ → World → State

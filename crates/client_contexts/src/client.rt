@@ -19,7 +19,7 @@ ghost use Rattle.object_table.specs.Blocks.{blocks_in, LendsAtLeast, LendsLess, 
 ghost use Rattle.object_table.specs.Context.{new_context};
 ghost use Rattle.client_contexts.specs.Kept.{IsKept, KeepsVerified, runs_graph};
 ghost use Rattle.client_contexts.specs.Incoming.{IsRead, SaysWhyUnwritten, IsRefusedFor};
-ghost use Rattle.client_contexts.specs.Steps.{MayComeTo, WantsMemory, IsContext, Keeps, told_of};
+ghost use Rattle.client_contexts.specs.Steps.{MayComeTo, WantsMemory, IsContext, Keeps, client_result};
 
 use crate::delays::{age_delay, create_delay, register_auto_aging};
 use crate::fault::RequestFault;
@@ -55,9 +55,9 @@ pub struct Client {
 
 impl Model for Client {
     ghost use Rattle.client_contexts.specs.Kept.{AreKept, verified_in};
-    ghost use Rattle.client_contexts.specs.World.{Opened};
+    ghost use Rattle.client_contexts.specs.World.{ClientContext};
 
-    ghost Value = { Opened };
+    ghost Value = { ClientContext };
 
     ghost view = { λ c. record { context = c.table; verified = verified_in c.kept.entries } };
 
@@ -112,7 +112,7 @@ impl Client {
             self.old.context.objects self.new.context.objects }
         ensures takes { IfErr result (λ fault. WantsMemory fault (TakesMemory request.now)) }
         ensures verified { KeepsVerified limits.work request.now
-            self.old.verified self.new.verified (told_of result) }
+            self.old.verified self.new.verified (client_result result) }
     {
         match request {
             Request::VerifyGraph(graph) => {

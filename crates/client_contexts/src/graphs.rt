@@ -23,7 +23,7 @@ use object_table::{Content, Object, Table};
 use pixel_pool::Pool;
 use std::alloc::Global;
 use std::collections::BTreeMap;
-use vx_base::{Kind, NodeSpec, Outline, VirtualImage};
+use vx_base::{Kind, NodeSpec, PartialDesc, VirtualImage};
 
 /// Creates a graph without nodes.
 pub fn create_graph(table: &mut Table, limits: Limits) -> Result<Reply, RequestFault>
@@ -43,7 +43,7 @@ pub fn create_virtual_image(
     table: &mut Table,
     limits: Limits,
     graph: u32,
-    declared: Outline,
+    declared: PartialDesc,
 ) -> Result<Reply, RequestFault>
     ensures comes { MayComeTo (create_virtual_image limits table.old graph declared)
         table.old table.new result }

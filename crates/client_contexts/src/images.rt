@@ -7,7 +7,7 @@ ghost use Rattle.vx_base.specs.Image.{IsImage};
 ghost use Rattle.vx_base.specs.Picture.{picture_of};
 ghost use Rattle.pgm_images.specs.Writing.{pgm_text};
 ghost use Rattle.client_model.specs.declared.reply.Reply.TheVariants as replies;
-ghost use Rattle.client_model.specs.Images.{create_image, described, described_virtual};
+ghost use Rattle.client_model.specs.Images.{create_image, described_image, described_virtual};
 ghost use Rattle.client_model.specs.Images.{query_image, write_image, read_image};
 ghost use Rattle.client_model.specs.Images.{read_text, set_valid, picture_refusal, valid_refusal};
 ghost use Rattle.client_model.specs.Operands.{image_of};
@@ -23,7 +23,7 @@ use client_model::{Described, Limits, Refusal, Reply, Text};
 use object_table::{Content, Object, Stored, Table};
 use pixel_pool::Pool;
 use std::alloc::Global;
-use vx_base::{Desc, Format, Kind, ObjRef, Outline, Picture, Rect};
+use vx_base::{Desc, Format, Kind, ObjRef, PartialDesc, Picture, Rect};
 
 /// Creates an image that is 0 everywhere and wholly valid.
 pub fn create_image(
@@ -43,7 +43,7 @@ pub fn create_image(
 
 /// Returns the reply to a query of an image with samples.
 fn described(image: &Stored) -> Described
-    ensures { result ≡ described image.now }
+    ensures { result ≡ described_image image.now }
 {
     let desc = image.desc();
     Described {
@@ -56,7 +56,7 @@ fn described(image: &Stored) -> Described
 
 /// Returns the reply to a query of a virtual image: what was declared, 0 for an open side, and an
 /// empty valid rectangle.
-fn described_virtual(declared: Outline) -> Described
+fn described_virtual(declared: PartialDesc) -> Described
     ensures { result ≡ described_virtual declared }
 {
     Described {

@@ -3,7 +3,7 @@
 ghost use Rattle.std.specs.Prelude.{◌≡◌, length, Some, Ok, OnOk, IfOk, IfErr, OnErr};
 ghost use Rattle.vx_base.specs.Image.{ImageValue};
 ghost use Rattle.vx_base.specs.Picture.{PictureValue, IsPicture, Describes, values, samples_format};
-ghost use Rattle.pgm_images.specs.Reading.{HasRoom, description_in, reading};
+ghost use Rattle.pgm_images.specs.Reading.{SamplesFitHeader, description_in, read_result};
 ghost use Rattle.pixel_pool.specs.Pool.{Lends, KeepsLent};
 ghost use Rattle.client_model.specs.declared.reply.Reply.TheVariants.{Empty};
 ghost use Rattle.client_model.specs.Images.{write_image, write_text};
@@ -112,10 +112,10 @@ fn fill_block<F: FillsSamples>(block: &mut Block, source: &mut F) -> Result<(), 
 
 /// Fills a block with the samples of a text.
 fn read_text(block: &mut Block, text: &[u8]) -> Result<(), PgmFault>
-    requires { HasRoom text.now block.old }
+    requires { SamplesFitHeader text.now block.old }
     ensures ok { OnOk result ((d : _) → description_in text.now ≡ Ok d →
-        reading text.now ≡ Ok (record { description = d; samples = values block.new })) }
-    ensures err { IfErr result (λ fault. reading text.now ≡ Err fault) }
+        read_result text.now ≡ Ok (record { description = d; samples = values block.new })) }
+    ensures err { IfErr result (λ fault. read_result text.now ≡ Err fault) }
     ensures format { samples_format block.new ≡ samples_format block.old }
     ensures size { length (values block.new) ≡ length (values block.old) }
 {

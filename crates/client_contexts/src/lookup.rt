@@ -6,14 +6,14 @@ ghost use Rattle.std.specs.Option.{option_map};
 ghost use Rattle.vx_base.specs.declared.kind.Kind.TheVariants as kind;
 ghost use Rattle.vx_base.specs.Node.{operands, with_kind};
 ghost use Rattle.vx_base.specs.Object.{same_kind};
-ghost use Rattle.vx_base.specs.Cell.{cell_of};
+ghost use Rattle.vx_base.specs.Reference.{reference_to};
 ghost use Rattle.object_table.specs.Context.{object_named};
 ghost use Rattle.object_table.specs.Delay.{in_slot};
 ghost use Rattle.object_table.specs.Table.{IsUnder};
 ghost use Rattle.graph_verify.specs.Operand.{operands_of, is_virtual};
 ghost use Rattle.graph_run.specs.Operands.{operand_held};
 ghost use Rattle.client_model.specs.Operands.{is_kind, operands_refusal, image_of};
-ghost use Rattle.client_model.specs.States.{stands};
+ghost use Rattle.client_model.specs.States.{holds_operand};
 ghost use Rattle.client_contexts.specs.Lookup.{Found, IsNamed, IsImageOf, IsFound};
 ghost use Rattle.client_contexts.specs.Steps.{refusal_in, name_refusal, is_outside, slot_refusal};
 ghost use Rattle.client_contexts.specs.Steps.{first_class, all_operands};
@@ -218,10 +218,10 @@ pub fn find_operands(table: &Table, node: &Node, scope: Option<u32>) -> Result<O
 pub fn find_graph_for(table: &Table, graph: u32, node: &Node) -> Result<(), Refusal>
     ensures ok { OnOk result (IsTrue (is_some (object_named table.now.objects graph)) ×
         IsUnder table.now.objects kind.Graph graph) }
-    ensures operands { OnOk result (All (λ operand. IsTrue (stands table.now.objects graph operand))
+    ensures operands { OnOk result (All (λ operand. IsTrue (holds_operand table.now.objects graph operand))
         (operands node.now)) }
     ensures err { refusal_in result ≡ operands_refusal (Some graph) table.now.objects
-        ((cell_of graph, kind.Graph) ∷ operands node.now) }
+        ((reference_to graph, kind.Graph) ∷ operands node.now) }
 {
     let found = find_operand(table, ObjRef::new(graph, None), Kind::Graph, Some(graph));
     let operands = find_operands(table, node, Some(graph));

@@ -6,7 +6,7 @@ ghost use Rattle.pixel_pool.specs.Pool.{lent_of};
 ghost use Rattle.object_table.specs.Blocks.{blocks_in, object_blocks, LendsAtLeast, KeepsBlocks};
 ghost use Rattle.object_table.specs.Uses.{nodes_in};
 ghost use Rattle.client_model.specs.declared.refusal.Refusal.TheVariants.{NoResources};
-ghost use Rattle.client_model.specs.Context.{has_room};
+ghost use Rattle.client_model.specs.Context.{has_capacity};
 ghost use Rattle.client_model.specs.Images.{create};
 ghost use Rattle.client_model.specs.States.{KeepsLimits};
 ghost use Rattle.client_contexts.specs.Steps.{MayComeTo};
@@ -23,7 +23,7 @@ use pixel_pool::Pool;
 /// is exceeded.
 pub fn look_for_room(table: &Table, limits: Limits, bytes: usize) -> Result<(), Refusal>
     requires { bytes ≤ GREATEST_SLOTS * GREATEST_BYTES }
-    ensures { result ≡ (if has_room limits table.now bytes then Ok tt else Err NoResources) }
+    ensures { result ≡ (if has_capacity limits table.now bytes then Ok tt else Err NoResources) }
 {
     let charge = table.charged_bytes() + bytes as u64;
     if table.can_insert() && charge <= limits.quota() {
@@ -36,7 +36,7 @@ pub fn look_for_room(table: &Table, limits: Limits, bytes: usize) -> Result<(), 
 /// Adds a new object without images, for which the limits were checked. The reply has its name. A
 /// graph has no nodes yet.
 pub fn hold(table: &mut Table, limits: Limits, object: Object) -> Result<Reply, RequestFault>
-    requires room { IsTrue (has_room limits table.old (object_bytes object)) }
+    requires room { IsTrue (has_capacity limits table.old (object_bytes object)) }
     requires object { IsObject object }
     requires plain { nodes_in object ≡ [] }
     requires no_blocks { (format : Format) → object_blocks object format ≡ 0 }
@@ -58,7 +58,7 @@ pub fn hold_images(
     limits: Limits,
     object: Object,
 ) -> Result<Reply, RequestFault>
-    requires room { IsTrue (has_room limits table.old (object_bytes object)) }
+    requires room { IsTrue (has_capacity limits table.old (object_bytes object)) }
     requires object { IsObject object }
     requires plain { nodes_in object ≡ [] }
     requires owns { LendsAtLeast pool.old (object_blocks object) }

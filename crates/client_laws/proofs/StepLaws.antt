@@ -1,6 +1,6 @@
 -- The effect of each request on the limits and the objects held, and the states after requests.
 use Rattle.std.proofs.Common.{◌≢◌, ℕ, Bool, List, [], ◌∷◌, Some, None, refl, All, MatchOption, arith}
-use Rattle.client_laws.proofs.Common.{All-head, All-tail, GraphObject, Request, ReleaseContext, WriteImagePgm, AddNode, VerifyGraph, ProcessGraph, Immediate, Allowance, Context, State, IsRequest, Outcome, outcome_of, answered, answer_to, KeepsLimits, state_after, changes_nodes, Leaves}
+use Rattle.client_laws.proofs.Common.{All-head, All-tail, GraphObject, Request, ReleaseContext, WriteImagePgm, AddNode, VerifyGraph, ProcessGraph, Immediate, LimitsValue, Context, State, IsRequest, Outcome, outcome_of, reply_and_state, answer_to, KeepsLimits, state_after, changes_nodes, Leaves}
 use Rattle.vx_base.specs.Image.{new_image}
 use Rattle.vx_base.specs.Graph.{new_graph}
 use Rattle.vx_base.specs.Object.{ImageObject, LutObject, ThresholdObject, ConvolutionObject, DistributionObject, ExtremesObject, new_distribution, no_extremes}
@@ -20,7 +20,7 @@ use Rattle.client_model.proofs.GraphStepLaws.{new_graph_is, create_virtual_image
 use Rattle.client_laws.proofs.RunStepLaws.{process_graph_keeps}
 
 -- each request that doesn't release a context leaves it within its limits, with the skeletons of what is held, and the nodes of graphs
-pub outcome_keeps : (limits : Allowance) (c : Context) (request : Request) → request ≢ ReleaseContext → KeepsLimits limits c → IsRequest request → KeepsBut (changes_nodes request) limits c (outcome_of limits c request)
+pub outcome_keeps : (limits : LimitsValue) (c : Context) (request : Request) → request ≢ ReleaseContext → KeepsLimits limits c → IsRequest request → KeepsBut (changes_nodes request) limits c (outcome_of limits c request)
 outcome_keeps limits c OpenContext stays h is = tt
 outcome_keeps limits c ReleaseContext stays h is = absurd (stays refl)
 outcome_keeps limits c (CreateImage d) stays h is = create_keeps limits c (ImageObject (new_image d.width d.height d.format)) h (new_image_is d.width d.height d.format is.width is.height) refl
@@ -51,16 +51,16 @@ outcome_keeps limits c (AgeDelay name) stays h is = age_delay_keeps limits c nam
 outcome_keeps limits c (RegisterAutoAging graph delay) stays h is = register_keeps limits c graph delay h
 
 -- the context after an outcome
-answered_keeps : (changes : ℕ → Bool) (limits : Allowance) (c : Context) (outcome : Outcome) → KeepsLimits limits c → KeepsBut changes limits c outcome → MatchOption (answered c outcome).1 ⊥ (Leaves limits changes c)
+answered_keeps : (changes : ℕ → Bool) (limits : LimitsValue) (c : Context) (outcome : Outcome) → KeepsLimits limits c → KeepsBut changes limits c outcome → MatchOption (reply_and_state c outcome).1 ⊥ (Leaves limits changes c)
 answered_keeps changes limits c outcome h kept = grind (arith, same_leaves)
 
 -- the context after a request that doesn't release it
-pub answer_leaves : (limits : Allowance) (c : Context) (request : Request) → request ≢ ReleaseContext → KeepsLimits limits c → IsRequest request
+pub answer_leaves : (limits : LimitsValue) (c : Context) (request : Request) → request ≢ ReleaseContext → KeepsLimits limits c → IsRequest request
     → MatchOption (answer_to limits (Some c) request).1 ⊥ (Leaves limits (changes_nodes request) c)
 answer_leaves limits c request stays h is = answered_keeps (changes_nodes request) limits c (outcome_of limits c request) h (outcome_keeps limits c request stays h is)
 
 -- the state after a request keeps the limits
-pub answer_keeps : (limits : Allowance) (state : State) (request : Request) → StateKeeps limits state → IsRequest request → StateKeeps limits (answer_to limits state request).1
+pub answer_keeps : (limits : LimitsValue) (state : State) (request : Request) → StateKeeps limits state → IsRequest request → StateKeeps limits (answer_to limits state request).1
 answer_keeps limits None OpenContext h is = new_context_keeps limits
 answer_keeps limits None other h is = tt
 answer_keeps limits (Some c) ReleaseContext h is = tt
@@ -70,7 +70,7 @@ answer_keeps limits (Some c) other h is = of_context (answer_to limits (Some c) 
     of_context state left = grind arith
 
 -- the state after requests keeps the limits
-pub state_after_keeps : (limits : Allowance) (state : State) (requests : List Request) → StateKeeps limits state → All IsRequest requests → StateKeeps limits (state_after limits state requests)
+pub state_after_keeps : (limits : LimitsValue) (state : State) (requests : List Request) → StateKeeps limits state → All IsRequest requests → StateKeeps limits (state_after limits state requests)
 state_after_keeps limits state [] h is = h
 state_after_keeps limits state (request ∷ requests) h is =
     state_after_keeps limits (answer_to limits state request).1 requests

@@ -3,11 +3,11 @@ ghost use Rattle.std.specs.Prelude.{◌≡◌, ◌≢◌, ℕ, true, false, All,
 ghost use Rattle.std.specs.List.Sorted.{IsPermutation};
 ghost use Rattle.vx_base.specs.declared.kind.Kind.TheVariants as kind;
 ghost use Rattle.vx_base.specs.declared.node.Node.{Node};
-ghost use Rattle.vx_base.specs.Cell.{Cell};
+ghost use Rattle.vx_base.specs.Reference.{Reference};
 ghost use Rattle.vx_base.specs.Graph.{GraphValue, nodes_of, is_registered};
 ghost use Rattle.vx_base.specs.Outputs.{written_from};
 ghost use Rattle.object_table.specs.Context.{Context};
-ghost use Rattle.object_table.specs.Named.{held};
+ghost use Rattle.object_table.specs.NamedObject.{object_at};
 ghost use Rattle.graph_verify.specs.Links.{is_written};
 ghost use Rattle.graph_verify.specs.Members.{In};
 ghost use Rattle.graph_run.specs.Operands.{names_cell};
@@ -15,7 +15,7 @@ ghost use Rattle.graph_run.specs.Solution.{kind_in};
 ghost use Rattle.client_model.specs.declared.request.Request.TheVariants.{VerifyGraph};
 ghost use Rattle.client_model.specs.declared.request.Request.TheVariants.{ProcessGraph};
 ghost use Rattle.client_model.specs.declared.reply.Reply.TheVariants.{Empty};
-ghost use Rattle.client_model.specs.Allowance.{Allowance};
+ghost use Rattle.client_model.specs.Limits.{LimitsValue};
 ghost use Rattle.client_model.specs.Answer.{answer_to};
 ghost use Rattle.client_model.specs.Context.{State};
 ghost use Rattle.client_model.specs.Graphs.{graph_named, process_found};
@@ -24,7 +24,7 @@ ghost use Rattle.client_laws.specs.Run.{IsRunOf};
 
 /// ProcessGraph gets the reply that VerifyGraph would get.
 pub fn what_verifies_runs()
-    ensures { (limits : Allowance) (state : State) (name : ℕ) →
+    ensures { (limits : LimitsValue) (state : State) (name : ℕ) →
         (answer_to limits state (ProcessGraph name)).0
         ≡ (answer_to limits state (VerifyGraph name)).0 }
 {}
@@ -35,7 +35,7 @@ pub fn what_verifies_runs()
 /// run, virtual images have no samples again, and the delays that are registered with the graph
 /// age.
 pub fn a_run_is_the_only_solution()
-    ensures { (limits : Allowance) (c later : Context) (name : ℕ) → KeepsLimits limits c →
+    ensures { (limits : LimitsValue) (c later : Context) (name : ℕ) → KeepsLimits limits c →
         answer_to limits (Some c) (ProcessGraph name) ≡ (Empty, Some later) →
         IsRunOf name c later }
 {}
@@ -49,37 +49,37 @@ pub fn a_run_is_the_only_solution()
 ///   don't age with the graph; a delay as a whole changes when one of its slots is written.
 /// - `virtual_images`: a virtual image is unchanged.
 pub fn what_a_run_leaves()
-    ensures written { (limits : Allowance) (c later : Context) (name : ℕ) (graph : GraphValue)
+    ensures written { (limits : LimitsValue) (c later : Context) (name : ℕ) (graph : GraphValue)
         (n : Node) → KeepsLimits limits c →
         answer_to limits (Some c) (ProcessGraph name) ≡ (Empty, Some later) →
         graph_named c.objects name ≡ Ok graph → In n (nodes_of graph) →
-        ((cell : Cell) → names_cell n cell ≡ true →
+        ((cell : Reference) → names_cell n cell ≡ true →
         kind_in c.objects cell ≢ Some kind.VirtualImage) →
-        ((cell : Cell) → names_cell n cell ≡ true → is_registered graph cell.name ≡ false) →
-        All (λ w. held later.objects w.0 ≡ Some w.1)
-        (written_from (held c.objects) n (held later.objects)) }
-    ensures others { (limits : Allowance) (c later : Context) (name : ℕ) (graph : GraphValue)
-        (cell : Cell) → KeepsLimits limits c →
+        ((cell : Reference) → names_cell n cell ≡ true → is_registered graph cell.name ≡ false) →
+        All (λ w. object_at later.objects w.0 ≡ Some w.1)
+        (written_from (object_at c.objects) n (object_at later.objects)) }
+    ensures others { (limits : LimitsValue) (c later : Context) (name : ℕ) (graph : GraphValue)
+        (cell : Reference) → KeepsLimits limits c →
         answer_to limits (Some c) (ProcessGraph name) ≡ (Empty, Some later) →
         graph_named c.objects name ≡ Ok graph → is_written (nodes_of graph) cell ≡ false →
         kind_in c.objects cell ≢ Some kind.Delay → is_registered graph cell.name ≡ false →
-        held later.objects cell ≡ held c.objects cell }
-    ensures virtual_images { (limits : Allowance) (c later : Context) (name : ℕ) (cell : Cell) →
+        object_at later.objects cell ≡ object_at c.objects cell }
+    ensures virtual_images { (limits : LimitsValue) (c later : Context) (name : ℕ) (cell : Reference) →
         KeepsLimits limits c →
         answer_to limits (Some c) (ProcessGraph name) ≡ (Empty, Some later) →
         kind_in c.objects cell ≡ Some kind.VirtualImage →
-        held later.objects cell ≡ held c.objects cell }
+        object_at later.objects cell ≡ object_at c.objects cell }
 {}
 
 /// A graph whose nodes were added in another order would run too, with the same result. Two graphs
 /// with the same nodes and the same registered delays also have the same result.
 pub fn nodes_in_any_order()
-    ensures had { (limits : Allowance) (c later : Context) (name : ℕ) (graph other : GraphValue) →
+    ensures had { (limits : LimitsValue) (c later : Context) (name : ℕ) (graph other : GraphValue) →
         KeepsLimits limits c → graph_named c.objects name ≡ Ok graph →
         IsPermutation (nodes_of graph) (nodes_of other) → graph.delays ≡ other.delays →
         process_found (Ok graph) limits c ≡ Ok (Empty, Some later) →
         process_found (Ok other) limits c ≡ Ok (Empty, Some later) }
-    ensures graphs { (limits : Allowance) (c later : Context) (one two : ℕ)
+    ensures graphs { (limits : LimitsValue) (c later : Context) (one two : ℕ)
         (graph other : GraphValue) → KeepsLimits limits c →
         graph_named c.objects one ≡ Ok graph → graph_named c.objects two ≡ Ok other →
         IsPermutation (nodes_of graph) (nodes_of other) → graph.delays ≡ other.delays →

@@ -2,13 +2,13 @@
 ghost use Rattle.std.specs.Prelude.{◌≡◌, ◌≢◌, ℕ, ◌<◌, false, List, All, Some, None, IfSome};
 ghost use Rattle.std.specs.Prelude.{IsSome, Ok};
 ghost use Rattle.std.specs.Option.{option_map};
-ghost use Rattle.vx_base.specs.Cell.{Cell};
+ghost use Rattle.vx_base.specs.Reference.{Reference};
 ghost use Rattle.vx_base.specs.declared.code.Code.{Code};
 ghost use Rattle.vx_base.specs.declared.code.Code.TheVariants.{Success, NoMemory};
 ghost use Rattle.vx_base.specs.declared.node.Node.{Node};
 ghost use Rattle.vx_base.specs.Graph.{GraphValue};
 ghost use Rattle.object_table.specs.Context.{Context};
-ghost use Rattle.object_table.specs.Named.{object_held, held};
+ghost use Rattle.object_table.specs.NamedObject.{object_held, object_at};
 ghost use Rattle.object_table.specs.Skeleton.{skeleton};
 ghost use Rattle.object_table.specs.Uses.{nodes_in};
 ghost use Rattle.graph_verify.specs.declared.verified.Verified.{Verified};
@@ -16,7 +16,7 @@ ghost use Rattle.graph_verify.specs.Operand.{operand_of};
 ghost use Rattle.graph_run.specs.Operands.{IsReady};
 ghost use Rattle.client_model.specs.declared.request.Request.{Request};
 ghost use Rattle.client_model.specs.declared.reply.Reply.TheVariants.{Refused};
-ghost use Rattle.client_model.specs.Allowance.{Allowance};
+ghost use Rattle.client_model.specs.Limits.{LimitsValue};
 ghost use Rattle.client_model.specs.Context.{State};
 ghost use Rattle.client_model.specs.Request.{IsRequest};
 ghost use Rattle.client_model.specs.Answer.{answer_to};
@@ -31,7 +31,7 @@ ghost use Rattle.client_model.specs.States.{IsLater, Stays, changes_nodes};
 /// - Each object has a live name or is used by a node, and nodes still find their operands.
 /// - At most 1,024 objects are held, and their charge is at most the quota.
 pub fn limits_are_kept()
-    ensures { (limits : Allowance) (requests : List Request) → All IsRequest requests →
+    ensures { (limits : LimitsValue) (requests : List Request) → All IsRequest requests →
         IfSome (state_after limits None requests) (KeepsLimits limits) }
 {}
 
@@ -45,28 +45,28 @@ pub fn limits_are_kept()
 /// - a graph that was verified can still run, in the order and with the descriptions that were
 ///   resolved, under the same condition and until the graph is dropped
 pub fn what_is_held_stays()
-    ensures after_one { (limits : Allowance) (c later : Context) (request : Request) (name : ℕ) →
+    ensures after_one { (limits : LimitsValue) (c later : Context) (request : Request) (name : ℕ) →
         KeepsLimits limits c → IsRequest request →
         (answer_to limits (Some c) request).1 ≡ Some later →
         name < c.next → Stays skeleton c.objects later.objects name }
-    ensures skeletons { (limits : Allowance) (c later : Context) (requests : List Request)
+    ensures skeletons { (limits : LimitsValue) (c later : Context) (requests : List Request)
         (name : ℕ) → IsLater limits c requests later →
         name < c.next → Stays skeleton c.objects later.objects name }
-    ensures nodes { (limits : Allowance) (c later : Context) (requests : List Request) (name : ℕ) →
+    ensures nodes { (limits : LimitsValue) (c later : Context) (requests : List Request) (name : ℕ) →
         IsLater limits c requests later →
         All (λ request. changes_nodes request name ≡ false) requests →
         name < c.next → Stays nodes_in c.objects later.objects name }
-    ensures operands { (limits : Allowance) (c later : Context) (requests : List Request)
-        (cell : Cell) → IsLater limits c requests later →
+    ensures operands { (limits : LimitsValue) (c later : Context) (requests : List Request)
+        (cell : Reference) → IsLater limits c requests later →
         cell.name < c.next → IsSome (object_held later.objects cell.name) →
-        option_map operand_of (held later.objects cell)
-        ≡ option_map operand_of (held c.objects cell) }
-    ensures verdicts { (limits : Allowance) (c later : Context) (requests : List Request)
+        option_map operand_of (object_at later.objects cell)
+        ≡ option_map operand_of (object_at c.objects cell) }
+    ensures verdicts { (limits : LimitsValue) (c later : Context) (requests : List Request)
         (name : ℕ) (before after : GraphValue) → IsLater limits c requests later →
         All (λ request. changes_nodes request name ≡ false) requests →
         graph_named c.objects name ≡ Ok before → graph_named later.objects name ≡ Ok after →
         graph_verdict limits later.objects after ≡ graph_verdict limits c.objects before }
-    ensures ready { (limits : Allowance) (c later : Context) (requests : List Request) (name : ℕ)
+    ensures ready { (limits : LimitsValue) (c later : Context) (requests : List Request) (name : ℕ)
         (nodes : List Node) (v : Verified) → IsLater limits c requests later →
         All (λ request. changes_nodes request name ≡ false) requests →
         name < c.next → option_map nodes_in (object_held c.objects name) ≡ Some nodes →
@@ -76,11 +76,11 @@ pub fn what_is_held_stays()
 
 /// A refusal leaves the state unchanged, and its code is neither SUCCESS nor NO_MEMORY.
 pub fn refusals()
-    ensures state { (limits : Allowance) (state : State) (request : Request) (code : Code) →
+    ensures state { (limits : LimitsValue) (state : State) (request : Request) (code : Code) →
         (answer_to limits state request).0 ≡ Refused code →
         (answer_to limits state request).1 ≡ state }
-    ensures success { (limits : Allowance) (state : State) (request : Request) →
+    ensures success { (limits : LimitsValue) (state : State) (request : Request) →
         (answer_to limits state request).0 ≢ Refused Success }
-    ensures no_memory { (limits : Allowance) (state : State) (request : Request) →
+    ensures no_memory { (limits : LimitsValue) (state : State) (request : Request) →
         (answer_to limits state request).0 ≢ Refused NoMemory }
 {}

@@ -1,16 +1,16 @@
 -- What an object is as a run begins, and what the verdict took it for.
 use Rattle.std.proofs.Common.{◌≡◌, ◌⊎◌, ℕ, zero, suc, Bool, true, List, [], ◌∷◌, Option, Some, None, IfSome, arith, is_some, unwrap_or}
-use Rattle.client_model.proofs.Common.{option_map, option_and_then, Kind, Node, Cell, Description, parameters, IsNode, second_kind, ObjectValue, IsObject, object_kind, Outline, in_slot, Operand, Image, operand_of, operand_kind, operand_format, stands_for, Suits, kind-operand, cond_both}
+use Rattle.client_model.proofs.Common.{option_map, option_and_then, Kind, Node, Reference, Description, parameters, IsNode, second_kind, ObjectValue, IsObject, object_kind, PartialDescription, in_slot, Operand, Image, operand_of, operand_kind, operand_format, stands_for, Suits, kind-operand, cond_both}
 use Rattle.vx_base.specs.Object.{VirtualObject}
 use Rattle.vx_base.specs.Description.{IsDescription}
-use Rattle.vx_base.specs.Outline.{IsOutline, closed, filled}
+use Rattle.vx_base.specs.PartialDescription.{IsPartialDescription, full_description, with_defaults}
 use Rattle.vx_base.proofs.ImageLaws.{new_image_is}
 use Rattle.graph_verify.specs.declared.operand.Operand.TheVariants.{Delay}
 use Rattle.graph_verify.specs.Links.{writes}
 use Rattle.graph_verify.specs.Operand.{is_virtual as is_virtual_operand}
-use Rattle.graph_verify.specs.Outlines.{operand_outline, given_outline, written_outline, as_known, virtual_or_image}
+use Rattle.graph_verify.specs.PartialDescriptions.{operand_partial_desc, given_partial_desc, written_partial_desc, as_known, virtual_or_image}
 use Rattle.graph_verify.specs.Rounds.{round as round_of, rounds as rounds_of}
-use Rattle.graph_run.specs.Graph.{is_virtual_object, begun_as}
+use Rattle.graph_run.specs.Graph.{is_virtual_object, object_at_start}
 use Rattle.client_model.proofs.HoldLaws.{is_taken}
 use Rattle.client_model.proofs.NodeStepLaws.{CanGive}
 use Rattle.graph_run.proofs.BegunLaws.{begun_if}
@@ -18,39 +18,39 @@ use Rattle.graph_run.proofs.BegunLaws.{begun_if}
 -- ---- outlines of virtual images
 
 -- an outline that is filled from another is one
-filled_is : (a b : Outline) → IsOutline a → IsOutline b → IsOutline (filled a b)
+filled_is : (a b : PartialDescription) → IsPartialDescription a → IsPartialDescription b → IsPartialDescription (with_defaults a b)
 filled_is a b h k = grind arith
 
 -- what is declared of an object is one
-pub object_outline_is : (object : Option ObjectValue) → IfSome object IsObject → IsOutline (operand_outline (unwrap_or (option_map operand_of object) Delay))
+pub object_outline_is : (object : Option ObjectValue) → IfSome object IsObject → IsPartialDescription (operand_partial_desc (unwrap_or (option_map operand_of object) Delay))
 object_outline_is object is = grind arith
 
 -- so is what is known after rounds
-module _ (is : Cell → Operand) (are : (cell : Cell) → IsOutline (operand_outline (is cell))) where
-  round_is : (nodes : List Node) (known : Cell → Outline) → ((cell : Cell) → IsOutline (known cell)) → (cell : Cell) → IsOutline (round_of writes (written_outline is) nodes known cell)
+module _ (is : Reference → Operand) (are : (cell : Reference) → IsPartialDescription (operand_partial_desc (is cell))) where
+  round_is : (nodes : List Node) (known : Reference → PartialDescription) → ((cell : Reference) → IsPartialDescription (known cell)) → (cell : Reference) → IsPartialDescription (round_of writes (written_partial_desc is) nodes known cell)
   round_is [] known h cell = h cell
   round_is (n ∷ nodes) known h cell =
-      cond_both (writes n cell) (written_outline is n known cell) (round_of writes (written_outline is) nodes known cell) IsOutline
-      (λ e. filled_is (operand_outline (is cell)) (given_outline n.function (known n.in1)) (are cell) (h n.in1))
+      cond_both (writes n cell) (written_partial_desc is n known cell) (round_of writes (written_partial_desc is) nodes known cell) IsPartialDescription
+      (λ e. filled_is (operand_partial_desc (is cell)) (given_partial_desc n.function (known n.in1)) (are cell) (h n.in1))
       (λ e. round_is nodes known h cell)
 
-  pub rounds_are : (nodes : List Node) (k : ℕ) (cell : Cell) → IsOutline (rounds_of writes (written_outline is) nodes k (λ c. operand_outline (is c)) cell)
+  pub rounds_are : (nodes : List Node) (k : ℕ) (cell : Reference) → IsPartialDescription (rounds_of writes (written_partial_desc is) nodes k (λ c. operand_partial_desc (is c)) cell)
   rounds_are nodes zero cell = are cell
-  rounds_are nodes (suc k) cell = round_is nodes (rounds_of writes (written_outline is) nodes k (λ c. operand_outline (is c))) (rounds_are nodes k) cell
+  rounds_are nodes (suc k) cell = round_is nodes (rounds_of writes (written_partial_desc is) nodes k (λ c. operand_partial_desc (is c))) (rounds_are nodes k) cell
 
 -- an image of which all is known has allowed sides
-closed_is : (o : Outline) → IsOutline o → IfSome (closed o) IsDescription
+closed_is : (o : PartialDescription) → IsPartialDescription o → IfSome (full_description o) IsDescription
 closed_is o h = grind arith
 
 -- ---- an object as a run begins
 
-pub begun_is_object : (object : ObjectValue) (known : Outline) (written : Bool) → IsObject object → IsOutline known → IsObject (begun_if written object (as_known (operand_of object) known))
-begun_is_object (VirtualObject image) known true is outline = of_closed (closed known) (closed_is known outline)
+pub begun_is_object : (object : ObjectValue) (known : PartialDescription) (written : Bool) → IsObject object → IsPartialDescription known → IsObject (begun_if written object (as_known (operand_of object) known))
+begun_is_object (VirtualObject image) known true is partial_desc = of_closed (full_description known) (closed_is known partial_desc)
   where
-    of_closed : (d : Option Description) → IfSome d IsDescription → IsObject (begun_as (VirtualObject image) (virtual_or_image known d))
+    of_closed : (d : Option Description) → IfSome d IsDescription → IsObject (object_at_start (VirtualObject image) (virtual_or_image known d))
     of_closed None sides = is
     of_closed (Some d) sides = new_image_is d.width d.height d.format sides.width sides.height
-begun_is_object other known written is outline = grind arith
+begun_is_object other known written is partial_desc = grind arith
 
 -- the object in a slot of it does not change
 pub slot_as_begun : (k : ℕ) (object : ObjectValue) (written : Bool) (operand : Operand) → in_slot (Some k) (begun_if written object operand) ≡ in_slot (Some k) object
@@ -66,7 +66,7 @@ image_as_begun k object written operand = grind arith
 abbrev pub Taken : Operand → Operand → Type 0
 Taken known actual = (known ≡ actual) ⊎ ((is_virtual_operand actual ≡ true) × (operand_format known ≡ None))
 
-pub taken_as_begun : (object : ObjectValue) (known : Outline) (written : Bool) → (is_virtual_object object ≡ true → written ≡ true)
+pub taken_as_begun : (object : ObjectValue) (known : PartialDescription) (written : Bool) → (is_virtual_object object ≡ true → written ≡ true)
     → Taken (as_known (operand_of object) known) (operand_of (begun_if written object (as_known (operand_of object) known)))
 taken_as_begun object known written h = grind arith
 

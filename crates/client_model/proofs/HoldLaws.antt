@@ -1,6 +1,6 @@
 -- The objects that are held: those that nodes of graphs use, and that nodes still find once others are dropped.
 use Rattle.std.proofs.Common.{◌≡◌, ◌⊎◌, inl, inr, ℕ, arith, Bool, true, false, IsTrue, List, [], ◌∷◌, ◌++◌, get_or, Option, Some, refl, sym, ap, subst, ◌∙◌, rules, All, is_none, ◌==◌, ◌&&◌, not, find, filter, unwrap_or, eq-eqb, eqb-true}
-use Rattle.client_model.proofs.Common.{IsStrictlyIncreasing, option_map, option_and_then, and_parts, or_cases, All-nil, All-cons, All-append, All-filter, All-map, All-tail, All-weaker, find-append, Function, Kind, Node, Numbered, Cell, parameters, operands, ObjectValue, GraphObject, object_kind, in_slot, Named, object_held, held, skeleton, names_it, uses, is_used, is_held, still_held, nodes_in, is_kind, holds_nothing, kind_held, stands, NodesStand, names_of, All-from_map, held_by_name}
+use Rattle.client_model.proofs.Common.{IsStrictlyIncreasing, option_map, option_and_then, and_parts, or_cases, All-nil, All-cons, All-append, All-filter, All-map, All-tail, All-weaker, find-append, Function, Kind, Node, Numbered, Reference, parameters, operands, ObjectValue, GraphObject, object_kind, in_slot, NamedObject, object_held, object_at, skeleton, names_it, uses, is_used, is_held, still_held, nodes_in, is_kind, holds_nothing, kind_held, holds_operand, NodesStand, names_of, All-from_map, held_by_name}
 use Rattle.std.specs.List.{list_any}
 use Rattle.std.proofs.lemmas.Bool.{or_right}
 use Rattle.object_table.specs.Delay.{slot_kind}
@@ -48,57 +48,57 @@ kinds_taken n = grind (arith, All-cons, All-append, parameters_taken n.function,
 -- ---- operands that are valid
 
 -- the parts of a valid operand: its kind, its scope and its slot
-pub record StandsFor (objects : List Named) (graph : ℕ) (operand : Cell × Kind) : Type 0 where
+pub record StandsFor (objects : List NamedObject) (graph : ℕ) (operand : Reference × Kind) : Type 0 where
   pub kind : is_kind operand.1 (kind_held objects operand.0) ≡ true
-  pub scope : is_of_other_graph graph (held objects operand.0) ≡ false
+  pub scope : is_of_other_graph graph (object_at objects operand.0) ≡ false
   pub there : holds_nothing objects operand.0 ≡ false
 
-pub stands_parts : (objects : List Named) (graph : ℕ) (operand : Cell × Kind) → IsTrue (stands objects graph operand) → StandsFor objects graph operand
+pub stands_parts : (objects : List NamedObject) (graph : ℕ) (operand : Reference × Kind) → IsTrue (holds_operand objects graph operand) → StandsFor objects graph operand
 stands_parts objects graph operand h = grind (arith, and_parts)
 
-pub stands_from : (objects : List Named) (graph : ℕ) (operand : Cell × Kind) → StandsFor objects graph operand → IsTrue (stands objects graph operand)
+pub stands_from : (objects : List NamedObject) (graph : ℕ) (operand : Reference × Kind) → StandsFor objects graph operand → IsTrue (holds_operand objects graph operand)
 stands_from objects graph operand h = grind (arith, and_from, not_from_false)
 
 -- whether an operand is valid, given the object of its name
-abbrev stands_on : ℕ → Cell × Kind → Option ObjectValue → Bool
+abbrev stands_on : ℕ → Reference × Kind → Option ObjectValue → Bool
 stands_on graph operand found =
     is_kind operand.1 (option_and_then (slot_kind operand.0.slot) found)
     && (not (is_of_other_graph graph (option_and_then (in_slot operand.0.slot) found)) && not (is_none (option_and_then (in_slot operand.0.slot) found)))
 
-stands_by_skeleton : (graph : ℕ) (operand : Cell × Kind) (found : Option ObjectValue) → stands_on graph operand (option_map skeleton found) ≡ stands_on graph operand found
+stands_by_skeleton : (graph : ℕ) (operand : Reference × Kind) (found : Option ObjectValue) → stands_on graph operand (option_map skeleton found) ≡ stands_on graph operand found
 stands_by_skeleton graph operand found = grind (arith, slot_kind-skeleton, in_slot-skeleton)
 
 -- an operand is equally valid among other objects, if the object of its name has the same skeleton
-pub stands-alike : (objects others : List Named) (graph : ℕ) (operand : Cell × Kind)
-    → option_map skeleton (object_held objects operand.0.name) ≡ option_map skeleton (object_held others operand.0.name) → stands objects graph operand ≡ stands others graph operand
+pub stands-alike : (objects others : List NamedObject) (graph : ℕ) (operand : Reference × Kind)
+    → option_map skeleton (object_held objects operand.0.name) ≡ option_map skeleton (object_held others operand.0.name) → holds_operand objects graph operand ≡ holds_operand others graph operand
 stands-alike objects others graph operand same =
     sym (stands_by_skeleton graph operand (object_held objects operand.0.name)) ∙ ap (stands_on graph operand) same ∙ stands_by_skeleton graph operand (object_held others operand.0.name)
 
 -- each operand of a node is valid
-abbrev pub OperandsStand : List Named → ℕ → Node → Type 0
-OperandsStand objects graph n = All (λ operand. IsTrue (stands objects graph operand)) (operands n)
+abbrev pub OperandsStand : List NamedObject → ℕ → Node → Type 0
+OperandsStand objects graph n = All (λ operand. IsTrue (holds_operand objects graph operand)) (operands n)
 
 -- if each operand that is valid among some objects is valid among others, so are the operands of nodes
-pub nodes_stand : (objects others : List Named) (graph : ℕ) (nodes : List Node) → ((operand : Cell × Kind) → IsTrue (stands objects graph operand) → IsTrue (stands others graph operand))
+pub nodes_stand : (objects others : List NamedObject) (graph : ℕ) (nodes : List Node) → ((operand : Reference × Kind) → IsTrue (holds_operand objects graph operand) → IsTrue (holds_operand others graph operand))
     → All (OperandsStand objects graph) nodes → All (OperandsStand others graph) nodes
 nodes_stand objects others graph nodes still h = search (rules)
 
 -- an operand is valid among other objects that have the same object of its name
-pub stands_still : (objects others : List Named) (graph : ℕ) (operand : Cell × Kind) → object_held others operand.0.name ≡ object_held objects operand.0.name
-    → IsTrue (stands objects graph operand) → IsTrue (stands others graph operand)
+pub stands_still : (objects others : List NamedObject) (graph : ℕ) (operand : Reference × Kind) → object_held others operand.0.name ≡ object_held objects operand.0.name
+    → IsTrue (holds_operand objects graph operand) → IsTrue (holds_operand others graph operand)
 stands_still objects others graph operand same h = stands-alike others objects graph operand (ap (option_map skeleton) same) ∙ h
 
 -- so it does with one object more
-pub stands_more : (objects : List Named) (new : Named) (graph : ℕ) (operand : Cell × Kind) → IsTrue (stands objects graph operand) → IsTrue (stands (objects ++ new ∷ []) graph operand)
+pub stands_more : (objects : List NamedObject) (new : NamedObject) (graph : ℕ) (operand : Reference × Kind) → IsTrue (holds_operand objects graph operand) → IsTrue (holds_operand (objects ++ new ∷ []) graph operand)
 stands_more objects new graph operand h =
     let there = (stands_parts objects graph operand h).there in
     stands_still objects (objects ++ new ∷ []) graph operand (grind (arith, find-append, there)) h
 
 -- ---- graphs, which no node uses
 
-module _ (objects : List Named) (name : ℕ) (object : ObjectValue) (found : object_held objects name ≡ Some object) (is : object_kind object ≡ kind.Graph) where
+module _ (objects : List NamedObject) (name : ℕ) (object : ObjectValue) (found : object_held objects name ≡ Some object) (is : object_kind object ≡ kind.Graph) where
   -- no valid operand has its name
-  of_other_name : (graph : ℕ) (operand : Cell × Kind) → IsTrue (stands objects graph operand) → is_taken operand.1 ≡ true → (operand.0.name == name) ≡ false
+  of_other_name : (graph : ℕ) (operand : Reference × Kind) → IsTrue (holds_operand objects graph operand) → is_taken operand.1 ≡ true → (operand.0.name == name) ≡ false
   of_other_name graph operand h taken = grind (arith, stands_parts objects graph operand h)
 
   not_named : (graph : ℕ) (n : Node) → OperandsStand objects graph n → list_any (λ operand. operand.0.name == name) (operands n) ≡ false
@@ -121,7 +121,7 @@ module _ (objects : List Named) (name : ℕ) (object : ObjectValue) (found : obj
 -- ---- what nodes use
 
 -- each operand of a node is used
-abbrev OperandsUsed : List Named → Node → Type 0
+abbrev OperandsUsed : List NamedObject → Node → Type 0
 OperandsUsed objects n = All (λ operand. is_used objects operand.0.name ≡ true) (operands n)
 
 -- each operand of a graph's node is named by it
@@ -135,9 +135,9 @@ uses_its_own (GraphObject g) =
 uses_its_own other = All-nil (λ n. All (λ operand. uses other operand.0.name ≡ true) (operands n))
 
 -- what a node of an unreleased graph names is used
-used_by_live : (objects : List Named) → All (λ o. o.live ≡ true → All (OperandsUsed objects) (nodes_in o.object)) objects
+used_by_live : (objects : List NamedObject) → All (λ o. o.live ≡ true → All (OperandsUsed objects) (nodes_in o.object)) objects
 used_by_live objects k d below live =
-    let o : Named = get_or objects k d in
+    let o : NamedObject = get_or objects k d in
     All-weaker (λ n. All (λ operand. uses o.object operand.0.name ≡ true) (operands n)) (OperandsUsed objects)
     (λ n each. All-weaker (λ operand. uses o.object operand.0.name ≡ true) (λ operand. is_used objects operand.0.name ≡ true)
     (λ operand used. list_any_at (λ p. p.live && uses p.object operand.0.name) objects k d below (and_from o.live (uses o.object operand.0.name) live used)) (operands n) each)
@@ -145,7 +145,7 @@ used_by_live objects k d below live =
 
 -- ---- the objects that are still held
 
-module _ (objects : List Named) where
+module _ (objects : List NamedObject) where
   -- what is used stays used, and what is held stays held
   used_still : (name : ℕ) → is_used (still_held objects) name ≡ is_used objects name
   used_still name =
@@ -166,7 +166,7 @@ module _ (objects : List Named) where
 
   module _ (names : IsStrictlyIncreasing (names_of objects)) (nodes : All (NodesStand objects) objects) where
     -- nodes of what is held still find what they name
-    node_finds_still : (o : Named) → object_held objects o.name ≡ Some o.object → (o.live ≡ true → All (OperandsUsed objects) (nodes_in o.object)) → NodesStand objects o
+    node_finds_still : (o : NamedObject) → object_held objects o.name ≡ Some o.object → (o.live ≡ true → All (OperandsUsed objects) (nodes_in o.object)) → NodesStand objects o
         → is_held objects o ≡ true → NodesStand (still_held objects) o
     node_finds_still o found used stand kept = by_mark (or_cases o.live (is_used objects o.name) kept) (graph_or_none o.object)
       where

@@ -8,7 +8,7 @@ use Rattle.client_model.specs.declared.request.Request.TheVariants.{OpenContext,
 use Rattle.client_model.specs.declared.refusal.Refusal.TheVariants.{InvalidValue}
 use Rattle.client_model.specs.declared.reply.Reply.{Reply}
 use Rattle.client_model.specs.declared.reply.Reply.TheVariants.{Refused, Empty}
-use Rattle.client_model.specs.Allowance.{Allowance}
+use Rattle.client_model.specs.Limits.{LimitsValue}
 use Rattle.object_table.specs.Context.{Context, new_context}
 use Rattle.client_model.specs.Context.{State}
 use Rattle.client_model.specs.Refusal.{Outcome, refusal_code}
@@ -20,7 +20,7 @@ use Rattle.client_model.specs.Immediate.{immediate}
 use Rattle.client_model.specs.Delays.{create_delay, age_delay, register_auto_aging}
 
 -- the outcome of a request in the client's context
-abbrev pub outcome_of : Allowance → Context → Request → Outcome
+abbrev pub outcome_of : LimitsValue → Context → Request → Outcome
 outcome_of limits c OpenContext = Err InvalidValue
 outcome_of limits c ReleaseContext = Ok (Empty, None)
 outcome_of limits c (CreateImage d) = create_image limits c d
@@ -50,9 +50,9 @@ outcome_of limits c (AgeDelay name) = age_delay c name
 outcome_of limits c (RegisterAutoAging graph delay) = register_auto_aging c graph delay
 
 -- the reply to a client with a context, and its new state, which a refusal leaves as it is
-abbrev pub answered : Context → Outcome → Reply × State
-answered c (Ok done) = done
-answered c (Err refusal) = (Refused (refusal_code refusal), Some c)
+abbrev pub reply_and_state : Context → Outcome → Reply × State
+reply_and_state c (Ok done) = done
+reply_and_state c (Err refusal) = (Refused (refusal_code refusal), Some c)
 
 -- the reply to a client without a context, and its new state
 abbrev pub answer_without : Request → Reply × State
@@ -60,6 +60,6 @@ answer_without OpenContext = (Empty, Some new_context)
 answer_without other = (Refused code.InvalidReference, None)
 
 -- the reply to a request of a client in this state, and the new state
-abbrev pub answer_to : Allowance → State → Request → Reply × State
+abbrev pub answer_to : LimitsValue → State → Request → Reply × State
 answer_to limits None request = answer_without request
-answer_to limits (Some c) request = answered c (outcome_of limits c request)
+answer_to limits (Some c) request = reply_and_state c (outcome_of limits c request)

@@ -1,12 +1,12 @@
 -- One client's state.
 use Rattle.std.specs.Prelude.{ℕ, ◌+◌, Bool, ◌&&◌, nat_le, Option}
 use Rattle.object_table.specs.Context.{Context, charge_of, can_insert}
-use Rattle.client_model.specs.Allowance.{Allowance}
+use Rattle.client_model.specs.Limits.{LimitsValue}
 
 -- no context, or the client's open one
 abbrev pub State : Type 0
 State = Option Context
 
 -- whether an object that is charged `bytes` can be created: one more object can be held, and the quota allows it
-abbrev pub has_room : Allowance → Context → ℕ → Bool
-has_room limits c bytes = can_insert c && nat_le (charge_of c.objects + bytes) limits.quota
+abbrev pub has_capacity : LimitsValue → Context → ℕ → Bool
+has_capacity limits c bytes = can_insert c && nat_le (charge_of c.objects + bytes) limits.quota

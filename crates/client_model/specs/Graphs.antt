@@ -7,15 +7,15 @@ use Rattle.vx_base.specs.declared.node.Node.{Node}
 use Rattle.vx_base.specs.Graph.{GraphValue, nodes_of, can_add, with_node, has_node, without_node}
 use Rattle.vx_base.specs.Node.{operands}
 use Rattle.vx_base.specs.Object.{ObjectValue, GraphObject, VirtualObject}
-use Rattle.vx_base.specs.Outline.{Outline}
+use Rattle.vx_base.specs.PartialDescription.{PartialDescription}
 use Rattle.object_table.specs.Ageing.{aged_under}
-use Rattle.object_table.specs.Named.{Named}
-use Rattle.vx_base.specs.Cell.{cell_of}
+use Rattle.object_table.specs.NamedObject.{NamedObject}
+use Rattle.vx_base.specs.Reference.{reference_to}
 use Rattle.object_table.specs.Ageing.{aged_under}
 use Rattle.object_table.specs.Context.{Context, object_named, with_objects, with_graph}
 use Rattle.object_table.specs.Holds.{still_held}
 use Rattle.graph_verify.specs.declared.verdict.Verdict.{Verdict}
-use Rattle.graph_verify.specs.Outlines.{resolved}
+use Rattle.graph_verify.specs.PartialDescriptions.{resolved_operand}
 use Rattle.graph_verify.specs.Verdict.{verdict}
 use Rattle.graph_run.specs.Graph.{run_of_graph}
 use Rattle.graph_run.specs.Operands.{operand_held}
@@ -23,10 +23,10 @@ use Rattle.client_model.specs.declared.refusal.Refusal.{Refusal}
 use Rattle.client_model.specs.declared.refusal.Refusal.TheVariants.{InvalidReference, InvalidType, NoResources, Rejected}
 use Rattle.client_model.specs.declared.reply.Reply.TheVariants.{Empty}
 use Rattle.client_model.specs.declared.reply.Reply.TheVariants as reply
-use Rattle.client_model.specs.Allowance.{Allowance}
+use Rattle.client_model.specs.Limits.{LimitsValue}
 use Rattle.client_model.specs.Images.{create}
 use Rattle.client_model.specs.Operands.{operands_refusal}
-use Rattle.client_model.specs.Refusal.{Outcome, refused_or, unless}
+use Rattle.client_model.specs.Refusal.{Outcome, refused_or, reply_unless}
 
 -- the graph of a live name, or why there is none
 abbrev pub as_graph : Option ObjectValue → Result GraphValue Refusal
@@ -34,15 +34,15 @@ as_graph None = Err InvalidReference
 as_graph (Some (GraphObject graph)) = Ok graph
 as_graph (Some other) = Err InvalidType
 
-abbrev pub graph_named : List Named → ℕ → Result GraphValue Refusal
+abbrev pub graph_named : List NamedObject → ℕ → Result GraphValue Refusal
 graph_named objects name = as_graph (object_named objects name)
 
 -- CreateVirtualImage: a virtual image, which only nodes of this graph may use
-abbrev pub create_virtual_in : Result GraphValue Refusal → Allowance → Context → ℕ → Outline → Outcome
+abbrev pub create_virtual_in : Result GraphValue Refusal → LimitsValue → Context → ℕ → PartialDescription → Outcome
 create_virtual_in (Err refusal) limits c name declared = Err refusal
 create_virtual_in (Ok graph) limits c name declared = create limits c (VirtualObject (record { graph = name; declared = declared }))
 
-abbrev pub create_virtual_image : Allowance → Context → ℕ → Outline → Outcome
+abbrev pub create_virtual_image : LimitsValue → Context → ℕ → PartialDescription → Outcome
 create_virtual_image limits c name declared = create_virtual_in (graph_named c.objects name) limits c name declared
 
 -- AddNode: the node is appended, under the graph's next number
@@ -53,7 +53,7 @@ add_to (Ok graph) c name n =
 
 abbrev pub add_node : Context → ℕ → Node → Outcome
 add_node c name n =
-    refused_or (operands_refusal (Some name) c.objects ((cell_of name, kind.Graph) ∷ operands n)) (add_to (graph_named c.objects name) c name n)
+    refused_or (operands_refusal (Some name) c.objects ((reference_to name, kind.Graph) ∷ operands n)) (add_to (graph_named c.objects name) c name n)
 
 -- RemoveNode: the node is removed, and objects that are then no longer held are dropped
 abbrev pub remove_from : Result GraphValue Refusal → Context → ℕ → ℕ → Outcome
@@ -66,23 +66,23 @@ abbrev pub remove_node : Context → ℕ → ℕ → Outcome
 remove_node c name number = remove_from (graph_named c.objects name) c name number
 
 -- VerifyGraph: the verdict on the graph
-abbrev pub graph_verdict : Allowance → List Named → GraphValue → Option Verdict
+abbrev pub graph_verdict : LimitsValue → List NamedObject → GraphValue → Option Verdict
 graph_verdict limits objects graph = verdict limits.work (operand_held objects) (nodes_of graph)
 
-abbrev pub verify_found : Result GraphValue Refusal → Allowance → Context → Outcome
+abbrev pub verify_found : Result GraphValue Refusal → LimitsValue → Context → Outcome
 verify_found (Err refusal) limits c = Err refusal
-verify_found (Ok graph) limits c = unless (option_map Rejected (graph_verdict limits c.objects graph)) Empty c
+verify_found (Ok graph) limits c = reply_unless (option_map Rejected (graph_verdict limits c.objects graph)) Empty c
 
-abbrev pub verify_graph : Allowance → Context → ℕ → Outcome
+abbrev pub verify_graph : LimitsValue → Context → ℕ → Outcome
 verify_graph limits c name = verify_found (graph_named c.objects name) limits c
 
 -- ProcessGraph: the verdict on the graph; if it is valid, the graph runs, and then the delays that are registered with it age
-abbrev pub process_found : Result GraphValue Refusal → Allowance → Context → Outcome
+abbrev pub process_found : Result GraphValue Refusal → LimitsValue → Context → Outcome
 process_found (Err refusal) limits c = Err refusal
 process_found (Ok graph) limits c =
     let nodes = nodes_of graph in
-    unless (option_map Rejected (graph_verdict limits c.objects graph)) Empty
-    (with_objects c (aged_under graph.delays (run_of_graph (resolved (operand_held c.objects) nodes) nodes c.objects)))
+    reply_unless (option_map Rejected (graph_verdict limits c.objects graph)) Empty
+    (with_objects c (aged_under graph.delays (run_of_graph (resolved_operand (operand_held c.objects) nodes) nodes c.objects)))
 
-abbrev pub process_graph : Allowance → Context → ℕ → Outcome
+abbrev pub process_graph : LimitsValue → Context → ℕ → Outcome
 process_graph limits c name = process_found (graph_named c.objects name) limits c

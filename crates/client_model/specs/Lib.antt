@@ -1,4 +1,4 @@
-pub mod Allowance
+pub mod Limits
 pub mod Context
 pub mod Request
 pub mod Refusal

@@ -3,9 +3,9 @@ use Rattle.std.specs.Prelude.{ℕ, is_none, Some, Ok, Err, if◌then◌else◌}
 use Rattle.client_model.specs.declared.refusal.Refusal.TheVariants.{InvalidReference}
 use Rattle.client_model.specs.declared.reply.Reply.TheVariants.{Empty}
 use Rattle.object_table.specs.Context.{Context, object_named, with_objects}
-use Rattle.object_table.specs.Holds.{still_held, unnamed}
+use Rattle.object_table.specs.Holds.{still_held, without_name}
 use Rattle.client_model.specs.Refusal.{Outcome}
 
 -- Release: the name is no longer live and never given again; objects that are then no longer held are dropped
 abbrev pub release : Context → ℕ → Outcome
-release c name = if is_none (object_named c.objects name) then Err InvalidReference else Ok (Empty, Some (with_objects c (still_held (unnamed c.objects name))))
+release c name = if is_none (object_named c.objects name) then Err InvalidReference else Ok (Empty, Some (with_objects c (still_held (without_name c.objects name))))

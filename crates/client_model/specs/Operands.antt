@@ -4,21 +4,21 @@ use Rattle.std.specs.List.{list_any}
 use Rattle.std.specs.Option.{option_and_then}
 use Rattle.vx_base.specs.declared.kind.Kind.{Kind}
 use Rattle.vx_base.specs.declared.kind.Kind.TheVariants as kind
-use Rattle.vx_base.specs.Cell.{Cell}
+use Rattle.vx_base.specs.Reference.{Reference}
 use Rattle.vx_base.specs.Image.{ImageValue}
 use Rattle.vx_base.specs.Object.{ObjectValue, ImageObject, VirtualObject, same_kind}
 use Rattle.object_table.specs.Delay.{slot_kind}
-use Rattle.object_table.specs.Named.{Named, held}
+use Rattle.object_table.specs.NamedObject.{NamedObject, object_at}
 use Rattle.object_table.specs.Context.{object_named}
 use Rattle.client_model.specs.declared.refusal.Refusal.{Refusal}
 use Rattle.client_model.specs.declared.refusal.Refusal.TheVariants.{InvalidReference, InvalidType, InvalidScope, InvalidValue, OptimizedAway}
 
 -- whether a reference's name isn't live
-abbrev pub is_unknown : List Named → Cell → Bool
+abbrev pub is_unknown : List NamedObject → Reference → Bool
 is_unknown objects cell = is_none (object_named objects cell.name)
 
 -- the kind that a reference has: that of its object, or an image for a slot of a delay
-abbrev pub kind_of : List Named → Cell → Option Kind
+abbrev pub kind_of : List NamedObject → Reference → Option Kind
 kind_of objects cell = option_and_then (slot_kind cell.slot) (object_named objects cell.name)
 
 -- whether an object of one kind is accepted where another is expected: a virtual image is accepted as an image
@@ -31,12 +31,12 @@ is_kind wanted None = false
 is_kind wanted (Some kind) = stands_for kind wanted
 
 -- whether a reference has another kind than the one that is expected there
-abbrev pub is_of_other_kind : List Named → Cell × Kind → Bool
+abbrev pub is_of_other_kind : List NamedObject → Reference × Kind → Bool
 is_of_other_kind objects operand = not (is_kind operand.1 (kind_of objects operand.0))
 
 -- whether a reference names nothing: no object has the name, or the slot doesn't exist
-abbrev pub holds_nothing : List Named → Cell → Bool
-holds_nothing objects cell = is_none (held objects cell)
+abbrev pub holds_nothing : List NamedObject → Reference → Bool
+holds_nothing objects cell = is_none (object_at objects cell)
 
 -- whether an object is a virtual image of another graph
 abbrev pub is_of_other_graph : ℕ → Option ObjectValue → Bool
@@ -44,13 +44,13 @@ is_of_other_graph graph (Some (VirtualObject image)) = not (image.graph == graph
 is_of_other_graph graph other = false
 
 -- whether a reference in a node of this graph is out of the graph's scope; a node by itself has no scope
-abbrev pub is_beyond : Option ℕ → List Named → Cell → Bool
+abbrev pub is_beyond : Option ℕ → List NamedObject → Reference → Bool
 is_beyond None objects cell = false
-is_beyond (Some graph) objects cell = is_of_other_graph graph (held objects cell)
+is_beyond (Some graph) objects cell = is_of_other_graph graph (object_at objects cell)
 
 -- the first refusal of references, each with the kind that is expected there: first names, then kinds, then scopes, then slots, each over
 -- all references
-abbrev pub operands_refusal : Option ℕ → List Named → List (Cell × Kind) → Option Refusal
+abbrev pub operands_refusal : Option ℕ → List NamedObject → List (Reference × Kind) → Option Refusal
 operands_refusal scope objects operands =
     if list_any (λ operand. is_unknown objects operand.0) operands then Some InvalidReference
     else (if list_any (is_of_other_kind objects) operands then Some InvalidType
@@ -64,7 +64,7 @@ as_image (Some (VirtualObject image)) = Err OptimizedAway
 as_image other = Err InvalidValue
 
 -- the image that a reference names, or why it names none
-abbrev pub image_of : List Named → Cell → Result ImageValue Refusal
+abbrev pub image_of : List NamedObject → Reference → Result ImageValue Refusal
 image_of objects cell =
     if is_unknown objects cell then Err InvalidReference
-    else (if is_of_other_kind objects (cell, kind.Image) then Err InvalidType else as_image (held objects cell))
+    else (if is_of_other_kind objects (cell, kind.Image) then Err InvalidType else as_image (object_at objects cell))

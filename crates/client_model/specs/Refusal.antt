@@ -31,6 +31,6 @@ refused_or None outcome = outcome
 refused_or (Some refusal) outcome = Err refusal
 
 -- the reply and this new context, unless the request is refused
-abbrev pub unless : Option Refusal → Reply → Context → Outcome
-unless None reply c = Ok (reply, Some c)
-unless (Some refusal) reply c = Err refusal
+abbrev pub reply_unless : Option Refusal → Reply → Context → Outcome
+reply_unless None reply c = Ok (reply, Some c)
+reply_unless (Some refusal) reply c = Err refusal

@@ -1,9 +1,9 @@
 -- Clients' requests.
 use Rattle.std.specs.Prelude.{⊤, IsTrue, ◌<◌, ◌^◌, All}
-use Rattle.vx_base.specs.Cell.{IsCell}
+use Rattle.vx_base.specs.Reference.{IsReference}
 use Rattle.vx_base.specs.Description.{IsDescription}
 use Rattle.vx_base.specs.Node.{IsNode}
-use Rattle.vx_base.specs.Outline.{IsOutline}
+use Rattle.vx_base.specs.PartialDescription.{IsPartialDescription}
 use Rattle.vx_base.specs.Picture.{IsPicture}
 use Rattle.vx_base.specs.Rectangle.{IsRectangle}
 use Rattle.vx_base.specs.Lut.{IsLut}
@@ -19,12 +19,12 @@ abbrev pub IsRequest : Request → Type 0
 IsRequest OpenContext = ⊤
 IsRequest ReleaseContext = ⊤
 IsRequest (CreateImage d) = IsDescription d
-IsRequest (QueryImage cell) = IsCell cell
-IsRequest (WriteImage cell picture) = IsCell cell × IsPicture picture
-IsRequest (WriteImagePgm cell text) = IsCell cell × All (λ byte. byte < 2 ^ 8) text
-IsRequest (ReadImage cell) = IsCell cell
-IsRequest (ReadImagePgm cell) = IsCell cell
-IsRequest (SetValid cell rectangle) = IsCell cell × IsRectangle rectangle
+IsRequest (QueryImage cell) = IsReference cell
+IsRequest (WriteImage cell picture) = IsReference cell × IsPicture picture
+IsRequest (WriteImagePgm cell text) = IsReference cell × All (λ byte. byte < 2 ^ 8) text
+IsRequest (ReadImage cell) = IsReference cell
+IsRequest (ReadImagePgm cell) = IsReference cell
+IsRequest (SetValid cell rectangle) = IsReference cell × IsRectangle rectangle
 IsRequest (Release name) = name < 2 ^ 32
 IsRequest (CreateLut lut) = IsLut lut
 IsRequest (CreateThreshold threshold) = IsThreshold threshold
@@ -34,13 +34,13 @@ IsRequest (ReadDistribution name) = name < 2 ^ 32
 IsRequest CreateMinMax = ⊤
 IsRequest (ReadMinMax name) = name < 2 ^ 32
 IsRequest CreateGraph = ⊤
-IsRequest (CreateVirtualImage graph declared) = (graph < 2 ^ 32) × IsOutline declared
+IsRequest (CreateVirtualImage graph declared) = (graph < 2 ^ 32) × IsPartialDescription declared
 IsRequest (AddNode graph node) = (graph < 2 ^ 32) × IsNode node
 IsRequest (RemoveNode graph number) = (graph < 2 ^ 32) × (number < 2 ^ 32)
 IsRequest (VerifyGraph graph) = graph < 2 ^ 32
 IsRequest (ProcessGraph graph) = graph < 2 ^ 32
 IsRequest (Immediate node) = IsNode node
-IsRequest (CreateDelay cell slots) = IsCell cell × IsTrue (is_slot_count slots)
+IsRequest (CreateDelay cell slots) = IsReference cell × IsTrue (is_slot_count slots)
 IsRequest (AgeDelay name) = name < 2 ^ 32
 IsRequest (RegisterAutoAging graph delay) = (graph < 2 ^ 32) × (delay < 2 ^ 32)
 

@@ -3,17 +3,17 @@ use Rattle.std.specs.Prelude.{ℕ, ◌≡◌, ◌≢◌, ◌<◌, ◌≤◌, ◌
 use Rattle.std.specs.Option.{option_map, option_and_then}
 use Rattle.std.specs.List.Sorted.{IsStrictlyIncreasing}
 use Rattle.vx_base.specs.declared.kind.Kind.{Kind}
-use Rattle.vx_base.specs.Cell.{Cell}
+use Rattle.vx_base.specs.Reference.{Reference}
 use Rattle.vx_base.specs.Node.{operands}
 use Rattle.vx_base.specs.Object.{ObjectValue, IsObject}
 use Rattle.object_table.specs.Delay.{slot_kind}
-use Rattle.object_table.specs.Named.{Named, object_held, held as object_in_cell}
+use Rattle.object_table.specs.NamedObject.{NamedObject, object_held, object_at as object_in_cell}
 use Rattle.object_table.specs.Context.{Context, charge_of}
 use Rattle.object_table.specs.Holds.{is_held}
 use Rattle.object_table.specs.Uses.{nodes_in}
 use Rattle.client_model.specs.declared.request.Request.{Request}
 use Rattle.client_model.specs.declared.request.Request.TheVariants.{ReleaseContext, AddNode, RemoveNode}
-use Rattle.client_model.specs.Allowance.{Allowance}
+use Rattle.client_model.specs.Limits.{LimitsValue}
 use Rattle.client_model.specs.Context.{State}
 use Rattle.client_model.specs.Operands.{is_kind, holds_nothing, is_of_other_graph}
 use Rattle.client_model.specs.Request.{IsRequest}
@@ -21,22 +21,22 @@ use Rattle.client_model.specs.Answer.{answer_to}
 use Rattle.object_table.specs.declared.table.TheConstants.{GREATEST_OBJECTS}
 
 -- the kind of a reference in a node, whether its name is still live or not
-abbrev pub kind_held : List Named → Cell → Option Kind
+abbrev pub kind_held : List NamedObject → Reference → Option Kind
 kind_held objects cell = option_and_then (slot_kind cell.slot) (object_held objects cell.name)
 
 -- whether a reference in a node of this graph still names an operand that the node's function accepts there
-abbrev pub stands : List Named → ℕ → Cell × Kind → Bool
-stands objects graph operand =
+abbrev pub holds_operand : List NamedObject → ℕ → Reference × Kind → Bool
+holds_operand objects graph operand =
     is_kind operand.1 (kind_held objects operand.0)
     && (not (is_of_other_graph graph (object_in_cell objects operand.0)) && not (holds_nothing objects operand.0))
 
 -- each reference in a graph's nodes still names an operand that the node's function accepts there
-abbrev pub NodesStand : List Named → Named → Type 0
-NodesStand objects o = All (λ n. All (λ operand. IsTrue (stands objects o.name operand)) (operands n)) (nodes_in o.object)
+abbrev pub NodesStand : List NamedObject → NamedObject → Type 0
+NodesStand objects o = All (λ n. All (λ operand. IsTrue (holds_operand objects o.name operand)) (operands n)) (nodes_in o.object)
 
 -- The invariant of a context: valid objects, distinct names below the next one, each object held, nodes
 -- that find their operands, at most 1,024 objects, and a charge within the quota.
-pub record KeepsLimits (limits : Allowance) (c : Context) : Type 0 where
+pub record KeepsLimits (limits : LimitsValue) (c : Context) : Type 0 where
   pub objects : All (λ o. IsObject o.object) c.objects
   pub names : IsStrictlyIncreasing (map (λ o. o.name) c.objects)
   pub below : All (λ o. o.name < c.next) c.objects
@@ -47,21 +47,21 @@ pub record KeepsLimits (limits : Allowance) (c : Context) : Type 0 where
   pub quota : charge_of c.objects ≤ limits.quota
 
 -- a client's state after these requests of its own
-abbrev pub state_after : Allowance → State → List Request → State
+abbrev pub state_after : LimitsValue → State → List Request → State
 state_after limits state [] = state
 state_after limits state (request ∷ requests) = state_after limits (answer_to limits state request).1 requests
 
 -- ---- what requests don't change
 
 -- a client's context after these requests of its own, none of which releases it
-pub record IsLater (limits : Allowance) (c : Context) (requests : List Request) (later : Context) : Type 0 where
+pub record IsLater (limits : LimitsValue) (c : Context) (requests : List Request) (later : Context) : Type 0 where
   pub keeps : KeepsLimits limits c
   pub are : All IsRequest requests
   pub unreleased : All (λ request. request ≢ ReleaseContext) requests
   pub state : state_after limits (Some c) requests ≡ Some later
 
 -- the object that is now held under a name was held under it before, and this part of it has not changed
-abbrev pub Stays : {X : Type 0} → (ObjectValue → X) → List Named → List Named → ℕ → Type 0
+abbrev pub Stays : {X : Type 0} → (ObjectValue → X) → List NamedObject → List NamedObject → ℕ → Type 0
 Stays part before after name = IfSome (object_held after name) (λ object. option_map part (object_held before name) ≡ Some (part object))
 
 -- whether a request changes the nodes of the graph of this name, unless it is refused

@@ -16,10 +16,10 @@ abbrev pub read_distribution : Context → ℕ → Outcome
 read_distribution c name = counts_of c (object_named c.objects name)
 
 -- ReadMinMax: the least and the greatest sample
-abbrev pub extremes_of : Context → Option ObjectValue → Outcome
-extremes_of c None = Err InvalidReference
-extremes_of c (Some (ExtremesObject extremes)) = Ok (Extremes extremes, Some c)
-extremes_of c (Some other) = Err InvalidType
+abbrev pub min_max_of : Context → Option ObjectValue → Outcome
+min_max_of c None = Err InvalidReference
+min_max_of c (Some (ExtremesObject extremes)) = Ok (Extremes extremes, Some c)
+min_max_of c (Some other) = Err InvalidType
 
 abbrev pub read_min_max : Context → ℕ → Outcome
-read_min_max c name = extremes_of c (object_named c.objects name)
+read_min_max c name = min_max_of c (object_named c.objects name)

@@ -1,6 +1,6 @@
 //! Quotas of bytes.
 ghost use Rattle.std.specs.Prelude.{◌≡◌, ◌≤◌};
-ghost use Rattle.client_model.specs.Allowance.{allowance};
+ghost use Rattle.client_model.specs.Limits.{limits_from};
 
 use std::marker::Model;
 
@@ -20,9 +20,9 @@ pub struct Limits {
 
 impl Model for Limits {
     ghost use Rattle.std.specs.Prelude.{IsTrue, ◌&&◌};
-    ghost use Rattle.client_model.specs.Allowance.{Allowance, is_limit};
+    ghost use Rattle.client_model.specs.Limits.{LimitsValue, is_limit};
 
-    ghost Value = { Allowance };
+    ghost Value = { LimitsValue };
 
     ghost view = { λ l. record { quota = l.quota; work = l.work } };
 
@@ -34,7 +34,7 @@ impl Model for Limits {
 impl Limits {
     /// Returns limits of these numbers of bytes. `None`: one of them isn't 1 to 2^40.
     pub fn new(quota: u64, work: u64) -> Option<Limits>
-        ensures { result ≡ allowance quota work }
+        ensures { result ≡ limits_from quota work }
     {
         let limits = 1..=GREATEST_LIMIT;
         if limits.contains(&quota) && limits.contains(&work) {
@@ -61,9 +61,9 @@ impl Limits {
 }
 
 impl Default for Limits {
-    ghost use Rattle.client_model.specs.Allowance.{default_allowance};
+    ghost use Rattle.client_model.specs.Limits.{default_limits};
 
-    ghost is_default = { λ l. l ≡ default_allowance };
+    ghost is_default = { λ l. l ≡ default_limits };
 
     fn default() -> Self {
         Limits {

@@ -4,7 +4,7 @@ ghost use Rattle.client_model.specs.Request.{IsRequest};
 
 use crate::text::Text;
 use vx_base::{
-    Bins, Convolution, Desc, Lut, NodeSpec, ObjRef, Outline, Picture, Rect, SlotCount,
+    Bins, Convolution, Desc, Lut, NodeSpec, ObjRef, PartialDesc, Picture, Rect, SlotCount,
     ThresholdRule,
 };
 
@@ -49,7 +49,7 @@ pub enum Request {
     CreateGraph,
     /// Creates a virtual image of the graph with this name. Its width, height and format may be
     /// open.
-    CreateVirtualImage(u32, Outline),
+    CreateVirtualImage(u32, PartialDesc),
     /// Adds a node to the graph with this name.
     AddNode(u32, NodeSpec),
     /// Removes the node of this number from the graph with this name.

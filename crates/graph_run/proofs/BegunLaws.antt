@@ -1,6 +1,6 @@
 -- Virtual images at the start and at the end of a run.
 use Rattle.std.proofs.Common.{◌≡◌, ℕ, true, false, if◌then◌else◌, eqb, List, [], ◌∷◌, map, drop, refl, sym, ap, subst, ◌∙◌, inl, inr, Option, Some, None, Bool, arith, ◌==◌, option_map}
-use Rattle.graph_run.proofs.Common.{cases_Bool, Node, Cell, ObjectValue, object_kind, in_slot, Named, object_held, with_object, with_written, Operand, In, is_written, begun_as, begun, is_virtual_object, forgotten, WritesNo, label_of, operand_of, object_held-map}
+use Rattle.graph_run.proofs.Common.{cases_Bool, Node, Reference, ObjectValue, object_kind, in_slot, NamedObject, object_held, with_object, with_written, Operand, In, is_written, object_at_start, named_at_start, is_virtual_object, objects_at_end, WritesNo, label_of, operand_of, object_held-map}
 use Rattle.vx_base.specs.declared.kind.Kind.TheVariants as kind
 use Rattle.graph_run.proofs.HeldLaws.{object_held-with_object}
 use Rattle.graph_run.proofs.NameLaws.{Rising, by_names}
@@ -9,24 +9,24 @@ use Rattle.graph_verify.specs.Operand.{is_virtual as is_virtual_operand}
 -- ---- the begin
 
 -- the object with a name at the start of a run
-abbrev pub begun_under : (Cell → Operand) → List Node → ℕ → ObjectValue → ObjectValue
-begun_under is nodes name x = if is_written nodes (record { name = name; slot = None }) then begun_as x (is (record { name = name; slot = None })) else x
+abbrev pub begun_under : (Reference → Operand) → List Node → ℕ → ObjectValue → ObjectValue
+begun_under is nodes name x = if is_written nodes (record { name = name; slot = None }) then object_at_start x (is (record { name = name; slot = None })) else x
 
-pub object_held-begun : (is : Cell → Operand) (nodes : List Node) (objects : List Named) (name : ℕ)
-    → object_held (map (begun is nodes) objects) name ≡ option_map (begun_under is nodes name) (object_held objects name)
+pub object_held-begun : (is : Reference → Operand) (nodes : List Node) (objects : List NamedObject) (name : ℕ)
+    → object_held (map (named_at_start is nodes) objects) name ≡ option_map (begun_under is nodes name) (object_held objects name)
 object_held-begun is nodes objects name = grind (arith, object_held-map, cases_Bool)
 
-pub labels-begun : (is : Cell → Operand) (nodes : List Node) (objects : List Named) → map label_of (map (begun is nodes) objects) ≡ map label_of objects
+pub labels-begun : (is : Reference → Operand) (nodes : List Node) (objects : List NamedObject) → map label_of (map (named_at_start is nodes) objects) ≡ map label_of objects
 labels-begun is nodes [] = refl
 labels-begun is nodes (o ∷ objects) = grind (arith, labels-begun is nodes objects, cases_Bool (is_written nodes (record { name = o.name; slot = None })))
 
 -- the start depends only on which objects are written
-pub begun-same : (is : Cell → Operand) (nodes others : List Node) → ((c : Cell) → is_written nodes c ≡ is_written others c) → (objects : List Named) → map (begun is nodes) objects ≡ map (begun is others) objects
+pub begun-same : (is : Reference → Operand) (nodes others : List Node) → ((c : Reference) → is_written nodes c ≡ is_written others c) → (objects : List NamedObject) → map (named_at_start is nodes) objects ≡ map (named_at_start is others) objects
 begun-same is nodes others same [] = refl
 begun-same is nodes others same (o ∷ objects) = grind (arith, begun-same is nodes others same objects)
 
 -- no delay comes of a virtual image
-pub WritesNo-begun : (is : Cell → Operand) (nodes : List Node) (objects : List Named) → WritesNo kind.Delay nodes objects → WritesNo kind.Delay nodes (map (begun is nodes) objects)
+pub WritesNo-begun : (is : Reference → Operand) (nodes : List Node) (objects : List NamedObject) → WritesNo kind.Delay nodes objects → WritesNo kind.Delay nodes (map (named_at_start is nodes) objects)
 WritesNo-begun is nodes objects whole c w h = grind (arith, object_held-begun is nodes objects c.name)
 
 -- ---- where no virtual image is written
@@ -38,17 +38,17 @@ pub no_slot_of_virtual : (k : ℕ) (x : ObjectValue) → is_virtual_object x ≡
 no_slot_of_virtual k x h = grind arith
 
 -- nothing changes as the run begins
-pub nothing_begun : (is : Cell → Operand) (nodes : List Node) (objects : List Named) → Rising (map label_of objects) → WritesNo kind.VirtualImage nodes objects → map (begun is nodes) objects ≡ objects
+pub nothing_begun : (is : Reference → Operand) (nodes : List Node) (objects : List NamedObject) → Rising (map label_of objects) → WritesNo kind.VirtualImage nodes objects → map (named_at_start is nodes) objects ≡ objects
 nothing_begun is nodes objects up real = grind (arith, labels-begun, by_names, Rising, object_held-begun, cases_Bool)
 
 -- an object that isn't written stays
-pub object_held-unwritten : (ws : List (Cell × ObjectValue)) (objects : List Named) (name : ℕ) → ((w : Cell × ObjectValue) → In w ws → eqb name (w.0).name ≡ false)
+pub object_held-unwritten : (ws : List (Reference × ObjectValue)) (objects : List NamedObject) (name : ℕ) → ((w : Reference × ObjectValue) → In w ws → eqb name (w.0).name ≡ false)
     → object_held (with_written objects ws) name ≡ object_held objects name
 object_held-unwritten [] objects name h = refl
 object_held-unwritten (w ∷ ws) objects name h = grind (arith, object_held-unwritten ws (with_object objects w.0 w.1) name (λ v i. h v (inr i)), object_held-with_object objects w.0 w.1 name)
 
 -- lists with the same labels have objects under the same names
-pub both_held : (one other : List Named) → map label_of one ≡ map label_of other → (name : ℕ) (x : ObjectValue) → object_held one name ≡ Some x
+pub both_held : (one other : List NamedObject) → map label_of one ≡ map label_of other → (name : ℕ) (x : ObjectValue) → object_held one name ≡ Some x
     → (y : ObjectValue) × (object_held other name ≡ Some y)
 both_held [] other labels name x at = absurd (cc)
 both_held (o ∷ one) [] labels name x at = absurd (cc)
@@ -64,21 +64,21 @@ abbrev pub kept_virtual : Option ObjectValue → Option ObjectValue → Option O
 kept_virtual (Some x) (Some y) = Some (if is_virtual_object x then x else y)
 kept_virtual o p = p
 
-pub object_held-forgotten : (before after : List Named) → map label_of before ≡ map label_of after → (name : ℕ)
-    → object_held (forgotten before after) name ≡ kept_virtual (object_held before name) (object_held after name)
+pub object_held-forgotten : (before after : List NamedObject) → map label_of before ≡ map label_of after → (name : ℕ)
+    → object_held (objects_at_end before after) name ≡ kept_virtual (object_held before name) (object_held after name)
 object_held-forgotten (o ∷ before) (p ∷ after) labels name = grind (arith, object_held-forgotten before after (cc) name)
 object_held-forgotten x y labels name = grind arith
 
-pub labels-forgotten : (before after : List Named) → map label_of before ≡ map label_of after → map label_of (forgotten before after) ≡ map label_of after
+pub labels-forgotten : (before after : List NamedObject) → map label_of before ≡ map label_of after → map label_of (objects_at_end before after) ≡ map label_of after
 labels-forgotten (o ∷ before) (p ∷ after) labels = grind (arith, labels-forgotten before after (cc))
 labels-forgotten x y labels = grind arith
 
 -- nothing changes as the run ends
-pub nothing_forgotten : (before after : List Named) → Rising (map label_of before) → map label_of before ≡ map label_of after
-    → ((name : ℕ) (x : ObjectValue) → object_held before name ≡ Some x → is_virtual_object x ≡ true → object_held after name ≡ Some x) → forgotten before after ≡ after
+pub nothing_forgotten : (before after : List NamedObject) → Rising (map label_of before) → map label_of before ≡ map label_of after
+    → ((name : ℕ) (x : ObjectValue) → object_held before name ≡ Some x → is_virtual_object x ≡ true → object_held after name ≡ Some x) → objects_at_end before after ≡ after
 nothing_forgotten before after up labels stays =
     let same = labels-forgotten before after labels in
-    by_names (forgotten before after) after (subst (λ z. Rising z) (labels ∙ sym same) up) same
+    by_names (objects_at_end before after) after (subst (λ z. Rising z) (labels ∙ sym same) up) same
     (λ name. object_held-forgotten before after labels name ∙ kept (object_held before name) (object_held after name) (stays name))
   where
     kept : (o p : Option ObjectValue) → ((x : ObjectValue) → o ≡ Some x → is_virtual_object x ≡ true → p ≡ Some x) → kept_virtual o p ≡ p
@@ -87,7 +87,7 @@ nothing_forgotten before after up labels stays =
 
 -- the value at the start of an object with this resolved operand, if a node writes it
 abbrev pub begun_if : Bool → ObjectValue → Operand → ObjectValue
-begun_if written object operand = if written then begun_as object operand else object
+begun_if written object operand = if written then object_at_start object operand else object
 
 -- what stays as it was if it is no virtual image
 pub begun_stays : (object : ObjectValue) (written : Bool) (operand : Operand) → is_virtual_object object ≡ false → begun_if written object operand ≡ object

@@ -1,6 +1,6 @@
 -- Images that leave a table for planes while a graph runs, and come back.
 use Rattle.std.proofs.Common.{◌≡◌, ℕ, ◌<◌, ◌≤◌, ◌+◌, Bool, List, [], ◌∷◌, length, map, drop, refl, sym, ap, subst, ◌∙◌, inl, inr, Option, Some, None, arith, option_map, if◌then◌else◌}
-use Rattle.graph_run.proofs.Common.{AllPairs, Cell, same_cell, ImageValue, description_of, ObjectValue, ImageObject, Context, with_objects, Named, with_object, with_written, image_value, image_held, HoldsImage, AreApart, In, form_of, label_of, option_or}
+use Rattle.graph_run.proofs.Common.{AllPairs, Reference, same_reference, ImageValue, description_of, ObjectValue, ImageObject, Context, with_objects, NamedObject, with_object, with_written, image_value, image_held, HoldsImage, AreApart, In, form_of, label_of, option_or}
 use Rattle.graph_steps.specs.Planes.{PlaneValue, block_image}
 use Rattle.graph_run.specs.Bind.{AreAllApart, AreFor, HoldImages, bare_images, image_plane, image_planes, plane_objects, without_samples}
 use Rattle.graph_run.proofs.ObjectLaws.{shown}
@@ -9,33 +9,33 @@ use Rattle.graph_run.proofs.NameLaws.{Rising, rising, same_objects}
 use Rattle.graph_run.proofs.CellLemmas.{object_beside, image_beside, held_image}
 
 -- a context of which the objects alone have changed, twice
-pub next_context : (start t after : Context) (objects : List Named) → t ≡ with_objects start t.objects → after ≡ with_objects t objects → after ≡ with_objects start after.objects
+pub next_context : (start t after : Context) (objects : List NamedObject) → t ≡ with_objects start t.objects → after ≡ with_objects t objects → after ≡ with_objects start after.objects
 next_context start t after objects one two = two ∙ ap (λ (x : Context). with_objects x objects) one ∙ ap (with_objects start) (sym (ap (λ (x : Context). x.objects) two))
 
 -- ---- one cell
 
 -- an image that is written to a cell apart from others
-module _ (objects : List Named) (q : Cell) (new : ObjectValue) where
+module _ (objects : List NamedObject) (q : Reference) (new : ObjectValue) where
   -- leaves what they hold
-  pub held_beside : (p : Cell) → AreApart p q → image_held (with_object objects q new) p ≡ image_held objects p
+  pub held_beside : (p : Reference) → AreApart p q → image_held (with_object objects q new) p ≡ image_held objects p
   held_beside p apart = ap image_value (object_beside objects q p new apart)
 
-  pub images_beside : (cells : List Cell) → ((p : Cell) → In p cells → AreApart p q) → HoldImages objects cells → HoldImages (with_object objects q new) cells
+  pub images_beside : (cells : List Reference) → ((p : Reference) → In p cells → AreApart p q) → HoldImages objects cells → HoldImages (with_object objects q new) cells
   images_beside cells apart holds p i = image_beside objects q p new (apart p i) (holds p i)
 
-  pub bare_beside : (cells : List Cell) → ((p : Cell) → In p cells → AreApart p q) → bare_images (with_object objects q new) cells ≡ bare_images objects cells
+  pub bare_beside : (cells : List Reference) → ((p : Reference) → In p cells → AreApart p q) → bare_images (with_object objects q new) cells ≡ bare_images objects cells
   bare_beside [] apart = refl
   bare_beside (p ∷ cells) apart =
       ap (λ (i : ImageValue). (p, ImageObject (without_samples i)) ∷ bare_images (with_object objects q new) cells) (held_beside p (apart p (inl refl)))
       ∙ ap (λ l. (p, ImageObject (without_samples (image_held objects p))) ∷ l) (bare_beside cells (λ c i. apart c (inr i)))
 
-  pub planes_beside : (cells : List Cell) → ((p : Cell) → In p cells → AreApart p q) → image_planes (with_object objects q new) cells ≡ image_planes objects cells
+  pub planes_beside : (cells : List Reference) → ((p : Reference) → In p cells → AreApart p q) → image_planes (with_object objects q new) cells ≡ image_planes objects cells
   planes_beside [] apart = refl
   planes_beside (p ∷ cells) apart =
       ap (λ (i : ImageValue). image_plane i ∷ image_planes (with_object objects q new) cells) (held_beside p (apart p (inl refl)))
       ∙ ap (λ l. image_plane (image_held objects p) ∷ l) (planes_beside cells (λ c i. apart c (inr i)))
 
-  pub for_beside : (cells : List Cell) (planes : List PlaneValue) → ((p : Cell) → In p cells → AreApart p q) → AreFor objects cells planes → AreFor (with_object objects q new) cells planes
+  pub for_beside : (cells : List Reference) (planes : List PlaneValue) → ((p : Reference) → In p cells → AreApart p q) → AreFor objects cells planes → AreFor (with_object objects q new) cells planes
   for_beside [] planes apart are = tt
   for_beside (p ∷ cells) [] apart are = are
   for_beside (p ∷ cells) (x ∷ planes) apart are =
@@ -44,11 +44,11 @@ module _ (objects : List Named) (q : Cell) (new : ObjectValue) where
 -- ---- taking out
 
 -- the cells that are left to take out, once the first is
-pub record CanTake (objects : List Named) (cells : List Cell) : Type 0 where
+pub record CanTake (objects : List NamedObject) (cells : List Reference) : Type 0 where
   pub images : HoldImages objects cells
   pub apart : AreAllApart cells
 
-module _ (objects : List Named) (c : Cell) (cells : List Cell) (can : CanTake objects (c ∷ cells)) where
+module _ (objects : List NamedObject) (c : Reference) (cells : List Reference) (can : CanTake objects (c ∷ cells)) where
   abbrev pub bare : ObjectValue
   bare = ImageObject (without_samples (image_held objects c))
 
@@ -63,12 +63,12 @@ module _ (objects : List Named) (c : Cell) (cells : List Cell) (can : CanTake ob
 
 -- ---- putting back
 
-pub record CanPut (objects : List Named) (cells : List Cell) (planes : List PlaneValue) : Type 0 where
+pub record CanPut (objects : List NamedObject) (cells : List Reference) (planes : List PlaneValue) : Type 0 where
   pub images : HoldImages objects cells
   pub apart : AreAllApart cells
   pub fit : AreFor objects cells planes
 
-module _ (objects : List Named) (c : Cell) (cells : List Cell) (p : PlaneValue) (planes : List PlaneValue) (can : CanPut objects (c ∷ cells) (p ∷ planes)) where
+module _ (objects : List NamedObject) (c : Reference) (cells : List Reference) (p : PlaneValue) (planes : List PlaneValue) (can : CanPut objects (c ∷ cells) (p ∷ planes)) where
   abbrev pub back : ObjectValue
   back = ImageObject (block_image p)
 
@@ -81,21 +81,21 @@ module _ (objects : List Named) (c : Cell) (cells : List Cell) (p : PlaneValue) 
       }
 
   -- where the table holds the first one's image
-  module _ (after : List Named) (left : after ≡ with_object objects c back) (others : List PlaneValue) (same : others ≡ planes) where
+  module _ (after : List NamedObject) (left : after ≡ with_object objects c back) (others : List PlaneValue) (same : others ≡ planes) where
     pub next_can : CanPut after cells others
-    next_can = subst (λ (l : List PlaneValue). CanPut after cells l) (sym same) (subst (λ (o : List Named). CanPut o cells planes) (sym left) put_can)
+    next_can = subst (λ (l : List PlaneValue). CanPut after cells l) (sym same) (subst (λ (o : List NamedObject). CanPut o cells planes) (sym left) put_can)
 
     pub next_written : with_written after (plane_objects cells others) ≡ with_written objects (plane_objects (c ∷ cells) (p ∷ planes))
-    next_written = ap (λ (l : List PlaneValue). with_written after (plane_objects cells l)) same ∙ ap (λ (o : List Named). with_written o (plane_objects cells planes)) left
+    next_written = ap (λ (l : List PlaneValue). with_written after (plane_objects cells l)) same ∙ ap (λ (o : List NamedObject). with_written o (plane_objects cells planes)) left
 
 -- there are enough planes
-pub for_length : (objects : List Named) (cells : List Cell) (planes : List PlaneValue) → AreFor objects cells planes → length cells ≤ length planes
+pub for_length : (objects : List NamedObject) (cells : List Reference) (planes : List PlaneValue) → AreFor objects cells planes → length cells ≤ length planes
 for_length objects [] planes are = omega arith
 for_length objects (c ∷ cells) [] are = absurd are
 for_length objects (c ∷ cells) (p ∷ planes) are = omega (arith, for_length objects cells planes are.2)
 
 -- the first of the cells and planes that are left, and the others
-module _ (objects : List Named) (cells : List Cell) (planes : List PlaneValue) (k : ℕ) (c : Cell) (p : PlaneValue)
+module _ (objects : List NamedObject) (cells : List Reference) (planes : List PlaneValue) (k : ℕ) (c : Reference) (p : PlaneValue)
     (cell_at : drop k cells ≡ c ∷ drop (k + 1) cells) (plane_at : drop k planes ≡ p ∷ drop (k + 1) planes)
     (can : CanPut objects (drop k cells) (drop k planes)) where
   pub first_can : CanPut objects (c ∷ drop (k + 1) cells) (p ∷ drop (k + 1) planes)
@@ -104,28 +104,28 @@ module _ (objects : List Named) (cells : List Cell) (planes : List PlaneValue) (
 -- ---- both
 
 -- an image that is written over one of its format
-pub image_written : (objects : List Named) (cell : Cell) (image : ImageValue) → HoldsImage objects cell → image.format ≡ (image_held objects cell).format → IsWrite objects cell (ImageObject image)
+pub image_written : (objects : List NamedObject) (cell : Reference) (image : ImageValue) → HoldsImage objects cell → image.format ≡ (image_held objects cell).format → IsWrite objects cell (ImageObject image)
 image_written objects cell image holds same =
     record {
       form = ap (option_map form_of) (held_image objects cell holds) ∙ grind (arith, same);
       whole = refl;
     }
 
-pub bare_written : (objects : List Named) (cells : List Cell) → HoldImages objects cells → AreWrites objects (bare_images objects cells)
+pub bare_written : (objects : List NamedObject) (cells : List Reference) → HoldImages objects cells → AreWrites objects (bare_images objects cells)
 bare_written objects [] holds w i = absurd i
 bare_written objects (c ∷ cells) holds w (inl e) =
-    subst (λ (x : Cell × ObjectValue). IsWrite objects x.0 x.1) (sym e) (image_written objects c (without_samples (image_held objects c)) (holds c (inl refl)) refl)
+    subst (λ (x : Reference × ObjectValue). IsWrite objects x.0 x.1) (sym e) (image_written objects c (without_samples (image_held objects c)) (holds c (inl refl)) refl)
 bare_written objects (c ∷ cells) holds w (inr i) = bare_written objects cells (λ p j. holds p (inr j)) w i
 
-pub planes_written : (objects : List Named) (cells : List Cell) (planes : List PlaneValue) → HoldImages objects cells → AreFor objects cells planes → AreWrites objects (plane_objects cells planes)
+pub planes_written : (objects : List NamedObject) (cells : List Reference) (planes : List PlaneValue) → HoldImages objects cells → AreFor objects cells planes → AreWrites objects (plane_objects cells planes)
 planes_written objects [] planes holds are w i = absurd i
 planes_written objects (c ∷ cells) [] holds are w i = absurd are
 planes_written objects (c ∷ cells) (p ∷ planes) holds are w (inl e) =
-    subst (λ (x : Cell × ObjectValue). IsWrite objects x.0 x.1) (sym e) (image_written objects c (block_image p) (holds c (inl refl)) (ap (λ d. d.format) are.0))
+    subst (λ (x : Reference × ObjectValue). IsWrite objects x.0 x.1) (sym e) (image_written objects c (block_image p) (holds c (inl refl)) (ap (λ d. d.format) are.0))
 planes_written objects (c ∷ cells) (p ∷ planes) holds are w (inr i) = planes_written objects cells planes (λ q j. holds q (inr j)) are.2 w i
 
 -- an image that may be written to a cell may be written to it after others
-writes_after : (objects : List Named) (ws vs : List (Cell × ObjectValue)) → AreWrites objects ws → AreWrites objects vs → AreWrites (with_written objects ws) vs
+writes_after : (objects : List NamedObject) (ws vs : List (Reference × ObjectValue)) → AreWrites objects ws → AreWrites objects vs → AreWrites (with_written objects ws) vs
 writes_after objects ws vs first second w i = let is = second w i in record { form = form-with_written ws objects first w.0 ∙ is.form; whole = is.whole }
 
 none_or : {X : Type 0} (o p : Option X) → o ≡ None → p ≡ None → option_or o p ≡ None
@@ -135,24 +135,24 @@ no_choice : {X : Type 0} (b : Bool) (x y : X) → (if b then Some x else None) �
 no_choice b x y h = grind arith
 
 -- a cell to which no plane comes back lost no samples
-none_back : (objects : List Named) (cells : List Cell) (planes : List PlaneValue) (c : Cell) → AreFor objects cells planes
+none_back : (objects : List NamedObject) (cells : List Reference) (planes : List PlaneValue) (c : Reference) → AreFor objects cells planes
     → last_to c (plane_objects cells planes) ≡ None → last_to c (bare_images objects cells) ≡ None
 none_back objects [] planes c are h = refl
 none_back objects (q ∷ cells) [] c are h = absurd are
 none_back objects (q ∷ cells) (p ∷ planes) c are h =
     let parts = or_none (last_to c (plane_objects cells planes)) _ h in
-    none_or (last_to c (bare_images objects cells)) _ (none_back objects cells planes c are.2 parts.0) (no_choice (same_cell c q) _ _ parts.1)
+    none_or (last_to c (bare_images objects cells)) _ (none_back objects cells planes c are.2 parts.0) (no_choice (same_reference c q) _ _ parts.1)
 
 over : (p b s : Option ObjectValue) → (p ≡ None → b ≡ None) → option_or (option_map shown p) (option_or (option_map shown b) s) ≡ option_or (option_map shown p) s
 over (Some x) b s h = refl
 over None b s h = ap (λ z. option_or (option_map shown z) s) (h refl)
 
 -- images whose samples were taken out, and that others replace, are as if they had not been taken out
-pub out_and_back : (objects : List Named) (cells : List Cell) (planes : List PlaneValue) → AllPairs (λ a b. a.name < b.name) objects → HoldImages objects cells → AreFor objects cells planes
+pub out_and_back : (objects : List NamedObject) (cells : List Reference) (planes : List PlaneValue) → AllPairs (λ a b. a.name < b.name) objects → HoldImages objects cells → AreFor objects cells planes
     → with_written (with_written objects (bare_images objects cells)) (plane_objects cells planes) ≡ with_written objects (plane_objects cells planes)
 out_and_back objects cells planes up holds are =
-    let out : List (Cell × ObjectValue) = bare_images objects cells in
-    let back : List (Cell × ObjectValue) = plane_objects cells planes in
+    let out : List (Reference × ObjectValue) = bare_images objects cells in
+    let back : List (Reference × ObjectValue) = plane_objects cells planes in
     let first = bare_written objects cells holds in
     let second = planes_written objects cells planes holds are in
     let labels : map label_of (with_written (with_written objects out) back) ≡ map label_of objects = labels-with_written back (with_written objects out) ∙ labels-with_written out objects in

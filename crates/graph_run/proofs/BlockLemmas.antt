@@ -1,8 +1,8 @@
 -- Blocks of a pool for slots, and the places of these.
 use Rattle.buffer_plan.specs.Lives.{is_live}
 use Rattle.std.proofs.Common.{Bool, ◌≡◌, ◌≢◌, ℕ, zero, suc, ◌+◌, ◌*◌, ◌≤◌, ◌<◌, ◌==◌, ◌⊎◌, List, [], ◌∷◌, ◌++◌, length, map, max, get_or, drop, take, refl, sym, ap, ◌∙◌, arith, if◌then◌else◌, sum_by, append_assoc, Option, Some, None, unwrap_or, length-append}
-use Rattle.graph_run.specs.Slots.{rooms_for}
-use Rattle.graph_run.proofs.Common.{length-map-range_with_len, range_with_len, map-append, VirtualOutput, Node, In, Format, S16, U32, U8, IsPlan, PlanValue, slot_place, place_of, planned_rooms, take_more, Samples, values, samples_format, blocks_of, lent_of}
+use Rattle.graph_run.specs.Slots.{capacities_for}
+use Rattle.graph_run.proofs.Common.{length-map-range_with_len, range_with_len, map-append, VirtualOutput, Node, In, Format, S16, U32, U8, IsPlan, PlanView, slot_place, place_of, planned_capacities, take_more, Samples, values, samples_format, blocks_of, lent_of}
 use Rattle.std.specs.List.{filter}
 use Rattle.std.proofs.lemmas.List.{append-nil, drop_all, take_all}
 use Rattle.std.proofs.lemmas.List.FromFn.{map-range_with_len_more}
@@ -13,7 +13,7 @@ use Rattle.pixel_pool.specs.Pool.{one_of, KeepsOtherFree, Lends}
 use Rattle.graph_steps.specs.Program.{halo}
 use Rattle.graph_run.proofs.ListLemmas.{rest_at}
 use Rattle.graph_run.proofs.SlotLemmas.{HasSlot, has_slot, planned_slots}
-use Rattle.graph_run.specs.Blocks.{band_samples, block_count, block_size, room_count, samples_from}
+use Rattle.graph_run.specs.Blocks.{band_samples, blocks_of_format, block_size, room_count, samples_from}
 
 -- ---- places
 
@@ -21,7 +21,7 @@ filter_le : {X : Type 0} (p : X → Bool) (xs : List X) → length (filter p xs)
 filter_le p xs = omega (arith, length-filter p xs, count_by-le-length p xs)
 
 -- a format has at most as many slots as images
-slots_le : (steps : List Node) (outs : List VirtualOutput) (p : PlanValue) → IsPlan steps outs p → (f : Format) → p.slot_count f ≤ length (of_format f outs)
+slots_le : (steps : List Node) (outs : List VirtualOutput) (p : PlanView) → IsPlan steps outs p → (f : Format) → p.slot_count f ≤ length (of_format f outs)
 slots_le steps outs p plan f = by_first (p.peak_step f) (plan.peak f)
   where
     by_first : (first : Option ℕ) → IsPeak steps outs f (p.slot_count f) first → p.slot_count f ≤ length (of_format f outs)
@@ -40,7 +40,7 @@ formats_le [] = omega arith
 formats_le (o ∷ outs) = formats_more o outs (formats_le outs)
 
 -- the place of an image's slot is below the number of images
-pub place_below : (steps : List Node) (outs : List VirtualOutput) (p : PlanValue) → IsPlan steps outs p → (o : VirtualOutput) → In o outs → place_of p o < length outs
+pub place_below : (steps : List Node) (outs : List VirtualOutput) (p : PlanView) → IsPlan steps outs p → (o : VirtualOutput) → In o outs → place_of p o < length outs
 place_below steps outs p plan o i =
     let h : HasSlot p o = has_slot steps outs p (planned_slots steps outs p plan) o i in
     let at : place_of p o ≡ slot_place p o.desc.format h.slot = ap (λ s. slot_place p o.desc.format (unwrap_or s 0)) h.is in
@@ -51,14 +51,14 @@ place_below steps outs p plan o i =
     by_format f k below = grind arith
 
 -- the places of a format's slots follow each other
-pub place_more : (p : PlanValue) (f : Format) (k : ℕ) → slot_place p f k ≡ slot_place p f 0 + k
+pub place_more : (p : PlanView) (f : Format) (k : ℕ) → slot_place p f k ≡ slot_place p f 0 + k
 place_more p f k = grind arith
 
 -- as many rooms more as the format has slots
-pub rooms_counted : (p : PlanValue) (f : Format) (before after : List (Format × ℕ)) → after ≡ before ++ rooms_for p f → length after ≡ length before + p.slot_count f
+pub rooms_counted : (p : PlanView) (f : Format) (before after : List (Format × ℕ)) → after ≡ before ++ capacities_for p f → length after ≡ length before + p.slot_count f
 rooms_counted p f before after rooms =
-    let long : length (rooms_for p f) ≡ p.slot_count f = length-map-range_with_len (λ k. let room : Format × ℕ = (f, p.slot_samples f k) in room) 0 (p.slot_count f) in
-    omega (arith, ap length rooms, length-append before (rooms_for p f), long)
+    let long : length (capacities_for p f) ≡ p.slot_count f = length-map-range_with_len (λ k. let room : Format × ℕ = (f, p.slot_samples f k) in room) 0 (p.slot_count f) in
+    omega (arith, ap length rooms, length-append before (capacities_for p f), long)
 
 -- ---- samples that a slot needs
 
@@ -94,7 +94,7 @@ sizes_more rooms blocks b k r d below is sizes format count =
     ∙ ap (λ (x : Format × ℕ). take k rooms ++ x ∷ []) this ∙ sym (take_more rooms k d below)
 
 pub lends_more : (blocks : List Samples) (b : Samples) (format : Format) → samples_format b ≡ format → (old now new : Pool) (f : Format) → Lends now new format
-    → lent_of now f ≡ lent_of old f + block_count blocks f → lent_of new f ≡ lent_of old f + block_count (blocks ++ b ∷ []) f
+    → lent_of now f ≡ lent_of old f + blocks_of_format blocks f → lent_of new f ≡ lent_of old f + blocks_of_format (blocks ++ b ∷ []) f
 lends_more blocks b format format_is old now new f lends before = grind (arith, sum_by_push)
 
 -- two formats are one or not
@@ -120,7 +120,7 @@ sum_told told_of g [] = refl
 sum_told told_of g (x ∷ xs) = sum_by-cons (λ y. g (told_of y)) x xs ∙ ap (λ n. g (told_of x) + n) (sum_told told_of g xs) ∙ sym (sum_by-cons g (told_of x) (map told_of xs))
 
 -- blocks of the same formats are as many
-pub counts_stay : (old new : List Samples) → map samples_format new ≡ map samples_format old → (f : Format) → block_count new f ≡ block_count old f
+pub counts_stay : (old new : List Samples) → map samples_format new ≡ map samples_format old → (f : Format) → blocks_of_format new f ≡ blocks_of_format old f
 counts_stay old new same f =
     let one : Format → ℕ = λ g. one_of g f in
     sum_told samples_format one new ∙ ap (sum_by one) same ∙ sym (sum_told samples_format one old)
@@ -138,21 +138,21 @@ rooms_count format f room from (suc count) =
     sum_by-cons (λ (r : Format × ℕ). one_of r.0 f) (format, room from) (map (λ k. (format, room k)) (range_with_len (from + 1) count))
     ∙ ap (λ n. one_of format f + n) (rooms_count format f room (from + 1) count) ∙ grind arith
 
-by_formats : (p : PlanValue) (f : Format) (u8s s16s u32s : ℕ) → u8s ≡ p.slot_count U8 * one_of U8 f → s16s ≡ p.slot_count S16 * one_of S16 f → u32s ≡ p.slot_count U32 * one_of U32 f
+by_formats : (p : PlanView) (f : Format) (u8s s16s u32s : ℕ) → u8s ≡ p.slot_count U8 * one_of U8 f → s16s ≡ p.slot_count S16 * one_of S16 f → u32s ≡ p.slot_count U32 * one_of U32 f
     → u8s + s16s + u32s ≡ p.slot_count f
 by_formats p U8 u8s s16s u32s a b c = omega (arith, a, b, c)
 by_formats p S16 u8s s16s u32s a b c = omega (arith, a, b, c)
 by_formats p U32 u8s s16s u32s a b c = omega (arith, a, b, c)
 
 -- as many rooms of a format as it has slots
-pub planned_count : (p : PlanValue) (f : Format) → room_count (planned_rooms p) f ≡ p.slot_count f
+pub planned_count : (p : PlanView) (f : Format) → room_count (planned_capacities p) f ≡ p.slot_count f
 planned_count p f =
-    let each : Format → ℕ = λ g. room_count (rooms_for p g) f in
-    sum_by-append (λ (r : Format × ℕ). one_of r.0 f) (rooms_for p U8 ++ rooms_for p S16) (rooms_for p U32)
-    ∙ ap (λ n. n + each U32) (sum_by-append (λ (r : Format × ℕ). one_of r.0 f) (rooms_for p U8) (rooms_for p S16))
+    let each : Format → ℕ = λ g. room_count (capacities_for p g) f in
+    sum_by-append (λ (r : Format × ℕ). one_of r.0 f) (capacities_for p U8 ++ capacities_for p S16) (capacities_for p U32)
+    ∙ ap (λ n. n + each U32) (sum_by-append (λ (r : Format × ℕ). one_of r.0 f) (capacities_for p U8) (capacities_for p S16))
     ∙ by_formats p f (each U8) (each S16) (each U32) (rooms_count U8 f (p.slot_samples U8) 0 (p.slot_count U8))
     (rooms_count S16 f (p.slot_samples S16) 0 (p.slot_count S16)) (rooms_count U32 f (p.slot_samples U32) 0 (p.slot_count U32))
 
 -- as many blocks of a format as rooms
-pub blocks_counted : (blocks : List Samples) (rooms : List (Format × ℕ)) → map block_size blocks ≡ rooms → (f : Format) → block_count blocks f ≡ room_count rooms f
+pub blocks_counted : (blocks : List Samples) (rooms : List (Format × ℕ)) → map block_size blocks ≡ rooms → (f : Format) → blocks_of_format blocks f ≡ room_count rooms f
 blocks_counted blocks rooms are f = sum_told block_size (λ (r : Format × ℕ). one_of r.0 f) blocks ∙ ap (λ (l : List (Format × ℕ)). room_count l f) are

@@ -1,6 +1,6 @@
 -- What cells hold where one of them is written.
 use Rattle.std.proofs.Common.{◌≡◌, ℕ, IsTrue, List, [], ◌∷◌, Option, Some, None, refl, sym, ap, subst, ◌∙◌, arith, All, is_some, unwrap_or, IfSome, option_map, option_and_then, eq-eqb, eqb-true}
-use Rattle.graph_run.proofs.Common.{IsStrictlyIncreasing, All-head, All-tail, All-weaker, U8, Kind, Node, Cell, ImageValue, new_image, ObjectValue, ImageObject, IsObject, object_kind, in_slot, with_slot, Named, object_held, held, with_object, with_written, cell_object, image_held, HoldsImage, names_of, HasObject, map-with_object, with_slot_there, with_slot_beside, Delay, operand_of, operand_held, lasting, lasting_named, Lasts, Holds, TwoSlots, AreApart, HoldsKind}
+use Rattle.graph_run.proofs.Common.{IsStrictlyIncreasing, All-head, All-tail, All-weaker, U8, Kind, Node, Reference, ImageValue, new_image, ObjectValue, ImageObject, IsObject, object_kind, in_slot, with_slot, NamedObject, object_held, object_at, with_object, with_written, cell_object, image_held, HoldsImage, names_of, HasObject, map-with_object, with_slot_there, with_slot_beside, Delay, operand_of, operand_held, lasting_part, lasting_named, Lasts, Holds, TwoSlots, AreApart, HoldsKind}
 use Rattle.vx_base.specs.declared.kind.Kind.TheVariants as kind
 use Rattle.object_table.proofs.HeldLemmas.{held_alone, All-with_object}
 use Rattle.object_table.proofs.SkeletonLaws.{IsObject-with_slot}
@@ -12,29 +12,29 @@ use Rattle.graph_run.proofs.LastingLemmas.{skeletons-last, lasting-with_slot, ce
 other_slot : (j k : Option ℕ) (new object : ObjectValue) → TwoSlots j k → in_slot j (with_slot k new object) ≡ in_slot j object
 other_slot j k new object apart = grind (arith, with_slot_beside)
 
-module _ (objects : List Named) (q : Cell) where
+module _ (objects : List NamedObject) (q : Reference) where
   -- what stands apart stays
-  pub beside : (p : Cell) (new : ObjectValue) → AreApart p q → held (with_object objects q new) p ≡ held objects p
+  pub beside : (p : Reference) (new : ObjectValue) → AreApart p q → object_at (with_object objects q new) p ≡ object_at objects p
   beside p new apart = grind (arith, object_held-with_object, other_slot, eqb-true)
 
-  pub object_beside : (p : Cell) (new : ObjectValue) → AreApart p q → cell_object (with_object objects q new) p ≡ cell_object objects p
+  pub object_beside : (p : Reference) (new : ObjectValue) → AreApart p q → cell_object (with_object objects q new) p ≡ cell_object objects p
   object_beside p new apart = ap (λ o. unwrap_or o (ImageObject (new_image 0 0 U8))) (beside p new apart)
 
-  pub object_if_beside : (p : Option Cell) (new : ObjectValue) → IfSome p (λ c. AreApart c q) → option_map (cell_object (with_object objects q new)) p ≡ option_map (cell_object objects) p
+  pub object_if_beside : (p : Option Reference) (new : ObjectValue) → IfSome p (λ c. AreApart c q) → option_map (cell_object (with_object objects q new)) p ≡ option_map (cell_object objects) p
   object_if_beside z0 new apart = grind (arith, object_beside)
 
-  pub holds_beside : (p : Cell) (new : ObjectValue) → AreApart p q → Holds objects p → Holds (with_object objects q new) p
+  pub holds_beside : (p : Reference) (new : ObjectValue) → AreApart p q → Holds objects p → Holds (with_object objects q new) p
   holds_beside p new apart h = subst (λ (o : Option ObjectValue). IsTrue (is_some o)) (sym (beside p new apart)) h
 
-  pub hold_beside : (p : Option Cell) (new : ObjectValue) → IfSome p (λ c. AreApart c q) → IfSome p (Holds objects) → IfSome p (Holds (with_object objects q new))
+  pub hold_beside : (p : Option Reference) (new : ObjectValue) → IfSome p (λ c. AreApart c q) → IfSome p (Holds objects) → IfSome p (Holds (with_object objects q new))
   hold_beside z0 new apart h = grind (arith, holds_beside)
 
-  pub image_beside : (p : Cell) (new : ObjectValue) → AreApart p q → HoldsImage objects p → HoldsImage (with_object objects q new) p
+  pub image_beside : (p : Reference) (new : ObjectValue) → AreApart p q → HoldsImage objects p → HoldsImage (with_object objects q new) p
   image_beside p new apart h = ap (option_map object_kind) (beside p new apart) ∙ h
 
 -- an image that is written over an image stands there
-module _ (objects : List Named) (q : Cell) (h : HoldsImage objects q) (image : ImageValue) where
-  pub held_after : held (with_object objects q (ImageObject image)) q ≡ Some (ImageObject image)
+module _ (objects : List NamedObject) (q : Reference) (h : HoldsImage objects q) (image : ImageValue) where
+  pub held_after : object_at (with_object objects q (ImageObject image)) q ≡ Some (ImageObject image)
   held_after = grind (arith, object_held-with_object, eq-eqb, with_slot_there)
 
   pub object_after : cell_object (with_object objects q (ImageObject image)) q ≡ ImageObject image
@@ -44,46 +44,46 @@ module _ (objects : List Named) (q : Cell) (h : HoldsImage objects q) (image : I
   image_after = ap (option_map object_kind) held_after
 
 -- an image over what was written
-pub with_object_twice : (objects : List Named) (q : Cell) (left : ObjectValue) (image : ImageValue) → with_object (with_object objects q left) q (ImageObject image) ≡ with_object objects q (ImageObject image)
+pub with_object_twice : (objects : List NamedObject) (q : Reference) (left : ObjectValue) (image : ImageValue) → with_object (with_object objects q left) q (ImageObject image) ≡ with_object objects q (ImageObject image)
 with_object_twice [] q left image = refl
 with_object_twice (o ∷ objects) q left image = grind (arith, with_object_twice objects q left image, with_slot_twice q.slot image left o.object)
 
 -- ---- what stands in a cell
 
 -- what a cell holds
-pub there_is : (objects : List Named) (cell : Cell) → Holds objects cell → held objects cell ≡ Some (cell_object objects cell)
+pub there_is : (objects : List NamedObject) (cell : Reference) → Holds objects cell → object_at objects cell ≡ Some (cell_object objects cell)
 there_is objects cell h = grind arith
 
-pub holds_image : (objects : List Named) (cell : Cell) → Holds objects cell → object_kind (cell_object objects cell) ≡ kind.Image → HoldsImage objects cell
+pub holds_image : (objects : List NamedObject) (cell : Reference) → Holds objects cell → object_kind (cell_object objects cell) ≡ kind.Image → HoldsImage objects cell
 holds_image objects cell h is = ap (option_map object_kind) (there_is objects cell h) ∙ ap Some is
 
-pub kind_there : (objects : List Named) (operand : Cell × Kind) → HoldsKind objects operand → object_kind (cell_object objects operand.0) ≡ operand.1
+pub kind_there : (objects : List NamedObject) (operand : Reference × Kind) → HoldsKind objects operand → object_kind (cell_object objects operand.0) ≡ operand.1
 kind_there objects operand h = grind arith
 
-pub holds_there : (objects : List Named) (operand : Cell × Kind) → HoldsKind objects operand → Holds objects operand.0
+pub holds_there : (objects : List NamedObject) (operand : Reference × Kind) → HoldsKind objects operand → Holds objects operand.0
 holds_there objects operand h = grind arith
 
 -- an operand is what the cell holds
-pub operand_there : (objects : List Named) (cell : Cell) → Holds objects cell → operand_held objects cell ≡ operand_of (cell_object objects cell)
+pub operand_there : (objects : List NamedObject) (cell : Reference) → Holds objects cell → operand_held objects cell ≡ operand_of (cell_object objects cell)
 operand_there objects cell h = ap (λ o. unwrap_or (option_map operand_of o) Delay) (there_is objects cell h)
 
-pub held_image : (objects : List Named) (cell : Cell) → HoldsImage objects cell → held objects cell ≡ Some (ImageObject (image_held objects cell))
+pub held_image : (objects : List NamedObject) (cell : Reference) → HoldsImage objects cell → object_at objects cell ≡ Some (ImageObject (image_held objects cell))
 held_image objects cell h = grind arith
 
 -- ---- what lasts
 
 -- where names increase, what holds of the object of a name holds of each of that name
-pub held_once : (objects : List Named) (name : ℕ) (x : ObjectValue) → IsStrictlyIncreasing (names_of objects) → object_held objects name ≡ Some x → All (HasObject name x) objects
+pub held_once : (objects : List NamedObject) (name : ℕ) (x : ObjectValue) → IsStrictlyIncreasing (names_of objects) → object_held objects name ≡ Some x → All (HasObject name x) objects
 held_once objects name x names found = subst (λ (o : Option ObjectValue). IfSome o (λ object. All (HasObject name object) objects)) found (held_alone objects name names)
 
 -- an object that may be written to a cell: as much lasts of it as of the one there
-pub record IsReplacement (objects : List Named) (w : Cell × ObjectValue) : Type 0 where
+pub record IsReplacement (objects : List NamedObject) (w : Reference × ObjectValue) : Type 0 where
   pub is_object : IsObject w.1
-  pub lasts : option_map lasting (held objects w.0) ≡ Some (lasting w.1)
+  pub lasts : option_map lasting_part (object_at objects w.0) ≡ Some (lasting_part w.1)
 
-module _ (objects : List Named) (w : Cell × ObjectValue) (may : IsReplacement objects w) where
+module _ (objects : List NamedObject) (w : Reference × ObjectValue) (may : IsReplacement objects w) where
   -- among others of which as much lasts it still may
-  pub replaced_after : (others : List Named) → Lasts objects others → IsReplacement others w
+  pub replaced_after : (others : List NamedObject) → Lasts objects others → IsReplacement others w
   replaced_after others h = record { is_object = may.is_object; lasts = cell-lasts objects others w.0 h.lasting ∙ may.lasts }
 
   -- where names increase, it is written there
@@ -93,8 +93,8 @@ module _ (objects : List Named) (w : Cell × ObjectValue) (may : IsReplacement o
       slot : Option ℕ
       slot = w.0.slot
 
-      fits : (x : ObjectValue) → object_held objects w.0.name ≡ Some x → (o : Named) → o.object ≡ x → option_map lasting (in_slot slot o.object) ≡ Some (lasting w.1)
-      fits x e o at = ap (λ y. option_map lasting (in_slot slot y)) at ∙ ap (λ y. option_map lasting (option_and_then (in_slot slot) y)) (sym e) ∙ may.lasts
+      fits : (x : ObjectValue) → object_held objects w.0.name ≡ Some x → (o : NamedObject) → o.object ≡ x → option_map lasting_part (in_slot slot o.object) ≡ Some (lasting_part w.1)
+      fits x e o at = ap (λ y. option_map lasting_part (in_slot slot y)) at ∙ ap (λ y. option_map lasting_part (option_and_then (in_slot slot) y)) (sym e) ∙ may.lasts
 
       found : (object : Option ObjectValue) → object_held objects w.0.name ≡ object → Lasts objects (with_object objects w.0 w.1)
       found None e = absurd (grind (arith, e, may.lasts))
@@ -110,15 +110,15 @@ module _ (objects : List Named) (w : Cell × ObjectValue) (may : IsReplacement o
                 (λ o at named. kept o (lasting-with_slot slot w.1 o.object (fits x e o (at named)))) objects only);
           }
         where
-          kept : (o : Named) → lasting (with_slot slot w.1 o.object) ≡ lasting o.object → lasting_named (record o { object = with_slot slot w.1 o.object }) ≡ lasting_named o
-          kept o same = ap (λ (left : ObjectValue × List Node). let made : Named × List Node = (record o { object = left.0 }, left.1) in made) same
+          kept : (o : NamedObject) → lasting_part (with_slot slot w.1 o.object) ≡ lasting_part o.object → lasting_named (record o { object = with_slot slot w.1 o.object }) ≡ lasting_named o
+          kept o same = ap (λ (left : ObjectValue × List Node). let made : NamedObject × List Node = (record o { object = left.0 }, left.1) in made) same
 
 -- so are several, one after the other
-pub Lasts-with_written : (objects : List Named) (written : List (Cell × ObjectValue)) → IsStrictlyIncreasing (names_of objects) → All (λ o. IsObject o.object) objects
+pub Lasts-with_written : (objects : List NamedObject) (written : List (Reference × ObjectValue)) → IsStrictlyIncreasing (names_of objects) → All (λ o. IsObject o.object) objects
     → All (IsReplacement objects) written → Lasts objects (with_written objects written)
 Lasts-with_written objects [] names are may = record { objects = are; lasting = refl }
 Lasts-with_written objects (w ∷ written) names are may =
-    let after : List Named = with_object objects w.0 w.1 in
+    let after : List NamedObject = with_object objects w.0 w.1 in
     let one = Lasts-with_object objects w (All-head (IsReplacement objects) w written may) names are in
     Lasts-trans objects after (with_written after written) one
     (Lasts-with_written after written (Lasts-names objects after one names) one.objects

@@ -6,7 +6,7 @@ use Rattle.std.proofs.Math.Seq.{take-length}
 use Rattle.std.proofs.Math.ListN.{get_or-append}
 use Rattle.graph_run.proofs.Common.{cases_Bool, cases_lt, fun_ext, range_with_len, Format, U8}
 use Rattle.graph_steps.specs.Steps.{blocks_with_move, capacity}
-use Rattle.graph_run.specs.Tasks.{block_at, blocks_at, holder, is_at, last_in, taken}
+use Rattle.graph_run.specs.Tasks.{block_at, blocks_at, holder, is_at, last_in, previous_holder}
 use Rattle.graph_run.proofs.ListLemmas.{last_in-more}
 
 -- ---- the last image in a slot
@@ -107,7 +107,7 @@ module _ (slots : List ℕ) (rooms : ℕ → Format × ℕ) (clients : List (For
     in_slot : (t < length slots) × (get_or slots t 0 ≡ s)
     in_slot = holder_is slots s k t 0 taker.1
 
-    pub takes_it : taken slots k ≡ Some t
+    pub takes_it : previous_holder slots k ≡ Some t
     takes_it = grind (arith, below, taker.1)
 
     -- the block that is taken is that of the slot
@@ -157,6 +157,6 @@ module _ (slots : List ℕ) (rooms : ℕ → Format × ℕ) (clients : List (For
         (length-set (set (blocks k) t ((capacity (blocks k) t).0, 0)) k (capacity (blocks k) t) ∙ length-set (blocks k) t ((capacity (blocks k) t).0, 0) ∙ block_count k ∙ sym (block_count (k + 1)))
         (λ i _. same_at i)
 
-    pub next_blocks : blocks_with_move (taken slots k) k (blocks k) ≡ blocks (k + 1)
+    pub next_blocks : blocks_with_move (previous_holder slots k) k (blocks k) ≡ blocks (k + 1)
     unfolding moved
     next_blocks = ap (λ (o : Option ℕ). blocks_with_move o k (blocks k)) takes_it ∙ moved_is

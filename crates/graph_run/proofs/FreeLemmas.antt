@@ -5,7 +5,7 @@ use Rattle.std.proofs.lemmas.List.{append_assoc, get_or-map, length-map}
 use Rattle.std.proofs.lemmas.List.Elements.{filter-append}
 use Rattle.std.proofs.lemmas.Grind.{flat_map-append}
 use Rattle.std.proofs.Math.ListN.{get_or-append}
-use Rattle.graph_run.proofs.Common.{cases_lt, or_left, or_right, flat_map, Node, Cell, VirtualOutput, PlanValue, place_of, inputs, outputs, has_twice, is_written, is_used, writes, In, In-append, In-at, In-filter, In-from_filter, In-from_map, In-from_flat_map, In-left, In-right, any-from_In, same-from_In, Kind, Output, First, Second, feeds, given, parameters}
+use Rattle.graph_run.proofs.Common.{cases_lt, or_left, or_right, flat_map, Node, Reference, VirtualOutput, PlanView, place_of, inputs, outputs, has_twice, is_written, is_node_operand, writes, In, In-append, In-at, In-filter, In-from_filter, In-from_map, In-from_flat_map, In-left, In-right, any-from_In, same-from_In, Kind, Output, First, Second, feeds, optional_cells, parameters}
 use Rattle.graph_verify.specs.Order.{InTurn}
 use Rattle.vx_base.specs.declared.kind.Kind.TheVariants as kind
 use Rattle.graph_verify.specs.Links.{reads}
@@ -16,7 +16,7 @@ use Rattle.graph_steps.specs.declared.step.Task.TheVariants.{Write, Reduce}
 use Rattle.graph_steps.specs.Program.{AreFree, IsStepOf, KeepsBlock, IsLive}
 use Rattle.graph_steps.specs.Steps.{ReadsPlane}
 use Rattle.graph_run.specs.Cells.{images_named, index_of, node_images, with_cells}
-use Rattle.graph_run.specs.Tasks.{AreNamed, AreReadAfter, AreReadWithin, AreUntaken, TakeTurns, WriteImages, holder, step_for, taken, tally_after, tasks_by, tasks_from, write_given}
+use Rattle.graph_run.specs.Tasks.{AreNamed, AreReadAfter, AreReadWithin, AreUntaken, TakeTurns, WriteImages, holder, step_for, previous_holder, tally_after, tasks_by, tasks_from, write_given}
 use Rattle.graph_run.proofs.IndexLemmas.{added_behind, at_index, index_at, index_below, index_left}
 use Rattle.graph_run.proofs.CycleLemmas.{holder_is}
 use Rattle.graph_run.proofs.SlotLemmas.{HasSlots, one_home}
@@ -26,16 +26,16 @@ use Rattle.graph_run.proofs.ProgramLemmas.{all_named, image_named, live_unwritte
 -- ---- planes that nodes read
 
 -- one of the nodes reads the plane's cell
-abbrev pub IsReadBy : List Cell → List Node → ℕ → Type 0
-IsReadBy cells nodes k = (m : Node) × In m nodes × ((c : Cell) × In c (inputs m) × In c cells × (k ≡ index_of cells c))
+abbrev pub IsReadBy : List Reference → List Node → ℕ → Type 0
+IsReadBy cells nodes k = (m : Node) × In m nodes × ((c : Reference) × In c (inputs m) × In c cells × (k ≡ index_of cells c))
 
 -- all that the tasks read
-abbrev pub AreReadBy : List Cell → List Node → List Task → Type 0
+abbrev pub AreReadBy : List Reference → List Node → List Task → Type 0
 AreReadBy cells nodes [] = Unit {0}
 AreReadBy cells nodes (Write s ∷ later) = ((k : ℕ) → ReadsPlane s k → IsReadBy cells nodes k) × AreReadBy cells nodes later
 AreReadBy cells nodes (Reduce r ∷ later) = IsReadBy cells nodes r.input × AreReadBy cells nodes later
 
-pub live_read : (cells : List Cell) (nodes : List Node) (kept : ℕ → Type 0) (tasks : List Task) (k : ℕ) → AreReadBy cells nodes tasks → IsLive kept tasks k → kept k ⊎ IsReadBy cells nodes k
+pub live_read : (cells : List Reference) (nodes : List Node) (kept : ℕ → Type 0) (tasks : List Task) (k : ℕ) → AreReadBy cells nodes tasks → IsLive kept tasks k → kept k ⊎ IsReadBy cells nodes k
 live_read cells nodes kept [] k by live = inl live
 live_read cells nodes kept (Write s ∷ later) k by (inl read) = inr (by.0 k read)
 live_read cells nodes kept (Write s ∷ later) k by (inr live) = live_read cells nodes kept later k by.1 live.1
@@ -43,28 +43,28 @@ live_read cells nodes kept (Reduce r ∷ later) k by (inl e) = inr (subst (IsRea
 live_read cells nodes kept (Reduce r ∷ later) k by (inr live) = live_read cells nodes kept later k by.1 live
 
 -- it is there
-plane_there : (cells : List Cell) (nodes : List Node) (k : ℕ) → IsReadBy cells nodes k → k < length cells
+plane_there : (cells : List Reference) (nodes : List Node) (k : ℕ) → IsReadBy cells nodes k → k < length cells
 plane_there cells nodes k by = subst (λ (n : ℕ). n < length cells) (sym by.2.3) (index_below cells by.2.0 by.2.2)
 
-pub read_there : (cells : List Cell) (nodes : List Node) (tasks : List Task) → AreReadBy cells nodes tasks → AreReadWithin (length cells) tasks
+pub read_there : (cells : List Reference) (nodes : List Node) (tasks : List Task) → AreReadBy cells nodes tasks → AreReadWithin (length cells) tasks
 read_there cells nodes [] by = tt
 read_there cells nodes (Write s ∷ later) by = ((λ k read. plane_there cells nodes k (by.0 k read)), read_there cells nodes later by.1)
 read_there cells nodes (Reduce r ∷ later) by = (plane_there cells nodes r.input by.0, read_there cells nodes later by.1)
 
 -- ---- images in one slot
 
-module _ (outs : List VirtualOutput) (p : PlanValue) (before after : List Node) (n : Node) (plan : HasSlots (before ++ n ∷ after) outs p) (is_virtual : Cell → Bool) (rest : List Cell)
+module _ (outs : List VirtualOutput) (p : PlanView) (before after : List Node) (n : Node) (plan : HasSlots (before ++ n ∷ after) outs p) (is_virtual : Reference → Bool) (rest : List Reference)
     (order : map (λ (o : VirtualOutput). o.cell) outs ≡ filter is_virtual (flat_map outputs (before ++ n ∷ after))) (once : has_twice (map (λ (o : VirtualOutput). o.cell) outs) ≡ false) where
-  abbrev virtual_cells : List Cell
+  abbrev virtual_cells : List Reference
   virtual_cells = map (λ (o : VirtualOutput). o.cell) outs
 
-  abbrev plane_cells : List Cell
+  abbrev plane_cells : List Reference
   plane_cells = virtual_cells ++ rest
 
   abbrev slot_places : List ℕ
   slot_places = map (place_of p) outs
 
-  abbrev so_far : List Cell
+  abbrev so_far : List Reference
   so_far = flat_map outputs before ++ outputs n
 
   parted : virtual_cells ≡ filter is_virtual so_far ++ filter is_virtual (flat_map outputs after)
@@ -72,7 +72,7 @@ module _ (outs : List VirtualOutput) (p : PlanValue) (before after : List Node) 
       order ∙ ap (filter is_virtual) (flat_map-append outputs before (n ∷ after) ∙ sym (append_assoc (flat_map outputs before) (outputs n) (flat_map outputs after)))
       ∙ filter-append is_virtual so_far (flat_map outputs after)
 
-  in_so_far : (c : Cell) → In c so_far → (is_written before c || writes n c) ≡ true
+  in_so_far : (c : Reference) → In c so_far → (is_written before c || writes n c) ≡ true
   in_so_far c i = elim (In-append c (flat_map outputs before) (outputs n) i) [
     | inl old ↦
         (let m = In-from_flat_map outputs c before old in
@@ -80,7 +80,7 @@ module _ (outs : List VirtualOutput) (p : PlanValue) (before after : List Node) 
     | inr own ↦ or_right (is_written before c) (writes n c) (same-from_In c (outputs n) own)
   ]
 
-  module _ (c : Cell) (output : In c (outputs n)) (is_one : is_virtual c ≡ true) where
+  module _ (c : Reference) (output : In c (outputs n)) (is_one : is_virtual c ≡ true) where
     among : In c (filter is_virtual so_far)
     among = In-filter is_virtual c so_far (In-right c (flat_map outputs before) (outputs n) output) is_one
 
@@ -88,19 +88,19 @@ module _ (outs : List VirtualOutput) (p : PlanValue) (before after : List Node) 
     in_virtual = subst (In c) (sym parted) (In-left c (filter is_virtual so_far) (filter is_virtual (flat_map outputs after)) among)
 
     at_so_far : index_of plane_cells c ≡ index_of (filter is_virtual so_far) c
-    at_so_far = index_left virtual_cells rest c in_virtual ∙ ap (λ (l : List Cell). index_of l c) parted ∙ index_left (filter is_virtual so_far) (filter is_virtual (flat_map outputs after)) c among
+    at_so_far = index_left virtual_cells rest c in_virtual ∙ ap (λ (l : List Reference). index_of l c) parted ∙ index_left (filter is_virtual so_far) (filter is_virtual (flat_map outputs after)) c among
 
     -- images of lower indices were written before, or are by this node
-    written_before : (j : ℕ) (d : Cell) → j < index_of plane_cells c → (is_written before (get_or virtual_cells j d) || writes n (get_or virtual_cells j d)) ≡ true
+    written_before : (j : ℕ) (d : Reference) → j < index_of plane_cells c → (is_written before (get_or virtual_cells j d) || writes n (get_or virtual_cells j d)) ≡ true
     written_before j d less =
         let early : j < length (filter is_virtual so_far) = omega (arith, less, at_so_far, index_below (filter is_virtual so_far) c among) in
         let same : get_or virtual_cells j d ≡ get_or (filter is_virtual so_far) j d =
-        ap (λ (l : List Cell). get_or l j d) parted ∙ get_or-append (filter is_virtual so_far) (filter is_virtual (flat_map outputs after)) d j early in
+        ap (λ (l : List Reference). get_or l j d) parted ∙ get_or-append (filter is_virtual so_far) (filter is_virtual (flat_map outputs after)) d j early in
         let i = In-from_filter is_virtual (get_or (filter is_virtual so_far) j d) so_far (In-at (filter is_virtual so_far) j d early) in
-        subst (λ (x : Cell). (is_written before x || writes n x) ≡ true) (sym same) (in_so_far (get_or (filter is_virtual so_far) j d) i.0)
+        subst (λ (x : Reference). (is_written before x || writes n x) ≡ true) (sym same) (in_so_far (get_or (filter is_virtual so_far) j d) i.0)
 
     -- that whose block the output takes is read by no node from this one on
-    pub unread_when_taken : (j : ℕ) → j < index_of plane_cells c → taken slot_places (index_of plane_cells c) ≡ Some j → IsReadBy plane_cells (n ∷ after) j → ⊥
+    pub unread_when_taken : (j : ℕ) → j < index_of plane_cells c → previous_holder slot_places (index_of plane_cells c) ≡ Some j → IsReadBy plane_cells (n ∷ after) j → ⊥
     unread_when_taken j less takes by =
         let k = index_of plane_cells c in
         let known = In-from_map (λ (o : VirtualOutput). o.cell) c outs in_virtual in
@@ -122,13 +122,13 @@ module _ (outs : List VirtualOutput) (p : PlanValue) (before after : List Node) 
         ∙ at_index plane_cells c c (In-left c virtual_cells rest in_virtual) in
         let held_at : get_or virtual_cells j c ≡ held.cell = get_or-map (λ (x : VirtualOutput). x.cell) outs j o c j_below in
         let writer : writes n mine.cell ≡ true = ap (writes n) mine_cell ∙ same-from_In c (outputs n) output in
-        let written : (is_written before held.cell || writes n held.cell) ≡ true = subst (λ (x : Cell). (is_written before x || writes n x) ≡ true) held_at (written_before j c less) in
+        let written : (is_written before held.cell || writes n held.cell) ≡ true = subst (λ (x : Reference). (is_written before x || writes n x) ≡ true) held_at (written_before j c less) in
         let read = by.2.0 in
         let read_at : read ≡ held.cell =
         sym (at_index plane_cells read c by.2.2) ∙ ap (λ (x : ℕ). get_or plane_cells x c) (sym by.2.3) ∙ get_or-append virtual_cells rest c j (omega (arith, j_below, sizes)) ∙ held_at in
-        let used : is_used (n ∷ after) held.cell ≡ true =
+        let used : is_node_operand (n ∷ after) held.cell ≡ true =
         any-from_In (λ m. reads m held.cell || writes m held.cell) by.0 (n ∷ after) by.1
-        (or_left (reads by.0 held.cell) (writes by.0 held.cell) (subst (λ (x : Cell). reads by.0 x ≡ true) read_at (same-from_In read (inputs by.0) by.2.1))) in
+        (or_left (reads by.0 held.cell) (writes by.0 held.cell) (subst (λ (x : Reference). reads by.0 x ≡ true) read_at (same-from_In read (inputs by.0) by.2.1))) in
         let one : held ≡ mine = one_when_taken before after n outs p.slot_of plan.valid mine held (In-at outs k o k_below) (In-at outs j o j_below) same.0 writer written used same.1 in
         let equal : get_or virtual_cells j c ≡ get_or virtual_cells k c =
         held_at ∙ ap (λ (x : VirtualOutput). x.cell) one ∙ sym (get_or-map (λ (x : VirtualOutput). x.cell) outs k o c k_below) in
@@ -138,14 +138,14 @@ module _ (outs : List VirtualOutput) (p : PlanValue) (before after : List Node) 
 
 -- ---- what tasks read
 
-read_by_more : (cells : List Cell) (n : Node) (nodes : List Node) (tasks : List Task) → AreReadBy cells nodes tasks → AreReadBy cells (n ∷ nodes) tasks
+read_by_more : (cells : List Reference) (n : Node) (nodes : List Node) (tasks : List Task) → AreReadBy cells nodes tasks → AreReadBy cells (n ∷ nodes) tasks
 read_by_more cells n nodes [] by = tt
 read_by_more cells n nodes (Write s ∷ later) by = ((λ k read. let r = by.0 k read in (r.0, inr r.1, r.2)), read_by_more cells n nodes later by.1)
 read_by_more cells n nodes (Reduce q ∷ later) by = ((by.0.0, inr by.0.1, by.0.2), read_by_more cells n nodes later by.1)
 
-module _ (cells : List Cell) (slots : List ℕ) (radius : Node → ℕ) where
-  module _ (n : Node) (nodes : List Node) (named : (c : Cell) → In c (node_images n) → In c cells) where
-    by_given : (at : ℕ) (which : Output) (o : Option Cell) (later : List Task) → AreReadBy cells (n ∷ nodes) later → AreReadBy cells (n ∷ nodes) (write_given cells slots radius at n which o ++ later)
+module _ (cells : List Reference) (slots : List ℕ) (radius : Node → ℕ) where
+  module _ (n : Node) (nodes : List Node) (named : (c : Reference) → In c (node_images n) → In c cells) where
+    by_given : (at : ℕ) (which : Output) (o : Option Reference) (later : List Task) → AreReadBy cells (n ∷ nodes) later → AreReadBy cells (n ∷ nodes) (write_given cells slots radius at n which o ++ later)
     by_given at which None later by = by
     by_given at which (Some o) later by =
         ((λ k read. let r = read_cell cells slots radius n at which o k read in (n, inl refl, (r.0, r.1, named r.0 r.2, r.3))), by)
@@ -168,22 +168,22 @@ module _ (cells : List Cell) (slots : List ℕ) (radius : Node → ℕ) where
 after_tail : (s : Step) (later : List Task) → AreReadAfter (Write s ∷ later) → AreReadAfter later
 after_tail s later after = after.1
 
-module _ (steps : List Node) (outs : List VirtualOutput) (p : PlanValue) (plan : HasSlots steps outs p) (is_virtual : Cell → Bool) (rest : List Cell)
+module _ (steps : List Node) (outs : List VirtualOutput) (p : PlanView) (plan : HasSlots steps outs p) (is_virtual : Reference → Bool) (rest : List Reference)
     (order : map (λ (o : VirtualOutput). o.cell) outs ≡ filter is_virtual (flat_map outputs steps)) (once : has_twice (map (λ (o : VirtualOutput). o.cell) outs) ≡ false)
     (radius : Node → ℕ) (kept : ℕ → Type 0) (clients : (j : ℕ) → kept j → length outs ≤ j) where
-  abbrev all_virtual : List Cell
+  abbrev all_virtual : List Reference
   all_virtual = map (λ (o : VirtualOutput). o.cell) outs
 
-  abbrev all_cells : List Cell
+  abbrev all_cells : List Reference
   all_cells = all_virtual ++ rest
 
   abbrev places : List ℕ
   places = map (place_of p) outs
 
-  module _ (before after : List Node) (n : Node) (e : steps ≡ before ++ n ∷ after) (named : (c : Cell) → In c (node_images n) → In c all_cells) where
+  module _ (before after : List Node) (n : Node) (e : steps ≡ before ++ n ∷ after) (named : (c : Reference) → In c (node_images n) → In c all_cells) where
     -- the block that a step takes is not live after it
-    free_one : (at : ℕ) (which : Output) (c : Cell) (later : List Task) (k : ℕ) → In c (outputs n) → In c all_cells → TakeTurns places k (Write (step_for all_cells places radius at n which c) ∷ later)
-        → (tail : List Task) → ((s : Step) → IsStepOf s later → IsStepOf s tail) → AreReadAfter tail → AreReadBy all_cells (n ∷ after) tail → (j : ℕ) → taken places (index_of all_cells c) ≡ Some j → j ≢ index_of all_cells c → IsLive kept tail j → ⊥
+    free_one : (at : ℕ) (which : Output) (c : Reference) (later : List Task) (k : ℕ) → In c (outputs n) → In c all_cells → TakeTurns places k (Write (step_for all_cells places radius at n which c) ∷ later)
+        → (tail : List Task) → ((s : Step) → IsStepOf s later → IsStepOf s tail) → AreReadAfter tail → AreReadBy all_cells (n ∷ after) tail → (j : ℕ) → previous_holder places (index_of all_cells c) ≡ Some j → j ≢ index_of all_cells c → IsLive kept tail j → ⊥
     free_one at which c later k output among (inl turn) tail whole turned by j takes other live = let clash : ◌≡◌ {A = Option ℕ} None (Some j) = sym turn.1 ∙ takes in cc
     free_one at which c later k output among (inr turn) tail whole turned by j takes other live =
         let count : length places ≡ length outs = length-map outs (place_of p) in
@@ -193,7 +193,7 @@ module _ (steps : List Node) (outs : List VirtualOutput) (p : PlanValue) (plan :
         let holds : holder places (get_or places k 0) k ≡ Some j = grind (arith, sym turn.2 ∙ takes, turn.0) in
         let below : j < length places = (holder_is places (get_or places k 0) k j 0 holds).0 in
         let is_c : get_or all_virtual k c ≡ c = sym (get_or-append all_virtual rest c k below_k) ∙ ap (λ (x : ℕ). get_or all_cells x c) (sym at_k) ∙ at_index all_cells c c among in
-        let in_virtual : In c all_virtual = subst (λ (x : Cell). In x all_virtual) is_c (In-at all_virtual k c below_k) in
+        let in_virtual : In c all_virtual = subst (λ (x : Reference). In x all_virtual) is_c (In-at all_virtual k c below_k) in
         let is_one : is_virtual c ≡ true = (In-from_filter is_virtual c (flat_map outputs steps) (subst (In c) order in_virtual)).1 in
         elim (cases_lt j k) [
           | inl less ↦ elim (live_read all_cells (n ∷ after) kept tail j by live) [
@@ -214,7 +214,7 @@ module _ (steps : List Node) (outs : List VirtualOutput) (p : PlanValue) (plan :
           | inr ge ↦ absurd (ne (omega (arith, le, ge)))
         ]
 
-    free_given : (at : ℕ) (which : Output) (o : Option Cell) (later : List Task) (k : ℕ) → ((c : Cell) → In c (given o) → In c (outputs n) × In c all_cells)
+    free_given : (at : ℕ) (which : Output) (o : Option Reference) (later : List Task) (k : ℕ) → ((c : Reference) → In c (optional_cells o) → In c (outputs n) × In c all_cells)
         → TakeTurns places k (write_given all_cells places radius at n which o ++ later) → AreReadAfter (write_given all_cells places radius at n which o ++ later) → AreReadBy all_cells (n ∷ after) later
         → ((j : ℕ) → TakeTurns places j later → AreReadAfter later → AreFree kept later × AreUntaken later)
         → AreFree kept (write_given all_cells places radius at n which o ++ later) × AreUntaken (write_given all_cells places radius at n which o ++ later)
@@ -233,7 +233,7 @@ module _ (steps : List Node) (outs : List VirtualOutput) (p : PlanValue) (plan :
         rest_free (inl turn) now = next k turn.2 now
         rest_free (inr turn) now = next (k + 1) turn.3 now
 
-    free_by : (at tally : ℕ) (wanted : Kind) (later : List Task) (k : ℕ) → ((c : Cell) → wanted ≡ kind.Image → In c (outputs n) → In c all_cells)
+    free_by : (at tally : ℕ) (wanted : Kind) (later : List Task) (k : ℕ) → ((c : Reference) → wanted ≡ kind.Image → In c (outputs n) → In c all_cells)
         → TakeTurns places k (tasks_by all_cells places radius at tally n wanted ++ later) → AreReadAfter (tasks_by all_cells places radius at tally n wanted ++ later) → AreReadBy all_cells (n ∷ after) later
         → ((j : ℕ) → TakeTurns places j later → AreReadAfter later → AreFree kept later × AreUntaken later)
         → AreFree kept (tasks_by all_cells places radius at tally n wanted ++ later) × AreUntaken (tasks_by all_cells places radius at tally n wanted ++ later)
@@ -242,9 +242,9 @@ module _ (steps : List Node) (outs : List VirtualOutput) (p : PlanValue) (plan :
         let two : List Task = write_given all_cells places radius at n Second n.out2 in
         let parts = append_assoc one two later in
         subst (λ (l : List Task). AreFree kept l × AreUntaken l) (sym parts)
-        (free_given at First n.out1 (two ++ later) k (λ c i. let j = In-left c (given n.out1) (given n.out2) i in (j, there c refl j))
+        (free_given at First n.out1 (two ++ later) k (λ c i. let j = In-left c (optional_cells n.out1) (optional_cells n.out2) i in (j, there c refl j))
         (subst (TakeTurns places k) parts turns) (subst AreReadAfter parts turned) (by_given all_cells places radius n after named at Second n.out2 later by)
-        (λ j then now. free_given at Second n.out2 later j (λ c i. let r = In-right c (given n.out1) (given n.out2) i in (r, there c refl r)) then now by next))
+        (λ j then now. free_given at Second n.out2 later j (λ c i. let r = In-right c (optional_cells n.out1) (optional_cells n.out2) i in (r, there c refl r)) then now by next))
     free_by at tally other later k there turns turned by next = next k turns turned.1
 
   -- each block is free when it is taken
@@ -261,10 +261,10 @@ module _ (steps : List Node) (outs : List VirtualOutput) (p : PlanValue) (plan :
 
 -- ---- the tasks of a graph
 
-module _ (steps : List Node) (outs : List VirtualOutput) (p : PlanValue) (plan : HasSlots steps outs p) (is_virtual : Cell → Bool)
+module _ (steps : List Node) (outs : List VirtualOutput) (p : PlanView) (plan : HasSlots steps outs p) (is_virtual : Reference → Bool)
     (order : map (λ (o : VirtualOutput). o.cell) outs ≡ filter is_virtual (flat_map outputs steps)) (once : has_twice (map (λ (o : VirtualOutput). o.cell) outs) ≡ false)
     (radius : Node → ℕ) (plain : WriteImages is_virtual steps) where
-  abbrev graph_cells : List Cell
+  abbrev graph_cells : List Reference
   graph_cells = with_cells (map (λ (o : VirtualOutput). o.cell) outs) (images_named steps)
 
   abbrev graph_tasks : List Task
@@ -272,7 +272,7 @@ module _ (steps : List Node) (outs : List VirtualOutput) (p : PlanValue) (plan :
 
   pub graph_turns : TakeTurns (map (place_of p) outs) 0 graph_tasks
   graph_turns =
-      subst (λ (l : List Cell). TakeTurns (map (place_of p) outs) 0 (tasks_from (with_cells l (images_named steps)) (map (place_of p) outs) radius 0 0 steps)) (sym order)
+      subst (λ (l : List Reference). TakeTurns (map (place_of p) outs) 0 (tasks_from (with_cells l (images_named steps)) (map (place_of p) outs) radius 0 0 steps)) (sym order)
       (turns_of is_virtual steps (map (place_of p) outs) radius
       (length-map outs (place_of p) ∙ sym (length-map outs (λ (x : VirtualOutput). x.cell)) ∙ ap length order) (ap has_twice (sym order) ∙ once) plain (images_named steps))
 
@@ -283,8 +283,8 @@ module _ (steps : List Node) (outs : List VirtualOutput) (p : PlanValue) (plan :
       let clients : (j : ℕ) → KeepsBlock count graph_tasks j → length outs ≤ j =
       λ j kept. omega (arith, kept_turns (map (place_of p) outs) graph_tasks graph_turns count j kept, length-map outs (place_of p)) in
       let after = read_after graph_cells (map (place_of p) outs) radius steps 0 0 turn named in
-      subst (λ (l : List Cell). AreFree (KeepsBlock count graph_tasks) (tasks_from l (map (place_of p) outs) radius 0 0 steps) × AreUntaken (tasks_from l (map (place_of p) outs) radius 0 0 steps)) (sym behind.1)
+      subst (λ (l : List Reference). AreFree (KeepsBlock count graph_tasks) (tasks_from l (map (place_of p) outs) radius 0 0 steps) × AreUntaken (tasks_from l (map (place_of p) outs) radius 0 0 steps)) (sym behind.1)
       (free_all steps outs p plan is_virtual behind.0 order once radius (KeepsBlock count graph_tasks) clients [] steps 0 0 0 refl
-      (subst (λ (l : List Cell). AreNamed l steps) behind.1 named)
-      (subst (λ (l : List Cell). TakeTurns (map (place_of p) outs) 0 (tasks_from l (map (place_of p) outs) radius 0 0 steps)) behind.1 graph_turns)
-      (subst (λ (l : List Cell). AreReadAfter (tasks_from l (map (place_of p) outs) radius 0 0 steps)) behind.1 after))
+      (subst (λ (l : List Reference). AreNamed l steps) behind.1 named)
+      (subst (λ (l : List Reference). TakeTurns (map (place_of p) outs) 0 (tasks_from l (map (place_of p) outs) radius 0 0 steps)) behind.1 graph_turns)
+      (subst (λ (l : List Reference). AreReadAfter (tasks_from l (map (place_of p) outs) radius 0 0 steps)) behind.1 after))

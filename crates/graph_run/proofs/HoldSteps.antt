@@ -2,7 +2,7 @@
 use Rattle.std.proofs.Common.{◌≡◌, ℕ, zero, suc, ◌+◌, ◌<◌, ◌≤◌, ◌==◌, List, [], ◌∷◌, length, map, get_or, max, None, Some, true, slice_get, refl, sym, ap, subst, ◌∙◌, arith, unwrap_or, eq-eqb, if◌then◌else◌}
 use Rattle.std.proofs.lemmas.List.{get_or-map, length-map}
 use Rattle.std.proofs.lemmas.Option.{get_or_from_slice_get, slice_get_within}
-use Rattle.graph_run.proofs.Common.{Format, U8, Node, VirtualOutput, IsPlan, PlanValue, place_of, slot_place, planned_rooms, In-at}
+use Rattle.graph_run.proofs.Common.{Format, U8, Node, VirtualOutput, IsPlan, PlanView, place_of, slot_place, planned_capacities, In-at}
 use Rattle.graph_steps.specs.Planes.{no_plane}
 use Rattle.graph_steps.specs.Program.{HoldsRows, halo}
 use Rattle.graph_run.specs.Blocks.{band_plan, band_samples, samples_from}
@@ -30,12 +30,12 @@ enough_samples size halos j (o ∷ outs) (s ∷ slots) (suc k) none count below 
     rest_most s (get_or slots k 0) (band_samples size (halo halos j) o.desc) (samples_from size halos (j + 1) outs slots (get_or slots k 0)) (band_samples size (halo halos (j + suc k)) (get_or outs k none).desc)
     (subst (λ (i : ℕ). band_samples size (halo halos i) (get_or outs k none).desc ≤ samples_from size halos (j + 1) outs slots (get_or slots k 0)) at rest)
 
-module _ (steps : List Node) (outs : List VirtualOutput) (p : PlanValue) (plan : IsPlan steps outs p) (size : ℕ) (halos : List ℕ) (rooms : List (Format × ℕ))
-    (planned : rooms ≡ planned_rooms (band_plan size halos outs (map (place_of p) outs) p)) where
+module _ (steps : List Node) (outs : List VirtualOutput) (p : PlanView) (plan : IsPlan steps outs p) (size : ℕ) (halos : List ℕ) (rooms : List (Format × ℕ))
+    (planned : rooms ≡ planned_capacities (band_plan size halos outs (map (place_of p) outs) p)) where
   abbrev slots : List ℕ
   slots = map (place_of p) outs
 
-  abbrev bands : PlanValue
+  abbrev bands : PlanView
   bands = band_plan size halos outs slots p
 
   -- an image in its slot
@@ -53,7 +53,7 @@ module _ (steps : List Node) (outs : List VirtualOutput) (p : PlanValue) (plan :
     at = get_or-map (place_of p) outs k none 0 below ∙ ap (λ s. slot_place p o.desc.format (unwrap_or s 0)) home.is
 
     there : slice_get rooms (get_or slots k 0) ≡ Some (o.desc.format, samples_from size halos 0 outs slots (slot_place p o.desc.format home.slot))
-    there = ap (λ (l : List (Format × ℕ)). slice_get l (get_or slots k 0)) planned ∙ ap (slice_get (planned_rooms bands)) at ∙ planned_at bands o.desc.format home.slot home.below
+    there = ap (λ (l : List (Format × ℕ)). slice_get l (get_or slots k 0)) planned ∙ ap (slice_get (planned_capacities bands)) at ∙ planned_at bands o.desc.format home.slot home.below
 
     pub within : get_or slots k 0 < length rooms
     within = slice_get_within rooms (get_or slots k 0) (o.desc.format, samples_from size halos 0 outs slots (slot_place p o.desc.format home.slot)) there

@@ -1,72 +1,72 @@
 -- What lasts of objects as others are written in their places.
 use Rattle.std.proofs.Common.{◌≡◌, ℕ, List, [], ◌∷◌, Option, Some, None, map, drop, refl, sym, ap, subst, ◌∙◌, arith, option_map, option_and_then}
-use Rattle.graph_run.proofs.Common.{IsStrictlyIncreasing, Node, Cell, Description, ImageValue, image_over, description_of, ObjectValue, ImageObject, DelayObject, empty, in_slot, with_slot, Named, object_held, held, skeleton, names_of, map-told, lasting, lasting_named, Lasts}
+use Rattle.graph_run.proofs.Common.{IsStrictlyIncreasing, Node, Reference, Description, ImageValue, image_over, description_of, ObjectValue, ImageObject, DelayObject, empty_rectangle, in_slot, with_slot, NamedObject, object_held, object_at, skeleton, names_of, map-told, lasting_part, lasting_named, Lasts}
 use Rattle.object_table.specs.Uses.{nodes_in}
 use Rattle.object_table.proofs.SkeletonLaws.{option_map-told, in_slot-skeleton, skeleton-with_slot}
 
 -- ---- of an object
 
 -- its skeleton
-pub skeletons-last : (one other : Option ObjectValue) → option_map lasting one ≡ option_map lasting other → option_map skeleton one ≡ option_map skeleton other
-skeletons-last = option_map-told lasting skeleton (λ left. left.0) (λ _. refl)
+pub skeletons-last : (one other : Option ObjectValue) → option_map lasting_part one ≡ option_map lasting_part other → option_map skeleton one ≡ option_map skeleton other
+skeletons-last = option_map-told lasting_part skeleton (λ left. left.0) (λ _. refl)
 
 -- and its nodes
-pub nodes-last : (one other : Option ObjectValue) → option_map lasting one ≡ option_map lasting other → option_map nodes_in one ≡ option_map nodes_in other
-nodes-last = option_map-told lasting nodes_in (λ left. left.1) (λ _. refl)
+pub nodes-last : (one other : Option ObjectValue) → option_map lasting_part one ≡ option_map lasting_part other → option_map nodes_in one ≡ option_map nodes_in other
+nodes-last = option_map-told lasting_part nodes_in (λ left. left.1) (λ _. refl)
 
 -- so as much lasts of what stands in a slot, where only images do
 abbrev in_left : Option ℕ → ObjectValue × List Node → Option (ObjectValue × List Node)
 in_left None left = Some left
 in_left (Some k) left = option_map (λ object. (object, [])) (in_slot (Some k) left.0)
 
-in_slots-last : (slot : Option ℕ) (one other : Option ObjectValue) → option_map lasting one ≡ option_map lasting other
-    → option_map lasting (option_and_then (in_slot slot) one) ≡ option_map lasting (option_and_then (in_slot slot) other)
+in_slots-last : (slot : Option ℕ) (one other : Option ObjectValue) → option_map lasting_part one ≡ option_map lasting_part other
+    → option_map lasting_part (option_and_then (in_slot slot) one) ≡ option_map lasting_part (option_and_then (in_slot slot) other)
 in_slots-last slot one other same = sym (through one) ∙ ap (option_and_then (in_left slot)) same ∙ through other
   where
-    of_slot : (k : ℕ) (object : ObjectValue) → option_map (λ x. (x, [])) (option_map skeleton (in_slot (Some k) object)) ≡ option_map lasting (in_slot (Some k) object)
+    of_slot : (k : ℕ) (object : ObjectValue) → option_map (λ x. (x, [])) (option_map skeleton (in_slot (Some k) object)) ≡ option_map lasting_part (in_slot (Some k) object)
     of_slot k (DelayObject images) = grind arith
     of_slot k object = refl
 
-    of_left : (s : Option ℕ) (object : ObjectValue) → in_left s (lasting object) ≡ option_map lasting (in_slot s object)
+    of_left : (s : Option ℕ) (object : ObjectValue) → in_left s (lasting_part object) ≡ option_map lasting_part (in_slot s object)
     of_left None object = refl
     of_left (Some k) object = ap (option_map (λ x. (x, []))) (in_slot-skeleton (Some k) object) ∙ of_slot k object
 
-    through : (o : Option ObjectValue) → option_and_then (in_left slot) (option_map lasting o) ≡ option_map lasting (option_and_then (in_slot slot) o)
+    through : (o : Option ObjectValue) → option_and_then (in_left slot) (option_map lasting_part o) ≡ option_map lasting_part (option_and_then (in_slot slot) o)
     through None = refl
     through (Some object) = of_left slot object
 
 -- as much lasts of images of one description
-pub images-last : (a b : ImageValue) → description_of a ≡ description_of b → lasting (ImageObject a) ≡ lasting (ImageObject b)
-images-last a b e = ap (λ (d : Description). let left : ObjectValue × List Node = (ImageObject (image_over d empty []), []) in left) e
+pub images-last : (a b : ImageValue) → description_of a ≡ description_of b → lasting_part (ImageObject a) ≡ lasting_part (ImageObject b)
+images-last a b e = ap (λ (d : Description). let left : ObjectValue × List Node = (ImageObject (image_over d empty_rectangle []), []) in left) e
 
 -- an object in the place of one of which as much lasts
-pub lasting-with_slot : (slot : Option ℕ) (new object : ObjectValue) → option_map lasting (in_slot slot object) ≡ Some (lasting new) → lasting (with_slot slot new object) ≡ lasting object
+pub lasting-with_slot : (slot : Option ℕ) (new object : ObjectValue) → option_map lasting_part (in_slot slot object) ≡ Some (lasting_part new) → lasting_part (with_slot slot new object) ≡ lasting_part object
 lasting-with_slot slot new object same = grind (arith, skeleton-with_slot)
 
 -- ---- of what is held
 
 abbrev pub Lasting : Type 0
-Lasting = Named × List Node
+Lasting = NamedObject × List Node
 
 -- names last
-pub names-last : (old new : List Named) → map lasting_named new ≡ map lasting_named old → names_of new ≡ names_of old
+pub names-last : (old new : List NamedObject) → map lasting_named new ≡ map lasting_named old → names_of new ≡ names_of old
 names-last old new same = map-told lasting_named (λ o. o.name) (λ left. left.0.name) (λ _. refl) new old same
 
 -- as much lasts of what is held under each name
-pub held-lasts : (old new : List Named) (name : ℕ) → map lasting_named new ≡ map lasting_named old → option_map lasting (object_held new name) ≡ option_map lasting (object_held old name)
+pub held-lasts : (old new : List NamedObject) (name : ℕ) → map lasting_named new ≡ map lasting_named old → option_map lasting_part (object_held new name) ≡ option_map lasting_part (object_held old name)
 held-lasts [] [] name same = refl
 held-lasts [] (p ∷ new) name same = absurd (cc)
 held-lasts (o ∷ old) [] name same = absurd (cc)
 held-lasts (o ∷ old) (p ∷ new) name same = grind (arith, held-lasts old new name (ap (drop 1) same))
 
 -- and in each cell
-pub cell-lasts : (old new : List Named) (cell : Cell) → map lasting_named new ≡ map lasting_named old → option_map lasting (held new cell) ≡ option_map lasting (held old cell)
+pub cell-lasts : (old new : List NamedObject) (cell : Reference) → map lasting_named new ≡ map lasting_named old → option_map lasting_part (object_at new cell) ≡ option_map lasting_part (object_at old cell)
 cell-lasts old new cell same = in_slots-last cell.slot (object_held new cell.name) (object_held old cell.name) (held-lasts old new cell.name same)
 
 -- they last through two changes
-pub Lasts-trans : (old new last : List Named) → Lasts old new → Lasts new last → Lasts old last
+pub Lasts-trans : (old new last : List NamedObject) → Lasts old new → Lasts new last → Lasts old last
 Lasts-trans old new last one other = record { objects = other.objects; lasting = other.lasting ∙ one.lasting }
 
 -- and the names with them
-pub Lasts-names : (old new : List Named) → Lasts old new → IsStrictlyIncreasing (names_of old) → IsStrictlyIncreasing (names_of new)
+pub Lasts-names : (old new : List NamedObject) → Lasts old new → IsStrictlyIncreasing (names_of old) → IsStrictlyIncreasing (names_of new)
 Lasts-names old new h names = subst IsStrictlyIncreasing (sym (names-last old new h.lasting)) names

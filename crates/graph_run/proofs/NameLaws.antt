@@ -1,6 +1,6 @@
 -- Lists of objects are equal if they have the same names and labels and the same value for each reference.
 use Rattle.std.proofs.Common.{◌≡◌, ℕ, suc, ◌<◌, Bool, true, false, eqb, List, [], ◌∷◌, length, map, get_or, refl, sym, ap, subst, ◌∙◌, inl, inr, Option, Some, None, arith, slice_get, option_map, option_and_then, eqb-true, eq-eqb, ne_eqb}
-use Rattle.graph_run.proofs.Common.{AllPairs, cases_Bool, Cell, ImageValue, ObjectValue, ImageObject, DelayObject, in_slot, Named, object_held, label_of}
+use Rattle.graph_run.proofs.Common.{AllPairs, cases_Bool, Reference, ImageValue, ObjectValue, ImageObject, DelayObject, in_slot, NamedObject, object_held, label_of}
 use Rattle.graph_run.proofs.ObjectLaws.{is_delay, shown, shown_whole, is_delay-shown}
 use Rattle.graph_run.proofs.HeldLaws.{seen}
 
@@ -47,36 +47,36 @@ abbrev pub Rising : List (ℕ × Bool) → Type 0
 Rising [] = Unit {0}
 Rising (m ∷ labels) = Above m.0 labels × Rising labels
 
-above_all : (objects : List Named) (name : ℕ) → ((k : ℕ) (d : Named) → k < length objects → name < (get_or objects k d).name) → Above name (map label_of objects)
+above_all : (objects : List NamedObject) (name : ℕ) → ((k : ℕ) (d : NamedObject) → k < length objects → name < (get_or objects k d).name) → Above name (map label_of objects)
 above_all [] name h = tt
 above_all (o ∷ objects) name h = (h 0 o (omega arith), above_all objects name (λ k d l. h (suc k) d (omega arith)))
 
-pub rising : (objects : List Named) → AllPairs (λ a b. a.name < b.name) objects → Rising (map label_of objects)
+pub rising : (objects : List NamedObject) → AllPairs (λ a b. a.name < b.name) objects → Rising (map label_of objects)
 rising [] h = tt
 rising (o ∷ objects) h = (
   above_all objects o.name (λ k d l. h 0 (suc k) d (omega arith) (omega arith)),
   rising objects (λ i j d less within. h (suc i) (suc j) d (omega arith) (omega arith)),
 )
 
-absent : (objects : List Named) (name : ℕ) → Above name (map label_of objects) → object_held objects name ≡ None
+absent : (objects : List NamedObject) (name : ℕ) → Above name (map label_of objects) → object_held objects name ≡ None
 absent [] name h = refl
 absent (o ∷ objects) name h = let e : eqb o.name name ≡ false = ne_eqb o.name name (λ same. absurd (omega (arith, h.0, same))) in rw e (absent objects name h.1)
 
-under_own : (o : Named) (objects : List Named) → object_held (o ∷ objects) o.name ≡ Some o.object
+under_own : (o : NamedObject) (objects : List NamedObject) → object_held (o ∷ objects) o.name ≡ Some o.object
 under_own o objects = let e : eqb o.name o.name ≡ true = eq-eqb o.name o.name refl in rw e refl
 
-under_other : (o : Named) (objects : List Named) (name : ℕ) → eqb o.name name ≡ false → object_held (o ∷ objects) name ≡ object_held objects name
+under_other : (o : NamedObject) (objects : List NamedObject) (name : ℕ) → eqb o.name name ≡ false → object_held (o ∷ objects) name ≡ object_held objects name
 under_other o objects name e = rw e refl
 
 -- the first name doesn't occur again
-absent_both : (old new : List Named) (name : ℕ) → Above name (map label_of old) → map label_of old ≡ map label_of new → object_held old name ≡ object_held new name
+absent_both : (old new : List NamedObject) (name : ℕ) → Above name (map label_of old) → map label_of old ≡ map label_of new → object_held old name ≡ object_held new name
 absent_both old new name above labels = absent old name above ∙ sym (absent new name (subst (λ z. Above name z) labels above))
 
-same_named : (o p : Named) → label_of o ≡ label_of p → ◌≡◌ {A = Option ObjectValue} (Some o.object) (Some p.object) → o ≡ p
+same_named : (o p : NamedObject) → label_of o ≡ label_of p → ◌≡◌ {A = Option ObjectValue} (Some o.object) (Some p.object) → o ≡ p
 same_named o p label found = grind arith
 
 -- two lists of the same names and labels, by what is held under each name
-pub by_names : (old new : List Named) → Rising (map label_of old) → map label_of old ≡ map label_of new → ((name : ℕ) → object_held old name ≡ object_held new name) → old ≡ new
+pub by_names : (old new : List NamedObject) → Rising (map label_of old) → map label_of old ≡ map label_of new → ((name : ℕ) → object_held old name ≡ object_held new name) → old ≡ new
 by_names [] [] up labels h = refl
 by_names [] (p ∷ new) up labels h = absurd (cc labels)
 by_names (o ∷ old) [] up labels h = absurd (cc labels)
@@ -91,7 +91,7 @@ by_names (o ∷ old) (p ∷ new) up labels h =
     ]))
 
 -- objects with increasing names are determined by their labels and by the value for each reference
-pub same_objects : (old new : List Named) → Rising (map label_of old) → map label_of old ≡ map label_of new → ((c : Cell) → seen old c ≡ seen new c) → old ≡ new
+pub same_objects : (old new : List NamedObject) → Rising (map label_of old) → map label_of old ≡ map label_of new → ((c : Reference) → seen old c ≡ seen new c) → old ≡ new
 same_objects old new up labels h =
     by_names old new up labels
     (λ name. held_same (object_held old name) (object_held new name) (λ slot. h (record { name = name; slot = slot })))

@@ -1,6 +1,6 @@
 -- A node by itself: what it reads and writes in a table.
 use Rattle.std.proofs.Common.{◌≡◌, ◌≢◌, ◌⊎◌, List, [], ◌∷◌, Option, Some, refl, sym, ap, subst, ◌∙◌, arith, All, IfSome, option_map}
-use Rattle.graph_run.proofs.Common.{First, Second, Output, Kind, Node, Cell, parameters, ImageValue, IsImage, description_of, ObjectValue, ImageObject, IsObject, object_kind, node_image, node_output, beside_first, written_by, Context, with_objects, Named, held, with_object, with_written, image_value, cell_object, image_held, HoldsImage, IsStrictlyIncreasing, names_of, Lasts, RunsOn, RunsTo, with_output, CanRunNow, Holds}
+use Rattle.graph_run.proofs.Common.{First, Second, Output, Kind, Node, Reference, parameters, ImageValue, IsImage, description_of, ObjectValue, ImageObject, IsObject, object_kind, node_image, node_output, second_or_output, written_by, Context, with_objects, NamedObject, object_at, with_object, with_written, image_value, cell_object, image_held, HoldsImage, IsStrictlyIncreasing, names_of, Lasts, RunsOn, RunsTo, with_output_object, CanRunNow, Holds}
 use Rattle.vx_base.specs.declared.kind.Kind.TheVariants as kind
 use Rattle.graph_steps.specs.declared.tally.Tally.{Tally}
 use Rattle.graph_steps.specs.Planes.{IsWhole, PlaneValue, block_image}
@@ -10,7 +10,7 @@ use Rattle.graph_run.specs.Bind.{image_plane, without_samples}
 use Rattle.graph_run.specs.Bound.{IsTallyFor}
 use Rattle.graph_run.specs.Program.{tally_by}
 use Rattle.graph_run.specs.Results.{tally_object}
-use Rattle.graph_run.specs.Steps.{CanRead, output_of}
+use Rattle.graph_run.specs.Steps.{HasInputs, output_of}
 use Rattle.graph_run.proofs.CellLemmas.{hold_beside, holds_image, image_after, image_beside, object_after, object_beside, object_if_beside, there_is, with_object_twice}
 use Rattle.graph_run.proofs.OutputLemmas.{image_of_object}
 use Rattle.graph_run.proofs.RunLemmas.{Lasts-outputs, written_is}
@@ -20,11 +20,11 @@ use Rattle.graph_run.proofs.SolutionStepsTaken.{tally_for}
 -- ---- both outputs
 
 module _ (n : Node) (before between after : Context) (are : All (λ o. IsObject o.object) before.objects) (can : CanRunNow before.objects n)
-    (first : between ≡ with_objects before (with_output before.objects n First n.out1)) (second : after ≡ with_objects between (with_output between.objects n Second n.out2)) where
-  both : after ≡ with_objects before (with_output (with_output before.objects n First n.out1) n Second n.out2)
-  both = second ∙ ap (λ (t : Context). with_objects t (with_output t.objects n Second n.out2)) first
+    (first : between ≡ with_objects before (with_output_object before.objects n First n.out1)) (second : after ≡ with_objects between (with_output_object between.objects n Second n.out2)) where
+  both : after ≡ with_objects before (with_output_object (with_output_object before.objects n First n.out1) n Second n.out2)
+  both = second ∙ ap (λ (t : Context). with_objects t (with_output_object t.objects n Second n.out2)) first
 
-  pub both_written : after ≡ with_objects before (with_written before.objects (written_by n (held before.objects)))
+  pub both_written : after ≡ with_objects before (with_written before.objects (written_by n (object_at before.objects)))
   both_written = both ∙ ap (with_objects before) (sym (written_is n before.objects are can))
 
   pub both_last : IsStrictlyIncreasing (names_of before.objects) → Lasts before.objects after.objects
@@ -37,18 +37,18 @@ can_make : (n : Node) (which : Output) (first : ObjectValue) (second : Option Ob
 can_make n which first second other runs e = grind arith
 
 image_output : (n : Node) (which : Output) (first : ObjectValue) (second : Option ObjectValue) (out : ObjectValue) → object_kind first ≡ kind.Image → object_kind out ≡ kind.Image
-    → ImageObject (node_image n which (image_value out).format (image_value first) (beside_first n second (ImageObject (image_value out)))) ≡ node_output n which first second out
+    → ImageObject (node_image n which (image_value out).format (image_value first) (second_or_output n second (ImageObject (image_value out)))) ≡ node_output n which first second out
 image_output n which (ImageObject a) second (ImageObject b) h i = refl
 image_output n which first second other h i = grind arith
 
-module _ (before : Context) (n : Node) (which : Output) (output : Cell) (h : RunsTo before.objects n output) where
-  abbrev l : List Named
+module _ (before : Context) (n : Node) (which : Output) (output : Reference) (h : RunsTo before.objects n output) where
+  abbrev l : List NamedObject
   l = before.objects
 
   abbrev second : Option ObjectValue
   second = option_map (cell_object l) n.in2
 
-  pub reads : CanRead l n
+  pub reads : HasInputs l n
   reads = record {
     first = h.in1;
     image = image_of_object (cell_object l n.in1) h.runs.first_kind h.runs.first_is;
@@ -81,7 +81,7 @@ module _ (before : Context) (n : Node) (which : Output) (output : Cell) (h : Run
       second_same : option_map (cell_object after.objects) n.in2 ≡ second
       second_same = ap (λ (t : Context). option_map (cell_object t.objects) n.in2) taken ∙ object_if_beside l output n.in2 bare h.in2_apart
 
-      pub reads_beside : CanRead after.objects n
+      pub reads_beside : HasInputs after.objects n
       reads_beside = record {
         first = subst (λ (t : Context). HoldsImage t.objects n.in1) (sym taken) (image_beside l output n.in1 bare h.in1_apart h.in1);
         image = subst (λ (o : ObjectValue). IsImage (image_value o)) (sym first_same) reads.image;
@@ -111,14 +111,14 @@ module _ (before : Context) (n : Node) (which : Output) (output : Cell) (h : Run
         pub format_back : q.format ≡ q.desc.format
         format_back = format ∙ ap (λ (x : PlaneValue). x.format) is ∙ sym (ap (λ (x : PlaneValue). x.desc.format) is) ∙ sym (ap (λ d. d.format) desc)
 
-        pub image_back : block_image q ≡ node_image n which p.desc.format (image_held after.objects n.in1) (beside_first n (option_map (cell_object after.objects) n.in2) (ImageObject (block_image p)))
-            → (back : Context) → back ≡ with_objects after (with_object after.objects output (ImageObject (block_image q))) → back ≡ with_objects before (with_output l n which (Some output))
+        pub image_back : block_image q ≡ node_image n which p.desc.format (image_held after.objects n.in1) (second_or_output n (option_map (cell_object after.objects) n.in2) (ImageObject (block_image p)))
+            → (back : Context) → back ≡ with_objects after (with_object after.objects output (ImageObject (block_image q))) → back ≡ with_objects before (with_output_object l n which (Some output))
         image_back made back put =
             let written : ImageObject (block_image q) ≡ output_of l n which output =
             ap (λ i. ImageObject i) made
-            ∙ ap (λ (x : PlaneValue). ImageObject (node_image n which x.desc.format (image_held after.objects n.in1) (beside_first n (option_map (cell_object after.objects) n.in2) (ImageObject (block_image x))))) is
-            ∙ ap (λ (o : ObjectValue). ImageObject (node_image n which own.format (image_value o) (beside_first n (option_map (cell_object after.objects) n.in2) (ImageObject own)))) first_same
-            ∙ ap (λ (o : Option ObjectValue). ImageObject (node_image n which own.format (image_held l n.in1) (beside_first n o (ImageObject own)))) second_same
+            ∙ ap (λ (x : PlaneValue). ImageObject (node_image n which x.desc.format (image_held after.objects n.in1) (second_or_output n (option_map (cell_object after.objects) n.in2) (ImageObject (block_image x))))) is
+            ∙ ap (λ (o : ObjectValue). ImageObject (node_image n which own.format (image_value o) (second_or_output n (option_map (cell_object after.objects) n.in2) (ImageObject own)))) first_same
+            ∙ ap (λ (o : Option ObjectValue). ImageObject (node_image n which own.format (image_held l n.in1) (second_or_output n o (ImageObject own)))) second_same
             ∙ image_output n which (cell_object l n.in1) second (cell_object l output) h.runs.first_kind out_kind in
             put
             ∙ ap (λ (t : Context). with_objects t (with_object t.objects output (ImageObject (block_image q)))) taken
@@ -126,8 +126,8 @@ module _ (before : Context) (n : Node) (which : Output) (output : Cell) (h : Run
 
 -- ---- an output that is a tally
 
-module _ (before : Context) (n : Node) (output : Cell) (h : RunsTo before.objects n output) (k : Kind) (wanted : (parameters n.function).output ≡ k) (other : k ≢ kind.Image) where
-  abbrev objects : List Named
+module _ (before : Context) (n : Node) (output : Reference) (h : RunsTo before.objects n output) (k : Kind) (wanted : (parameters n.function).output ≡ k) (other : k ≢ kind.Image) where
+  abbrev objects : List NamedObject
   objects = before.objects
 
   abbrev a : ImageValue

@@ -1,12 +1,12 @@
 -- The tasks of a graph over its planes are a program.
 use Rattle.std.proofs.Common.{◌≡◌, ℕ, ◌≤◌, Bool, List, ◌++◌, length, map, get_or, Option, None, IfSome, sym, ap, subst, ◌∙◌, inl, inr, arith}
 use Rattle.std.proofs.lemmas.List.{get_or_past, length-append, length-map}
-use Rattle.graph_run.proofs.Common.{cases_lt, map-append, Format, Node, Cell, Description, IsImage, ObjectValue, IsObject, is_virtual, Named, held_is, image_held, HoldsImage, VirtualOutput, Verified, PlanValue, place_of, operand_held, In}
-use Rattle.image_core.specs.declared.second.Second.{Second}
+use Rattle.graph_run.proofs.Common.{cases_lt, map-append, Format, Node, Reference, Description, IsImage, ObjectValue, IsObject, is_virtual, NamedObject, held_is, image_held, HoldsImage, VirtualOutput, Verified, PlanView, place_of, operand_held, In}
+use Rattle.image_core.specs.declared.second.SecondInput.{SecondInput}
 use Rattle.graph_steps.specs.declared.step.Step.{Step}
 use Rattle.graph_steps.specs.declared.step.Task.{Task}
 use Rattle.graph_steps.specs.Planes.{PlaneValue, no_plane, plane}
-use Rattle.graph_steps.specs.Program.{AreFree, HaveRoom, HoldsRows, IsClient, IsLive, IsProgram, IsStepOf, IsUnwritten, KeepsBlock, NamesPlanes, blocks_after_tasks, halo}
+use Rattle.graph_steps.specs.Program.{AreFree, HaveCapacity, HoldsRows, IsClient, IsLive, IsProgram, IsStepOf, IsUnwritten, KeepsBlock, NamesPlanes, blocks_after_tasks, halo}
 use Rattle.graph_steps.specs.Steps.{capacities}
 use Rattle.graph_run.specs.Bind.{image_plane, image_planes}
 use Rattle.graph_run.specs.Program.{IsBound, client_cells, planes_of}
@@ -18,7 +18,7 @@ use Rattle.graph_run.proofs.ReadyLemmas.{clients_hold, have_tasks}
 use Rattle.graph_run.proofs.TaskLemmas.{kept_turns, turns_again, turns_room}
 use Rattle.graph_run.proofs.WithinLemmas.{begins, client_planes, free, one_writer, steps_within, turns, written}
 
-module _ (objects : List Named) (nodes : List Node) (v : Verified) (p : PlanValue) (tables : List Second) (radius : Node → ℕ) (high size : ℕ) (halos : List ℕ) (virtuals : List PlaneValue) (rooms : ℕ → Format × ℕ)
+module _ (objects : List NamedObject) (nodes : List Node) (v : Verified) (p : PlanView) (tables : List SecondInput) (radius : Node → ℕ) (high size : ℕ) (halos : List ℕ) (virtuals : List PlaneValue) (rooms : ℕ → Format × ℕ)
     (bound : IsBound objects nodes v p tables radius high size halos virtuals rooms) where
   abbrev steps : List Node
   steps = v.steps.items
@@ -38,7 +38,7 @@ module _ (objects : List Named) (nodes : List Node) (v : Verified) (p : PlanValu
   abbrev clients : List (Format × ℕ)
   clients = capacities (image_planes objects (client_cells steps outs))
 
-  abbrev found_virtual : Cell → Bool
+  abbrev found_virtual : Reference → Bool
   found_virtual c = is_virtual (operand_held objects c)
 
   have : HaveTasks steps outs p found_virtual
@@ -58,7 +58,7 @@ module _ (objects : List Named) (nodes : List Node) (v : Verified) (p : PlanValu
     | inr past ↦ (let none : plane planes c ≡ no_plane = get_or_past planes c no_plane past in omega (arith, ap (λ (q : PlaneValue). q.desc.height) none))
   ]
 
-  client_image : (c : Cell) → In c (client_cells steps outs) → IsImage (image_held objects c)
+  client_image : (c : Reference) → In c (client_cells steps outs) → IsImage (image_held objects c)
   client_image c i =
       let holds : HoldsImage objects c = clients_hold objects nodes v bound.ready p bound.plan c i in
       subst (λ (o : Option ObjectValue). IfSome o IsObject) (held_image objects c holds) (held_is objects c bound.objects_are)
@@ -67,7 +67,7 @@ module _ (objects : List Named) (nodes : List Node) (v : Verified) (p : PlanValu
   kept_client c kept =
       client_planes virtuals objects (client_cells steps outs) client_image c
       (omega (arith, kept_turns slots tasks in_turn (length planes) c kept, length-map outs (place_of p), virtual_count virtuals outs bound.descs))
-      (omega (arith, kept.0, length-append virtuals (image_planes objects (client_cells steps outs)), length-map (client_cells steps outs) (λ (x : Cell). image_plane (image_held objects x))))
+      (omega (arith, kept.0, length-append virtuals (image_planes objects (client_cells steps outs)), length-map (client_cells steps outs) (λ (x : Reference). image_plane (image_held objects x))))
 
   -- ---- blocks
 
@@ -100,6 +100,6 @@ module _ (objects : List Named) (nodes : List Node) (v : Verified) (p : PlanValu
         written = subst (λ (k : ℕ). (s : Step) → IsStepOf s tasks → s.takes ≡ None → KeepsBlock k tasks s.output) (sym same_count) (written steps outs p found_virtual have radius);
         once = bound.once;
         free = subst (λ (k : ℕ). AreFree (KeepsBlock k tasks) tasks) (sym same_count) (free steps outs p found_virtual have radius);
-        room = subst (λ (b : List (Format × ℕ)). HaveRoom size halos (λ c. (plane planes c).desc) tasks b) (sym blocks_are) (turns_room size halos (λ c. (plane planes c).desc) slots rooms clients hold 0 tasks in_turn);
+        room = subst (λ (b : List (Format × ℕ)). HaveCapacity size halos (λ c. (plane planes c).desc) tasks b) (sym blocks_are) (turns_room size halos (λ c. (plane planes c).desc) slots rooms clients hold 0 tasks in_turn);
         again = subst (λ (b : List (Format × ℕ)). blocks_after_tasks tasks b ≡ b) (sym blocks_are) (turns_again slots rooms clients tasks in_turn);
       }

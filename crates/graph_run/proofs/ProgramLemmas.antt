@@ -2,7 +2,7 @@
 use Rattle.std.proofs.Common.{◌≡◌, ◌≢◌, ℕ, suc, ◌+◌, ◌<◌, true, false, List, [], ◌∷◌, ◌++◌, length, refl, sym, ap, subst, ◌∙◌, inl, inr, arith, Option, Some, None, ◌⊎◌}
 use Rattle.std.specs.List.{slice_get}
 use Rattle.std.proofs.lemmas.List.{append_assoc}
-use Rattle.graph_run.proofs.Common.{cases_lt, or_parts, list_any, flat_map, Kind, Node, Cell, given, inputs, outputs, parameters, has_twice, once_after, second_kind, feeds, same_cell, In, In-left, In-right, any-from_In, same-from_In, Output, First, Second}
+use Rattle.graph_run.proofs.Common.{cases_lt, or_parts, list_any, flat_map, Kind, Node, Reference, optional_cells, inputs, outputs, parameters, has_twice, once_after, second_kind, feeds, same_reference, In, In-left, In-right, any-from_In, same-from_In, Output, First, Second}
 use Rattle.graph_verify.proofs.MemberLemmas.{In-flat_map}
 use Rattle.graph_verify.specs.Links.{reads}
 use Rattle.graph_verify.specs.Order.{InTurn}
@@ -66,15 +66,15 @@ tasks-right s [] ys i = i
 tasks-right s (Write w ∷ xs) ys i = inr (tasks-right s xs ys i)
 tasks-right s (Reduce r ∷ xs) ys i = tasks-right s xs ys i
 
-abbrev pub out_at : Node → Output → Option Cell
+abbrev pub out_at : Node → Output → Option Reference
 out_at n First = n.out1
 out_at n Second = n.out2
 
-pub in_outputs_at : (n : Node) (which : Output) (c : Cell) → out_at n which ≡ Some c → In c (outputs n)
-in_outputs_at n First c e = In-left c (given n.out1) (given n.out2) (subst (λ (o : Option Cell). In c (given o)) (sym e) (inl refl))
-in_outputs_at n Second c e = In-right c (given n.out1) (given n.out2) (subst (λ (o : Option Cell). In c (given o)) (sym e) (inl refl))
+pub in_outputs_at : (n : Node) (which : Output) (c : Reference) → out_at n which ≡ Some c → In c (outputs n)
+in_outputs_at n First c e = In-left c (optional_cells n.out1) (optional_cells n.out2) (subst (λ (o : Option Reference). In c (optional_cells o)) (sym e) (inl refl))
+in_outputs_at n Second c e = In-right c (optional_cells n.out1) (optional_cells n.out2) (subst (λ (o : Option Reference). In c (optional_cells o)) (sym e) (inl refl))
 
-module _ (cells : List Cell) (slots : List ℕ) (radius : Node → ℕ) where
+module _ (cells : List Reference) (slots : List ℕ) (radius : Node → ℕ) where
   -- a step writes an output, which is an image, of the node at a place among these, the first of which is at an index
   pub record IsStepFor (s : Step) (first : ℕ) (nodes : List Node) : Type 0 where
     pub node : Node
@@ -82,7 +82,7 @@ module _ (cells : List Cell) (slots : List ℕ) (radius : Node → ℕ) where
     pub there : slice_get nodes place ≡ Some node
     pub inside : In node nodes
     pub which : Output
-    pub cell : Cell
+    pub cell : Reference
     pub output : out_at node which ≡ Some cell
     pub written : In cell (outputs node)
     pub image : (parameters node.function).output ≡ kind.Image
@@ -90,14 +90,14 @@ module _ (cells : List Cell) (slots : List ℕ) (radius : Node → ℕ) where
     pub same : at ≡ first + place
     pub is : s ≡ step_for cells slots radius at node which cell
 
-  for_given : (at : ℕ) (n : Node) (which : Output) (o : Option Cell) (s : Step) → IsStepOf s (write_given cells slots radius at n which o)
-      → (c : Cell) × (o ≡ Some c) × (s ≡ step_for cells slots radius at n which c)
+  for_given : (at : ℕ) (n : Node) (which : Output) (o : Option Reference) (s : Step) → IsStepOf s (write_given cells slots radius at n which o)
+      → (c : Reference) × (o ≡ Some c) × (s ≡ step_for cells slots radius at n which c)
   for_given at n which None s i = elim i [ ]
   for_given at n which (Some c) s (inl e) = (c, refl, e)
   for_given at n which (Some c) s (inr i) = elim i [ ]
 
   for_by : (at tally : ℕ) (n : Node) (wanted : Kind) (s : Step) → IsStepOf s (tasks_by cells slots radius at tally n wanted)
-      → (wanted ≡ kind.Image) × ((which : Output) × (c : Cell) × (out_at n which ≡ Some c) × (s ≡ step_for cells slots radius at n which c))
+      → (wanted ≡ kind.Image) × ((which : Output) × (c : Reference) × (out_at n which ≡ Some c) × (s ≡ step_for cells slots radius at n which c))
   for_by at tally n kind.Image s i = (
     refl,
     elim (tasks-append s (write_given cells slots radius at n First n.out1) (write_given cells slots radius at n Second n.out2) i) [
@@ -133,27 +133,27 @@ module _ (cells : List Cell) (slots : List ℕ) (radius : Node → ℕ) where
 
 -- ---- the planes that a step reads
 
-pub image_named : (n : Node) (c : Cell) → (parameters n.function).output ≡ kind.Image → In c (outputs n) → In c (node_images n)
+pub image_named : (n : Node) (c : Reference) → (parameters n.function).output ≡ kind.Image → In c (outputs n) → In c (node_images n)
 image_named n c image i =
     inr (In-right c (image_given (second_kind n) n.in2) _
     (subst (λ (k : Kind). In c (image_given k n.out1 ++ image_given k n.out2)) (sym image) i))
 
-source_plane : (cells : List Cell) (at k : ℕ) (wanted : Kind) (o : Option Cell) → source cells at wanted o ≡ Plane k → (c : Cell) × In c (given o) × In c (image_given wanted o) × (k ≡ index_of cells c)
+source_plane : (cells : List Reference) (at k : ℕ) (wanted : Kind) (o : Option Reference) → source cells at wanted o ≡ Plane k → (c : Reference) × In c (optional_cells o) × In c (image_given wanted o) × (k ≡ index_of cells c)
 source_plane cells at k wanted None e = absurd (cc e)
 source_plane cells at k kind.Image (Some c) e = let same : k ≡ index_of cells c = cc in (c, inl refl, inl refl, same)
 source_plane cells at k other (Some c) e = absurd (cc e)
 
 -- a node that doesn't feed another writes none of the cells that that reads
-unfed : (m n : Node) (o c : Cell) → feeds m n ≡ false → In o (outputs m) → In c (inputs n) → o ≢ c
+unfed : (m n : Node) (o c : Reference) → feeds m n ≡ false → In o (outputs m) → In c (inputs n) → o ≢ c
 unfed m n o c none i j e =
-    let read : reads n o ≡ true = same-from_In o (inputs n) (subst (λ (x : Cell). In x (inputs n)) (sym e) j) in
+    let read : reads n o ≡ true = same-from_In o (inputs n) (subst (λ (x : Reference). In x (inputs n)) (sym e) j) in
     let fed : feeds m n ≡ true = any-from_In (reads n) o (outputs m) i read in
     let clash : false ≡ true = sym none ∙ fed in
     cc
 
-module _ (cells : List Cell) (slots : List ℕ) (radius : Node → ℕ) where
-  pub read_cell : (n : Node) (at : ℕ) (which : Output) (o : Cell) (k : ℕ) → ReadsPlane (step_for cells slots radius at n which o) k
-      → (c : Cell) × In c (inputs n) × In c (node_images n) × (k ≡ index_of cells c)
+module _ (cells : List Reference) (slots : List ℕ) (radius : Node → ℕ) where
+  pub read_cell : (n : Node) (at : ℕ) (which : Output) (o : Reference) (k : ℕ) → ReadsPlane (step_for cells slots radius at n which o) k
+      → (c : Reference) × In c (inputs n) × In c (node_images n) × (k ≡ index_of cells c)
   read_cell n at which o k (inl e) = (n.in1, inl refl, inl refl, sym e)
   read_cell n at which o k (inr e) =
       let r = source_plane cells at k (second_kind n) n.in2 e in
@@ -164,17 +164,17 @@ module _ (cells : List Cell) (slots : List ℕ) (radius : Node → ℕ) where
     abbrev AreTheirs : List Task → Type 0
     AreTheirs tasks = (s : Step) → IsStepOf s tasks → IsStepFor cells slots radius s first (n ∷ nodes)
 
-    unwritten_by : (c : Cell) → In c (inputs n) → In c (node_images n) → (s : Step) → IsStepFor cells slots radius s first (n ∷ nodes) → s.output ≢ index_of cells c
+    unwritten_by : (c : Reference) → In c (inputs n) → In c (node_images n) → (s : Step) → IsStepFor cells slots radius s first (n ∷ nodes) → s.output ≢ index_of cells c
     unwritten_by c i j s of same =
         indices_differ cells of.cell c (named of.node of.inside of.cell (image_named of.node of.cell of.image of.written)) (named n (inl refl) c j)
         (unfed of.node n of.cell c (turn of.node of.inside) of.written i) (sym (ap (λ (x : Step). x.output) of.is) ∙ same)
 
-    after_write : (at : ℕ) (which : Output) (o : Cell) (later : List Task) → AreTheirs (Write (step_for cells slots radius at n which o) ∷ later) → AreReadAfter later
+    after_write : (at : ℕ) (which : Output) (o : Reference) (later : List Task) → AreTheirs (Write (step_for cells slots radius at n which o) ∷ later) → AreReadAfter later
         → AreReadAfter (Write (step_for cells slots radius at n which o) ∷ later)
     after_write at which o later theirs after =
         ((λ k read s i. let r = read_cell n at which o k read in subst (λ (x : ℕ). s.output ≢ x) (sym r.3) (unwritten_by r.0 r.1 r.2 s (theirs s i))), after)
 
-    after_given : (at : ℕ) (which : Output) (o : Option Cell) (later : List Task) → AreTheirs (write_given cells slots radius at n which o ++ later) → AreReadAfter later
+    after_given : (at : ℕ) (which : Output) (o : Option Reference) (later : List Task) → AreTheirs (write_given cells slots radius at n which o ++ later) → AreReadAfter later
         → AreReadAfter (write_given cells slots radius at n which o ++ later)
     after_given at which None later theirs after = after
     after_given at which (Some o) later theirs after = after_write at which o later theirs after
@@ -204,22 +204,22 @@ module _ (cells : List Cell) (slots : List ℕ) (radius : Node → ℕ) where
 
 -- ---- one writer, and planes that are there
 
-module _ (cells : List Cell) (slots : List ℕ) (radius : Node → ℕ) where
+module _ (cells : List Reference) (slots : List ℕ) (radius : Node → ℕ) where
   -- steps that write these cells, which have indices
-  abbrev WriteThese : List Cell → List Task → Type 0
-  WriteThese left tasks = (s : Step) → IsStepOf s tasks → (o : Cell) × In o left × In o cells × (s.output ≡ index_of cells o)
+  abbrev WriteThese : List Reference → List Task → Type 0
+  WriteThese left tasks = (s : Step) → IsStepOf s tasks → (o : Reference) × In o left × In o cells × (s.output ≡ index_of cells o)
 
-  one_write : (at : ℕ) (n : Node) (which : Output) (c : Cell) (left : List Cell) (later : List Task) → In c cells → has_twice (c ∷ left) ≡ false → WriteThese left later → HaveOneWriter later
+  one_write : (at : ℕ) (n : Node) (which : Output) (c : Reference) (left : List Reference) (later : List Task) → In c cells → has_twice (c ∷ left) ≡ false → WriteThese left later → HaveOneWriter later
       → HaveOneWriter (Write (step_for cells slots radius at n which c) ∷ later)
   one_write at n which c left later there once these one = (
     (λ s i same.
         let o = these s i in
-        indices_differ cells o.0 c o.2 there (once_differ c left o.0 (or_parts (list_any (same_cell c) left) (has_twice left) once).0 o.1) (sym o.3 ∙ same)),
+        indices_differ cells o.0 c o.2 there (once_differ c left o.0 (or_parts (list_any (same_reference c) left) (has_twice left) once).0 o.1) (sym o.3 ∙ same)),
     one,
   )
 
-  one_given : (at : ℕ) (n : Node) (which : Output) (o : Option Cell) (left : List Cell) (later : List Task) → ((c : Cell) → In c (given o) → In c cells) → has_twice (given o ++ left) ≡ false → WriteThese left later
-      → HaveOneWriter later → HaveOneWriter (write_given cells slots radius at n which o ++ later) × WriteThese (given o ++ left) (write_given cells slots radius at n which o ++ later)
+  one_given : (at : ℕ) (n : Node) (which : Output) (o : Option Reference) (left : List Reference) (later : List Task) → ((c : Reference) → In c (optional_cells o) → In c cells) → has_twice (optional_cells o ++ left) ≡ false → WriteThese left later
+      → HaveOneWriter later → HaveOneWriter (write_given cells slots radius at n which o ++ later) × WriteThese (optional_cells o ++ left) (write_given cells slots radius at n which o ++ later)
   one_given at n which None left later there once these one = (one, these)
   one_given at n which (Some c) left later there once these one = (
     one_write at n which c left later (there c (inl refl)) once these one,
@@ -230,20 +230,20 @@ module _ (cells : List Cell) (slots : List ℕ) (radius : Node → ℕ) where
       write_these s (inl e) = (c, inl refl, there c (inl refl), ap (λ (x : Step). x.output) e)
       write_these s (inr i) = let o = these s i in (o.0, inr o.1, o.2, o.3)
 
-  keep_these : (o : List Cell) (left : List Cell) (tasks : List Task) → WriteThese left tasks → WriteThese (o ++ left) tasks
+  keep_these : (o : List Reference) (left : List Reference) (tasks : List Task) → WriteThese left tasks → WriteThese (o ++ left) tasks
   keep_these o left tasks these s i = let r = these s i in (r.0, In-right r.0 o left r.1, r.2, r.3)
 
-  one_by : (at tally : ℕ) (n : Node) (wanted : Kind) (left : List Cell) (later : List Task) → ((c : Cell) → wanted ≡ kind.Image → In c (outputs n) → In c cells) → has_twice (outputs n ++ left) ≡ false → WriteThese left later
+  one_by : (at tally : ℕ) (n : Node) (wanted : Kind) (left : List Reference) (later : List Task) → ((c : Reference) → wanted ≡ kind.Image → In c (outputs n) → In c cells) → has_twice (outputs n ++ left) ≡ false → WriteThese left later
       → HaveOneWriter later → HaveOneWriter (tasks_by cells slots radius at tally n wanted ++ later) × WriteThese (outputs n ++ left) (tasks_by cells slots radius at tally n wanted ++ later)
   one_by at tally n kind.Image left later there once these one =
       let first : List Task = write_given cells slots radius at n First n.out1 in
       let second : List Task = write_given cells slots radius at n Second n.out2 in
-      let parted : has_twice (given n.out1 ++ (given n.out2 ++ left)) ≡ false = ap has_twice (sym (append_assoc (given n.out1) (given n.out2) left)) ∙ once in
-      let two = one_given at n Second n.out2 left later (λ c i. there c refl (In-right c (given n.out1) (given n.out2) i)) (once_after (given n.out1) (given n.out2 ++ left) parted) these one in
-      let both = one_given at n First n.out1 (given n.out2 ++ left) (second ++ later) (λ c i. there c refl (In-left c (given n.out1) (given n.out2) i)) parted two.1 two.0 in (
+      let parted : has_twice (optional_cells n.out1 ++ (optional_cells n.out2 ++ left)) ≡ false = ap has_twice (sym (append_assoc (optional_cells n.out1) (optional_cells n.out2) left)) ∙ once in
+      let two = one_given at n Second n.out2 left later (λ c i. there c refl (In-right c (optional_cells n.out1) (optional_cells n.out2) i)) (once_after (optional_cells n.out1) (optional_cells n.out2 ++ left) parted) these one in
+      let both = one_given at n First n.out1 (optional_cells n.out2 ++ left) (second ++ later) (λ c i. there c refl (In-left c (optional_cells n.out1) (optional_cells n.out2) i)) parted two.1 two.0 in (
         subst HaveOneWriter (sym (append_assoc first second later)) both.0,
         subst (WriteThese (outputs n ++ left)) (sym (append_assoc first second later))
-            (subst (λ (l : List Cell). WriteThese l (first ++ (second ++ later))) (sym (append_assoc (given n.out1) (given n.out2) left)) both.1),
+            (subst (λ (l : List Reference). WriteThese l (first ++ (second ++ later))) (sym (append_assoc (optional_cells n.out1) (optional_cells n.out2) left)) both.1),
       )
   one_by at tally n other left later there once these one = (one, keep_these (outputs n) left later these)
 
@@ -259,5 +259,5 @@ module _ (cells : List Cell) (slots : List ℕ) (radius : Node → ℕ) where
 -- ---- the cells of a graph
 
 -- the images that nodes name are among cells to which they are added
-pub all_named : (cells : List Cell) (nodes : List Node) → AreNamed (with_cells cells (images_named nodes)) nodes
+pub all_named : (cells : List Reference) (nodes : List Node) → AreNamed (with_cells cells (images_named nodes)) nodes
 all_named cells nodes n i c j = in_more cells (images_named nodes) c (In-flat_map node_images n c nodes i j)

@@ -3,11 +3,11 @@ use Rattle.std.proofs.Common.{◌≡◌, ◌≢◌, ℕ, zero, suc, ◌+◌, ◌
 use Rattle.std.proofs.lemmas.List.{get_or-append_right, get_or-map, length-append, length-map}
 use Rattle.std.proofs.lemmas.Option.{get_or_from_slice_get, slice_get_within}
 use Rattle.std.proofs.Math.ListN.{get_or-append, get_or-map as get_or-map_default}
-use Rattle.graph_run.proofs.Common.{cases_lt, Kind, Node, Cell, Output, Description, description_of, IsNode, given, outputs, operands, parameters, second_kind, ObjectValue, IsObject, ImageObject, object_kind, operand_of, is_virtual, Operand, Delay, Image, Named, held, held_is, image_held, HoldsImage, VirtualOutput, Verified, IsReady, IsPlan, PlanValue, place_of, operand_held, outlines, resolved, In, In-at, In-left, CanRun, runs_alone, second_object}
+use Rattle.graph_run.proofs.Common.{cases_lt, Kind, Node, Reference, Output, Description, description_of, IsNode, optional_cells, outputs, operands, parameters, second_kind, ObjectValue, IsObject, ImageObject, object_kind, operand_of, is_virtual, Operand, Delay, Image, NamedObject, object_at, held_is, image_held, HoldsImage, VirtualOutput, Verified, IsReady, IsPlan, PlanView, place_of, operand_held, partial_descs, resolved_operand, In, In-at, In-left, CanRun, runs_alone, second_object}
 use Rattle.vx_base.specs.declared.kind.Kind.TheVariants as kind
 use Rattle.vx_base.specs.Node.{with_kind}
-use Rattle.image_core.specs.declared.second.Second.{Second}
-use Rattle.node_rows.specs.Reach.{matrix_in}
+use Rattle.image_core.specs.declared.second.SecondInput.{SecondInput}
+use Rattle.node_rows.specs.Radius.{matrix_in}
 use Rattle.graph_verify.proofs.VerdictLemmas.{can_run}
 use Rattle.graph_steps.specs.declared.step.Source.TheVariants.{Table}
 use Rattle.graph_steps.specs.declared.step.Step.{Step}
@@ -37,18 +37,18 @@ read_at f [] k = grind arith
 read_at f (x ∷ xs) zero = grind arith
 read_at f (x ∷ xs) (suc k) = grind (arith, read_at f xs k)
 
-table_at : (objects : List Named) (order : List Node) (tables : List Second) (k : ℕ) (n : Node) → map second_object tables ≡ tables_of objects order → k < length order → get_or order k n ≡ n
+table_at : (objects : List NamedObject) (order : List Node) (tables : List SecondInput) (k : ℕ) (n : Node) → map second_object tables ≡ tables_of objects order → k < length order → get_or order k n ≡ n
     → option_and_then second_object (slice_get tables k) ≡ node_table objects n
 table_at objects order tables k n same below there =
     read_at second_object tables k ∙ ap (λ (l : List (Option ObjectValue)). get_or l k None) same ∙ get_or-map (node_table objects) order k n None below ∙ ap (node_table objects) there
 
 -- ---- a second input
 
-each_given : (Q : Cell → Type 0) (cell : Option Cell) → ((c : Cell) → In c (given cell) → Q c) → IfSome cell Q
+each_given : (Q : Reference → Type 0) (cell : Option Reference) → ((c : Reference) → In c (optional_cells cell) → Q c) → IfSome cell Q
 each_given Q None h = tt
 each_given Q (Some c) h = h c (inl refl)
 
-in_image_given : (k : Kind) (c : Cell) (cell : Option Cell) → k ≡ kind.Image → In c (given cell) → In c (image_given k cell)
+in_image_given : (k : Kind) (c : Reference) (cell : Option Reference) → k ≡ kind.Image → In c (optional_cells cell) → In c (image_given k cell)
 in_image_given k c cell e i = subst (λ (x : Kind). In c (image_given x cell)) (sym e) i
 
 -- an image is no matrix
@@ -64,48 +64,48 @@ real_kind : (found : Option ObjectValue) (operand : Operand) (wanted : Kind) →
 real_kind found operand wanted other stands e = grind arith
 
 -- operands that cells were found to be, and that virtual images among them are resolved as
-module _ (objects : List Named) (found resolved_as : Cell → Operand) (tables : List Second) (at : ℕ) (wanted : Kind) where
+module _ (objects : List NamedObject) (found resolved_as : Reference → Operand) (tables : List SecondInput) (at : ℕ) (wanted : Kind) where
   -- what is known of a cell that a node reads as its second input
-  pub record IsSecond (named_cells : List Cell) (shown_planes : List PlaneValue) (c : Cell) : Type 0 where
+  pub record IsSecond (named_cells : List Reference) (shown_planes : List PlaneValue) (c : Reference) : Type 0 where
     pub stands : StandsFor (found c) wanted
-    pub is_held : option_map operand_of (held objects c) ≡ Some (found c)
+    pub is_held : option_map operand_of (object_at objects c) ≡ Some (found c)
     pub kept : is_virtual (found c) ≡ false → resolved_as c ≡ found c
     pub is_plane : wanted ≡ kind.Image → resolved_as c ≡ Image (plane shown_planes (index_of named_cells c)).desc
-    pub object : IfSome (held objects c) IsObject
+    pub object : IfSome (object_at objects c) IsObject
 
-  module _ (named_cells : List Cell) (shown_planes : List PlaneValue) where
+  module _ (named_cells : List Reference) (shown_planes : List PlaneValue) where
     -- the second input, where it is this cell
-    abbrev pub second_of : Option Cell → Option ObjectValue
+    abbrev pub second_of : Option Reference → Option ObjectValue
     second_of cell = second_in tables (λ _. blank_image (plane shown_planes (second_plane (source named_cells at wanted cell))).desc) (source named_cells at wanted cell)
 
-    abbrev StandsBy : Option Cell → Option ObjectValue → Type 0
+    abbrev StandsBy : Option Reference → Option ObjectValue → Type 0
     StandsBy cell second =
-        (option_map operand_of second ≡ option_map resolved_as cell) × IfSome second (λ object. object_kind object ≡ wanted) × (matrix_in second ≡ matrix_in (option_and_then (held objects) cell))
+        (option_map operand_of second ≡ option_map resolved_as cell) × IfSome second (λ object. object_kind object ≡ wanted) × (matrix_in second ≡ matrix_in (option_and_then (object_at objects) cell))
 
-    table_stands : (c : Cell) (second : Option ObjectValue) → IsSecond named_cells shown_planes c → wanted ≢ kind.Image → second ≡ held objects c → StandsBy (Some c) second
+    table_stands : (c : Reference) (second : Option ObjectValue) → IsSecond named_cells shown_planes c → wanted ≢ kind.Image → second ≡ object_at objects c → StandsBy (Some c) second
     table_stands c second second_is other same =
         subst (StandsBy (Some c)) (sym same) (
           second_is.is_held ∙ ap Some (sym (second_is.kept (real_operand (found c) wanted other second_is.stands))),
-          real_kind (held objects c) (found c) wanted other second_is.stands second_is.is_held,
+          real_kind (object_at objects c) (found c) wanted other second_is.stands second_is.is_held,
           refl,
         )
 
-  image_stands : (named_cells : List Cell) (shown_planes : List PlaneValue) (c : Cell) → IsSecond named_cells shown_planes c → wanted ≡ kind.Image
+  image_stands : (named_cells : List Reference) (shown_planes : List PlaneValue) (c : Reference) → IsSecond named_cells shown_planes c → wanted ≡ kind.Image
       → StandsBy named_cells shown_planes (Some c) (Some (ImageObject (blank_image (plane shown_planes (index_of named_cells c)).desc)))
   image_stands named_cells shown_planes c second_is image = (
     ap Some (sym (second_is.is_plane image)),
     sym image,
-    no_matrix (held objects c) (found c) second_is.is_held (subst (λ (k : Kind). StandsFor (found c) k) image second_is.stands),
+    no_matrix (object_at objects c) (found c) second_is.is_held (subst (λ (k : Kind). StandsFor (found c) k) image second_is.stands),
   )
 
-module _ (objects : List Named) (found resolved_as : Cell → Operand) (tables : List Second) (at : ℕ) (named_cells : List Cell) (shown_planes : List PlaneValue) where
-  stands_by : (wanted : Kind) (cell : Option Cell) → option_and_then second_object (slice_get tables at) ≡ table_by wanted (option_and_then (held objects) cell)
+module _ (objects : List NamedObject) (found resolved_as : Reference → Operand) (tables : List SecondInput) (at : ℕ) (named_cells : List Reference) (shown_planes : List PlaneValue) where
+  stands_by : (wanted : Kind) (cell : Option Reference) → option_and_then second_object (slice_get tables at) ≡ table_by wanted (option_and_then (object_at objects) cell)
       → IfSome cell (IsSecond objects found resolved_as tables at wanted named_cells shown_planes) → StandsBy objects found resolved_as tables at wanted named_cells shown_planes cell (second_of objects found resolved_as tables at wanted named_cells shown_planes cell)
   stands_by wanted None table second_is = (refl, tt, refl)
   stands_by kind.Image (Some c) table second_is = image_stands objects found resolved_as tables at kind.Image named_cells shown_planes c second_is refl
   stands_by other (Some c) table second_is = table_stands objects found resolved_as tables at other named_cells shown_planes c (option_and_then second_object (slice_get tables at)) second_is (λ e. cc) table
 
-  table_is : (wanted : Kind) (cell : Option Cell) → option_and_then second_object (slice_get tables at) ≡ table_by wanted (option_and_then (held objects) cell)
+  table_is : (wanted : Kind) (cell : Option Reference) → option_and_then second_object (slice_get tables at) ≡ table_by wanted (option_and_then (object_at objects) cell)
       → IfSome cell (IsSecond objects found resolved_as tables at wanted named_cells shown_planes) → at < length tables → (k : ℕ) → source named_cells at wanted cell ≡ Table k
       → (k < length tables) × IfSome (second_of objects found resolved_as tables at wanted named_cells shown_planes cell) IsObject
   table_is wanted None table second_is below k e = absurd (cc e)
@@ -115,35 +115,35 @@ module _ (objects : List Named) (found resolved_as : Cell → Operand) (tables :
 
 -- ---- a graph
 
-module _ (objects : List Named) (are : All (λ o. IsObject o.object) objects) (nodes : List Node) (v : Verified) (ready : IsReady objects nodes v)
-    (p : PlanValue) (plan : IsPlan v.steps.items v.virtual_outputs.items p) (virtuals : List PlaneValue) (descs : map (λ (q : PlaneValue). q.desc) virtuals ≡ map (λ (o : VirtualOutput). o.desc) v.virtual_outputs.items) where
+module _ (objects : List NamedObject) (are : All (λ o. IsObject o.object) objects) (nodes : List Node) (v : Verified) (ready : IsReady objects nodes v)
+    (p : PlanView) (plan : IsPlan v.steps.items v.virtual_outputs.items p) (virtuals : List PlaneValue) (descs : map (λ (q : PlaneValue). q.desc) virtuals ≡ map (λ (o : VirtualOutput). o.desc) v.virtual_outputs.items) where
   abbrev pub steps : List Node
   steps = v.steps.items
 
   abbrev pub outs : List VirtualOutput
   outs = v.virtual_outputs.items
 
-  abbrev pub virtual : List Cell
+  abbrev pub virtual : List Reference
   virtual = map (λ (o : VirtualOutput). o.cell) outs
 
-  abbrev pub cells : List Cell
+  abbrev pub cells : List Reference
   cells = graph_cells steps outs
 
   abbrev pub planes : List PlaneValue
   planes = planes_of objects steps outs virtuals
 
-  abbrev pub is : Cell → Operand
+  abbrev pub is : Reference → Operand
   is = operand_held objects
 
-  abbrev pub known : Cell → Operand
-  known = resolved is nodes
+  abbrev pub known : Reference → Operand
+  known = resolved_operand is nodes
 
   pub can : CanRun ready.runs.0 is nodes
   can = can_run ready.runs.0 is nodes ready.runs.1
 
   -- ---- cells and planes
 
-  abbrev clients : List Cell
+  abbrev clients : List Reference
   clients = client_cells steps outs
 
   -- the plane of a virtual image
@@ -153,40 +153,40 @@ module _ (objects : List Named) (are : All (λ o. IsObject o.object) objects) (n
       ∙ sym (get_or-map_default (λ (q : PlaneValue). q.desc) virtuals k no_plane)
       ∙ ap (λ (l : List Description). get_or l k no_plane.desc) descs
 
-  known_image : (c : Cell) → HoldsImage objects c → known c ≡ Image (description_of (image_held objects c))
+  known_image : (c : Reference) → HoldsImage objects c → known c ≡ Image (description_of (image_held objects c))
   known_image c holds =
       let there : is c ≡ Image (description_of (image_held objects c)) = ap (λ (o : Option ObjectValue). unwrap_or (option_map operand_of o) Delay) (held_image objects c holds) in
-      known_kept (is c) (outlines is nodes c) (ap is_virtual there) ∙ there
+      known_kept (is c) (partial_descs is nodes c) (ap is_virtual there) ∙ there
 
   -- each plane is of the description that its cell was found to have
-  virtual_known : (k : ℕ) (d : Cell) → k < length outs → known (get_or cells k d) ≡ Image (plane planes k).desc
+  virtual_known : (k : ℕ) (d : Reference) → k < length outs → known (get_or cells k d) ≡ Image (plane planes k).desc
   virtual_known k d below =
       let none : VirtualOutput = record { cell = d; desc = no_plane.desc } in
       let o : VirtualOutput = get_or outs k none in
       let cell : get_or cells k d ≡ o.cell =
-      ap (λ (l : List Cell). get_or l k d) (cells_parts steps outs)
+      ap (λ (l : List Reference). get_or l k d) (cells_parts steps outs)
       ∙ get_or-append virtual clients d k (omega (arith, length-map outs (λ (x : VirtualOutput). x.cell), below))
       ∙ get_or-map_default (λ (x : VirtualOutput). x.cell) outs k none in
       let desc : (plane planes k).desc ≡ o.desc = virtual_desc k below ∙ get_or-map_default (λ (x : VirtualOutput). x.desc) outs k none in
       ap known cell ∙ output_known is nodes v ready.verified o (In-at outs k none below) ∙ ap Image (sym desc)
 
-  client_known : (k : ℕ) (d : Cell) → length outs ≤ k → k < length cells → known (get_or cells k d) ≡ Image (plane planes k).desc
+  client_known : (k : ℕ) (d : Reference) → length outs ≤ k → k < length cells → known (get_or cells k d) ≡ Image (plane planes k).desc
   client_known k d above below =
       let at : ℕ = k - length virtuals in
       let size : length cells ≡ length virtual + length clients = ap length (cells_parts steps outs) ∙ length-append virtual clients in
       let mapped : length virtual ≡ length outs = length-map outs (λ (o : VirtualOutput). o.cell) in
       let small : at < length clients = omega (arith, size, mapped, virtual_count virtuals outs descs, above, below) in
-      let c : Cell = get_or clients at d in
+      let c : Reference = get_or clients at d in
       let cell : get_or cells k d ≡ c =
-      ap (λ (l : List Cell). get_or l k d) (cells_parts steps outs)
+      ap (λ (l : List Reference). get_or l k d) (cells_parts steps outs)
       ∙ get_or-append_right virtual clients (length virtuals) k d (mapped ∙ sym (virtual_count virtuals outs descs)) (omega (arith, virtual_count virtuals outs descs, above)) in
       let one : plane planes k ≡ image_plane (image_held objects c) =
       get_or-append_right virtuals (image_planes objects clients) (length virtuals) k no_plane refl (omega (arith, virtual_count virtuals outs descs, above))
-      ∙ get_or-map (λ (x : Cell). image_plane (image_held objects x)) clients at d no_plane small in
+      ∙ get_or-map (λ (x : Reference). image_plane (image_held objects x)) clients at d no_plane small in
       let holds : HoldsImage objects c = clients_hold objects nodes v ready p plan c (In-at clients at d small) in
       ap known cell ∙ known_image c holds ∙ ap (λ (q : PlaneValue). Image q.desc) (sym one)
 
-  pub plane_known : (c : Cell) → In c cells → known c ≡ Image (plane planes (index_of cells c)).desc
+  pub plane_known : (c : Reference) → In c cells → known c ≡ Image (plane planes (index_of cells c)).desc
   plane_known c i =
       let k : ℕ = index_of cells c in
       let below : k < length cells = index_below cells c i in
@@ -202,7 +202,7 @@ module _ (objects : List Named) (are : All (λ o. IsObject o.object) objects) (n
   named : AreNamed cells steps
   named = all_named virtual steps
 
-  module _ (tables : List Second) (tables_same : map second_object tables ≡ tables_of objects steps) (radius : Node → ℕ) (high : ℕ) (near : AreNear objects high radius steps) where
+  module _ (tables : List SecondInput) (tables_same : map second_object tables ≡ tables_of objects steps) (radius : Node → ℕ) (high : ℕ) (near : AreNear objects high radius steps) where
     table_count : length tables ≡ length steps
     table_count = sym (length-map tables second_object) ∙ ap length tables_same ∙ length-map steps (node_table objects)
 
@@ -213,15 +213,15 @@ module _ (objects : List Named) (are : All (λ o. IsObject o.object) objects) (n
       abbrev wanted : Kind
       wanted = second_kind n
 
-      second_is : (c : Cell) → In c (given n.in2) → IsSecond objects is known tables place wanted cells planes c
+      second_is : (c : Reference) → In c (optional_cells n.in2) → IsSecond objects is known tables place wanted cells planes c
       second_is c i =
           record {
             stands =
-                In-from_All (λ (o : Cell × Kind). StandsFor (is o.0) o.1) (operands n)
-                (In-from_All (λ (m : Node). All (λ (o : Cell × Kind). StandsFor (is o.0) o.1) (operands m)) nodes ready.kinds n (own objects nodes v ready n inside)) (c, wanted)
+                In-from_All (λ (o : Reference × Kind). StandsFor (is o.0) o.1) (operands n)
+                (In-from_All (λ (m : Node). All (λ (o : Reference × Kind). StandsFor (is o.0) o.1) (operands m)) nodes ready.kinds n (own objects nodes v ready n inside)) (c, wanted)
                 (inr (In-left (c, wanted) (with_kind wanted n.in2) _ (in_with_kind c wanted n.in2 i)));
             is_held = ready.cells.found n c (own objects nodes v ready n inside) (named_by_input n c (inr i));
-            kept = λ real. known_kept (is c) (outlines is nodes c) real;
+            kept = λ real. known_kept (is c) (partial_descs is nodes c) real;
             is_plane = λ image. plane_known c (named n inside c (inr (In-left c (image_given wanted n.in2) _ (in_image_given wanted c n.in2 image i))));
             object = held_is objects c are;
           }
@@ -229,17 +229,17 @@ module _ (objects : List Named) (are : All (λ o. IsObject o.object) objects) (n
       seconds : IfSome n.in2 (IsSecond objects is known tables place wanted cells planes)
       seconds = each_given (IsSecond objects is known tables place wanted cells planes) n.in2 second_is
 
-      table : option_and_then second_object (slice_get tables place) ≡ table_by wanted (option_and_then (held objects) n.in2)
+      table : option_and_then second_object (slice_get tables place) ≡ table_by wanted (option_and_then (object_at objects) n.in2)
       table = table_at objects steps tables place n tables_same below there
 
-      pub node_suits : (slots : List ℕ) (which : Output) (o : Cell) → In o (outputs n) → (parameters n.function).output ≡ kind.Image → SuitsPlanes tables high (step_for cells slots radius place n which o) planes
+      pub node_suits : (slots : List ℕ) (which : Output) (o : Reference) → In o (outputs n) → (parameters n.function).output ≡ kind.Image → SuitsPlanes tables high (step_for cells slots radius place n which o) planes
       node_suits slots which o written image =
           let stands = stands_by objects is known tables place cells planes wanted n.in2 table seconds in
           let second : Option ObjectValue = second_of objects is known tables place wanted cells planes n.in2 in
           step_suits known n (In-from_All IsNode nodes ready.are_nodes n (own objects nodes v ready n inside)) (no_fault n known (runs_alone ready.runs.0 is nodes n can (own objects nodes v ready n inside))) o written
           (plane planes (index_of cells n.in1)).desc (plane planes (index_of cells o)).desc
           (plane_known n.in1 (named n inside n.in1 (inl refl))) (plane_known o (named n inside o (image_named n o image written)))
-          (matrix_in (option_and_then (held objects) n.in2)) second (record { operand = stands.0; kind = stands.1; matrix = stands.2 })
+          (matrix_in (option_and_then (object_at objects) n.in2)) second (record { operand = stands.0; kind = stands.1; matrix = stands.2 })
           cells slots radius place which tables high (plane planes (second_plane (source cells place wanted n.in2))).desc refl
           (table_is objects is known tables place cells planes wanted n.in2 table seconds (omega (arith, table_count, below)))
           (near n inside)

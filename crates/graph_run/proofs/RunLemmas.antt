@@ -1,6 +1,6 @@
 -- Single nodes: the objects that they read and write.
 use Rattle.std.proofs.Common.{◌≡◌, ◌≢◌, Bool, true, false, List, [], ◌∷◌, ◌++◌, Option, Some, None, refl, sym, ap, subst, ◌∙◌, arith, rules, All, ◌&&◌, is_some, is_none, unwrap_or, if◌then◌else◌, IfSome, option_to_list, option_map, option_and_then, eq-eqb}
-use Rattle.graph_run.proofs.Common.{list_any, list_all, IsStrictlyIncreasing, list_any-append, and_parts, or_parts, Function, Output, First, Second, Kind, Node, Cell, same_cell, parameters, accumulates, ImageValue, IsImage, IsNode, is_node, given, outputs, second_kind, ObjectValue, ImageObject, IsObject, object_kind, object_format, DistributionObject, node_image, beside_first, node_output, written_in, written_by, SecondHasSize, Operands, has_twice, operand_of, operands_of, operand_format, are_of_one_size, writes_twice, reads_own_output, node_fault, Named, held, with_object, with_written, cell_object, names_of, held_is, lasting, Lasts, operand_held, Holds, AreApart, RunsOn, RunsTo, with_output, HoldsKind, CanRunNow, node_image_is, accumulated_image_is}
+use Rattle.graph_run.proofs.Common.{list_any, list_all, IsStrictlyIncreasing, list_any-append, and_parts, or_parts, Function, Output, First, Second, Kind, Node, Reference, same_reference, parameters, accumulates, ImageValue, IsImage, IsNode, is_node, optional_cells, outputs, second_kind, ObjectValue, ImageObject, IsObject, object_kind, object_format, DistributionObject, node_image, second_or_output, node_output, written_in, written_by, SecondHasSize, Operands, has_twice, operand_of, operands_of, operand_format, are_of_one_size, writes_twice, reads_own_output, node_fault, NamedObject, object_at, with_object, with_written, cell_object, names_of, held_is, lasting_part, Lasts, operand_held, Holds, AreApart, RunsOn, RunsTo, with_output_object, HoldsKind, CanRunNow, node_image_is, accumulated_image_is}
 use Rattle.graph_run.specs.Steps.{output_of}
 use Rattle.std.proofs.lemmas.List.Folds.{list_all-append}
 use Rattle.vx_base.specs.declared.kind.Kind.TheVariants as kind
@@ -15,7 +15,7 @@ use Rattle.graph_run.proofs.OperandLaws.{no_delay_written}
 -- ---- cells
 
 -- two references that differ can be written independently
-apart : (objects : List Named) (a b : Cell) (k l : Kind) → k ≢ kind.Delay → l ≢ kind.Delay → HoldsKind objects (a, k) → HoldsKind objects (b, l) → same_cell a b ≡ false → AreApart a b
+apart : (objects : List NamedObject) (a b : Reference) (k l : Kind) → k ≢ kind.Delay → l ≢ kind.Delay → HoldsKind objects (a, k) → HoldsKind objects (b, l) → same_reference a b ≡ false → AreApart a b
 apart objects a b k l no_k no_l h i differ names = grind (arith, eq-eqb a.name b.name names)
 
 -- ---- the operands of a function
@@ -40,22 +40,22 @@ object_fits : (a : ImageValue) (object : ObjectValue) → are_of_one_size (opera
 object_fits a other e = grind arith
 
 -- references in two lists, none of which is a second input
-in2_reads : (cell : Option Cell) (xs ys : List Cell) → list_any (λ a. list_any (same_cell a) (xs ++ ys)) (given cell) ≡ false
-    → (list_any (λ a. list_any (same_cell a) xs) (given cell) ≡ false) × (list_any (λ a. list_any (same_cell a) ys) (given cell) ≡ false)
+in2_reads : (cell : Option Reference) (xs ys : List Reference) → list_any (λ a. list_any (same_reference a) (xs ++ ys)) (optional_cells cell) ≡ false
+    → (list_any (λ a. list_any (same_reference a) xs) (optional_cells cell) ≡ false) × (list_any (λ a. list_any (same_reference a) ys) (optional_cells cell) ≡ false)
 in2_reads cell xs ys e = grind (arith, or_parts, list_any-append)
 
 -- writes one after the other
-pub with_written-append : (objects : List Named) (written others : List (Cell × ObjectValue)) → with_written objects (written ++ others) ≡ with_written (with_written objects written) others
+pub with_written-append : (objects : List NamedObject) (written others : List (Reference × ObjectValue)) → with_written objects (written ++ others) ≡ with_written (with_written objects written) others
 with_written-append objects [] others = refl
 with_written-append objects (w ∷ written) others = with_written-append (with_object objects w.0 w.1) written others
 
 -- slots that differ differ the other way round
-pub apart_back : (p q : Cell) → AreApart p q → AreApart q p
+pub apart_back : (p q : Reference) → AreApart p q → AreApart q p
 apart_back p q h e = grind arith
 
 -- the values that a node writes don't depend on its other output
-module _ (l : List Named) (n : Node) (one other : Cell) (x : ObjectValue) (h : RunsTo l n other) (in1 : AreApart n.in1 one) (in2 : IfSome n.in2 (λ q. AreApart q one)) (out : AreApart other one) where
-  abbrev after : List Named
+module _ (l : List NamedObject) (n : Node) (one other : Reference) (x : ObjectValue) (h : RunsTo l n other) (in1 : AreApart n.in1 one) (in2 : IfSome n.in2 (λ q. AreApart q one)) (out : AreApart other one) where
+  abbrev after : List NamedObject
   after = with_object l one x
 
   pub runs_beside : RunsTo after n other
@@ -65,7 +65,7 @@ module _ (l : List Named) (n : Node) (one other : Cell) (x : ObjectValue) (h : R
   output_beside which = grind (arith, object_beside l one n.in1 x in1, object_if_beside l one n.in2 x in2, object_beside l one other x out)
 
 -- objects as operands
-abbrev operands_there : List Named → Node → Operands
+abbrev operands_there : List NamedObject → Node → Operands
 operands_there objects n =
     record {
       in1 = operand_of (cell_object objects n.in1);
@@ -82,20 +82,20 @@ module _ (n : Node) where
   runs_on node other second out h i is_first is_second is_out k suits sizes = grind (arith, object_fits)
 
   -- a second input has the kind that the function reads
-  second_wanted : (objects : List Named) (cell : Option Cell) (s : Option Kind) → (if is_some s then is_some cell else is_none cell) ≡ true → IfSome cell (λ c. HoldsKind objects (c, unwrap_or s kind.Image))
+  second_wanted : (objects : List NamedObject) (cell : Option Reference) (s : Option Kind) → (if is_some s then is_some cell else is_none cell) ≡ true → IfSome cell (λ c. HoldsKind objects (c, unwrap_or s kind.Image))
       → IfSome (option_map (cell_object objects) cell) (λ object. s ≡ Some (object_kind object))
   second_wanted objects y s has h = grind arith
 
   -- the objects that a node reads and writes, if they have the kinds of its function
-  module _ (objects : List Named) (are : All (λ o. IsObject o.object) objects) (can : CanRunNow objects n) where
+  module _ (objects : List NamedObject) (are : All (λ o. IsObject o.object) objects) (can : CanRunNow objects n) where
     h : OfOperands (HoldsKind objects) n
     h = of_operands (HoldsKind objects) n can.kinds
 
     abbrev wanted : Kind
     wanted = (parameters n.function).output
 
-    if_there : (cell : Option Cell) (k : Kind) → IfSome cell (λ c. HoldsKind objects (c, k)) → option_map (operand_held objects) cell ≡ option_map operand_of (option_map (cell_object objects) cell)
-    if_there z0 k held = grind arith
+    if_there : (cell : Option Reference) (k : Kind) → IfSome cell (λ c. HoldsKind objects (c, k)) → option_map (operand_held objects) cell ≡ option_map operand_of (option_map (cell_object objects) cell)
+    if_there z0 k object_at = grind arith
 
     there : operands_of (operand_held objects) n ≡ operands_there objects n
     there =
@@ -108,25 +108,25 @@ module _ (n : Node) where
     second_sizes = grind (arith, met, passed, parts, and_parts, list_all-append)
 
     -- the second input is apart from an output
-    second_apart : (second : Option Cell) (beside : Kind) (cell : Cell) → beside ≢ kind.Delay → IfSome second (λ c. HoldsKind objects (c, beside)) → HoldsKind objects (cell, wanted)
-        → list_any (λ a. list_any (same_cell a) (cell ∷ [])) (given second) ≡ false → IfSome second (Holds objects) × IfSome second (λ q. AreApart q cell)
+    second_apart : (second : Option Reference) (beside : Kind) (cell : Reference) → beside ≢ kind.Delay → IfSome second (λ c. HoldsKind objects (c, beside)) → HoldsKind objects (cell, wanted)
+        → list_any (λ a. list_any (same_reference a) (cell ∷ [])) (optional_cells second) ≡ false → IfSome second (Holds objects) × IfSome second (λ q. AreApart q cell)
     second_apart None beside cell no_delay a b e = (tt, tt)
     second_apart (Some c) beside cell no_delay a b e =
-        let differ = (or_parts (same_cell c cell) false (or_parts (list_any (same_cell c) (cell ∷ [])) false e).0).0 in
+        let differ = (or_parts (same_reference c cell) false (or_parts (list_any (same_reference c) (cell ∷ [])) false e).0).0 in
         (holds_there objects (c, beside) a, apart objects c cell beside wanted no_delay (no_delay_written n.function) a b differ)
 
-    object_is : (cell : Cell) → Holds objects cell → IsObject (cell_object objects cell)
+    object_is : (cell : Reference) → Holds objects cell → IsObject (cell_object objects cell)
     object_is cell is = subst (λ (o : Option ObjectValue). IfSome o IsObject) (there_is objects cell is) (held_is objects cell are)
 
-    object_if_is : (cell : Option Cell) → IfSome cell (Holds objects) → IfSome (option_map (cell_object objects) cell) IsObject
+    object_if_is : (cell : Option Reference) → IfSome cell (Holds objects) → IfSome (option_map (cell_object objects) cell) IsObject
     object_if_is z0 is = grind (arith, object_is)
 
-    each : (cell : Option Cell) → IfSome cell (λ c. HoldsKind objects (c, wanted)) → list_any (same_cell n.in1) (given cell) ≡ false → list_any (λ a. list_any (same_cell a) (given cell)) (given n.in2) ≡ false
+    each : (cell : Option Reference) → IfSome cell (λ c. HoldsKind objects (c, wanted)) → list_any (same_reference n.in1) (optional_cells cell) ≡ false → list_any (λ a. list_any (same_reference a) (optional_cells cell)) (optional_cells n.in2) ≡ false
         → IfSome (option_map operand_of (option_map (cell_object objects) cell)) (Suits n.function (operand_of (cell_object objects n.in1)) (option_and_then operand_format (option_map operand_of (option_map (cell_object objects) n.in2)))) → IfSome cell (RunsTo objects n)
     each None holds in1 in2 suits = tt
     each (Some cell) holds in1 in2 suits =
         let second = second_apart n.in2 (second_kind n) cell (second_no_delay n.function) h.in2 holds in2 in
-        let differ = (or_parts (same_cell n.in1 cell) false in1).0 in
+        let differ = (or_parts (same_reference n.in1 cell) false in1).0 in
         record {
           in1 = h.in1;
           in2 = second.0;
@@ -140,12 +140,12 @@ module _ (n : Node) where
               suits second_sizes;
         }
 
-    in1_apart : (list_any (same_cell n.in1) (given n.out1) ≡ false) × (list_any (same_cell n.in1) (given n.out2) ≡ false)
+    in1_apart : (list_any (same_reference n.in1) (optional_cells n.out1) ≡ false) × (list_any (same_reference n.in1) (optional_cells n.out2) ≡ false)
     in1_apart =
-        grind (arith, or_parts (list_any (same_cell n.in1) (outputs n)) (list_any (λ a. list_any (same_cell a) (outputs n)) (given n.in2)) parts.1, list_any-append (same_cell n.in1) (given n.out1) (given n.out2), or_parts, list_any-append)
+        grind (arith, or_parts (list_any (same_reference n.in1) (outputs n)) (list_any (λ a. list_any (same_reference a) (outputs n)) (optional_cells n.in2)) parts.1, list_any-append (same_reference n.in1) (optional_cells n.out1) (optional_cells n.out2), or_parts, list_any-append)
 
-    in2_apart : (list_any (λ a. list_any (same_cell a) (given n.out1)) (given n.in2) ≡ false) × (list_any (λ a. list_any (same_cell a) (given n.out2)) (given n.in2) ≡ false)
-    in2_apart = in2_reads n.in2 (given n.out1) (given n.out2) (or_parts (list_any (same_cell n.in1) (outputs n)) (list_any (λ a. list_any (same_cell a) (outputs n)) (given n.in2)) parts.1).1
+    in2_apart : (list_any (λ a. list_any (same_reference a) (optional_cells n.out1)) (optional_cells n.in2) ≡ false) × (list_any (λ a. list_any (same_reference a) (optional_cells n.out2)) (optional_cells n.in2) ≡ false)
+    in2_apart = in2_reads n.in2 (optional_cells n.out1) (optional_cells n.out2) (or_parts (list_any (same_reference n.in1) (outputs n)) (list_any (λ a. list_any (same_reference a) (outputs n)) (optional_cells n.in2)) parts.1).1
 
     pub runs_first : IfSome n.out1 (RunsTo objects n)
     runs_first = each n.out1 h.out1 in1_apart.0 in2_apart.0 (no_fault_suits n.function (operands_there objects n) parts.2).0
@@ -154,10 +154,10 @@ module _ (n : Node) where
     runs_second = each n.out2 h.out2 in1_apart.1 in2_apart.1 (no_fault_suits n.function (operands_there objects n) parts.2).1
 
     -- two outputs are apart
-    outputs_apart : (one other : Option Cell) → IfSome one (λ c. HoldsKind objects (c, wanted)) → IfSome other (λ c. HoldsKind objects (c, wanted)) → has_twice (given one ++ given other) ≡ false
+    outputs_apart : (one other : Option Reference) → IfSome one (λ c. HoldsKind objects (c, wanted)) → IfSome other (λ c. HoldsKind objects (c, wanted)) → has_twice (optional_cells one ++ optional_cells other) ≡ false
         → IfSome one (λ a. IfSome other (λ b. AreApart b a))
     outputs_apart (Some a) (Some b) s t e =
-        let differ = (or_parts (same_cell a b) false (or_parts (list_any (same_cell a) (b ∷ [])) false e).0).0 in
+        let differ = (or_parts (same_reference a b) false (or_parts (list_any (same_reference a) (b ∷ [])) false e).0).0 in
         apart_back a b (apart objects a b wanted wanted (no_delay_written n.function) (no_delay_written n.function) s t differ)
     outputs_apart x other s t e = grind arith
 
@@ -165,65 +165,65 @@ module _ (n : Node) where
     two_outputs = outputs_apart n.out1 n.out2 h.out1 h.out2 parts.0
 
     -- the second output can be written once the first is
-    pub runs_then : IfSome n.out2 (RunsTo (with_output objects n First n.out1) n)
+    pub runs_then : IfSome n.out2 (RunsTo (with_output_object objects n First n.out1) n)
     runs_then = after n.out1 n.out2 runs_first runs_second two_outputs
       where
-        after : (one other : Option Cell) → IfSome one (RunsTo objects n) → IfSome other (RunsTo objects n) → IfSome one (λ a. IfSome other (λ b. AreApart b a)) → IfSome other (RunsTo (with_output objects n First one) n)
+        after : (one other : Option Reference) → IfSome one (RunsTo objects n) → IfSome other (RunsTo objects n) → IfSome one (λ a. IfSome other (λ b. AreApart b a)) → IfSome other (RunsTo (with_output_object objects n First one) n)
         after (Some a) (Some b) r s e = runs_beside objects n a b (output_of objects n First a) s r.in1_apart r.in2_apart e
         after x other r s e = grind arith
 
-    second_held : (cell : Option Cell) (k : Kind) → IfSome cell (λ c. HoldsKind objects (c, k)) → option_and_then (held objects) cell ≡ option_map (cell_object objects) cell
+    second_held : (cell : Option Reference) (k : Kind) → IfSome cell (λ c. HoldsKind objects (c, k)) → option_and_then (object_at objects) cell ≡ option_map (cell_object objects) cell
     second_held z0 k s = grind arith
 
     -- one of the outputs is written; the other may be written already
-    written_one : (l : List Named) (which : Output) (cell : Option Cell) → IfSome cell (λ c. HoldsKind objects (c, wanted)) → IfSome cell (λ c. output_of l n which c ≡ output_of objects n which c)
-        → with_written l (written_in n which cell (held objects) (held objects)) ≡ with_output l n which cell
+    written_one : (l : List NamedObject) (which : Output) (cell : Option Reference) → IfSome cell (λ c. HoldsKind objects (c, wanted)) → IfSome cell (λ c. output_of l n which c ≡ output_of objects n which c)
+        → with_written l (written_in n which cell (object_at objects) (object_at objects)) ≡ with_output_object l n which cell
     written_one l which z2 s same = grind (arith, holds_there objects (n.in1, kind.Image) h.in1, second_held n.in2 (second_kind n) h.in2)
 
-    same_first : (cell : Option Cell) → IfSome cell (λ c. output_of objects n First c ≡ output_of objects n First c)
+    same_first : (cell : Option Reference) → IfSome cell (λ c. output_of objects n First c ≡ output_of objects n First c)
     same_first x = grind arith
 
-    same_second : (one other : Option Cell) → IfSome one (RunsTo objects n) → IfSome other (RunsTo objects n) → IfSome one (λ a. IfSome other (λ b. AreApart b a))
-        → IfSome other (λ c. output_of (with_output objects n First one) n Second c ≡ output_of objects n Second c)
+    same_second : (one other : Option Reference) → IfSome one (RunsTo objects n) → IfSome other (RunsTo objects n) → IfSome one (λ a. IfSome other (λ b. AreApart b a))
+        → IfSome other (λ c. output_of (with_output_object objects n First one) n Second c ≡ output_of objects n Second c)
     same_second (Some a) (Some b) r s e = output_beside objects n a b (output_of objects n First a) s r.in1_apart r.in2_apart e Second
     same_second x y r s e = grind arith
 
     -- the written values are those of the outputs
-    pub written_is : with_written objects (written_by n (held objects)) ≡ with_output (with_output objects n First n.out1) n Second n.out2
+    pub written_is : with_written objects (written_by n (object_at objects)) ≡ with_output_object (with_output_object objects n First n.out1) n Second n.out2
     written_is =
-        grind (arith, with_written-append objects (written_in n First n.out1 (held objects) (held objects)) (written_in n Second n.out2 (held objects) (held objects)), written_one objects First n.out1 h.out1 (same_first n.out1), same_first n.out1, written_one (with_output objects n First n.out1) Second n.out2 h.out2 (same_second n.out1 n.out2 runs_first runs_second two_outputs), same_second n.out1 n.out2 runs_first runs_second two_outputs)
+        grind (arith, with_written-append objects (written_in n First n.out1 (object_at objects) (object_at objects)) (written_in n Second n.out2 (object_at objects) (object_at objects)), written_one objects First n.out1 h.out1 (same_first n.out1), same_first n.out1, written_one (with_output_object objects n First n.out1) Second n.out2 h.out2 (same_second n.out1 n.out2 runs_first runs_second two_outputs), same_second n.out1 n.out2 runs_first runs_second two_outputs)
 
 -- ---- written values are objects
 
 -- an image with the lasting parts of another
 abbrev LastsAs : ImageValue → ImageValue → Type 0
-LastsAs old image = IsImage image × (lasting (ImageObject image) ≡ lasting (ImageObject old))
+LastsAs old image = IsImage image × (lasting_part (ImageObject image) ≡ lasting_part (ImageObject old))
 
 -- the new value of an output is an object with the same lasting parts
 output_lasts : (n : Node) (which : Output) (first : ObjectValue) (second : Option ObjectValue) (out : ObjectValue) → RunsOn n first second out
-    → IsObject (node_output n which first second out) × (lasting (node_output n which first second out) ≡ lasting out)
+    → IsObject (node_output n which first second out) × (lasting_part (node_output n which first second out) ≡ lasting_part out)
 output_lasts n which (ImageObject a) second (ImageObject old) runs = each (accumulates n.function) refl
   where
     same : (beside : Option ObjectValue) → IsImage (node_image n which old.format a beside) → LastsAs old (node_image n which old.format a beside)
     same beside image = (image, images-last (node_image n which old.format a beside) old (description_kept n which a beside old runs.out_size))
 
-    each : (sums : Bool) → accumulates n.function ≡ sums → LastsAs old (node_image n which old.format a (beside_first n second (ImageObject old)))
+    each : (sums : Bool) → accumulates n.function ≡ sums → LastsAs old (node_image n which old.format a (second_or_output n second (ImageObject old)))
     each true is = rw is (same (Some (ImageObject old)) (accumulated_image_is n old.format a runs.node runs.first_is which old is runs.out_is))
     each false is = rw is (same second (node_image_is n old.format a runs.node runs.first_is which second runs.second_is runs.second_kind runs.formats))
 output_lasts n which (ImageObject a) second (DistributionObject d) runs = (record { bins = runs.out_is.bins; size = length-histogram d.bins a }, refl)
 output_lasts n which first second out runs = grind arith
 
-pub Lasts-with_output : (l : List Named) (n : Node) (which : Output) (output : Option Cell) → IsStrictlyIncreasing (names_of l) → All (λ o. IsObject o.object) l → IfSome output (RunsTo l n) → Lasts l (with_output l n which output)
+pub Lasts-with_output : (l : List NamedObject) (n : Node) (which : Output) (output : Option Reference) → IsStrictlyIncreasing (names_of l) → All (λ o. IsObject o.object) l → IfSome output (RunsTo l n) → Lasts l (with_output_object l n which output)
 Lasts-with_output l n which None names are runs = record { objects = are; lasting = refl }
 Lasts-with_output l n which (Some output) names are runs =
     let made = output_lasts n which (cell_object l n.in1) (option_map (cell_object l) n.in2) (cell_object l output) runs.runs in
     Lasts-with_object l (output, output_of l n which output)
-    (record { is_object = made.0; lasts = ap (option_map lasting) (there_is l output runs.out) ∙ ap Some (sym made.1) }) names are
+    (record { is_object = made.0; lasts = ap (option_map lasting_part) (there_is l output runs.out) ∙ ap Some (sym made.1) }) names are
 
 -- the same for all objects after a node has run
-pub Lasts-outputs : (n : Node) (l : List Named) → All (λ o. IsObject o.object) l → CanRunNow l n → IsStrictlyIncreasing (names_of l) → Lasts l (with_output (with_output l n First n.out1) n Second n.out2)
+pub Lasts-outputs : (n : Node) (l : List NamedObject) → All (λ o. IsObject o.object) l → CanRunNow l n → IsStrictlyIncreasing (names_of l) → Lasts l (with_output_object (with_output_object l n First n.out1) n Second n.out2)
 Lasts-outputs n l are can names =
-    let between = with_output l n First n.out1 in
+    let between = with_output_object l n First n.out1 in
     let first = Lasts-with_output l n First n.out1 names are (runs_first n l are can) in
     let second = Lasts-with_output between n Second n.out2 (Lasts-names l between first names) first.objects (runs_then n l are can) in
-    Lasts-trans l between (with_output between n Second n.out2) first second
+    Lasts-trans l between (with_output_object between n Second n.out2) first second

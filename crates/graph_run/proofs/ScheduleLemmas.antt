@@ -1,6 +1,6 @@
 -- Schedules of verified graphs.
 use Rattle.std.proofs.Common.{◌≡◌, ℕ, ◌≤◌, Bool, List, length, map, ap, sym, subst, ◌∙◌, arith, length-append}
-use Rattle.graph_run.proofs.Common.{length-map, Node, Cell, Named, Verified, VirtualOutput, IsReady, IsPlan, PlanValue, operand_held, place_of}
+use Rattle.graph_run.proofs.Common.{length-map, Node, Reference, NamedObject, Verified, VirtualOutput, IsReady, IsPlan, PlanView, operand_held, place_of}
 use Rattle.graph_verify.specs.Operand.{is_virtual}
 use Rattle.graph_steps.specs.declared.step.Step.{Step}
 use Rattle.graph_steps.specs.declared.step.Task.{Task}
@@ -18,18 +18,18 @@ virtuals_below steps outs =
     let behind = added_behind virtual (images_named steps) in
     omega (arith, ap length behind.1, length-append virtual behind.0, length-map outs (λ (o : VirtualOutput). o.cell))
 
-module _ (objects : List Named) (nodes : List Node) (v : Verified) (ready : IsReady objects nodes v) (p : PlanValue) (plan : IsPlan v.steps.items v.virtual_outputs.items p) where
-  abbrev virtual : Cell → Bool
+module _ (objects : List NamedObject) (nodes : List Node) (v : Verified) (ready : IsReady objects nodes v) (p : PlanView) (plan : IsPlan v.steps.items v.virtual_outputs.items p) where
+  abbrev virtual : Reference → Bool
   virtual c = is_virtual (operand_held objects c)
 
   have : HaveTasks v.steps.items v.virtual_outputs.items p virtual
   have = have_tasks objects nodes v ready p plan
 
-  module _ (cells : List Cell) (slots : List ℕ) (radius : Node → ℕ) (tasks : List Task)
+  module _ (cells : List Reference) (slots : List ℕ) (radius : Node → ℕ) (tasks : List Task)
       (cells_are : cells ≡ graph_cells v.steps.items v.virtual_outputs.items) (slots_are : slots ≡ map (place_of p) v.virtual_outputs.items)
       (tasks_are : tasks ≡ tasks_of cells slots radius v.steps.items) where
     pub same_tasks : tasks ≡ graph_tasks v.steps.items v.virtual_outputs.items p radius
-    same_tasks = tasks_are ∙ ap (λ (c : List Cell). tasks_of c slots radius v.steps.items) cells_are ∙ ap (λ (s : List ℕ). tasks_of (graph_cells v.steps.items v.virtual_outputs.items) s radius v.steps.items) slots_are
+    same_tasks = tasks_are ∙ ap (λ (c : List Reference). tasks_of c slots radius v.steps.items) cells_are ∙ ap (λ (s : List ℕ). tasks_of (graph_cells v.steps.items v.virtual_outputs.items) s radius v.steps.items) slots_are
 
     pub in_order : AreInOrder tasks
     in_order = subst AreInOrder (sym same_tasks) (ordered v.steps.items v.virtual_outputs.items p virtual have radius)

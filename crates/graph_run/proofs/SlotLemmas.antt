@@ -1,12 +1,12 @@
 -- Slots of a plan: their indices and sizes.
 use Rattle.std.proofs.Common.{◌≡◌, ℕ, ◌+◌, ◌<◌, ◌≤◌, List, [], ◌∷◌, ◌++◌, map, length, suc, Option, Some, None, inl, inr, refl, sym, ap, subst, ◌∙◌, arith, IfSome, slice_get, is_some, unwrap_or, eq-eqb, length-append}
-use Rattle.graph_run.proofs.Common.{range_with_len, list_any, nat_tests, length-map-range_with_len, slice_get-get_or, Format, Cell, same_cell, sample_count, same_format, VirtualOutput, Node, In, any-from_In, In-filter, In-map, IsPlan, PlanValue, slot_place, place_of, planned_rooms}
+use Rattle.graph_run.proofs.Common.{range_with_len, list_any, nat_tests, length-map-range_with_len, slice_get-get_or, Format, Reference, same_reference, sample_count, same_format, VirtualOutput, Node, In, any-from_In, In-filter, In-map, IsPlan, PlanView, slot_place, place_of, planned_capacities}
 use Rattle.std.specs.List.{filter}
 use Rattle.buffer_plan.specs.Slots.{of_format}
 use Rattle.std.proofs.lemmas.List.FromFn.{get_or-map-range_with_len}
-use Rattle.buffer_plan.specs.Slots.{is_slot, greatest, IsValid}
+use Rattle.buffer_plan.specs.Slots.{is_slot, maximum_of, IsValid}
 use Rattle.buffer_plan.proofs.PlanLemmas.{same_format-refl}
-use Rattle.graph_run.specs.Slots.{rooms_for}
+use Rattle.graph_run.specs.Slots.{capacities_for}
 
 -- ---- elements by index
 
@@ -27,16 +27,16 @@ module _ {X : Type 0} where
 
 -- ---- the indices of slots
 
-module _ (p : PlanValue) where
-  long : (format : Format) → length (rooms_for p format) ≡ p.slot_count format
+module _ (p : PlanView) where
+  long : (format : Format) → length (capacities_for p format) ≡ p.slot_count format
   long format = length-map-range_with_len (λ k. let room : Format × ℕ = (format, p.slot_samples format k) in room) 0 (p.slot_count format)
 
-  made_at : (format : Format) (k : ℕ) → k < p.slot_count format → slice_get (rooms_for p format) k ≡ Some (format, p.slot_samples format k)
+  made_at : (format : Format) (k : ℕ) → k < p.slot_count format → slice_get (capacities_for p format) k ≡ Some (format, p.slot_samples format k)
   made_at format k below = get_made (λ j. let room : Format × ℕ = (format, p.slot_samples format j) in room) (p.slot_count format) k below
 
   -- the size of a slot
   pub planned_at : (format : Format) (k : ℕ) → k < p.slot_count format
-      → slice_get (planned_rooms p) (slot_place p format k) ≡ Some (format, p.slot_samples format k)
+      → slice_get (planned_capacities p) (slot_place p format k) ≡ Some (format, p.slot_samples format k)
   planned_at z0 k below = grind (arith, get_left, long, length-append, made_at, get_right)
 
   -- an index belongs to one slot
@@ -45,27 +45,27 @@ module _ (p : PlanValue) where
 
 -- ---- the slots of virtual images
 
-below_greatest : (n : ℕ) (ns : List ℕ) → In n ns → n ≤ greatest ns
+below_greatest : (n : ℕ) (ns : List ℕ) → In n ns → n ≤ maximum_of ns
 below_greatest n [] i = absurd i
 below_greatest n (m ∷ ns) (inl same) = grind (arith, nat_tests)
 below_greatest n (m ∷ ns) (inr i) = grind (arith, nat_tests, below_greatest n ns i)
 
 -- a slot of the image's format that is large enough for it
-pub record HasSlot (p : PlanValue) (o : VirtualOutput) : Type 0 where
+pub record HasSlot (p : PlanView) (o : VirtualOutput) : Type 0 where
   pub slot : ℕ
   pub is : p.slot_of o.cell ≡ Some slot
   pub below : slot < p.slot_count o.desc.format
   pub room : sample_count o.desc ≤ p.slot_samples o.desc.format slot
 
 -- slots as in a plan that are large enough for each image
-pub record HasSlots (steps : List Node) (outs : List VirtualOutput) (p : PlanValue) : Type 0 where
-  pub given : (cell : Cell) → is_some (p.slot_of cell) ≡ list_any (λ o. same_cell o.cell cell) outs
+pub record HasSlots (steps : List Node) (outs : List VirtualOutput) (p : PlanView) : Type 0 where
+  pub given : (cell : Reference) → is_some (p.slot_of cell) ≡ list_any (λ o. same_reference o.cell cell) outs
   pub valid : IsValid steps outs p.slot_of
   pub below : (o : VirtualOutput) → In o outs → IfSome (p.slot_of o.cell) (λ k. k < p.slot_count o.desc.format)
   pub room : (o : VirtualOutput) → In o outs → IfSome (p.slot_of o.cell) (λ k. sample_count o.desc ≤ p.slot_samples o.desc.format k)
 
 -- a plan's slots hold the greatest of their images
-pub planned_slots : (steps : List Node) (outs : List VirtualOutput) (p : PlanValue) → IsPlan steps outs p → HasSlots steps outs p
+pub planned_slots : (steps : List Node) (outs : List VirtualOutput) (p : PlanView) → IsPlan steps outs p → HasSlots steps outs p
 planned_slots steps outs p plan = record { given = plan.given; valid = plan.valid; below = plan.below; room = λ o i. with_room o i (p.slot_of o.cell) refl }
   where
     with_room : (o : VirtualOutput) → In o outs → (slot : Option ℕ) → p.slot_of o.cell ≡ slot → IfSome slot (λ k. sample_count o.desc ≤ p.slot_samples o.desc.format k)
@@ -81,7 +81,7 @@ planned_slots steps outs p plan = record { given = plan.given; valid = plan.vali
         (below_greatest (sample_count o.desc) (map (λ (q : VirtualOutput). sample_count q.desc) sharers)
         (In-map (λ (q : VirtualOutput). sample_count q.desc) o sharers shares))
 
-module _ (steps : List Node) (outs : List VirtualOutput) (p : PlanValue) (plan : HasSlots steps outs p) where
+module _ (steps : List Node) (outs : List VirtualOutput) (p : PlanView) (plan : HasSlots steps outs p) where
   pub has_slot : (o : VirtualOutput) → In o outs → HasSlot p o
   has_slot o i = grind (arith, any-from_In)
 

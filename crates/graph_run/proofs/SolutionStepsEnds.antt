@@ -1,6 +1,6 @@
 -- The objects of a graph that is ready to run, at the start of a run and at its end.
 use Rattle.std.proofs.Common.{◌≡◌, ℕ, Bool, true, false, List, [], ◌∷◌, ◌++◌, map, refl, sym, ap, subst, ◌∙◌, inl, arith, All, Option, Some, None, option_map, option_and_then, if◌then◌else◌}
-use Rattle.graph_run.proofs.Common.{AllIn, AllIn-permutation, AllIn-permutation_back, CanRun, CanRunNow, Cell, CellsStand, Description, HoldsKind, Image, In, In-from_map, In-left, In-right, IsDescription, IsNode, IsObject, IsReady, IsStrictlyIncreasing, Kind, Lasts, Named, Node, ObjectValue, Operand, Solves, Verified, VirtualImage, VirtualObject, VirtualOutput, WritesNo, begun, begun_as, cell_of, held, held_by_name, in_slot, is_virtual, is_virtual_object, is_written, label_of, map-told, names_cell, names_of, object_held, one_by_one, operand_held, operand_of, operands, resolved, with_written, written_by}
+use Rattle.graph_run.proofs.Common.{AllIn, AllIn-permutation, AllIn-permutation_back, CanRun, CanRunNow, Reference, CellsStand, Description, HoldsKind, Image, In, In-from_map, In-left, In-right, IsDescription, IsNode, IsObject, IsReady, IsStrictlyIncreasing, Kind, Lasts, NamedObject, Node, ObjectValue, Operand, Solves, Verified, VirtualImage, VirtualObject, VirtualOutput, WritesNo, named_at_start, object_at_start, reference_to, object_at, held_by_name, in_slot, is_virtual, is_virtual_object, is_written, label_of, map-told, names_cell, names_of, object_held, one_by_one, operand_held, operand_of, operands, resolved_operand, with_written, written_by}
 use Rattle.vx_base.specs.declared.kind.Kind.TheVariants as kind
 use Rattle.vx_base.proofs.ImageLaws.{new_image_is}
 use Rattle.graph_verify.proofs.VerdictLemmas.{can_run}
@@ -19,17 +19,17 @@ use Rattle.graph_run.proofs.VerifiedLemmas.{can_run_now, in_outputs, output_know
 
 -- ---- objects as a run begins
 
-begun_as_is : (x : ObjectValue) (operand : Operand) → IsObject x → ((image : VirtualImage) (d : Description) → x ≡ VirtualObject image → operand ≡ Image d → IsDescription d) → IsObject (begun_as x operand)
+begun_as_is : (x : ObjectValue) (operand : Operand) → IsObject x → ((image : VirtualImage) (d : Description) → x ≡ VirtualObject image → operand ≡ Image d → IsDescription d) → IsObject (object_at_start x operand)
 begun_as_is (VirtualObject image) (Image d) is described = let sides = described image d refl refl in new_image_is d.width d.height d.format sides.width sides.height
 begun_as_is x operand is described = is
 
-begun_object : (b : Bool) (o : Named) (operand : Operand) → IsObject o.object
+begun_object : (b : Bool) (o : NamedObject) (operand : Operand) → IsObject o.object
     → (b ≡ true → (image : VirtualImage) (d : Description) → o.object ≡ VirtualObject image → operand ≡ Image d → IsDescription d)
-    → IsObject (if b then record o { object = begun_as o.object operand } else o).object
+    → IsObject (if b then record o { object = object_at_start o.object operand } else o).object
 begun_object true o operand is described = begun_as_is o.object operand is (described refl)
 begun_object false o operand is described = is
 
-own_operand : (objects : List Named) (name : ℕ) (x : ObjectValue) → object_held objects name ≡ Some x → operand_held objects (cell_of name) ≡ operand_of x
+own_operand : (objects : List NamedObject) (name : ℕ) (x : ObjectValue) → object_held objects name ≡ Some x → operand_held objects (reference_to name) ≡ operand_of x
 own_operand objects name x there = grind (arith, there)
 
 -- what is no virtual image as an operand is none
@@ -37,11 +37,11 @@ real_as_operand : (slot : Option ℕ) (x : ObjectValue) (operand : Operand) → 
 real_as_operand slot other operand found real = grind arith
 
 -- nodes that can run, each at its turn, leave objects
-lasts_through : (steps : List Node) (l : List Named) → All (λ o. IsObject o.object) l → IsStrictlyIncreasing (names_of l)
+lasts_through : (steps : List Node) (l : List NamedObject) → All (λ o. IsObject o.object) l → IsStrictlyIncreasing (names_of l)
     → ((before after : List Node) (n : Node) → steps ≡ before ++ n ∷ after → CanRunNow (one_by_one before l) n) → Lasts l (one_by_one steps l)
 lasts_through [] l are names can_now = record { objects = are; lasting = refl }
 lasts_through (n ∷ steps) l are names can_now =
-    let next : List Named = with_written l (written_by n (held l)) in
+    let next : List NamedObject = with_written l (written_by n (object_at l)) in
     let first : CanRunNow l n = can_now [] steps n refl in
     let one : Lasts l next = subst (λ m. Lasts l m) (sym (written_is n l are first)) (Lasts-outputs n l are first names) in
     Lasts-trans l next (one_by_one steps next) one
@@ -49,12 +49,12 @@ lasts_through (n ∷ steps) l are names can_now =
 
 -- ---- a graph that is ready to run
 
-module _ (objects : List Named) (nodes : List Node) (v : Verified) (h : IsReady objects nodes v) where
-  abbrev pub is : Cell → Operand
+module _ (objects : List NamedObject) (nodes : List Node) (v : Verified) (h : IsReady objects nodes v) where
+  abbrev pub is : Reference → Operand
   is = operand_held objects
 
-  abbrev pub known : Cell → Operand
-  known = resolved is nodes
+  abbrev pub known : Reference → Operand
+  known = resolved_operand is nodes
 
   abbrev pub outs : List VirtualOutput
   outs = v.virtual_outputs.items
@@ -62,10 +62,10 @@ module _ (objects : List Named) (nodes : List Node) (v : Verified) (h : IsReady 
   abbrev pub steps : List Node
   steps = v.steps.items
 
-  abbrev pub first : List Named
+  abbrev pub first : List NamedObject
   first = first_objects objects nodes
 
-  abbrev pub last : List Named
+  abbrev pub last : List NamedObject
   last = last_objects objects nodes
 
   abbrev work : ℕ
@@ -98,26 +98,26 @@ module _ (objects : List Named) (nodes : List Node) (v : Verified) (h : IsReady 
   -- ---- the client's objects
 
   -- a client's object is at the start of the run as it was before
-  pub first_real : (c : Cell) → ((x : ObjectValue) → object_held objects c.name ≡ Some x → is_virtual_object x ≡ false) → held first c ≡ held objects c
+  pub first_real : (c : Reference) → ((x : ObjectValue) → object_held objects c.name ≡ Some x → is_virtual_object x ≡ false) → object_at first c ≡ object_at objects c
   first_real c real = ap (option_and_then (in_slot c.slot)) (object_held-begun known nodes objects c.name ∙ each (object_held objects c.name) real)
     where
       each : (o : Option ObjectValue) → ((x : ObjectValue) → o ≡ Some x → is_virtual_object x ≡ false) → option_map (begun_under known nodes c.name) o ≡ o
       each None plain = refl
-      each (Some x) plain = ap (λ (y : ObjectValue). Some y) (begun_stays x (is_written nodes (cell_of c.name)) (known (cell_of c.name)) (plain x refl))
+      each (Some x) plain = ap (λ (y : ObjectValue). Some y) (begun_stays x (is_written nodes (reference_to c.name)) (known (reference_to c.name)) (plain x refl))
 
-  pub named_real : (n : Node) → In n steps → (c : Cell) → names_cell n c ≡ true → is_virtual (is c) ≡ false → (x : ObjectValue) → object_held objects c.name ≡ Some x → is_virtual_object x ≡ false
+  pub named_real : (n : Node) → In n steps → (c : Reference) → names_cell n c ≡ true → is_virtual (is c) ≡ false → (x : ObjectValue) → object_held objects c.name ≡ Some x → is_virtual_object x ≡ false
   named_real n i c named real x there =
       real_as_operand c.slot x (is c) (sym (ap (λ (o : Option ObjectValue). option_map operand_of (option_and_then (in_slot c.slot) o)) there) ∙ h.cells.found n c (in_nodes n i) named) real
 
   -- an object that no node writes stays
-  pub unwritten_seen : (c : Cell) → is_written nodes c ≡ false → seen last c ≡ seen first c
-  unwritten_seen c none = same_seen (held last c) (held first c) (solves.forms c) (λ plain. solves.others c none plain)
+  pub unwritten_seen : (c : Reference) → is_written nodes c ≡ false → seen last c ≡ seen first c
+  unwritten_seen c none = same_seen (object_at last c) (object_at first c) (solves.forms c) (λ plain. solves.others c none plain)
 
   -- ---- names, objects
 
   module _ (names : IsStrictlyIncreasing (names_of objects)) where
-    names_by_labels : (l : List Named) → map label_of l ≡ map label_of objects → IsStrictlyIncreasing (names_of l)
-    names_by_labels l labels = subst IsStrictlyIncreasing (sym (map-told label_of (λ (o : Named). o.name) (λ label. label.0) (λ _. refl) l objects labels)) names
+    names_by_labels : (l : List NamedObject) → map label_of l ≡ map label_of objects → IsStrictlyIncreasing (names_of l)
+    names_by_labels l labels = subst IsStrictlyIncreasing (sym (map-told label_of (λ (o : NamedObject). o.name) (λ label. label.0) (λ _. refl) l objects labels)) names
 
     in_order : last ≡ one_by_one steps first
     in_order = order_gives_rounds nodes steps first h.verified.order graph_can.one_writer (pairs_of first (names_by_labels first first_labels)) writes_no_delay
@@ -134,27 +134,27 @@ module _ (objects : List Named) (nodes : List Node) (v : Verified) (h : IsReady 
     first_stands = at_its_turn work is nodes h.runs.1 objects h.cells [] (λ m i. absurd i)
 
     -- each cell that a node names holds an object of the kind that its function has there
-    pub first_kinds : (n : Node) → In n steps → (operand : Cell × Kind) → In operand (operands n) → HoldsKind first operand
+    pub first_kinds : (n : Node) → In n steps → (operand : Reference × Kind) → In operand (operands n) → HoldsKind first operand
     first_kinds n i = In-from_All (HoldsKind first) (operands n) (can_at [] (λ m j. absurd j) n (in_nodes n i)).kinds
 
-    pub last_kinds : (n : Node) → In n steps → (operand : Cell × Kind) → In operand (operands n) → HoldsKind last operand
-    last_kinds n i = In-from_All (HoldsKind last) (operands n) (subst (λ (l : List Named). CanRunNow l n) (sym in_order) (can_at steps in_nodes n (in_nodes n i))).kinds
+    pub last_kinds : (n : Node) → In n steps → (operand : Reference × Kind) → In operand (operands n) → HoldsKind last operand
+    last_kinds n i = In-from_All (HoldsKind last) (operands n) (subst (λ (l : List NamedObject). CanRunNow l n) (sym in_order) (can_at steps in_nodes n (in_nodes n i))).kinds
 
     module _ (are : All (λ o. IsObject o.object) objects) (described : All (λ (o : VirtualOutput). IsDescription o.desc) outs) where
-      begun_is : (o : Named) → In o objects → IsObject (begun known nodes o).object
+      begun_is : (o : NamedObject) → In o objects → IsObject (named_at_start known nodes o).object
       begun_is o i =
-          begun_object (is_written nodes (cell_of o.name)) o (known (cell_of o.name)) (In-from_All (λ (p : Named). IsObject p.object) objects are o i)
+          begun_object (is_written nodes (reference_to o.name)) o (known (reference_to o.name)) (In-from_All (λ (p : NamedObject). IsObject p.object) objects are o i)
           (λ w image d same found.
-          let there : object_held objects o.name ≡ Some o.object = In-from_All (λ (p : Named). object_held objects p.name ≡ Some p.object) objects (held_by_name objects names) o i in
-          let output = in_outputs is nodes v h.verified (cell_of o.name) w (ap is_virtual (own_operand objects o.name o.object there ∙ ap operand_of same)) in
+          let there : object_held objects o.name ≡ Some o.object = In-from_All (λ (p : NamedObject). object_held objects p.name ≡ Some p.object) objects (held_by_name objects names) o i in
+          let output = in_outputs is nodes v h.verified (reference_to o.name) w (ap is_virtual (own_operand objects o.name o.object there ∙ ap operand_of same)) in
           let known_so : Image d ≡ Image output.0.desc = sym found ∙ ap known output.2 ∙ output_known is nodes v h.verified output.0 output.1 in
           let desc : output.0.desc ≡ d = cc in
           subst IsDescription desc (In-from_All (λ (p : VirtualOutput). IsDescription p.desc) outs described output.0 output.1))
 
       first_are : All (λ o. IsObject o.object) first
-      first_are = All-from_In (λ (o : Named). IsObject o.object) first (λ p i.
-          let from = In-from_map (begun known nodes) p objects i in
-          subst (λ (q : Named). IsObject q.object) (sym from.2) (begun_is from.0 from.1))
+      first_are = All-from_In (λ (o : NamedObject). IsObject o.object) first (λ p i.
+          let from = In-from_map (named_at_start known nodes) p objects i in
+          subst (λ (q : NamedObject). IsObject q.object) (sym from.2) (begun_is from.0 from.1))
 
       -- the run leaves objects, and of each what lasts
       pub last_lasts : Lasts first last

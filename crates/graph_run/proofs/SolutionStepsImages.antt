@@ -2,10 +2,10 @@
 use Rattle.std.proofs.Common.{◌≡◌, ◌≢◌, ℕ, ◌+◌, ◌<◌, ◌≤◌, Bool, true, false, List, [], map, length, drop, get_or, refl, sym, ap, subst, ◌∙◌, inl, inr, arith, All, Option, Some, None, ◌⊎◌, IfSome, nat_lt, if◌then◌else◌, unwrap_or, option_map, option_and_then}
 use Rattle.std.specs.List.{slice_get}
 use Rattle.std.proofs.lemmas.List.{get_or-append-add, get_or_append_left, get_or-map, length-map}
-use Rattle.graph_run.proofs.Common.{accumulates, beside_first, cases_lt, Cell, cell_of, Description, false_from_ne_true, flat_map, Function, given, held, held_is, HoldsImage, HoldsKind, image_held, Image, ImageObject, ImageValue, In, In-append, In-at, In-filter, In-from_any, In-from_filter, In-from_flat_map, In-from_map, In-from_same, In-left, In-right, IsDescription, IsImage, IsObject, IsPlan, IsReady, is_virtual, is_virtual_object, is_written, IsStrictlyIncreasing, Kind, Named, names_cell, names_of, Node, node_image, node_output, object_held, object_kind, ObjectValue, operands, Output, First, Second, outputs, parameters, place_of, PlanValue, second_kind, in_slot, has_twice, slice_get-map, image_value, new_image, U8, description_of, Operand, operand_of, kind_in, Verified, VirtualOutput, written_from, written_in, writes}
+use Rattle.graph_run.proofs.Common.{accumulates, second_or_output, cases_lt, Reference, reference_to, Description, false_from_ne_true, flat_map, Function, optional_cells, object_at, held_is, HoldsImage, HoldsKind, image_held, Image, ImageObject, ImageValue, In, In-append, In-at, In-filter, In-from_any, In-from_filter, In-from_flat_map, In-from_map, In-from_same, In-left, In-right, IsDescription, IsImage, IsObject, IsPlan, IsReady, is_virtual, is_virtual_object, is_written, IsStrictlyIncreasing, Kind, NamedObject, names_cell, names_of, Node, node_image, node_output, object_held, object_kind, ObjectValue, operands, Output, First, Second, outputs, parameters, place_of, PlanView, second_kind, in_slot, has_twice, slice_get-map, image_value, new_image, U8, description_of, Operand, operand_of, kind_in, Verified, VirtualOutput, written_from, written_in, writes}
 use Rattle.vx_base.specs.declared.kind.Kind.TheVariants as kind
 use Rattle.vx_base.specs.Node.{with_kind}
-use Rattle.image_core.specs.declared.second.Second.{Second as SecondValue}
+use Rattle.image_core.specs.declared.second.SecondInput.{SecondInput as SecondValue}
 use Rattle.image_core.specs.Second.{second_object}
 use Rattle.graph_steps.specs.declared.step.Step.{Step}
 use Rattle.graph_steps.specs.declared.step.Task.{Task}
@@ -54,24 +54,24 @@ pub second_kinds : (f : Function) → unwrap_or (parameters f).second_input kind
 second_kinds f other = grind arith
 
 -- an output of a node is one of its operands, and so is its second input
-pub output_operand : (n : Node) (c : Cell) → In c (outputs n) → In (c, (parameters n.function).output) (operands n)
+pub output_operand : (n : Node) (c : Reference) → In c (outputs n) → In (c, (parameters n.function).output) (operands n)
 output_operand n c i =
     inr (In-right (c, (parameters n.function).output) (with_kind (second_kind n) n.in2) _
-    (elim (In-append c (given n.out1) (given n.out2) i) [
+    (elim (In-append c (optional_cells n.out1) (optional_cells n.out2) i) [
       | inl one ↦ In-left (c, (parameters n.function).output) (with_kind (parameters n.function).output n.out1) _ (in_with_kind c (parameters n.function).output n.out1 one)
       | inr two ↦ In-right (c, (parameters n.function).output) (with_kind (parameters n.function).output n.out1) _ (in_with_kind c (parameters n.function).output n.out2 two)
     ]))
 
-pub second_operand : (n : Node) (c : Cell) → n.in2 ≡ Some c → In (c, second_kind n) (operands n)
+pub second_operand : (n : Node) (c : Reference) → n.in2 ≡ Some c → In (c, second_kind n) (operands n)
 second_operand n c e =
     inr (In-left (c, second_kind n) (with_kind (second_kind n) n.in2) _
-    (in_with_kind c (second_kind n) n.in2 (subst (λ (o : Option Cell). In c (given o)) (sym e) (inl refl))))
+    (in_with_kind c (second_kind n) n.in2 (subst (λ (o : Option Reference). In c (optional_cells o)) (sym e) (inl refl))))
 
 pub one_kind : (o : Option ObjectValue) (j k : Kind) → option_map object_kind o ≡ Some j → option_map object_kind o ≡ Some k → j ≡ k
 one_kind o j k one other = let same : ◌≡◌ {A = Option Kind} (Some j) (Some k) = sym one ∙ other in cc
 
 -- an image is no virtual image
-pub image_real : (objects : List Named) (c : Cell) → HoldsImage objects c → (x : ObjectValue) → object_held objects c.name ≡ Some x → is_virtual_object x ≡ false
+pub image_real : (objects : List NamedObject) (c : Reference) → HoldsImage objects c → (x : ObjectValue) → object_held objects c.name ≡ Some x → is_virtual_object x ≡ false
 image_real objects c image x there = real c.slot x (sym (ap (λ (o : Option ObjectValue). option_map object_kind (option_and_then (in_slot c.slot) o)) there) ∙ image)
   where
     real : (slot : Option ℕ) (y : ObjectValue) → option_map object_kind (in_slot slot y) ≡ Some kind.Image → is_virtual_object y ≡ false
@@ -85,7 +85,7 @@ no_plane_read wanted object other = grind arith
 
 -- ---- what nodes write
 
-pub written_there : (n : Node) (which : Output) (c : Cell) (start now : Cell → Option ObjectValue) (a b : ObjectValue) → out_at n which ≡ Some c → now n.in1 ≡ Some a → start c ≡ Some b
+pub written_there : (n : Node) (which : Output) (c : Reference) (start now : Reference → Option ObjectValue) (a b : ObjectValue) → out_at n which ≡ Some c → now n.in1 ≡ Some a → start c ≡ Some b
     → In (c, node_output n which a (option_and_then now n.in2) b) (written_from start n now)
 written_there n First c start now a b e read there = In-left _ (written_in n First n.out1 start now) (written_in n Second n.out2 start now) (rw (e, read, there) (inl refl))
 written_there n Second c start now a b e read there = In-right _ (written_in n First n.out1 start now) (written_in n Second n.out2 start now) (rw (e, read, there) (inl refl))
@@ -95,33 +95,33 @@ described_format image d e = let same : description_of image ≡ d = cc in ap (�
 
 -- unless a node accumulates, its result depends only on the format of its output
 same_image : (n : Node) (which : Output) (a own other : ImageValue) (second : Option ObjectValue) → (own ≡ other) ⊎ ((own.format ≡ other.format) × (accumulates n.function ≡ false))
-    → node_image n which own.format a (beside_first n second (ImageObject own)) ≡ node_image n which other.format a (beside_first n second (ImageObject other))
-same_image n which a own other second (inl e) = ap (λ (i : ImageValue). node_image n which i.format a (beside_first n second (ImageObject i))) e
+    → node_image n which own.format a (second_or_output n second (ImageObject own)) ≡ node_image n which other.format a (second_or_output n second (ImageObject other))
+same_image n which a own other second (inl e) = ap (λ (i : ImageValue). node_image n which i.format a (second_or_output n second (ImageObject i))) e
 same_image n which a own other second (inr e) = rw (e.1, e.0) refl
 
 -- ---- the cells of a graph
 
-module _ (objects : List Named) (nodes : List Node) (v : Verified) (h : IsReady objects nodes v) (names : IsStrictlyIncreasing (names_of objects))
-    (p : PlanValue) (plan : IsPlan (steps objects nodes v h) (outs objects nodes v h) p) where
-  abbrev pub starts : List Named
+module _ (objects : List NamedObject) (nodes : List Node) (v : Verified) (h : IsReady objects nodes v) (names : IsStrictlyIncreasing (names_of objects))
+    (p : PlanView) (plan : IsPlan (steps objects nodes v h) (outs objects nodes v h) p) where
+  abbrev pub starts : List NamedObject
   starts = first objects nodes v h
 
-  abbrev pub ends : List Named
+  abbrev pub ends : List NamedObject
   ends = last objects nodes v h
 
   abbrev pub order : List Node
   order = steps objects nodes v h
 
-  abbrev pub virtual : List Cell
+  abbrev pub virtual : List Reference
   virtual = map (λ (o : VirtualOutput). o.cell) (outs objects nodes v h)
 
-  abbrev pub cells : List Cell
+  abbrev pub cells : List Reference
   cells = graph_cells order (outs objects nodes v h)
 
-  abbrev pub clients : List Cell
+  abbrev pub clients : List Reference
   clients = drop (length (outs objects nodes v h)) cells
 
-  abbrev is_virtual_cell : Cell → Bool
+  abbrev is_virtual_cell : Reference → Bool
   is_virtual_cell c = is_virtual (is objects nodes v h c)
 
   pub have : HaveTasks order (outs objects nodes v h) p is_virtual_cell
@@ -130,11 +130,11 @@ module _ (objects : List Named) (nodes : List Node) (v : Verified) (h : IsReady 
   pub cells_once : has_twice cells ≡ false
   cells_once = once_all virtual (images_named order) plan.once
 
-  pub virtual_is : (c : Cell) → In c virtual → is_virtual_cell c ≡ true
+  pub virtual_is : (c : Reference) → In c virtual → is_virtual_cell c ≡ true
   virtual_is c i = (In-from_filter is_virtual_cell c (flat_map outputs order) (subst (In c) have.order i)).1
 
   -- a virtual image is written by a node, as an image
-  pub virtual_by : (c : Cell) → In c virtual → (n : Node) × In n order × In c (outputs n) × ((parameters n.function).output ≡ kind.Image)
+  pub virtual_by : (c : Reference) → In c virtual → (n : Node) × In n order × In c (outputs n) × ((parameters n.function).output ≡ kind.Image)
   virtual_by c i =
       let among = In-from_filter is_virtual_cell c (flat_map outputs order) (subst (In c) have.order i) in
       let n = In-from_flat_map outputs c order among.0 in (
@@ -148,64 +148,64 @@ module _ (objects : List Named) (nodes : List Node) (v : Verified) (h : IsReady 
       )
 
   -- each cell is an image that a node names
-  pub cell_by : (c : Cell) → In c cells → (n : Node) × In n order × In c (node_images n)
+  pub cell_by : (c : Reference) → In c cells → (n : Node) × In n order × In c (node_images n)
   cell_by c i = elim (in_either virtual (images_named order) c i) [
     | inl old ↦ (let n = virtual_by c old in (n.0, n.1, image_named n.0 c n.3 n.2))
     | inr more ↦ In-from_flat_map node_images c order more
   ]
 
-  pub cell_there : (n : Node) → In n order → (c : Cell) → In c (node_images n) → In c cells
+  pub cell_there : (n : Node) → In n order → (c : Reference) → In c (node_images n) → In c cells
   cell_there n i c j = all_named virtual order n i c j
 
   -- it is a virtual image, or a client's image
-  pub virtual_or : (c : Cell) → In c cells → In c virtual ⊎ In c clients
+  pub virtual_or : (c : Reference) → In c cells → In c virtual ⊎ In c clients
   virtual_or c i = In-append c virtual clients (subst (In c) (cells_parts order (outs objects nodes v h)) i)
 
-  virtual_there : (c : Cell) → In c virtual → In c cells
+  virtual_there : (c : Reference) → In c virtual → In c cells
   virtual_there c i = subst (In c) (sym (cells_parts order (outs objects nodes v h))) (In-left c virtual clients i)
 
-  pub client_there : (c : Cell) → In c clients → In c cells
+  pub client_there : (c : Reference) → In c clients → In c cells
   client_there c i = subst (In c) (sym (cells_parts order (outs objects nodes v h))) (In-right c virtual clients i)
 
-  pub client_outside : (c : Cell) → In c clients → In c virtual → ⊥
+  pub client_outside : (c : Reference) → In c clients → In c virtual → ⊥
   client_outside c i j = once_across c virtual clients (ap has_twice (sym (cells_parts order (outs objects nodes v h))) ∙ cells_once) j i
 
-  pub client_image : (c : Cell) → In c clients → HoldsImage objects c
+  pub client_image : (c : Reference) → In c clients → HoldsImage objects c
   client_image c i = clients_hold objects nodes v h p plan c i
 
   -- ---- the images that cells hold
 
-  pub ends_image : (c : Cell) → In c cells → HoldsImage ends c
+  pub ends_image : (c : Reference) → In c cells → HoldsImage ends c
   ends_image c i = let n = cell_by c i in last_kinds objects nodes v h names n.0 n.1 (c, kind.Image) (image_operand n.0 c n.2)
 
-  starts_image : (c : Cell) → In c cells → HoldsImage starts c
+  starts_image : (c : Reference) → In c cells → HoldsImage starts c
   starts_image c i = let n = cell_by c i in first_kinds objects nodes v h names n.0 n.1 (c, kind.Image) (image_operand n.0 c n.2)
 
-  pub ends_held : (c : Cell) → In c cells → held ends c ≡ Some (ImageObject (image_held ends c))
+  pub ends_held : (c : Reference) → In c cells → object_at ends c ≡ Some (ImageObject (image_held ends c))
   ends_held c i = held_image ends c (ends_image c i)
 
-  starts_held : (c : Cell) → In c cells → held starts c ≡ Some (ImageObject (image_held starts c))
+  starts_held : (c : Reference) → In c cells → object_at starts c ≡ Some (ImageObject (image_held starts c))
   starts_held c i = held_image starts c (starts_image c i)
 
-  pub starts_client : (c : Cell) → In c clients → held starts c ≡ held objects c
+  pub starts_client : (c : Reference) → In c clients → object_at starts c ≡ object_at objects c
   starts_client c i = first_real objects nodes v h c (image_real objects c (client_image c i))
 
   -- a node that writes a cell that is an image writes images
-  image_writer : (n : Node) → In n order → (c : Cell) → In c (outputs n) → In c cells → (parameters n.function).output ≡ kind.Image
-  image_writer n i c j among = one_kind (held ends c) (parameters n.function).output kind.Image (last_kinds objects nodes v h names n i (c, (parameters n.function).output) (output_operand n c j)) (ends_image c among)
+  image_writer : (n : Node) → In n order → (c : Reference) → In c (outputs n) → In c cells → (parameters n.function).output ≡ kind.Image
+  image_writer n i c j among = one_kind (object_at ends c) (parameters n.function).output kind.Image (last_kinds objects nodes v h names n i (c, (parameters n.function).output) (output_operand n c j)) (ends_image c among)
 
   -- the tables that nodes read stay
-  table_written : (n : Node) → In n order → (c : Cell) → n.in2 ≡ Some c → second_kind n ≢ kind.Image → is_written nodes c ≡ false
+  table_written : (n : Node) → In n order → (c : Reference) → n.in2 ≡ Some c → second_kind n ≢ kind.Image → is_written nodes c ≡ false
   table_written n i c e other = false_from_ne_true (is_written nodes c) (λ w.
       let m = In-from_any (λ (x : Node). writes x c) nodes w in
       let j = in_steps objects nodes v h m.0 m.1 in
       let same : second_kind n ≡ (parameters m.0.function).output =
-      one_kind (held ends c) (second_kind n) (parameters m.0.function).output (last_kinds objects nodes v h names n i (c, second_kind n) (second_operand n c e))
+      one_kind (object_at ends c) (second_kind n) (parameters m.0.function).output (last_kinds objects nodes v h names n i (c, second_kind n) (second_operand n c e))
       (last_kinds objects nodes v h names m.0 j (c, (parameters m.0.function).output) (output_operand m.0 c (In-from_same c (outputs m.0) m.2))) in
       let clash : true ≡ false = sym (output_kinds m.0.function) ∙ ap written_kind (sym same) ∙ second_kinds n.function other in
       cc)
 
-  pub table_stays : (n : Node) → In n order → (c : Cell) → n.in2 ≡ Some c → second_kind n ≢ kind.Image → held ends c ≡ held objects c
+  pub table_stays : (n : Node) → In n order → (c : Reference) → n.in2 ≡ Some c → second_kind n ≢ kind.Image → object_at ends c ≡ object_at objects c
   table_stays n i c e other =
       let none = table_written n i c e other in
       let named : names_cell n c ≡ true = operand_named n (c, second_kind n) (second_operand n c e) in
@@ -214,11 +214,11 @@ module _ (objects : List Named) (nodes : List Node) (v : Verified) (h : IsReady 
       let clash : true ≡ false = sym w ∙ none in
       cc) in
       let kinds = first_kinds objects nodes v h names n i (c, second_kind n) (second_operand n c e) in
-      (solves objects nodes v h).others c none (λ delay. second_no_delay n.function (one_kind (held starts c) (second_kind n) kind.Delay kinds delay))
+      (solves objects nodes v h).others c none (λ delay. second_no_delay n.function (one_kind (object_at starts c) (second_kind n) kind.Delay kinds delay))
       ∙ first_real objects nodes v h c (named_real objects nodes v h n i c named real)
 
   -- a node without an output image writes an object of the client
-  pub tally_kept : (n : Node) → In n order → (parameters n.function).output ≢ kind.Image → (c : Cell) → n.out1 ≡ Some c
+  pub tally_kept : (n : Node) → In n order → (parameters n.function).output ≢ kind.Image → (c : Reference) → n.out1 ≡ Some c
       → ((x : ObjectValue) → object_held objects c.name ≡ Some x → is_virtual_object x ≡ false) × HoldsKind objects (c, (parameters n.function).output)
   tally_kept n i other c e =
       let j : In c (outputs n) = in_outputs_at n First c e in
@@ -229,17 +229,17 @@ module _ (objects : List Named) (nodes : List Node) (v : Verified) (h : IsReady 
 
   -- ---- the new value of an output
 
-  pub made : (n : Node) → In n order → (which : Output) (c : Cell) → out_at n which ≡ Some c → In c cells
-      → image_held ends c ≡ node_image n which (image_held starts c).format (image_held ends n.in1) (beside_first n (option_and_then (held ends) n.in2) (ImageObject (image_held starts c)))
+  pub made : (n : Node) → In n order → (which : Output) (c : Reference) → out_at n which ≡ Some c → In c cells
+      → image_held ends c ≡ node_image n which (image_held starts c).format (image_held ends n.in1) (second_or_output n (option_and_then (object_at ends) n.in2) (ImageObject (image_held starts c)))
   made n i which c e among =
       let a : ImageValue = image_held ends n.in1 in
       let b : ImageValue = image_held starts c in
       let read = ends_held n.in1 (cell_there n i n.in1 (inl refl)) in
-      let w : Cell × ObjectValue = (c, node_output n which (ImageObject a) (option_and_then (held ends) n.in2) (ImageObject b)) in
-      let holds : held ends c ≡ Some w.1 =
-      In-from_All (λ (x : Cell × ObjectValue). held ends x.0 ≡ Some x.1) (written_from (held starts) n (held ends))
-      (In-from_All (λ (m : Node). All (λ (x : Cell × ObjectValue). held ends x.0 ≡ Some x.1) (written_from (held starts) m (held ends))) nodes (solves objects nodes v h).written n (in_nodes objects nodes v h n i))
-      w (written_there n which c (held starts) (held ends) (ImageObject a) (ImageObject b) e read (starts_held c among)) in
+      let w : Reference × ObjectValue = (c, node_output n which (ImageObject a) (option_and_then (object_at ends) n.in2) (ImageObject b)) in
+      let holds : object_at ends c ≡ Some w.1 =
+      In-from_All (λ (x : Reference × ObjectValue). object_at ends x.0 ≡ Some x.1) (written_from (object_at starts) n (object_at ends))
+      (In-from_All (λ (m : Node). All (λ (x : Reference × ObjectValue). object_at ends x.0 ≡ Some x.1) (written_from (object_at starts) m (object_at ends))) nodes (solves objects nodes v h).written n (in_nodes objects nodes v h n i))
+      w (written_there n which c (object_at starts) (object_at ends) (ImageObject a) (ImageObject b) e read (starts_held c among)) in
       ap (λ (o : Option ObjectValue). image_value (unwrap_or o (ImageObject (new_image 0 0 U8)))) holds
 
   -- ---- planes
@@ -247,28 +247,28 @@ module _ (objects : List Named) (nodes : List Node) (v : Verified) (h : IsReady 
   -- planes whose blocks hold the clients' images, and blocks of the virtual ones' formats
   pub record ShowImages (planes : List PlaneValue) : Type 0 where
     pub count : length planes ≡ length cells
-    pub client : (c : Cell) → In c clients → block_images planes (index_of cells c) ≡ image_held objects c
-    pub format : (c : Cell) → In c virtual → (block_images planes (index_of cells c)).format ≡ (image_held starts c).format
+    pub client : (c : Reference) → In c clients → block_images planes (index_of cells c) ≡ image_held objects c
+    pub format : (c : Reference) → In c virtual → (block_images planes (index_of cells c)).format ≡ (image_held starts c).format
 
   module _ (virtuals : List PlaneValue) (descs : map (λ (q : PlaneValue). q.desc) virtuals ≡ map (λ (o : VirtualOutput). o.desc) (outs objects nodes v h)) where
-    pub client_plane : (c : Cell) → In c clients → plane (planes_of objects order (outs objects nodes v h) virtuals) (index_of cells c) ≡ image_plane (image_held objects c)
+    pub client_plane : (c : Reference) → In c clients → plane (planes_of objects order (outs objects nodes v h) virtuals) (index_of cells c) ≡ image_plane (image_held objects c)
     client_plane c i =
         let k : ℕ = index_of clients c in
         let at : index_of cells c ≡ length virtuals + k =
-        ap (λ (l : List Cell). index_of l c) (cells_parts order (outs objects nodes v h))
+        ap (λ (l : List Reference). index_of l c) (cells_parts order (outs objects nodes v h))
         ∙ index_behind virtual clients c (client_outside c i)
         ∙ ap (λ (m : ℕ). m + k) (length-map (outs objects nodes v h) (λ (o : VirtualOutput). o.cell) ∙ sym (virtual_count virtuals (outs objects nodes v h) descs)) in
         ap (plane (planes_of objects order (outs objects nodes v h) virtuals)) at
         ∙ get_or-append-add virtuals (image_planes objects clients) k no_plane
-        ∙ get_or-map (λ (x : Cell). image_plane (image_held objects x)) clients k c no_plane (index_below clients c i)
-        ∙ ap (λ (x : Cell). image_plane (image_held objects x)) (at_index clients c c i)
+        ∙ get_or-map (λ (x : Reference). image_plane (image_held objects x)) clients k c no_plane (index_below clients c i)
+        ∙ ap (λ (x : Reference). image_plane (image_held objects x)) (at_index clients c c i)
 
-    shown_format : (c : Cell) → In c virtual → (block_images (planes_of objects order (outs objects nodes v h) virtuals) (index_of cells c)).format ≡ (image_held starts c).format
+    shown_format : (c : Reference) → In c virtual → (block_images (planes_of objects order (outs objects nodes v h) virtuals) (index_of cells c)).format ≡ (image_held starts c).format
     shown_format c i =
         let os : List VirtualOutput = outs objects nodes v h in
         let o = In-from_map (λ (x : VirtualOutput). x.cell) c os i in
         let k : ℕ = index_of virtual c in
-        let at : index_of cells c ≡ k = ap (λ (l : List Cell). index_of l c) (cells_parts order os) ∙ index_left virtual clients c i in
+        let at : index_of cells c ≡ k = ap (λ (l : List Reference). index_of l c) (cells_parts order os) ∙ index_left virtual clients c i in
         let below : k < length os = omega (arith, index_below virtual c i, length-map os (λ (x : VirtualOutput). x.cell)) in
         let within : k < length virtuals = omega (arith, below, virtual_count virtuals (outs objects nodes v h) descs) in
         let own : VirtualOutput = get_or os k o.0 in
@@ -307,13 +307,13 @@ module _ (objects : List Named) (nodes : List Node) (v : Verified) (h : IsReady 
     abbrev whole : ℕ → ImageValue
     whole = images_in ends cells (block_images planes)
 
-    pub whole_at : (c : Cell) → In c cells → whole (index_of cells c) ≡ image_held ends c
+    pub whole_at : (c : Reference) → In c cells → whole (index_of cells c) ≡ image_held ends c
     whole_at c i =
-        picked (index_of cells c) (length cells) (image_held ends (get_or cells (index_of cells c) (cell_of 0))) (block_images planes (index_of cells c)) (index_below cells c i)
-        ∙ ap (image_held ends) (at_index cells c (cell_of 0) i)
+        picked (index_of cells c) (length cells) (image_held ends (get_or cells (index_of cells c) (reference_to 0))) (block_images planes (index_of cells c)) (index_below cells c i)
+        ∙ ap (image_held ends) (at_index cells c (reference_to 0) i)
 
     -- the output of a step as the run begins
-    begins : (n : Node) → In n order → (which : Output) (c : Cell) → out_at n which ≡ Some c → In c cells
+    begins : (n : Node) → In n order → (which : Output) (c : Reference) → out_at n which ≡ Some c → In c cells
         → (block_images planes (index_of cells c) ≡ image_held starts c) ⊎ (((block_images planes (index_of cells c)).format ≡ (image_held starts c).format) × (accumulates n.function ≡ false))
     begins n i which c e among = elim (virtual_or c among) [
       | inl old ↦ inr (
@@ -327,30 +327,30 @@ module _ (objects : List Named) (nodes : List Node) (v : Verified) (h : IsReady 
     ]
 
     -- the second input of a step
-    second_plane_at : (n : Node) → In n order → (c : Cell) → n.in2 ≡ Some c → second_kind n ≡ kind.Image → ◌≡◌ {A = Option ObjectValue} (Some (ImageObject (whole (index_of cells c)))) (held ends c)
+    second_plane_at : (n : Node) → In n order → (c : Reference) → n.in2 ≡ Some c → second_kind n ≡ kind.Image → ◌≡◌ {A = Option ObjectValue} (Some (ImageObject (whole (index_of cells c)))) (object_at ends c)
     second_plane_at n i c e image =
-        let named : In c (image_given (second_kind n) n.in2) = subst (λ (k : Kind). In c (image_given k n.in2)) (sym image) (subst (λ (o : Option Cell). In c (given o)) (sym e) (inl refl)) in
+        let named : In c (image_given (second_kind n) n.in2) = subst (λ (k : Kind). In c (image_given k n.in2)) (sym image) (subst (λ (o : Option Reference). In c (optional_cells o)) (sym e) (inl refl)) in
         let among = cell_there n i c (inr (In-left c (image_given (second_kind n) n.in2) _ named)) in
         ap (λ (a : ImageValue). Some (ImageObject a)) (whole_at c among) ∙ sym (ends_held c among)
 
-    table_lent : (n : Node) (c : Cell) (at : ℕ) → slice_get order at ≡ Some n → n.in2 ≡ Some c → second_kind n ≢ kind.Image
-        → option_and_then (λ (t : SecondValue). second_object t) (slice_get tables at) ≡ held objects c
+    table_lent : (n : Node) (c : Reference) (at : ℕ) → slice_get order at ≡ Some n → n.in2 ≡ Some c → second_kind n ≢ kind.Image
+        → option_and_then (λ (t : SecondValue). second_object t) (slice_get tables at) ≡ object_at objects c
     table_lent n c at there e other =
         joined (slice_get tables at) (node_table objects n)
         (sym (slice_get-map (λ (t : SecondValue). second_object t) tables at) ∙ ap (λ (l : List (Option ObjectValue)). slice_get l at) lent ∙ slice_get-map (node_table objects) order at ∙ ap (option_map (node_table objects)) there)
-        ∙ no_plane_read (second_kind n) (option_and_then (held objects) n.in2) other
-        ∙ ap (option_and_then (held objects)) e
+        ∙ no_plane_read (second_kind n) (option_and_then (object_at objects) n.in2) other
+        ∙ ap (option_and_then (object_at objects)) e
 
-    second_same : (n : Node) → In n order → (at : ℕ) → slice_get order at ≡ Some n → second_in tables whole (source cells at (second_kind n) n.in2) ≡ option_and_then (held ends) n.in2
+    second_same : (n : Node) → In n order → (at : ℕ) → slice_get order at ≡ Some n → second_in tables whole (source cells at (second_kind n) n.in2) ≡ option_and_then (object_at ends) n.in2
     second_same n i at there = given_second n.in2 refl
       where
-        by_kind : (c : Cell) → n.in2 ≡ Some c → (wanted : Kind) → second_kind n ≡ wanted → second_in tables whole (source cells at wanted (Some c)) ≡ held ends c
+        by_kind : (c : Reference) → n.in2 ≡ Some c → (wanted : Kind) → second_kind n ≡ wanted → second_in tables whole (source cells at wanted (Some c)) ≡ object_at ends c
         by_kind c e kind.Image k = second_plane_at n i c e k
         by_kind c e other k =
             let table : second_kind n ≢ kind.Image = λ image. (let clash : other ≡ kind.Image = sym k ∙ image in cc) in
             table_lent n c at there e table ∙ sym (table_stays n i c e table)
 
-        given_second : (o : Option Cell) → n.in2 ≡ o → second_in tables whole (source cells at (second_kind n) o) ≡ option_and_then (held ends) o
+        given_second : (o : Option Reference) → n.in2 ≡ o → second_in tables whole (source cells at (second_kind n) o) ≡ option_and_then (object_at ends) o
         given_second None e = refl
         given_second (Some c) e = by_kind c e (second_kind n) refl
 
@@ -358,7 +358,7 @@ module _ (objects : List Named) (nodes : List Node) (v : Verified) (h : IsReady 
     written s i =
         let f : IsStepFor cells slots radius s 0 order = step_node cells slots radius order 0 0 s i in
         let n : Node = f.node in
-        let c : Cell = f.cell in
+        let c : Reference = f.cell in
         let among = cell_there n f.inside c (image_named n c f.image f.written) in
         let place : f.at ≡ f.place = omega (arith, f.same) in
         let first_at : whole (index_of cells n.in1) ≡ image_held ends n.in1 = whole_at n.in1 (cell_there n f.inside n.in1 (inl refl)) in
@@ -367,29 +367,29 @@ module _ (objects : List Named) (nodes : List Node) (v : Verified) (h : IsReady 
         let all : whole (index_of cells c) ≡ step_image tables (step_for cells slots radius f.at n f.which c) whole own =
         whole_at c among
         ∙ made n f.inside f.which c f.output among
-        ∙ sym (same_image n f.which (image_held ends n.in1) own (image_held starts c) (option_and_then (held ends) n.in2) (begins n f.inside f.which c f.output among))
-        ∙ ap (λ (a : ImageValue). node_image n f.which own.format a (beside_first n (option_and_then (held ends) n.in2) (ImageObject own))) (sym first_at)
-        ∙ ap (λ (o : Option ObjectValue). node_image n f.which own.format (whole (index_of cells n.in1)) (beside_first n o (ImageObject own))) (sym second_at) in
+        ∙ sym (same_image n f.which (image_held ends n.in1) own (image_held starts c) (option_and_then (object_at ends) n.in2) (begins n f.inside f.which c f.output among))
+        ∙ ap (λ (a : ImageValue). node_image n f.which own.format a (second_or_output n (option_and_then (object_at ends) n.in2) (ImageObject own))) (sym first_at)
+        ∙ ap (λ (o : Option ObjectValue). node_image n f.which own.format (whole (index_of cells n.in1)) (second_or_output n o (ImageObject own))) (sym second_at) in
         subst (λ (x : Step). whole x.output ≡ step_image tables x whole (block_images planes x.output)) (sym f.is) all
 
     -- an image that no step writes is a client's, which no node writes
-    step_writes : (n : Node) → In n order → (parameters n.function).output ≡ kind.Image → (c : Cell) → In c (outputs n) → IsUnwritten tasks (index_of cells c) → ⊥
+    step_writes : (n : Node) → In n order → (parameters n.function).output ≡ kind.Image → (c : Reference) → In c (outputs n) → IsUnwritten tasks (index_of cells c) → ⊥
     step_writes n i image c j none =
         let which = outputs_at n c j in
         let s = step_there cells slots radius order 0 0 n i image which.0 c which.1 in
         none (step_for cells slots radius s.0 n which.0 c) s.1 refl
 
-    client_unwritten : (c : Cell) → In c clients → IsUnwritten tasks (index_of cells c) → is_written nodes c ≡ false
+    client_unwritten : (c : Reference) → In c clients → IsUnwritten tasks (index_of cells c) → is_written nodes c ≡ false
     client_unwritten c i none = false_from_ne_true (is_written nodes c) (λ w.
         let m = In-from_any (λ (x : Node). writes x c) nodes w in
         let j = in_steps objects nodes v h m.0 m.1 in
         let k = In-from_same c (outputs m.0) m.2 in
         step_writes m.0 j (image_writer m.0 j c k (client_there c i)) c k none)
 
-    no_delay_image : (c : Cell) → In c cells → kind_in starts c ≢ Some kind.Delay
-    no_delay_image c i delay = let clash : kind.Image ≡ kind.Delay = one_kind (held starts c) kind.Image kind.Delay (starts_image c i) delay in cc
+    no_delay_image : (c : Reference) → In c cells → kind_in starts c ≢ Some kind.Delay
+    no_delay_image c i delay = let clash : kind.Image ≡ kind.Delay = one_kind (object_at starts c) kind.Image kind.Delay (starts_image c i) delay in cc
 
-    stays : (c : Cell) → In c cells → IsUnwritten tasks (index_of cells c) → image_held ends c ≡ block_images planes (index_of cells c)
+    stays : (c : Reference) → In c cells → IsUnwritten tasks (index_of cells c) → image_held ends c ≡ block_images planes (index_of cells c)
     stays c among none = elim (virtual_or c among) [
       | inl old ↦ (let n = virtual_by c old in absurd (step_writes n.0 n.1 n.3 c n.2 none))
       | inr client ↦
@@ -401,13 +401,13 @@ module _ (objects : List Named) (nodes : List Node) (v : Verified) (h : IsReady 
     others : (k : ℕ) → IsUnwritten tasks k → whole k ≡ block_images planes k
     others k none = elim (cases_lt k (length cells)) [
       | inl below ↦
-          (let c : Cell = get_or cells k (cell_of 0) in
-          let at : index_of cells c ≡ k = index_at cells k (cell_of 0) cells_once below in
-          let among : In c cells = In-at cells k (cell_of 0) below in
+          (let c : Reference = get_or cells k (reference_to 0) in
+          let at : index_of cells c ≡ k = index_at cells k (reference_to 0) cells_once below in
+          let among : In c cells = In-at cells k (reference_to 0) below in
           picked k (length cells) (image_held ends c) (block_images planes k) below
           ∙ stays c among (subst (IsUnwritten tasks) (sym at) none)
           ∙ ap (block_images planes) at)
-      | inr above ↦ passed_over k (length cells) (image_held ends (get_or cells k (cell_of 0))) (block_images planes k) above
+      | inr above ↦ passed_over k (length cells) (image_held ends (get_or cells k (reference_to 0))) (block_images planes k) above
     ]
 
     -- the images that the graph leaves in the cells are a solution of its steps
@@ -417,7 +417,7 @@ module _ (objects : List Named) (nodes : List Node) (v : Verified) (h : IsReady 
         images : (k : ℕ) → k < length planes → IsImage (whole k)
         images k below =
             let within : k < length cells = omega (arith, below, show.count) in
-            let c : Cell = get_or cells k (cell_of 0) in
-            let among : In c cells = In-at cells k (cell_of 0) within in
+            let c : Reference = get_or cells k (reference_to 0) in
+            let among : In c cells = In-at cells k (reference_to 0) within in
             let is_image : IsImage (image_held ends c) = subst (λ (o : Option ObjectValue). IfSome o IsObject) (ends_held c among) (held_is ends c (last_lasts objects nodes v h names are described).objects) in
             subst IsImage (sym (picked k (length cells) (image_held ends c) (block_images planes k) within)) is_image

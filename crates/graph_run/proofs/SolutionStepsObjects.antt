@@ -1,11 +1,11 @@
 -- The objects written back to a table after a run over planes are the result of the graph's run.
 use Rattle.std.proofs.Common.{◌≡◌, ◌≢◌, ℕ, ◌+◌, ◌<◌, ◌≤◌, true, false, List, [], ◌∷◌, ◌++◌, map, length, drop, get_or, refl, sym, ap, subst, ◌∙◌, inl, inr, arith, All, Option, Some, None, ◌⊎◌, unwrap_or, option_map, option_and_then}
 use Rattle.std.proofs.lemmas.List.{get_or-drop, length-append, length-drop, length-map}
-use Rattle.graph_run.proofs.Common.{cases_Bool, Cell, cell_object, forgotten, form_of, held, image_held, ImageObject, ImageValue, In, in_slot, In-append, In-at, In-from_any, In-from_same, In-left, In-right, IsDescription, IsObject, IsPlan, IsReady, is_virtual_object, is_written, IsStrictlyIncreasing, Kind, label_of, Lasts, Named, given, Operand, names_of, Node, node_output, First, object_held, object_kind, ObjectValue, operand_held, option_or, outputs, parameters, place_of, PlanValue, resolved, run_of_graph, Verified, VirtualOutput, with_written, written_from, writes, operand_of}
+use Rattle.graph_run.proofs.Common.{cases_Bool, Reference, cell_object, objects_at_end, form_of, object_at, image_held, ImageObject, ImageValue, In, in_slot, In-append, In-at, In-from_any, In-from_same, In-left, In-right, IsDescription, IsObject, IsPlan, IsReady, is_virtual_object, is_written, IsStrictlyIncreasing, Kind, label_of, Lasts, NamedObject, optional_cells, Operand, names_of, Node, node_output, First, object_held, object_kind, ObjectValue, operand_held, option_or, outputs, parameters, place_of, PlanView, resolved_operand, run_of_graph, Verified, VirtualOutput, with_written, written_from, writes, operand_of}
 use Rattle.vx_base.specs.declared.kind.Kind.TheVariants as kind
-use Rattle.vx_base.specs.Outline.{Outline}
+use Rattle.vx_base.specs.PartialDescription.{PartialDescription}
 use Rattle.graph_verify.specs.declared.operand.Operand.TheVariants.{Virtual}
-use Rattle.image_core.specs.declared.second.Second.{Second as SecondValue}
+use Rattle.image_core.specs.declared.second.SecondInput.{SecondInput as SecondValue}
 use Rattle.image_core.specs.Second.{second_object}
 use Rattle.graph_steps.specs.declared.tally.Tally.{Tally}
 use Rattle.graph_steps.specs.Planes.{PlaneValue, block_image, block_images, no_plane}
@@ -36,7 +36,7 @@ use Rattle.graph_run.proofs.WithinLemmas.{turns}
 tally_plain : (t : Tally) → is_delay (tally_object t) ≡ false
 tally_plain t = grind arith
 
-held_in : (objects : List Named) (c : Cell) (x : ObjectValue) → held objects c ≡ Some x → cell_object objects c ≡ x
+held_in : (objects : List NamedObject) (c : Reference) (x : ObjectValue) → object_at objects c ≡ Some x → cell_object objects c ≡ x
 held_in objects c x e = grind (arith, e)
 
 some_kind : (o : Option ObjectValue) (k : Kind) → option_map object_kind o ≡ Some k → (x : ObjectValue) × (o ≡ Some x) × (object_kind x ≡ k)
@@ -44,26 +44,26 @@ some_kind None k e = absurd (cc e)
 some_kind (Some x) k e = (x, refl, cc)
 
 -- the new tally of a node is that of the object that it writes
-own_tally : (objects : List Named) (n : Node) (c : Cell) (old : ObjectValue) (new : Tally) → n.out1 ≡ Some c → held objects c ≡ Some old → object_kind old ≡ (parameters n.function).output
+own_tally : (objects : List NamedObject) (n : Node) (c : Reference) (old : ObjectValue) (new : Tally) → n.out1 ≡ Some c → object_at objects c ≡ Some old → object_kind old ≡ (parameters n.function).output
     → node_tallies objects n ≡ new ∷ [] → tally_by (object_kind old) old ≡ new ∷ []
 own_tally objects n c old new out there is own =
     ap (λ (k : Kind). tally_by k old) is
     ∙ ap (tally_by (parameters n.function).output) (sym (held_in objects c old there))
-    ∙ ap (λ (o : Option Cell). tally_by (parameters n.function).output (cell_object objects (unwrap_or o n.in1))) (sym out)
+    ∙ ap (λ (o : Option Reference). tally_by (parameters n.function).output (cell_object objects (unwrap_or o n.in1))) (sym out)
     ∙ own
 
-module _ (objects : List Named) (nodes : List Node) (v : Verified) (h : IsReady objects nodes v) (names : IsStrictlyIncreasing (names_of objects))
+module _ (objects : List NamedObject) (nodes : List Node) (v : Verified) (h : IsReady objects nodes v) (names : IsStrictlyIncreasing (names_of objects))
     (are : All (λ o. IsObject o.object) objects) (described : All (λ (o : VirtualOutput). IsDescription o.desc) v.virtual_outputs.items) where
   -- the run leaves objects, and of each what lasts
-  pub run_lasts : Lasts objects (run_of_graph (resolved (operand_held objects) nodes) nodes objects)
+  pub run_lasts : Lasts objects (run_of_graph (resolved_operand (operand_held objects) nodes) nodes objects)
   run_lasts =
       let l = last_lasts objects nodes v h names are described in
       record {
         objects = forgotten_are objects _ are l.objects;
-        lasting = forgotten_lasting (resolved (operand_held objects) nodes) nodes objects _ l.lasting;
+        lasting = forgotten_lasting (resolved_operand (operand_held objects) nodes) nodes objects _ l.lasting;
       }
 
-  module _ (p : PlanValue) (plan : IsPlan v.steps.items v.virtual_outputs.items p) (radius : Node → ℕ) (tables : List SecondValue) (lent : map second_object tables ≡ tables_of objects v.steps.items)
+  module _ (p : PlanView) (plan : IsPlan v.steps.items v.virtual_outputs.items p) (radius : Node → ℕ) (tables : List SecondValue) (lent : map second_object tables ≡ tables_of objects v.steps.items)
       (virtuals : List PlaneValue) (descs : map (λ (q : PlaneValue). q.desc) virtuals ≡ map (λ (o : VirtualOutput). o.desc) v.virtual_outputs.items)
       (after : List PlaneValue) (counted : List Tally)
       (leaves : Leaves tables (graph_tasks v.steps.items v.virtual_outputs.items p radius) (planes_of objects v.steps.items v.virtual_outputs.items virtuals) (tallies_of objects v.steps.items) after counted) where
@@ -73,16 +73,16 @@ module _ (objects : List Named) (nodes : List Node) (v : Verified) (h : IsReady 
     abbrev pub steps : List Node
     steps = v.steps.items
 
-    abbrev pub all : List Cell
+    abbrev pub all : List Reference
     all = cells objects nodes v h names p plan
 
-    abbrev pub theirs : List Cell
+    abbrev pub theirs : List Reference
     theirs = clients objects nodes v h names p plan
 
-    abbrev pub last : List Named
+    abbrev pub last : List NamedObject
     last = ends objects nodes v h names p plan
 
-    abbrev pub first : List Named
+    abbrev pub first : List NamedObject
     first = starts objects nodes v h names p plan
 
     abbrev pub planes : List PlaneValue
@@ -97,12 +97,12 @@ module _ (objects : List Named) (nodes : List Node) (v : Verified) (h : IsReady 
     solved : SolvesSteps tables (length planes) (graph_tasks steps outs p radius) (block_images planes) whole
     solved = solution objects nodes v h names p plan radius tables lent planes show_all are described
 
-    whole_of : (c : Cell) → In c all → whole (index_of all c) ≡ image_held last c
+    whole_of : (c : Reference) → In c all → whole (index_of all c) ≡ image_held last c
     whole_of c i = whole_at objects nodes v h names p plan radius tables lent planes show_all c i
 
     -- the values written back are the result of the run, and not virtual images
-    pub record IsLeft (w : Cell × ObjectValue) : Type 0 where
-      pub left : held last w.0 ≡ Some w.1
+    pub record IsLeft (w : Reference × ObjectValue) : Type 0 where
+      pub left : object_at last w.0 ≡ Some w.1
       pub real : (x : ObjectValue) → object_held objects w.0.name ≡ Some x → is_virtual_object x ≡ false
       pub plain : is_delay w.1 ≡ false
 
@@ -117,22 +117,22 @@ module _ (objects : List Named) (nodes : List Node) (v : Verified) (h : IsReady 
         turns_kept (map (place_of p) outs) (graph_tasks steps outs p radius) (turns steps outs p _ (have objects nodes v h names p plan) radius) (length planes) (length outs + k)
         (omega (arith, length-map outs (place_of p))) (omega (arith, below, theirs_count, show_all.count))
 
-    pub theirs_index : (k : ℕ) (d : Cell) → k < length theirs → index_of all (get_or theirs k d) ≡ length outs + k
+    pub theirs_index : (k : ℕ) (d : Reference) → k < length theirs → index_of all (get_or theirs k d) ≡ length outs + k
     theirs_index k d below =
         let within : length outs + k < length all = omega (arith, below, theirs_count) in
         ap (index_of all) (get_or-drop (length outs) all k d) ∙ index_at all (length outs + k) d (cells_once objects nodes v h names p plan) within
 
-    image_left : (w : Cell × ObjectValue) → In w (plane_objects theirs (drop (length outs) after)) → IsLeft w
+    image_left : (w : Reference × ObjectValue) → In w (plane_objects theirs (drop (length outs) after)) → IsLeft w
     image_left w i =
         let r = image_back theirs (drop (length outs) after) w i in
         let k : ℕ = r.0 in
         let at : ℕ = length outs + k in
-        let c : Cell = get_or theirs k w.0 in
+        let c : Reference = get_or theirs k w.0 in
         let inside : In c theirs = In-at theirs k w.0 r.1 in
         let among : In c all = client_there objects nodes v h names p plan c inside in
         let image : block_image (get_or (drop (length outs) after) k no_plane) ≡ image_held last c =
         ap block_image (get_or-drop (length outs) after k no_plane) ∙ leaves.images whole solved at (theirs_keep k r.1) ∙ ap whole (sym (theirs_index k w.0 r.1)) ∙ whole_of c among in
-        let is_w : w ≡ (c, ImageObject (image_held last c)) = r.2 ∙ ap (λ (a : ImageValue). let pair : Cell × ObjectValue = (c, ImageObject a) in pair) image in
+        let is_w : w ≡ (c, ImageObject (image_held last c)) = r.2 ∙ ap (λ (a : ImageValue). let pair : Reference × ObjectValue = (c, ImageObject a) in pair) image in
         subst IsLeft (sym is_w)
         (record { left = ends_held objects nodes v h names p plan c among; real = image_real objects c (client_image objects nodes v h names p plan c inside); plain = refl })
 
@@ -143,12 +143,12 @@ module _ (objects : List Named) (nodes : List Node) (v : Verified) (h : IsReady 
       pub node : Node
       pub inside : In node steps
       pub other : (parameters node.function).output ≢ kind.Image
-      pub cell : Cell
+      pub cell : Reference
       pub out : node.out1 ≡ Some cell
-      pub at : (d : Cell) → get_or (tally_cells steps) t d ≡ cell
+      pub at : (d : Reference) → get_or (tally_cells steps) t d ≡ cell
       pub real : (x : ObjectValue) → object_held objects cell.name ≡ Some x → is_virtual_object x ≡ false
       pub old : ObjectValue
-      pub held_before : held objects cell ≡ Some old
+      pub held_before : object_at objects cell ≡ Some old
       pub kind_is : object_kind old ≡ (parameters node.function).output
       pub own : tally_by (object_kind old) old ≡ tally_at (tallies_of objects steps) t ∷ []
       pub tallied : tally_at counted t ≡ tally_of (image_held last node.in1) (tally_at (tallies_of objects steps) t)
@@ -158,10 +158,10 @@ module _ (objects : List Named) (nodes : List Node) (v : Verified) (h : IsReady 
         let r = reduction_at all (map (place_of p) outs) radius objects steps 0 0 t below in
         let n : Node = r.node in
         let out = one_output n (is_node_of objects nodes v h n r.inside).shape r.other in
-        let c : Cell = out.0 in
+        let c : Reference = out.0 in
         let index : r.index ≡ t = omega (arith, r.same) in
         let kept = tally_kept objects nodes v h names p plan n r.inside r.other c out.1 in
-        let old = some_kind (held objects c) (parameters n.function).output kept.1 in
+        let old = some_kind (object_at objects c) (parameters n.function).output kept.1 in
         let own : tally_by (object_kind old.0) old.0 ≡ tally_at (tallies_of objects steps) t ∷ [] = own_tally objects n c old.0 (tally_at (tallies_of objects steps) t) out.1 old.1 old.2 (r.new _) in
         let new : IsNew (tally_at (tallies_of objects steps) r.index) = subst (λ (k : ℕ). IsNew (tally_at (tallies_of objects steps) k)) (sym index) (tally_is_new (object_kind old.0) old.0 (tally_at (tallies_of objects steps) t) own) in
         record {
@@ -170,7 +170,7 @@ module _ (objects : List Named) (nodes : List Node) (v : Verified) (h : IsReady 
           other = r.other;
           cell = c;
           out = out.1;
-          at = λ d. r.cell d ∙ ap (λ (o : Option Cell). unwrap_or o n.in1) out.1;
+          at = λ d. r.cell d ∙ ap (λ (o : Option Reference). unwrap_or o n.in1) out.1;
           real = kept.0;
           old = old.0;
           held_before = old.1;
@@ -183,34 +183,34 @@ module _ (objects : List Named) (nodes : List Node) (v : Verified) (h : IsReady 
               ∙ ap (λ (b : ImageValue). tally_of b (tally_at (tallies_of objects steps) t)) (whole_of n.in1 (cell_there objects nodes v h names p plan n r.inside n.in1 (inl refl)));
         }
 
-    tally_left : (w : Cell × ObjectValue) → In w (tally_objects (tally_cells steps) counted) → IsLeft w
+    tally_left : (w : Reference × ObjectValue) → In w (tally_objects (tally_cells steps) counted) → IsLeft w
     tally_left w i =
         let back = tally_back (tally_cells steps) counted w i in
         let r : IsTallied back.0 = tally_facts back.0 back.1 in
         let n : Node = r.node in
         let read = ends_held objects nodes v h names p plan n.in1 (cell_there objects nodes v h names p plan n r.inside n.in1 (inl refl)) in
-        let made : Cell × ObjectValue = (r.cell, node_output n First (ImageObject (image_held last n.in1)) (option_and_then (held last) n.in2) r.old) in
-        let holds : held last r.cell ≡ Some made.1 =
-        In-from_All (λ (x : Cell × ObjectValue). held last x.0 ≡ Some x.1) (written_from (held first) n (held last))
-        (In-from_All (λ (m : Node). All (λ (x : Cell × ObjectValue). held last x.0 ≡ Some x.1) (written_from (held first) m (held last))) nodes (solves objects nodes v h).written n (in_nodes objects nodes v h n r.inside))
-        made (written_there n First r.cell (held first) (held last) (ImageObject (image_held last n.in1)) r.old r.out read (first_real objects nodes v h r.cell r.real ∙ r.held_before)) in
+        let made : Reference × ObjectValue = (r.cell, node_output n First (ImageObject (image_held last n.in1)) (option_and_then (object_at last) n.in2) r.old) in
+        let holds : object_at last r.cell ≡ Some made.1 =
+        In-from_All (λ (x : Reference × ObjectValue). object_at last x.0 ≡ Some x.1) (written_from (object_at first) n (object_at last))
+        (In-from_All (λ (m : Node). All (λ (x : Reference × ObjectValue). object_at last x.0 ≡ Some x.1) (written_from (object_at first) m (object_at last))) nodes (solves objects nodes v h).written n (in_nodes objects nodes v h n r.inside))
+        made (written_there n First r.cell (object_at first) (object_at last) (ImageObject (image_held last n.in1)) r.old r.out read (first_real objects nodes v h r.cell r.real ∙ r.held_before)) in
         let counted_as : made.1 ≡ tally_object (tally_at counted back.0) =
-        tally_output n First (image_held last n.in1) (option_and_then (held last) n.in2) r.old (tally_at (tallies_of objects steps) back.0)
+        tally_output n First (image_held last n.in1) (option_and_then (object_at last) n.in2) r.old (tally_at (tallies_of objects steps) back.0)
         (subst (λ (k : Kind). (k ≡ kind.Distribution) ⊎ (k ≡ kind.Extremes)) (sym r.kind_is) (counted_kind n.function r.other)) r.own
         ∙ ap tally_object (sym r.tallied) in
-        let is_w : w ≡ (r.cell, tally_object (tally_at counted back.0)) = back.2 ∙ ap (λ (x : Cell). let pair : Cell × ObjectValue = (x, tally_object (tally_at counted back.0)) in pair) (r.at w.0) in
+        let is_w : w ≡ (r.cell, tally_object (tally_at counted back.0)) = back.2 ∙ ap (λ (x : Reference). let pair : Reference × ObjectValue = (x, tally_object (tally_at counted back.0)) in pair) (r.at w.0) in
         subst IsLeft (sym is_w)
         (record { left = holds ∙ ap (λ (x : ObjectValue). Some x) counted_as; real = r.real; plain = tally_plain (tally_at counted back.0) })
 
     -- ---- all that is written back
 
-    abbrev pub images : List (Cell × ObjectValue)
+    abbrev pub images : List (Reference × ObjectValue)
     images = plane_objects theirs (drop (length outs) after)
 
-    abbrev pub tallies : List (Cell × ObjectValue)
+    abbrev pub tallies : List (Reference × ObjectValue)
     tallies = tally_objects (tally_cells steps) counted
 
-    pub all_left : (w : Cell × ObjectValue) → In w (images ++ tallies) → IsLeft w
+    pub all_left : (w : Reference × ObjectValue) → In w (images ++ tallies) → IsLeft w
     all_left w i = elim (In-append w images tallies i) [
       | inl one ↦ image_left w one
       | inr other ↦ tally_left w other
@@ -228,14 +228,14 @@ module _ (objects : List Named) (nodes : List Node) (v : Verified) (h : IsReady 
         }
 
     -- a virtual image that a node writes is one as an object
-    virtual_object : (c : Cell) → In c (virtual objects nodes v h names p plan) → ((x : ObjectValue) → object_held objects c.name ≡ Some x → is_virtual_object x ≡ false) → ⊥
+    virtual_object : (c : Reference) → In c (virtual objects nodes v h names p plan) → ((x : ObjectValue) → object_held objects c.name ≡ Some x → is_virtual_object x ≡ false) → ⊥
     virtual_object c i real =
         let n = virtual_by objects nodes v h names p plan c i in
         let found = h.cells.found n.0 c (in_nodes objects nodes v h n.0 n.1) (named_by_output n.0 c n.2) in
-        let outline = outline_of_virtual (is objects nodes v h c) (virtual_is objects nodes v h names p plan c i) in
-        no_virtual (object_held objects c.name) outline.0 found outline.1 real
+        let partial_desc = outline_of_virtual (is objects nodes v h c) (virtual_is objects nodes v h names p plan c i) in
+        no_virtual (object_held objects c.name) partial_desc.0 found partial_desc.1 real
       where
-        no_virtual : (o : Option ObjectValue) (declared : Outline) → option_map operand_of (option_and_then (in_slot c.slot) o) ≡ Some (operand_held objects c) → operand_held objects c ≡ Virtual declared
+        no_virtual : (o : Option ObjectValue) (declared : PartialDescription) → option_map operand_of (option_and_then (in_slot c.slot) o) ≡ Some (operand_held objects c) → operand_held objects c ≡ Virtual declared
             → ((x : ObjectValue) → o ≡ Some x → is_virtual_object x ≡ false) → ⊥
         no_virtual None declared found as_virtual plain = cc found
         no_virtual (Some x) declared found as_virtual plain =
@@ -244,7 +244,7 @@ module _ (objects : List Named) (nodes : List Node) (v : Verified) (h : IsReady 
             cc
 
     -- each cell that a node writes, and that is no virtual image, gets an object
-    comes : (n : Node) → In n steps → (c : Cell) → In c (outputs n) → ((x : ObjectValue) → object_held objects c.name ≡ Some x → is_virtual_object x ≡ false)
+    comes : (n : Node) → In n steps → (c : Reference) → In c (outputs n) → ((x : ObjectValue) → object_held objects c.name ≡ Some x → is_virtual_object x ≡ false)
         → (x : ObjectValue) × In (c, x) (images ++ tallies)
     comes n i c j real = elim (image_or (parameters n.function).output) [
       | inl image ↦ elim (virtual_or objects nodes v h names p plan c (cell_there objects nodes v h names p plan n i c (image_named n c image j))) [
@@ -259,11 +259,11 @@ module _ (objects : List Named) (nodes : List Node) (v : Verified) (h : IsReady 
           let inside : In (unwrap_or n.out1 n.in1) (tally_cells steps) = tally_there steps n i other in
           let same : unwrap_or n.out1 n.in1 ≡ c = only_output n.out1 n.out2 out.0 out.1 out.2 j in
           let enough : length (tally_cells steps) ≤ length counted = omega (arith, leaves.tallies_count, tally_count objects steps) in
-          let x = tally_comes (tally_cells steps) counted c enough (subst (λ (y : Cell). In y (tally_cells steps)) same inside) in
+          let x = tally_comes (tally_cells steps) counted c enough (subst (λ (y : Reference). In y (tally_cells steps)) same inside) in
           (x.0, In-right (c, x.0) images tallies x.1))
     ]
       where
-        only_output : (one two : Option Cell) (d : Cell) → one ≡ Some d → two ≡ None → In c (given one ++ given two) → unwrap_or one n.in1 ≡ c
+        only_output : (one two : Option Reference) (d : Reference) → one ≡ Some d → two ≡ None → In c (optional_cells one ++ optional_cells two) → unwrap_or one n.in1 ≡ c
         only_output None two d is_one no_two k = absurd (cc is_one)
         only_output (Some e) (Some f) d is_one no_two k = absurd (cc no_two)
         only_output (Some e) None d is_one no_two (inl same) = sym same
@@ -274,14 +274,14 @@ module _ (objects : List Named) (nodes : List Node) (v : Verified) (h : IsReady 
     labels_end : map label_of objects ≡ map label_of last
     labels_end = sym (last_labels objects nodes v h)
 
-    forgotten_held : (c : Cell) → held (forgotten objects last) c ≡ option_and_then (in_slot c.slot) (kept_virtual (object_held objects c.name) (object_held last c.name))
+    forgotten_held : (c : Reference) → object_at (objects_at_end objects last) c ≡ option_and_then (in_slot c.slot) (kept_virtual (object_held objects c.name) (object_held last c.name))
     forgotten_held c = ap (option_and_then (in_slot c.slot)) (object_held-forgotten objects last labels_end c.name)
 
     -- a virtual image is as it was
-    seen_virtual : (c : Cell) (x : ObjectValue) → object_held objects c.name ≡ Some x → is_virtual_object x ≡ true → seen (with_written objects (images ++ tallies)) c ≡ seen (forgotten objects last) c
+    seen_virtual : (c : Reference) (x : ObjectValue) → object_held objects c.name ≡ Some x → is_virtual_object x ≡ true → seen (with_written objects (images ++ tallies)) c ≡ seen (objects_at_end objects last) c
     seen_virtual c x there virtual_one =
         let none : last_to c (images ++ tallies) ≡ None = last_none c (images ++ tallies) (λ w i e.
-        (let real = (all_left w i).real x (ap (λ (d : Cell). object_held objects d.name) (sym e) ∙ there) in
+        (let real = (all_left w i).real x (ap (λ (d : Reference). object_held objects d.name) (sym e) ∙ there) in
         let clash : true ≡ false = sym virtual_one ∙ real in
         cc)) in
         let other = both_held objects last labels_end c.name x there in
@@ -292,7 +292,7 @@ module _ (objects : List Named) (nodes : List Node) (v : Verified) (h : IsReady 
         ∙ ap (option_map shown) (sym (forgotten_held c))
 
     -- objects that no node writes are as before, and all others were written back
-    untouched : (c : Cell) → ((x : ObjectValue) → object_held objects c.name ≡ Some x → is_virtual_object x ≡ false) → last_to c (images ++ tallies) ≡ None → seen objects c ≡ seen last c
+    untouched : (c : Reference) → ((x : ObjectValue) → object_held objects c.name ≡ Some x → is_virtual_object x ≡ false) → last_to c (images ++ tallies) ≡ None → seen objects c ≡ seen last c
     untouched c real none = elim (cases_Bool (is_written nodes c)) [
       | inl w ↦
           (let n = In-from_any (λ (m : Node). writes m c) nodes w in
@@ -301,28 +301,28 @@ module _ (objects : List Named) (nodes : List Node) (v : Verified) (h : IsReady 
       | inr w ↦ ap (option_map shown) (sym (first_real objects nodes v h c real)) ∙ sym (unwritten_seen objects nodes v h c w)
     ]
 
-    seen_real : (c : Cell) → ((x : ObjectValue) → object_held objects c.name ≡ Some x → is_virtual_object x ≡ false) → seen (with_written objects (images ++ tallies)) c ≡ seen (forgotten objects last) c
+    seen_real : (c : Reference) → ((x : ObjectValue) → object_held objects c.name ≡ Some x → is_virtual_object x ≡ false) → seen (with_written objects (images ++ tallies)) c ≡ seen (objects_at_end objects last) c
     seen_real c real =
         seen-with_written (images ++ tallies) objects are_writes c
-        ∙ elim (last_known c (held last c) (images ++ tallies) (λ w i e. ap (held last) e ∙ (all_left w i).left)) [
+        ∙ elim (last_known c (object_at last c) (images ++ tallies) (λ w i e. ap (object_at last) e ∙ (all_left w i).left)) [
           | inl none ↦ ap (λ (o : Option ObjectValue). option_or (option_map shown o) (seen objects c)) none ∙ untouched c real none
           | inr some ↦ ap (λ (o : Option ObjectValue). option_or (option_map shown o) (seen objects c)) some.1 ∙ ap (option_map shown) (sym some.2)
         ]
         ∙ ap (λ (o : Option ObjectValue). option_map shown (option_and_then (in_slot c.slot) o)) (sym (kept_real (object_held objects c.name) (object_held last c.name) real))
         ∙ ap (option_map shown) (sym (forgotten_held c))
 
-    seen_same : (c : Cell) → seen (with_written objects (images ++ tallies)) c ≡ seen (forgotten objects last) c
+    seen_same : (c : Reference) → seen (with_written objects (images ++ tallies)) c ≡ seen (objects_at_end objects last) c
     seen_same c = by_object (object_held objects c.name) refl
       where
-        by_object : (o : Option ObjectValue) → object_held objects c.name ≡ o → seen (with_written objects (images ++ tallies)) c ≡ seen (forgotten objects last) c
+        by_object : (o : Option ObjectValue) → object_held objects c.name ≡ o → seen (with_written objects (images ++ tallies)) c ≡ seen (objects_at_end objects last) c
         by_object None e = seen_real c (λ x there. (let clash : ◌≡◌ {A = Option ObjectValue} None (Some x) = sym e ∙ there in absurd (cc clash)))
         by_object (Some y) e = elim (cases_Bool (is_virtual_object y)) [
           | inl virtual_one ↦ seen_virtual c y e virtual_one
           | inr plain ↦ seen_real c (λ x there. (let same : ◌≡◌ {A = Option ObjectValue} (Some y) (Some x) = sym e ∙ there in let one : y ≡ x = cc in ap is_virtual_object (sym one) ∙ plain))
         ]
 
-    pub returns : with_written objects (images ++ tallies) ≡ run_of_graph (resolved (operand_held objects) nodes) nodes objects
+    pub returns : with_written objects (images ++ tallies) ≡ run_of_graph (resolved_operand (operand_held objects) nodes) nodes objects
     returns =
         let kept : map label_of (with_written objects (images ++ tallies)) ≡ map label_of objects = labels-with_written (images ++ tallies) objects in
-        same_objects (with_written objects (images ++ tallies)) (forgotten objects last) (subst Rising (sym kept) (rising objects (pairs_of objects names)))
+        same_objects (with_written objects (images ++ tallies)) (objects_at_end objects last) (subst Rising (sym kept) (rising objects (pairs_of objects names)))
         (kept ∙ labels_end ∙ sym (labels-forgotten objects last labels_end)) seen_same

@@ -1,9 +1,9 @@
 -- The table of a graph's objects while the samples of its images are in planes, and when they move back.
 use Rattle.std.proofs.Common.{◌≡◌, ◌≢◌, ℕ, suc, ◌+◌, ◌<◌, ◌≤◌, List, [], ◌∷◌, map, length, drop, get_or, refl, sym, ap, subst, ◌∙◌, inl, inr, arith, All, Option, Some, None, ◌⊎◌, IfSome, unwrap_or, option_map, option_and_then}
 use Rattle.std.proofs.lemmas.List.{get_or-drop, length-drop}
-use Rattle.graph_run.proofs.Common.{Cell, Function, held, HoldsImage, HoldsKind, image_held, ImageObject, ImageValue, In, In-at, IsDescription, IsObject, IsPlan, IsReady, IsStrictlyIncreasing, Kind, kind_in, Named, names_of, Node, object_kind, ObjectValue, operand_held, option_or, PlanValue, resolved, run_of_graph, second_kind, Verified, VirtualOutput, with_written, description_of, parameters, U8, new_image, image_value, distribution_value, DistributionObject, ExtremesObject}
+use Rattle.graph_run.proofs.Common.{Reference, Function, object_at, HoldsImage, HoldsKind, image_held, ImageObject, ImageValue, In, In-at, IsDescription, IsObject, IsPlan, IsReady, IsStrictlyIncreasing, Kind, kind_in, NamedObject, names_of, Node, object_kind, ObjectValue, operand_held, option_or, PlanView, resolved_operand, run_of_graph, second_kind, Verified, VirtualOutput, with_written, description_of, parameters, U8, new_image, image_value, distribution_value, DistributionObject, ExtremesObject}
 use Rattle.vx_base.specs.declared.kind.Kind.TheVariants as kind
-use Rattle.image_core.specs.declared.second.Second.{Second as SecondValue}
+use Rattle.image_core.specs.declared.second.SecondInput.{SecondInput as SecondValue}
 use Rattle.image_core.specs.Second.{second_object}
 use Rattle.graph_steps.specs.declared.tally.Tally.{Tally}
 use Rattle.graph_steps.specs.declared.tally.Tally.TheVariants as tally
@@ -33,42 +33,42 @@ use Rattle.graph_run.proofs.VerifiedLemmas.{pairs_of}
 -- ---- cells after writes
 
 -- an object that isn't written stays
-same_beside : (objects : List Named) (ws : List (Cell × ObjectValue)) → AreWrites objects ws → (c : Cell) → last_to c ws ≡ None → kind_in objects c ≢ Some kind.Delay
-    → held (with_written objects ws) c ≡ held objects c
+same_beside : (objects : List NamedObject) (ws : List (Reference × ObjectValue)) → AreWrites objects ws → (c : Reference) → last_to c ws ≡ None → kind_in objects c ≢ Some kind.Delay
+    → object_at (with_written objects ws) c ≡ object_at objects c
 same_beside objects ws are c none plain =
-    unshown (held (with_written objects ws) c) (held objects c) plain
+    unshown (object_at (with_written objects ws) c) (object_at objects c) plain
     (seen-with_written ws objects are c ∙ ap (λ (o : Option ObjectValue). option_or (option_map shown o) (seen objects c)) none)
 
 -- an object to which an image is written has that value
-image_there : (objects : List Named) (ws : List (Cell × ObjectValue)) → AreWrites objects ws → (c : Cell) (image : ImageValue) → last_to c ws ≡ Some (ImageObject image)
-    → held (with_written objects ws) c ≡ Some (ImageObject image)
+image_there : (objects : List NamedObject) (ws : List (Reference × ObjectValue)) → AreWrites objects ws → (c : Reference) (image : ImageValue) → last_to c ws ≡ Some (ImageObject image)
+    → object_at (with_written objects ws) c ≡ Some (ImageObject image)
 image_there objects ws are c image some =
-    unshown (held (with_written objects ws) c) (Some (ImageObject image)) (λ delay. cc delay)
+    unshown (object_at (with_written objects ws) c) (Some (ImageObject image)) (λ delay. cc delay)
     (seen-with_written ws objects are c ∙ ap (λ (o : Option ObjectValue). option_or (option_map shown o) (seen objects c)) some)
 
 -- ---- images without samples
 
-in_bare : (objects : List Named) (cells : List Cell) (w : Cell × ObjectValue) → In w (bare_images objects cells) → In w.0 cells × (w.1 ≡ ImageObject (without_samples (image_held objects w.0)))
+in_bare : (objects : List NamedObject) (cells : List Reference) (w : Reference × ObjectValue) → In w (bare_images objects cells) → In w.0 cells × (w.1 ≡ ImageObject (without_samples (image_held objects w.0)))
 in_bare objects [] w i = elim i [ ]
 in_bare objects (c ∷ cells) w (inl e) =
-    (inl (ap (λ (x : Cell × ObjectValue). x.0) e), ap (λ (x : Cell × ObjectValue). x.1) e ∙ ap (λ (x : Cell × ObjectValue). ImageObject (without_samples (image_held objects x.0))) (sym e))
+    (inl (ap (λ (x : Reference × ObjectValue). x.0) e), ap (λ (x : Reference × ObjectValue). x.1) e ∙ ap (λ (x : Reference × ObjectValue). ImageObject (without_samples (image_held objects x.0))) (sym e))
 in_bare objects (c ∷ cells) w (inr i) = let r = in_bare objects cells w i in (inr r.0, r.1)
 
-bare_there : (objects : List Named) (cells : List Cell) (c : Cell) → In c cells → In (c, ImageObject (without_samples (image_held objects c))) (bare_images objects cells)
+bare_there : (objects : List NamedObject) (cells : List Reference) (c : Reference) → In c cells → In (c, ImageObject (without_samples (image_held objects c))) (bare_images objects cells)
 bare_there objects [] c i = elim i [ ]
-bare_there objects (d ∷ cells) c (inl e) = inl (ap (λ (x : Cell). let pair : Cell × ObjectValue = (x, ImageObject (without_samples (image_held objects x))) in pair) e)
+bare_there objects (d ∷ cells) c (inl e) = inl (ap (λ (x : Reference). let pair : Reference × ObjectValue = (x, ImageObject (without_samples (image_held objects x))) in pair) e)
 bare_there objects (d ∷ cells) c (inr i) = inr (bare_there objects cells c i)
 
-module _ (objects : List Named) (cells : List Cell) (holds : HoldImages objects cells) where
-  abbrev taken : List Named
+module _ (objects : List NamedObject) (cells : List Reference) (holds : HoldImages objects cells) where
+  abbrev taken : List NamedObject
   taken = with_written objects (bare_images objects cells)
 
-  taken_held : (c : Cell) → In c cells → held taken c ≡ Some (ImageObject (without_samples (image_held objects c)))
+  taken_held : (c : Reference) → In c cells → object_at taken c ≡ Some (ImageObject (without_samples (image_held objects c)))
   taken_held c i =
       let bare : ObjectValue = ImageObject (without_samples (image_held objects c)) in
       image_there objects (bare_images objects cells) (bare_written objects cells holds) c (without_samples (image_held objects c))
       (elim (last_known c (Some bare) (bare_images objects cells)
-      (λ w j e. ap (λ (x : Cell). Some (ImageObject (without_samples (image_held objects x)))) e ∙ ap (λ (x : ObjectValue). Some x) (sym (in_bare objects cells w j).1))) [
+      (λ w j e. ap (λ (x : Reference). Some (ImageObject (without_samples (image_held objects x)))) e ∙ ap (λ (x : ObjectValue). Some x) (sym (in_bare objects cells w j).1))) [
         | inl none ↦ absurd (last_some c bare (bare_images objects cells) (bare_there objects cells c i) none)
         | inr some ↦ some.1 ∙ sym some.2
       ])
@@ -76,26 +76,26 @@ module _ (objects : List Named) (cells : List Cell) (holds : HoldImages objects 
   pub taken_images : HoldImages taken cells
   taken_images c i = ap (option_map object_kind) (taken_held c i)
 
-  taken_description : (c : Cell) → In c cells → description_of (image_held objects c) ≡ description_of (image_held taken c)
+  taken_description : (c : Reference) → In c cells → description_of (image_held objects c) ≡ description_of (image_held taken c)
   taken_description c i = ap (λ (o : Option ObjectValue). description_of (image_value (unwrap_or o (ImageObject (new_image 0 0 U8))))) (sym (taken_held c i))
 
   -- planes for the images are planes for these
-  pub taken_for : (some : List Cell) (planes : List PlaneValue) → ((c : Cell) → In c some → In c cells) → AreFor objects some planes → AreFor taken some planes
+  pub taken_for : (some : List Reference) (planes : List PlaneValue) → ((c : Reference) → In c some → In c cells) → AreFor objects some planes → AreFor taken some planes
   taken_for [] planes among are = tt
   taken_for (c ∷ some) [] among are = are
   taken_for (c ∷ some) (q ∷ planes) among are = (are.0 ∙ taken_description c (among c (inl refl)), are.1, taken_for some planes (λ d i. among d (inr i)) are.2)
 
   -- objects other than images stay
-  pub taken_other : (c : Cell) (k : Kind) → HoldsKind objects (c, k) → k ≢ kind.Image → k ≢ kind.Delay → held taken c ≡ held objects c
+  pub taken_other : (c : Reference) (k : Kind) → HoldsKind objects (c, k) → k ≢ kind.Image → k ≢ kind.Delay → object_at taken c ≡ object_at objects c
   taken_other c k is other no_delay =
       same_beside objects (bare_images objects cells) (bare_written objects cells holds) c
       (last_none c (bare_images objects cells) (λ w i e.
-      other (one_kind (held objects c) k kind.Image is (subst (HoldsImage objects) (sym e) (holds w.0 (in_bare objects cells w i).0)))))
-      (λ delay. no_delay (one_kind (held objects c) k kind.Delay is delay))
+      other (one_kind (object_at objects c) k kind.Image is (subst (HoldsImage objects) (sym e) (holds w.0 (in_bare objects cells w i).0)))))
+      (λ delay. no_delay (one_kind (object_at objects c) k kind.Delay is delay))
 
 -- planes are for images where each is
-for_each : (objects : List Named) (cells : List Cell) (planes : List PlaneValue) → length cells ≤ length planes
-    → ((k : ℕ) (d : Cell) → k < length cells → ((get_or planes k no_plane).desc ≡ description_of (image_held objects (get_or cells k d))) × ((get_or planes k no_plane).format ≡ (get_or planes k no_plane).desc.format))
+for_each : (objects : List NamedObject) (cells : List Reference) (planes : List PlaneValue) → length cells ≤ length planes
+    → ((k : ℕ) (d : Reference) → k < length cells → ((get_or planes k no_plane).desc ≡ description_of (image_held objects (get_or cells k d))) × ((get_or planes k no_plane).format ≡ (get_or planes k no_plane).desc.format))
     → AreFor objects cells planes
 for_each objects [] planes enough each = tt
 for_each objects (c ∷ cells) [] enough each = absurd (omega (arith, enough))
@@ -112,25 +112,25 @@ map_alike f g (n ∷ ns) same = ap (λ x. x ∷ map f ns) (same n (inl refl)) �
 lent_kinds : (f : Function) → unwrap_or (parameters f).second_input kind.Image ≢ kind.Image → IsLent (unwrap_or (parameters f).second_input kind.Image)
 lent_kinds f other = grind arith
 
-module _ (objects : List Named) (nodes : List Node) (v : Verified) (h : IsReady objects nodes v) (names : IsStrictlyIncreasing (names_of objects))
-    (p : PlanValue) (plan : IsPlan v.steps.items v.virtual_outputs.items p) where
-  abbrev theirs : List Cell
+module _ (objects : List NamedObject) (nodes : List Node) (v : Verified) (h : IsReady objects nodes v) (names : IsStrictlyIncreasing (names_of objects))
+    (p : PlanView) (plan : IsPlan v.steps.items v.virtual_outputs.items p) where
+  abbrev theirs : List Reference
   theirs = client_cells v.steps.items v.virtual_outputs.items
 
   hold : HoldImages objects theirs
   hold = client_image objects nodes v h names p plan
 
-  abbrev bare : List Named
+  abbrev bare : List NamedObject
   bare = with_written objects (bare_images objects theirs)
 
-  table_kind : (n : Node) → In n v.steps.items → (c : Cell) → n.in2 ≡ Some c → second_kind n ≢ kind.Image → HoldsKind objects (c, second_kind n)
+  table_kind : (n : Node) → In n v.steps.items → (c : Reference) → n.in2 ≡ Some c → second_kind n ≢ kind.Image → HoldsKind objects (c, second_kind n)
   table_kind n i c e other =
       ap (option_map object_kind) (sym (table_stays objects nodes v h names p plan n i c e other)) ∙ last_kinds objects nodes v h names n i (c, second_kind n) (second_operand n c e)
 
   table_same : (n : Node) → In n v.steps.items → node_table bare n ≡ node_table objects n
   table_same n i = by_kind (second_kind n) n.in2 refl refl
     where
-      by_kind : (k : Kind) (o : Option Cell) → second_kind n ≡ k → n.in2 ≡ o → table_by k (option_and_then (held bare) o) ≡ table_by k (option_and_then (held objects) o)
+      by_kind : (k : Kind) (o : Option Reference) → second_kind n ≡ k → n.in2 ≡ o → table_by k (option_and_then (object_at bare) o) ≡ table_by k (option_and_then (object_at objects) o)
       by_kind kind.Image o is e = refl
       by_kind k None is e = refl
       by_kind k (Some c) is e =
@@ -150,15 +150,15 @@ module _ (objects : List Named) (nodes : List Node) (v : Verified) (h : IsReady 
       lent_if None k is may = tt
       lent_if (Some x) k is may = let same : k ≡ object_kind x = cc in subst IsLent same may
 
-      lent : (n : Node) → In n v.steps.items → (k : Kind) (o : Option Cell) → second_kind n ≡ k → n.in2 ≡ o → IfSome (table_by k (option_and_then (held objects) o)) (λ object. IsLent (object_kind object))
+      lent : (n : Node) → In n v.steps.items → (k : Kind) (o : Option Reference) → second_kind n ≡ k → n.in2 ≡ o → IfSome (table_by k (option_and_then (object_at objects) o)) (λ object. IsLent (object_kind object))
       lent n i kind.Image o is e = tt
       lent n i k None is e = tt
       lent n i k (Some c) is e =
           let other : second_kind n ≢ kind.Image = λ image. (let clash : k ≡ kind.Image = sym is ∙ image in cc) in
-          lent_if (held objects c) (second_kind n) (table_kind n i c e other) (lent_kinds n.function other)
+          lent_if (object_at objects c) (second_kind n) (table_kind n i c e other) (lent_kinds n.function other)
 
   -- the objects in which tallies are kept are there
-  keeps_tally : (l : List Named) (wanted : Kind) (c : Cell) → (wanted ≢ kind.Image → HoldsKind l (c, wanted) × ((wanted ≡ kind.Distribution) ⊎ (wanted ≡ kind.Extremes))) → KeepsTally l wanted c
+  keeps_tally : (l : List NamedObject) (wanted : Kind) (c : Reference) → (wanted ≢ kind.Image → HoldsKind l (c, wanted) × ((wanted ≡ kind.Distribution) ⊎ (wanted ≡ kind.Extremes))) → KeepsTally l wanted c
   keeps_tally l kind.Image c kept = tt
   keeps_tally l kind.Distribution c kept = (kept (λ e. cc)).0
   keeps_tally l kind.Extremes c kept = (kept (λ e. cc)).0
@@ -172,14 +172,14 @@ module _ (objects : List Named) (nodes : List Node) (v : Verified) (h : IsReady 
       All-from_In (λ (n : Node). KeepsTally objects (parameters n.function).output (unwrap_or n.out1 n.in1)) v.steps.items (λ n i.
       keeps_tally objects (parameters n.function).output (unwrap_or n.out1 n.in1) (λ other.
       (let out = one_output n (is_node_of objects nodes v h n i).shape other in (
-        subst (λ (o : Option Cell). HoldsKind objects (unwrap_or o n.in1, (parameters n.function).output)) (sym out.1) (tally_kept objects nodes v h names p plan n i other out.0 out.1).1,
+        subst (λ (o : Option Reference). HoldsKind objects (unwrap_or o n.in1, (parameters n.function).output)) (sym out.1) (tally_kept objects nodes v h names p plan n i other out.0 out.1).1,
         counted_kind n.function other,
       ))))
 
 -- ---- tallies
 
 -- a tally of the object that a cell holds
-pub tally_for : (l : List Named) (c : Cell) (old : ObjectValue) (a : ImageValue) (new counted : Tally) → held l c ≡ Some old → (object_kind old ≡ kind.Distribution) ⊎ (object_kind old ≡ kind.Extremes)
+pub tally_for : (l : List NamedObject) (c : Reference) (old : ObjectValue) (a : ImageValue) (new counted : Tally) → object_at l c ≡ Some old → (object_kind old ≡ kind.Distribution) ⊎ (object_kind old ≡ kind.Extremes)
     → tally_by (object_kind old) old ≡ new ∷ [] → counted ≡ tally_of a new → IsTallyFor l c counted
 tally_for l c (DistributionObject d) a new counted there of own is =
     let same : tally.Histogram (new_distribution d.bins) ≡ new = cc in
@@ -198,7 +198,7 @@ tally_for l c old a new counted there of own is = elim of [
   | inr e ↦ absurd (cc e)
 ]
 
-tallies_each : (l : List Named) (cells : List Cell) (tallies : List Tally) → length cells ≤ length tallies → ((k : ℕ) (d : Cell) → k < length cells → IsTallyFor l (get_or cells k d) (tally_at tallies k))
+tallies_each : (l : List NamedObject) (cells : List Reference) (tallies : List Tally) → length cells ≤ length tallies → ((k : ℕ) (d : Reference) → k < length cells → IsTallyFor l (get_or cells k d) (tally_at tallies k))
     → AreTalliesFor l cells tallies
 tallies_each l [] tallies enough each = tt
 tallies_each l (c ∷ cells) [] enough each = absurd (omega (arith, enough))
@@ -206,9 +206,9 @@ tallies_each l (c ∷ cells) (t ∷ tallies) enough each = (each 0 c (omega arit
 
 -- ---- moving back
 
-module _ (objects : List Named) (nodes : List Node) (v : Verified) (h : IsReady objects nodes v) (names : IsStrictlyIncreasing (names_of objects))
+module _ (objects : List NamedObject) (nodes : List Node) (v : Verified) (h : IsReady objects nodes v) (names : IsStrictlyIncreasing (names_of objects))
     (are : All (λ o. IsObject o.object) objects) (described : All (λ (o : VirtualOutput). IsDescription o.desc) v.virtual_outputs.items)
-    (p : PlanValue) (plan : IsPlan v.steps.items v.virtual_outputs.items p) (radius : Node → ℕ) (tables : List SecondValue) (lent : map second_object tables ≡ tables_of objects v.steps.items)
+    (p : PlanView) (plan : IsPlan v.steps.items v.virtual_outputs.items p) (radius : Node → ℕ) (tables : List SecondValue) (lent : map second_object tables ≡ tables_of objects v.steps.items)
     (virtuals : List PlaneValue) (descs : map (λ (q : PlaneValue). q.desc) virtuals ≡ map (λ (o : VirtualOutput). o.desc) v.virtual_outputs.items)
     (after : List PlaneValue) (counted : List Tally)
     (leaves : Leaves tables (graph_tasks v.steps.items v.virtual_outputs.items p radius) (planes_of objects v.steps.items v.virtual_outputs.items virtuals) (tallies_of objects v.steps.items) after counted) where
@@ -218,13 +218,13 @@ module _ (objects : List Named) (nodes : List Node) (v : Verified) (h : IsReady 
   abbrev back : List PlaneValue
   back = drop first_client after
 
-  abbrev clients : List Cell
+  abbrev clients : List Reference
   clients = theirs objects nodes v h names p plan
 
-  abbrev out : List Named
+  abbrev out : List NamedObject
   out = bare objects nodes v h names p plan
 
-  abbrev came : List Named
+  abbrev came : List NamedObject
   came = with_written out (plane_objects clients back)
 
   holding : HoldImages objects clients
@@ -240,11 +240,11 @@ module _ (objects : List Named) (nodes : List Node) (v : Verified) (h : IsReady 
   planes_for : AreFor objects clients back
   planes_for = for_each objects clients back enough_back each
     where
-      each : (k : ℕ) (d : Cell) → k < length clients
+      each : (k : ℕ) (d : Reference) → k < length clients
           → ((get_or back k no_plane).desc ≡ description_of (image_held objects (get_or clients k d))) × ((get_or back k no_plane).format ≡ (get_or back k no_plane).desc.format)
       each k d below =
           let at : ℕ = first_client + k in
-          let c : Cell = get_or clients k d in
+          let c : Reference = get_or clients k d in
           let there : get_or back k no_plane ≡ plane after at = get_or-drop first_client after k no_plane in
           let index = theirs_index objects nodes v h names are described p plan radius tables lent virtuals descs after counted leaves k d below in
           let keeps = theirs_keep objects nodes v h names are described p plan radius tables lent virtuals descs after counted leaves k below in (
@@ -266,17 +266,17 @@ module _ (objects : List Named) (nodes : List Node) (v : Verified) (h : IsReady 
   came_is = out_and_back objects clients back (pairs_of objects names) holding planes_for
 
   -- the tallies are of objects that are still there
-  tally_held : (t : ℕ) → (below : t < length (tally_cells v.steps.items)) → (r : IsTallied objects nodes v h names are described p plan radius tables lent virtuals descs after counted leaves t) → held came r.cell ≡ Some r.old
+  tally_held : (t : ℕ) → (below : t < length (tally_cells v.steps.items)) → (r : IsTallied objects nodes v h names are described p plan radius tables lent virtuals descs after counted leaves t) → object_at came r.cell ≡ Some r.old
   tally_held t below r =
-      ap (λ (l : List Named). held l r.cell) came_is
+      ap (λ (l : List NamedObject). object_at l r.cell) came_is
       ∙ same_beside objects (plane_objects clients back) (planes_written objects clients back holding planes_for) r.cell
       (last_none r.cell (plane_objects clients back) (λ w i e.
       (let b = image_back clients back w i in
-      let cell : r.cell ≡ get_or clients b.0 w.0 = e ∙ ap (λ (x : Cell × ObjectValue). x.0) b.2 in
+      let cell : r.cell ≡ get_or clients b.0 w.0 = e ∙ ap (λ (x : Reference × ObjectValue). x.0) b.2 in
       let image : HoldsImage objects r.cell = subst (HoldsImage objects) (sym cell) (holding (get_or clients b.0 w.0) (In-at clients b.0 w.0 b.1)) in
-      r.other (sym r.kind_is ∙ one_kind (held objects r.cell) (object_kind r.old) kind.Image (ap (option_map object_kind) r.held_before) image))))
+      r.other (sym r.kind_is ∙ one_kind (object_at objects r.cell) (object_kind r.old) kind.Image (ap (option_map object_kind) r.held_before) image))))
       (λ delay.
-      (let same : object_kind r.old ≡ kind.Delay = one_kind (held objects r.cell) (object_kind r.old) kind.Delay (ap (option_map object_kind) r.held_before) delay in
+      (let same : object_kind r.old ≡ kind.Delay = one_kind (object_at objects r.cell) (object_kind r.old) kind.Delay (ap (option_map object_kind) r.held_before) delay in
       no_delay_written r.node.function (sym r.kind_is ∙ same)))
       ∙ r.held_before
 
@@ -284,13 +284,13 @@ module _ (objects : List Named) (nodes : List Node) (v : Verified) (h : IsReady 
   back_tallies =
       tallies_each came (tally_cells v.steps.items) counted (omega (arith, leaves.tallies_count, tally_count objects v.steps.items)) (λ k d below.
       (let r = tally_facts objects nodes v h names are described p plan radius tables lent virtuals descs after counted leaves k below in
-      subst (λ (c : Cell). IsTallyFor came c (tally_at counted k)) (sym (r.at d))
+      subst (λ (c : Reference). IsTallyFor came c (tally_at counted k)) (sym (r.at d))
       (tally_for came r.cell r.old (image_held (last_objects objects nodes) r.node.in1) (tally_at (tallies_of objects v.steps.items) k) (tally_at counted k) (tally_held k below r)
       (subst (λ (x : Kind). (x ≡ kind.Distribution) ⊎ (x ≡ kind.Extremes)) (sym r.kind_is) (counted_kind r.node.function r.other)) r.own r.tallied)))
 
   -- all values written back together are the result of the run
-  pub value : with_written came (tally_objects (tally_cells v.steps.items) counted) ≡ run_of_graph (resolved (operand_held objects) nodes) nodes objects
+  pub value : with_written came (tally_objects (tally_cells v.steps.items) counted) ≡ run_of_graph (resolved_operand (operand_held objects) nodes) nodes objects
   value =
-      ap (λ (l : List Named). with_written l (tally_objects (tally_cells v.steps.items) counted)) came_is
+      ap (λ (l : List NamedObject). with_written l (tally_objects (tally_cells v.steps.items) counted)) came_is
       ∙ sym (with_written-append objects (plane_objects clients back) (tally_objects (tally_cells v.steps.items) counted))
       ∙ returns objects nodes v h names are described p plan radius tables lent virtuals descs after counted leaves

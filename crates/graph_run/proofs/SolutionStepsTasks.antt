@@ -1,6 +1,6 @@
 -- The tasks of a graph: the node, the output and the index in the order of each step, and the node of each reduction.
 use Rattle.std.proofs.Common.{◌≡◌, ◌≢◌, ℕ, zero, suc, ◌+◌, ◌<◌, Bool, true, false, ◌||◌, List, [], ◌∷◌, ◌++◌, length, get_or, refl, sym, ap, subst, ◌∙◌, inl, inr, arith, Option, Some, None, ◌⊎◌, is_some, is_none, ◌&&◌, if◌then◌else◌, unwrap_or}
-use Rattle.graph_run.proofs.Common.{and_parts, Cell, Function, In, In-append, Kind, Node, Output, First, Second, given, ObjectValue, Named, cell_object, distribution_value, is_node, outputs, parameters}
+use Rattle.graph_run.proofs.Common.{and_parts, Reference, Function, In, In-append, Kind, Node, Output, First, Second, optional_cells, ObjectValue, NamedObject, cell_object, distribution_value, is_node, outputs, parameters}
 use Rattle.graph_verify.proofs.MemberLemmas.{In-flat_map}
 use Rattle.std.proofs.lemmas.List.{length-append}
 use Rattle.vx_base.specs.declared.kind.Kind.TheVariants as kind
@@ -21,13 +21,13 @@ use Rattle.graph_run.proofs.RunLemmas.{has_of_node}
 
 -- ---- outputs of nodes
 
-in_given : (o : Option Cell) (c : Cell) → In c (given o) → o ≡ Some c
+in_given : (o : Option Reference) (c : Reference) → In c (optional_cells o) → o ≡ Some c
 in_given None c i = elim i [ ]
-in_given (Some d) c (inl e) = ap (λ (x : Cell). Some x) (sym e)
+in_given (Some d) c (inl e) = ap (λ (x : Reference). Some x) (sym e)
 in_given (Some d) c (inr i) = elim i [ ]
 
-pub outputs_at : (n : Node) (c : Cell) → In c (outputs n) → (which : Output) × (out_at n which ≡ Some c)
-outputs_at n c i = elim (In-append c (given n.out1) (given n.out2) i) [
+pub outputs_at : (n : Node) (c : Reference) → In c (outputs n) → (which : Output) × (out_at n which ≡ Some c)
+outputs_at n c i = elim (In-append c (optional_cells n.out1) (optional_cells n.out2) i) [
   | inl one ↦ (First, in_given n.out1 c one)
   | inr two ↦ (Second, in_given n.out2 c two)
 ]
@@ -40,12 +40,12 @@ image_or other = inr (λ e. cc)
 pair_of_images : (f : Function) → (parameters f).output ≢ kind.Image → (parameters f).output_pair ≡ false
 pair_of_images f other = grind arith
 
-one_of : (pair : Bool) (one two : Option Cell) → pair ≡ false → (if pair then (is_some one || is_some two) else (is_some one && is_none two)) ≡ true → (c : Cell) × (one ≡ Some c) × (two ≡ None)
+one_of : (pair : Bool) (one two : Option Reference) → pair ≡ false → (if pair then (is_some one || is_some two) else (is_some one && is_none two)) ≡ true → (c : Reference) × (one ≡ Some c) × (two ≡ None)
 one_of pair (Some c) None single e = (c, refl, refl)
 one_of pair (Some c) (Some d) single e = absurd (grind (arith, single))
 one_of pair None two single e = absurd (grind (arith, single))
 
-pub one_output : (n : Node) → is_node n ≡ true → (parameters n.function).output ≢ kind.Image → (c : Cell) × (n.out1 ≡ Some c) × (n.out2 ≡ None)
+pub one_output : (n : Node) → is_node n ≡ true → (parameters n.function).output ≢ kind.Image → (c : Reference) × (n.out1 ≡ Some c) × (n.out2 ≡ None)
 one_output n shape other = one_of (parameters n.function).output_pair n.out1 n.out2 (pair_of_images n.function other) (and_parts _ _ (has_of_node n shape)).1
 
 -- ---- members of tasks
@@ -72,17 +72,17 @@ reduces-right r (Reduce q ∷ xs) ys i = inr (reduces-right r xs ys i)
 one_cell : (wanted : Kind) (n : Node) → wanted ≢ kind.Image → tally_cell wanted n ≡ unwrap_or n.out1 n.in1 ∷ []
 one_cell wanted n other = grind arith
 
-module _ (cells : List Cell) (slots : List ℕ) (radius : Node → ℕ) where
+module _ (cells : List Reference) (slots : List ℕ) (radius : Node → ℕ) where
   -- each output that is an image has its step
-  there_given : (at : ℕ) (n : Node) (which : Output) (o : Option Cell) (c : Cell) → o ≡ Some c → IsStepOf (step_for cells slots radius at n which c) (write_given cells slots radius at n which o)
+  there_given : (at : ℕ) (n : Node) (which : Output) (o : Option Reference) (c : Reference) → o ≡ Some c → IsStepOf (step_for cells slots radius at n which c) (write_given cells slots radius at n which o)
   there_given at n which None c e = absurd (cc e)
-  there_given at n which (Some d) c e = let same : d ≡ c = cc in inl (ap (λ (x : Cell). step_for cells slots radius at n which x) (sym same))
+  there_given at n which (Some d) c e = let same : d ≡ c = cc in inl (ap (λ (x : Reference). step_for cells slots radius at n which x) (sym same))
 
-  there_by : (at tally : ℕ) (n : Node) (which : Output) (c : Cell) → out_at n which ≡ Some c → IsStepOf (step_for cells slots radius at n which c) (tasks_by cells slots radius at tally n kind.Image)
+  there_by : (at tally : ℕ) (n : Node) (which : Output) (c : Reference) → out_at n which ≡ Some c → IsStepOf (step_for cells slots radius at n which c) (tasks_by cells slots radius at tally n kind.Image)
   there_by at tally n First c e = tasks-left _ (write_given cells slots radius at n First n.out1) (write_given cells slots radius at n Second n.out2) (there_given at n First n.out1 c e)
   there_by at tally n Second c e = tasks-right _ (write_given cells slots radius at n First n.out1) (write_given cells slots radius at n Second n.out2) (there_given at n Second n.out2 c e)
 
-  pub step_there : (nodes : List Node) (first tally : ℕ) (n : Node) → In n nodes → (parameters n.function).output ≡ kind.Image → (which : Output) (c : Cell) → out_at n which ≡ Some c
+  pub step_there : (nodes : List Node) (first tally : ℕ) (n : Node) → In n nodes → (parameters n.function).output ≡ kind.Image → (which : Output) (c : Reference) → out_at n which ≡ Some c
       → (at : ℕ) × IsStepOf (step_for cells slots radius at n which c) (tasks_from cells slots radius first tally nodes)
   step_there [] first tally n i image which c e = elim i [ ]
   step_there (m ∷ nodes) first tally n (inl same) image which c e = (
@@ -98,7 +98,7 @@ module _ (cells : List Cell) (slots : List ℕ) (radius : Node → ℕ) where
 
   -- ---- reductions
 
-  module _ (objects : List Named) where
+  module _ (objects : List NamedObject) where
     reduction_by : (at tally : ℕ) (n : Node) (wanted : Kind) → wanted ≢ kind.Image → Reduces (record { input = index_of cells n.in1; tally = tally }) (tasks_by cells slots radius at tally n wanted)
     reduction_by at tally n kind.Image other = absurd (other refl)
     reduction_by at tally n wanted other = inl refl
@@ -108,7 +108,7 @@ module _ (cells : List Cell) (slots : List ℕ) (radius : Node → ℕ) where
       pub node : Node
       pub inside : In node nodes
       pub other : (parameters node.function).output ≢ kind.Image
-      pub cell : (d : Cell) → get_or (tally_cells nodes) t d ≡ unwrap_or node.out1 node.in1
+      pub cell : (d : Reference) → get_or (tally_cells nodes) t d ≡ unwrap_or node.out1 node.in1
       pub new : (d : Tally) → node_tallies objects node ≡ get_or (tallies_of objects nodes) t d ∷ []
       pub index : ℕ
       pub same : index ≡ tally + t
@@ -128,7 +128,7 @@ module _ (cells : List Cell) (slots : List ℕ) (radius : Node → ℕ) where
       later = tasks_from cells slots radius (first + 1) (tally_after tally (parameters n.function).output) nodes
 
       some : tally_cells (n ∷ nodes) ≡ unwrap_or n.out1 n.in1 ∷ tally_cells nodes
-      some = ap (λ (l : List Cell). l ++ tally_cells nodes) (one_cell (parameters n.function).output n other)
+      some = ap (λ (l : List Reference). l ++ tally_cells nodes) (one_cell (parameters n.function).output n other)
 
       own : (t : Tally) × (node_tallies objects n ≡ t ∷ [])
       own = one_tally (parameters n.function).output (cell_object objects (unwrap_or n.out1 n.in1)) other
@@ -142,7 +142,7 @@ module _ (cells : List Cell) (slots : List ℕ) (radius : Node → ℕ) where
             node = n;
             inside = inl refl;
             other = other;
-            cell = λ d. ap (λ (l : List Cell). get_or l 0 d) some;
+            cell = λ d. ap (λ (l : List Reference). get_or l 0 d) some;
             new = λ d. own.1 ∙ ap (λ (l : List Tally). get_or l 0 d ∷ []) (sym own_all);
             index = tally;
             same = omega arith;
@@ -155,7 +155,7 @@ module _ (cells : List Cell) (slots : List ℕ) (radius : Node → ℕ) where
             node = r.node;
             inside = inr r.inside;
             other = r.other;
-            cell = λ d. ap (λ (l : List Cell). get_or l (suc k) d) some ∙ r.cell d;
+            cell = λ d. ap (λ (l : List Reference). get_or l (suc k) d) some ∙ r.cell d;
             new = λ d. r.new d ∙ ap (λ (l : List Tally). get_or l (suc k) d ∷ []) (sym own_all);
             index = r.index;
             same = omega (arith, r.same, next_tally tally (parameters n.function).output other);
@@ -168,14 +168,14 @@ module _ (cells : List Cell) (slots : List ℕ) (radius : Node → ℕ) where
       | inl image ↦
           (let none : tally_cells (n ∷ nodes) ≡ tally_cells nodes = ap (λ (k : Kind). tally_cell k n ++ tally_cells nodes) image in
           let no_tally : tallies_of objects (n ∷ nodes) ≡ tallies_of objects nodes = ap (λ (k : Kind). tally_by k (cell_object objects (unwrap_or n.out1 n.in1)) ++ tallies_of objects nodes) image in
-          let r = reduction_at nodes (first + 1) tally t (subst (λ (l : List Cell). t < length l) none below) in
+          let r = reduction_at nodes (first + 1) tally t (subst (λ (l : List Reference). t < length l) none below) in
           let all : Reduces (record { input = index_of cells r.node.in1; tally = r.index }) (tasks_from cells slots radius (first + 1) (tally_after tally (parameters n.function).output) nodes) =
           subst (λ (k : Kind). Reduces (record { input = index_of cells r.node.in1; tally = r.index }) (tasks_from cells slots radius (first + 1) (tally_after tally k) nodes)) (sym image) r.task in
           record {
             node = r.node;
             inside = inr r.inside;
             other = r.other;
-            cell = λ d. ap (λ (l : List Cell). get_or l t d) none ∙ r.cell d;
+            cell = λ d. ap (λ (l : List Reference). get_or l t d) none ∙ r.cell d;
             new = λ d. r.new d ∙ ap (λ (l : List Tally). get_or l t d ∷ []) (sym no_tally);
             index = r.index;
             same = r.same;
@@ -183,7 +183,7 @@ module _ (cells : List Cell) (slots : List ℕ) (radius : Node → ℕ) where
           })
       | inr other ↦
           one_more n nodes first tally other (λ y k within. reduction_at nodes (first + 1) y k within) t
-          (subst (λ (l : List Cell). t < length l) (some n nodes first tally other (λ y k within. reduction_at nodes (first + 1) y k within)) below)
+          (subst (λ (l : List Reference). t < length l) (some n nodes first tally other (λ y k within. reduction_at nodes (first + 1) y k within)) below)
     ]
 
 -- each node that writes no image has a tally
@@ -195,7 +195,7 @@ tally_there nodes n i other =
 tally_each : (wanted : Kind) (n : Node) (object : ObjectValue) → length (tally_by wanted object) ≡ length (tally_cell wanted n)
 tally_each wanted n object = grind arith
 
-pub tally_count : (objects : List Named) (nodes : List Node) → length (tallies_of objects nodes) ≡ length (tally_cells nodes)
+pub tally_count : (objects : List NamedObject) (nodes : List Node) → length (tallies_of objects nodes) ≡ length (tally_cells nodes)
 tally_count objects [] = refl
 tally_count objects (n ∷ nodes) =
     omega (arith, length-append (node_tallies objects n) (tallies_of objects nodes), length-append (tally_cell (parameters n.function).output n) (tally_cells nodes), tally_each (parameters n.function).output n (cell_object objects (unwrap_or n.out1 n.in1)), tally_count objects nodes)

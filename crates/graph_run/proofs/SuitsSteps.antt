@@ -1,14 +1,14 @@
 -- A step of a node suits its planes, where these are of the descriptions that the node's operands were found to have.
 use Rattle.std.proofs.Common.{◌≡◌, ℕ, ◌<◌, true, List, ◌++◌, length, Option, Some, None, IfSome, sym, ap, subst, ◌∙◌, inl, inr, arith, is_some, is_none, if◌then◌else◌, option_map, option_and_then, option_to_list, unwrap_or}
-use Rattle.graph_run.proofs.Common.{list_all, and_parts, Function, Kind, Node, Cell, Output, Description, ImageValue, IsNode, given, outputs, parameters, second_kind, ObjectValue, ImageObject, IsObject, object_kind, object_format, operand_of, operand_format, are_of_one_size, node_fault, operands_of, Operand, Image, SecondHasSize, In}
+use Rattle.graph_run.proofs.Common.{list_all, and_parts, Function, Kind, Node, Reference, Output, Description, ImageValue, IsNode, optional_cells, outputs, parameters, second_kind, ObjectValue, ImageObject, IsObject, object_kind, object_format, operand_of, operand_format, are_of_one_size, node_fault, operands_of, Operand, Image, SecondHasSize, In}
 use Rattle.vx_base.specs.declared.kind.Kind.TheVariants as kind
 use Rattle.vx_base.specs.Convolution.{ConvolutionValue}
 use Rattle.std.proofs.lemmas.List.Folds.{list_all-append}
-use Rattle.image_core.specs.declared.second.Second.{Second}
-use Rattle.node_rows.specs.Reach.{matrix_in}
+use Rattle.image_core.specs.declared.second.SecondInput.{SecondInput}
+use Rattle.node_rows.specs.Radius.{matrix_in}
 use Rattle.graph_verify.proofs.SuitLemmas.{Suits as SuitsOutput, met, no_fault_suits, passed}
 use Rattle.graph_steps.specs.declared.step.Source.TheVariants.{Table}
-use Rattle.graph_steps.specs.Steps.{CanMake, Covers, Suits, blank_image, second_in, step_reach}
+use Rattle.graph_steps.specs.Steps.{CanMake, Covers, Suits, blank_image, second_in, step_radius}
 use Rattle.graph_run.specs.Tasks.{source, step_for}
 use Rattle.graph_run.proofs.RunLemmas.{has_of_node, same_formats}
 
@@ -19,13 +19,13 @@ fits_size : (a : ImageValue) (object : ObjectValue) → are_of_one_size (operand
 fits_size a other e = grind arith
 
 -- what both operands have, as far as they are there, each that is there has
-one_of_both : (P : Operand → Type 0) (is : Cell → Operand) (a b : Option Cell) (o : Cell) → In o (given a ++ given b) → IfSome (option_map is a) P → IfSome (option_map is b) P → P (is o)
+one_of_both : (P : Operand → Type 0) (is : Reference → Operand) (a b : Option Reference) (o : Reference) → In o (optional_cells a ++ optional_cells b) → IfSome (option_map is a) P → IfSome (option_map is b) P → P (is o)
 one_of_both P is None None o i one two = elim i [ ]
-one_of_both P is (Some x) b o (inl e) one two = subst (λ (c : Cell). P (is c)) (sym e) one
-one_of_both P is (Some x) (Some y) o (inr (inl e)) one two = subst (λ (c : Cell). P (is c)) (sym e) two
+one_of_both P is (Some x) b o (inl e) one two = subst (λ (c : Reference). P (is c)) (sym e) one
+one_of_both P is (Some x) (Some y) o (inr (inl e)) one two = subst (λ (c : Reference). P (is c)) (sym e) two
 one_of_both P is (Some x) (Some y) o (inr (inr i)) one two = elim i [ ]
 one_of_both P is (Some x) None o (inr i) one two = elim i [ ]
-one_of_both P is None (Some y) o (inl e) one two = subst (λ (c : Cell). P (is c)) (sym e) two
+one_of_both P is None (Some y) o (inl e) one two = subst (λ (c : Reference). P (is c)) (sym e) two
 one_of_both P is None (Some y) o (inr i) one two = elim i [ ]
 
 -- the second input is of the first one's size
@@ -38,7 +38,7 @@ sized a None h = tt
 sized a (Some object) h = fits_size a object (and_parts (are_of_one_size (operand_of (ImageObject a)) (operand_of object)) true h).0
 
 -- a second input is what the function has there
-wanted_second : (s : Option Kind) (cell : Option Cell) (second : Option ObjectValue) (operand : Option Operand) (found : Cell → Operand) → (if is_some s then is_some cell else is_none cell) ≡ true
+wanted_second : (s : Option Kind) (cell : Option Reference) (second : Option ObjectValue) (operand : Option Operand) (found : Reference → Operand) → (if is_some s then is_some cell else is_none cell) ≡ true
     → option_map operand_of second ≡ option_map found cell → IfSome second (λ object. object_kind object ≡ unwrap_or s kind.Image) → IfSome second (λ object. s ≡ Some (object_kind object))
 wanted_second s cell second operand found has same is_kind = grind arith
 
@@ -50,8 +50,8 @@ pub record SecondStands (n : Node) (wanted : Option Operand) (rows : Option Conv
   pub kind : IfSome second (λ object. object_kind object ≡ second_kind n)
   pub matrix : matrix_in second ≡ rows
 
-module _ (known : Cell → Operand) (n : Node) (node : IsNode n) (none : node_fault n.function (operands_of known n) ≡ None)
-    (o : Cell) (written : In o (outputs n)) (first out : Description) (in1 : known n.in1 ≡ Image first) (output : known o ≡ Image out)
+module _ (known : Reference → Operand) (n : Node) (node : IsNode n) (none : node_fault n.function (operands_of known n) ≡ None)
+    (o : Reference) (written : In o (outputs n)) (first out : Description) (in1 : known n.in1 ≡ Image first) (output : known o ≡ Image out)
     (matrix : Option ConvolutionValue) (second : Option ObjectValue) (stands : SecondStands n (option_map known n.in2) matrix second) where
   suits_output : SuitsOutput n.function (known n.in1) (option_and_then operand_format (option_map known n.in2)) (known o)
   suits_output =
@@ -76,18 +76,18 @@ module _ (known : Cell → Operand) (n : Node) (node : IsNode n) (none : node_fa
       wanted_second (parameters n.function).second_input n.in2 second (option_map known n.in2) known
       (and_parts (if is_some (parameters n.function).second_input then is_some n.in2 else is_none n.in2) _ (has_of_node n node.shape)).0 stands.operand stands.kind
 
-  module _ (cells : List Cell) (slots : List ℕ) (radius : Node → ℕ) (at : ℕ) (which : Output) where
+  module _ (cells : List Reference) (slots : List ℕ) (radius : Node → ℕ) (at : ℕ) (which : Output) where
     can_make : CanMake (step_for cells slots radius at n which o) (blank_image first) second out
     can_make = record { node = node; kind = second_wanted; formats = found.formats; size = fits_size (blank_image first) (ImageObject (blank_image out)) found.size; second_size = second_size }
 
     -- the step suits planes of these descriptions
-    pub step_suits : (tables : List Second) (high : ℕ) (beside : Description) → second ≡ second_in tables (λ _. blank_image beside) (source cells at (second_kind n) n.in2)
+    pub step_suits : (tables : List SecondInput) (high : ℕ) (beside : Description) → second ≡ second_in tables (λ _. blank_image beside) (source cells at (second_kind n) n.in2)
         → ((k : ℕ) → source cells at (second_kind n) n.in2 ≡ Table k → (k < length tables) × IfSome second IsObject)
-        → Covers (step_reach n.function matrix) (radius n) high → Suits tables high (step_for cells slots radius at n which o) first beside out
+        → Covers (step_radius n.function matrix) (radius n) high → Suits tables high (step_for cells slots radius at n which o) first beside out
     step_suits tables high beside is table near =
         let s = step_for cells slots radius at n which o in
         record {
           makes = subst (λ (x : Option ObjectValue). CanMake s (blank_image first) x out) is can_make;
           table = λ k e. (let t = table k e in (t.0, subst (λ (x : Option ObjectValue). IfSome x IsObject) is t.1));
-          near = subst (λ (m : Option ConvolutionValue). Covers (step_reach n.function m) (radius n) high) (sym stands.matrix ∙ ap matrix_in is) near;
+          near = subst (λ (m : Option ConvolutionValue). Covers (step_radius n.function m) (radius n) high) (sym stands.matrix ∙ ap matrix_in is) near;
         }

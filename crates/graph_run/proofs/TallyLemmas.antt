@@ -1,7 +1,7 @@
 -- Tallies that are written to the objects of a table.
 use Rattle.std.proofs.Common.{◌≡◌, ℕ, ◌+◌, ◌≤◌, Bool, true, false, List, [], ◌∷◌, length, drop, refl, sym, ap, subst, ◌∙◌, arith, Option, Some, option_map, option_and_then, unwrap_or, eqb, eqb-true, if◌then◌else◌}
 use Rattle.std.proofs.lemmas.Iterator.Adapters.{option_map_id}
-use Rattle.graph_run.proofs.Common.{U8, new_image, Cell, ObjectValue, ImageObject, object_kind, in_slot, with_slot, Named, object_held, with_object, with_written, distribution_value}
+use Rattle.graph_run.proofs.Common.{U8, new_image, Reference, ObjectValue, ImageObject, object_kind, in_slot, with_slot, NamedObject, object_held, with_object, with_written, distribution_value}
 use Rattle.vx_base.specs.declared.kind.Kind.TheVariants as kind
 use Rattle.graph_steps.specs.declared.tally.Tally.{Tally}
 use Rattle.graph_steps.specs.declared.tally.Tally.TheVariants as tally
@@ -22,17 +22,17 @@ pub written_slot : (t u : Tally) (j k : Option ℕ) (x : Option ObjectValue) →
 written_slot (tally.Histogram d) (tally.Histogram e) j k x a b = grind arith
 written_slot other another j k x a b = grind arith
 
-to_slot : (objects : List Named) (d : Cell) (u : Tally) → IsTallyFor objects d u → IsForSlot u d.slot (object_held objects d.name)
+to_slot : (objects : List NamedObject) (d : Reference) (u : Tally) → IsTallyFor objects d u → IsForSlot u d.slot (object_held objects d.name)
 to_slot objects d (tally.Histogram h) is = is
 to_slot objects d (tally.Extremes e) is = is
 
-from_slot : (objects : List Named) (d : Cell) (u : Tally) → IsForSlot u d.slot (object_held objects d.name) → IsTallyFor objects d u
+from_slot : (objects : List NamedObject) (d : Reference) (u : Tally) → IsForSlot u d.slot (object_held objects d.name) → IsTallyFor objects d u
 from_slot objects d (tally.Histogram h) is = is
 from_slot objects d (tally.Extremes e) is = is
 
-module _ (objects : List Named) (c : Cell) (t : Tally) (first : IsTallyFor objects c t) where
+module _ (objects : List NamedObject) (c : Reference) (t : Tally) (first : IsTallyFor objects c t) where
   -- after a tally is written to an object, the other tallies still fit
-  pub stays_for : (d : Cell) (u : Tally) → IsTallyFor objects d u → IsTallyFor (with_object objects c (tally_object t)) d u
+  pub stays_for : (d : Reference) (u : Tally) → IsTallyFor objects d u → IsTallyFor (with_object objects c (tally_object t)) d u
   stays_for d u is =
       from_slot (with_object objects c (tally_object t)) d u
       (subst (IsForSlot u d.slot) (sym (object_held-with_object objects c (tally_object t) d.name)) (by_name (eqb d.name c.name) refl))
@@ -44,28 +44,28 @@ module _ (objects : List Named) (c : Cell) (t : Tally) (first : IsTallyFor objec
           written_slot t u c.slot d.slot (object_held objects d.name) here (to_slot objects d u is)
       by_name false e = subst (IsForSlot u d.slot) (sym (option_map_id (object_held objects d.name))) (to_slot objects d u is)
 
-  pub stay_for : (cells : List Cell) (tallies : List Tally) → AreTalliesFor objects cells tallies → AreTalliesFor (with_object objects c (tally_object t)) cells tallies
+  pub stay_for : (cells : List Reference) (tallies : List Tally) → AreTalliesFor objects cells tallies → AreTalliesFor (with_object objects c (tally_object t)) cells tallies
   stay_for [] tallies are = tt
   stay_for (d ∷ cells) [] are = are
   stay_for (d ∷ cells) (u ∷ tallies) are = (stays_for d u are.0, stay_for cells tallies are.1)
 
-pub enough : (objects : List Named) (cells : List Cell) (tallies : List Tally) → AreTalliesFor objects cells tallies → length cells ≤ length tallies
+pub enough : (objects : List NamedObject) (cells : List Reference) (tallies : List Tally) → AreTalliesFor objects cells tallies → length cells ≤ length tallies
 enough objects [] tallies are = omega arith
 enough objects (c ∷ cells) [] are = absurd are
 enough objects (c ∷ cells) (t ∷ tallies) are = omega (arith, enough objects cells tallies are.1)
 
 -- the first of the cells and tallies that are left
-module _ (objects : List Named) (cells : List Cell) (tallies : List Tally) (k : ℕ) (c : Cell) (t : Tally)
+module _ (objects : List NamedObject) (cells : List Reference) (tallies : List Tally) (k : ℕ) (c : Reference) (t : Tally)
     (cell_at : drop k cells ≡ c ∷ drop (k + 1) cells) (tally_at : drop k tallies ≡ t ∷ drop (k + 1) tallies)
-    (are : AreTalliesFor objects (drop k cells) (drop k tallies)) (after : List Named) (left : after ≡ with_object objects c (tally_object t)) where
+    (are : AreTalliesFor objects (drop k cells) (drop k tallies)) (after : List NamedObject) (left : after ≡ with_object objects c (tally_object t)) where
   firsts : AreTalliesFor objects (c ∷ drop (k + 1) cells) (t ∷ drop (k + 1) tallies)
   firsts = rw (cell_at, tally_at) at are
 
   pub next_for : AreTalliesFor after (drop (k + 1) cells) (drop (k + 1) tallies)
-  next_for = subst (λ (o : List Named). AreTalliesFor o (drop (k + 1) cells) (drop (k + 1) tallies)) (sym left) (stay_for objects c t firsts.0 _ _ firsts.1)
+  next_for = subst (λ (o : List NamedObject). AreTalliesFor o (drop (k + 1) cells) (drop (k + 1) tallies)) (sym left) (stay_for objects c t firsts.0 _ _ firsts.1)
 
   pub next_set : with_written after (tally_objects (drop (k + 1) cells) (drop (k + 1) tallies)) ≡ with_written objects (tally_objects (drop k cells) (drop k tallies))
   next_set =
-      ap (λ (o : List Named). with_written o (tally_objects (drop (k + 1) cells) (drop (k + 1) tallies))) left
-      ∙ sym (ap (λ (l : List Cell). with_written objects (tally_objects l (drop k tallies))) cell_at
+      ap (λ (o : List NamedObject). with_written o (tally_objects (drop (k + 1) cells) (drop (k + 1) tallies))) left
+      ∙ sym (ap (λ (l : List Reference). with_written objects (tally_objects l (drop k tallies))) cell_at
       ∙ ap (λ (l : List Tally). with_written objects (tally_objects (c ∷ drop (k + 1) cells) l)) tally_at)

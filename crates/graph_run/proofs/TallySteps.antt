@@ -1,7 +1,7 @@
 -- The reductions of a graph's tasks: each has a tally of its own, which takes the format of its plane.
 use Rattle.std.proofs.Common.{◌≡◌, ◌≢◌, ℕ, ◌+◌, ◌*◌, ◌<◌, true, List, [], ◌∷◌, ◌++◌, length, map, get_or, All, Option, Some, None, IfSome, refl, sym, ap, subst, ◌∙◌, inl, inr, arith, is_some, option_map, option_and_then, unwrap_or}
 use Rattle.std.proofs.lemmas.List.{append_assoc, get_or-append_right, length-append}
-use Rattle.graph_run.proofs.Common.{Format, U8, U32, Function, Kind, Node, Cell, Output, First, Second, Description, IsNode, parameters, ObjectValue, IsObject, takes_formats, operand_format, operands_of, Operand, Image, Named, cell_object, operand_held, VirtualOutput, Verified, IsReady, IsPlan, PlanValue, place_of, In, runs_alone}
+use Rattle.graph_run.proofs.Common.{Format, U8, U32, Function, Kind, Node, Reference, Output, First, Second, Description, IsNode, parameters, ObjectValue, IsObject, takes_formats, operand_format, operands_of, Operand, Image, NamedObject, cell_object, operand_held, VirtualOutput, Verified, IsReady, IsPlan, PlanView, place_of, In, runs_alone}
 use Rattle.vx_base.specs.declared.kind.Kind.TheVariants as kind
 use Rattle.vx_base.specs.Node.{has_operands}
 use Rattle.vx_base.specs.Object.{no_extremes}
@@ -31,7 +31,7 @@ use Rattle.graph_steps.proofs.TallyLaws.{new_bounded}
 
 -- ---- the reductions of nodes
 
-module _ (cells : List Cell) (slots : List ℕ) (radius : Node → ℕ) (objects : List Named) where
+module _ (cells : List Reference) (slots : List ℕ) (radius : Node → ℕ) (objects : List NamedObject) where
   -- a reduction of a node that writes no image: its tally is the node's
   pub record IsTallied (r : Reduction) (first : ℕ) (nodes : List Node) : Type 0 where
     pub node : Node
@@ -45,11 +45,11 @@ module _ (cells : List Cell) (slots : List ℕ) (radius : Node → ℕ) (objects
     pub tally_is : node_tallies objects node ≡ tally ∷ []
     pub there : (d : Tally) → get_or (tallies_of objects nodes) place d ≡ tally
 
-  write_none : (at : ℕ) (n : Node) (which : Output) (o : Option Cell) (later : List Task) (r : Reduction) → Reduces r (write_given cells slots radius at n which o ++ later) → Reduces r later
+  write_none : (at : ℕ) (n : Node) (which : Output) (o : Option Reference) (later : List Task) (r : Reduction) → Reduces r (write_given cells slots radius at n which o ++ later) → Reduces r later
   write_none at n which None later r i = i
   write_none at n which (Some o) later r i = i
 
-  write_one : (at : ℕ) (n : Node) (which : Output) (o : Option Cell) (later : List Task) → HaveOneReduction later → HaveOneReduction (write_given cells slots radius at n which o ++ later)
+  write_one : (at : ℕ) (n : Node) (which : Output) (o : Option Reference) (later : List Task) → HaveOneReduction later → HaveOneReduction (write_given cells slots radius at n which o ++ later)
   write_one at n which None later one = one
   write_one at n which (Some o) later one = one
 
@@ -141,8 +141,8 @@ takes_format wanted object t format other same bytes small = grind arith
 
 -- ---- a graph
 
-module _ (objects : List Named) (are : All (λ o. IsObject o.object) objects) (nodes : List Node) (v : Verified) (ready : IsReady objects nodes v)
-    (p : PlanValue) (plan : IsPlan v.steps.items v.virtual_outputs.items p) (virtuals : List PlaneValue) (descs : map (λ (q : PlaneValue). q.desc) virtuals ≡ map (λ (o : VirtualOutput). o.desc) v.virtual_outputs.items) (radius : Node → ℕ) where
+module _ (objects : List NamedObject) (are : All (λ o. IsObject o.object) objects) (nodes : List Node) (v : Verified) (ready : IsReady objects nodes v)
+    (p : PlanView) (plan : IsPlan v.steps.items v.virtual_outputs.items p) (virtuals : List PlaneValue) (descs : map (λ (q : PlaneValue). q.desc) virtuals ≡ map (λ (o : VirtualOutput). o.desc) v.virtual_outputs.items) (radius : Node → ℕ) where
   abbrev steps : List Node
   steps = v.steps.items
 
@@ -152,7 +152,7 @@ module _ (objects : List Named) (are : All (λ o. IsObject o.object) objects) (n
   abbrev planes : List PlaneValue
   planes = planes_of objects steps outs virtuals
 
-  abbrev resolved_as : Cell → Operand
+  abbrev resolved_as : Reference → Operand
   resolved_as = known objects are nodes v ready p plan virtuals descs
 
   -- the formats that a node that writes no image takes
@@ -164,7 +164,7 @@ module _ (objects : List Named) (are : All (λ o. IsObject o.object) objects) (n
       let suits = (no_fault_suits n.function (operands_of resolved_as n) none).0 in
       given_takes n.out1 (has_first n other (has_of_node n node.shape)) suits
     where
-      given_takes : (o : Option Cell) → is_some o ≡ true → IfSome (option_map resolved_as o) (SuitsOutput n.function (resolved_as n.in1) (option_and_then operand_format (option_map resolved_as n.in2)))
+      given_takes : (o : Option Reference) → is_some o ≡ true → IfSome (option_map resolved_as o) (SuitsOutput n.function (resolved_as n.in1) (option_and_then operand_format (option_map resolved_as n.in2)))
           → (second out : Option Format) × (takes_formats n.function d.format second out ≡ true)
       given_takes None there suits = absurd (cc there)
       given_takes (Some c) there suits =
@@ -173,7 +173,7 @@ module _ (objects : List Named) (are : All (λ o. IsObject o.object) objects) (n
 
   pub graph_reduces : CanReduceBand 0 (graph_tasks steps outs p radius) planes (tallies_of objects steps)
   graph_reduces =
-      let cells : List Cell = graph_cells steps outs in
+      let cells : List Reference = graph_cells steps outs in
       let all = tallied cells (map (place_of p) outs) radius objects steps 0 0 in
       record {
         apart = all.0;
@@ -182,7 +182,7 @@ module _ (objects : List Named) (are : All (λ o. IsObject o.object) objects) (n
     where
       can_reduce : (r : Reduction) → IsTallied (graph_cells steps outs) (map (place_of p) outs) radius objects r 0 steps → CanReduce 0 planes (tallies_of objects steps) r
       can_reduce r t =
-          let cells : List Cell = graph_cells steps outs in
+          let cells : List Reference = graph_cells steps outs in
           let there : In t.node.in1 cells = all_named (map (λ (o : VirtualOutput). o.cell) outs) steps t.node t.inside t.node.in1 (inl refl) in
           let count = plane_count objects steps outs virtuals descs in
           let found : tally_at (tallies_of objects steps) r.tally ≡ t.tally =

@@ -3,15 +3,15 @@ use Rattle.std.proofs.Common.{◌≡◌, ◌≢◌, ℕ, suc, ◌+◌, ◌-◌, 
 use Rattle.std.specs.List.{filter}
 use Rattle.std.proofs.lemmas.List.{append_assoc, drop_more}
 use Rattle.std.proofs.lemmas.List.Elements.{filter-append}
-use Rattle.graph_run.proofs.Common.{cases_Bool, cases_lt, flat_map, Format, Description, Kind, Node, Cell, given, outputs, parameters, has_twice, In, In-at, In-from_filter, Output, First, Second}
+use Rattle.graph_run.proofs.Common.{cases_Bool, cases_lt, flat_map, Format, Description, Kind, Node, Reference, optional_cells, outputs, parameters, has_twice, In, In-at, In-from_filter, Output, First, Second}
 use Rattle.vx_base.specs.declared.kind.Kind.TheVariants as kind
 use Rattle.graph_steps.specs.declared.step.Step.{Step}
 use Rattle.graph_steps.specs.declared.step.Task.{Task}
 use Rattle.graph_steps.specs.declared.step.Task.TheVariants.{Write, Reduce}
-use Rattle.graph_steps.specs.Program.{HaveRoom, HoldsRows, IsStepOf, KeepsBlock, blocks_after_tasks, halo}
+use Rattle.graph_steps.specs.Program.{HaveCapacity, HoldsRows, IsStepOf, KeepsBlock, blocks_after_tasks, halo}
 use Rattle.graph_steps.specs.Steps.{blocks_with_move, capacity}
 use Rattle.graph_run.specs.Cells.{index_of, with_cells}
-use Rattle.graph_run.specs.Tasks.{SlotsHold, TakeTurns, WriteImages, blocks_at, step_for, taken, tally_after, tasks_by, tasks_from, write_given}
+use Rattle.graph_run.specs.Tasks.{SlotsHold, TakeTurns, WriteImages, blocks_at, step_for, previous_holder, tally_after, tasks_by, tasks_from, write_given}
 use Rattle.graph_run.proofs.IndexLemmas.{added_behind, index_at, index_left, index_right}
 use Rattle.graph_run.proofs.CycleLemmas.{blocks_cycle, holder_is, holder_some, next_blocks, takes_it, takes_room, t}
 
@@ -26,7 +26,7 @@ turns_return slots rooms clients k (Write s ∷ later) (inl turn) =
     ap (λ (o : Option ℕ). blocks_after_tasks later (blocks_with_move o s.output (blocks_at slots rooms clients k))) turn.1 ∙ turns_return slots rooms clients k later turn.2
 turns_return slots rooms clients k (Write s ∷ later) (inr turn) =
     ap (λ (o : Option ℕ). blocks_after_tasks later (blocks_with_move o s.output (blocks_at slots rooms clients k))) turn.2
-    ∙ ap (λ (n : ℕ). blocks_after_tasks later (blocks_with_move (taken slots k) n (blocks_at slots rooms clients k))) turn.1
+    ∙ ap (λ (n : ℕ). blocks_after_tasks later (blocks_with_move (previous_holder slots k) n (blocks_at slots rooms clients k))) turn.1
     ∙ ap (blocks_after_tasks later) (next_blocks slots rooms clients k turn.0)
     ∙ turns_return slots rooms clients (k + 1) later turn.3
 
@@ -38,12 +38,12 @@ none_some : {X : Type 0} (o : Option X) (x : X) → o ≡ None → o ≡ Some x 
 none_some o x a b = let e : ◌≡◌ {A = Option _} None (Some x) = sym a ∙ b in cc
 
 pub turns_room : (size : ℕ) (halos : List ℕ) (descs : ℕ → Description) (slots : List ℕ) (rooms : ℕ → Format × ℕ) (clients : List (Format × ℕ)) → SlotsHold size halos descs slots rooms
-    → (k : ℕ) (tasks : List Task) → TakeTurns slots k tasks → HaveRoom size halos descs tasks (blocks_at slots rooms clients k)
+    → (k : ℕ) (tasks : List Task) → TakeTurns slots k tasks → HaveCapacity size halos descs tasks (blocks_at slots rooms clients k)
 turns_room size halos descs slots rooms clients hold k [] turns = tt
 turns_room size halos descs slots rooms clients hold k (Reduce r ∷ later) turns = turns_room size halos descs slots rooms clients hold k later turns
 turns_room size halos descs slots rooms clients hold k (Write s ∷ later) (inl turn) = (
   (λ from e. absurd (none_some s.takes from turn.1 e)),
-  subst (λ (o : Option ℕ). HaveRoom size halos descs later (blocks_with_move o s.output (blocks_at slots rooms clients k))) (sym turn.1)
+  subst (λ (o : Option ℕ). HaveCapacity size halos descs later (blocks_with_move o s.output (blocks_at slots rooms clients k))) (sym turn.1)
       (turns_room size halos descs slots rooms clients hold k later turn.2),
 )
 turns_room size halos descs slots rooms clients hold k (Write s ∷ later) (inr turn) = (
@@ -52,10 +52,10 @@ turns_room size halos descs slots rooms clients hold k (Write s ∷ later) (inr 
       subst (λ (n : ℕ). HoldsRows size (halo halos n) (descs n) (capacity (blocks_at slots rooms clients k) from)) (sym turn.1)
       (subst (λ (b : Format × ℕ). HoldsRows size (halo halos k) (descs k) b)
       (sym (ap (capacity (blocks_at slots rooms clients k)) (sym same) ∙ takes_room slots rooms clients k turn.0)) (hold k turn.0))),
-  subst (λ (b : List (Format × ℕ)). HaveRoom size halos descs later b)
+  subst (λ (b : List (Format × ℕ)). HaveCapacity size halos descs later b)
       (sym
       (ap (λ (o : Option ℕ). blocks_with_move o s.output (blocks_at slots rooms clients k)) turn.2
-      ∙ ap (λ (n : ℕ). blocks_with_move (taken slots k) n (blocks_at slots rooms clients k)) turn.1
+      ∙ ap (λ (n : ℕ). blocks_with_move (previous_holder slots k) n (blocks_at slots rooms clients k)) turn.1
       ∙ next_blocks slots rooms clients k turn.0))
       (turns_room size halos descs slots rooms clients hold (k + 1) later turn.3),
 )
@@ -75,7 +75,7 @@ turns_take slots k (Write w ∷ later) (inl turn) s (inr i) = turns_take slots k
 turns_take slots k (Write w ∷ later) (inr turn) s (inl e) =
     let from = holder_some slots k 0 turn.0 in
     let below = (holder_is slots (get_or slots k 0) k from.0 0 from.1).0 in
-    let takes : taken slots k ≡ Some from.0 = grind (arith, turn.0, from.1) in
+    let takes : previous_holder slots k ≡ Some from.0 = grind (arith, turn.0, from.1) in
     inr (omega (arith, ap (λ (x : Step). x.output) e, turn.1, turn.0), (from.0, below, ap (λ (x : Step). x.takes) e ∙ turn.2 ∙ takes))
 turns_take slots k (Write w ∷ later) (inr turn) s (inr i) = turns_take slots (k + 1) later turn.3 s i
 
@@ -116,16 +116,16 @@ kept_turns slots tasks turns count c kept = elim (cases_lt c (length slots)) [
 -- ---- the tasks of a graph take their turns
 
 -- the cells of virtual images, each once, in the order in which the nodes write them; and other cells behind them
-module _ (is_virtual : Cell → Bool) (virtual rest : List Cell) (slots : List ℕ) (radius : Node → ℕ)
-    (count : length slots ≡ length virtual) (once : has_twice virtual ≡ false) (each : (c : Cell) → In c virtual → is_virtual c ≡ true) where
-  abbrev cells : List Cell
+module _ (is_virtual : Reference → Bool) (virtual rest : List Reference) (slots : List ℕ) (radius : Node → ℕ)
+    (count : length slots ≡ length virtual) (once : has_twice virtual ≡ false) (each : (c : Reference) → In c virtual → is_virtual c ≡ true) where
+  abbrev cells : List Reference
   cells = virtual ++ rest
 
   -- the outputs that are still to be written
-  abbrev Remain : ℕ → List Cell → Type 0
+  abbrev Remain : ℕ → List Reference → Type 0
   Remain k left = (k ≤ length slots) × (filter is_virtual left ≡ drop k virtual)
 
-  turn_one : (w : Step) (c : Cell) → w.output ≡ index_of cells c → w.takes ≡ taken slots (index_of cells c) → (k : ℕ) (left : List Cell) (later : List Task) → Remain k (c ∷ left)
+  turn_one : (w : Step) (c : Reference) → w.output ≡ index_of cells c → w.takes ≡ previous_holder slots (index_of cells c) → (k : ℕ) (left : List Reference) (later : List Task) → Remain k (c ∷ left)
       → ((j : ℕ) → Remain j left → TakeTurns slots j later) → TakeTurns slots k (Write w ∷ later)
   turn_one w c output takes k left later now next = elim (cases_Bool (is_virtual c)) [
     | inl yes_virtual ↦
@@ -137,30 +137,30 @@ module _ (is_virtual : Cell → Bool) (virtual rest : List Cell) (slots : List �
         let tail : filter is_virtual left ≡ drop (k + 1) virtual = cc in
         let here : In (get_or virtual k c) virtual = In-at virtual k c below in
         let at : index_of cells c ≡ k =
-        index_left virtual rest c (subst (λ (x : Cell). In x virtual) (sym head) here) ∙ ap (index_of virtual) head ∙ index_at virtual k c once below in
-        inr (omega (arith, below, count), output ∙ at, takes ∙ ap (taken slots) at, next (k + 1) (omega (arith, below, count), tail)))
+        index_left virtual rest c (subst (λ (x : Reference). In x virtual) (sym head) here) ∙ ap (index_of virtual) head ∙ index_at virtual k c once below in
+        inr (omega (arith, below, count), output ∙ at, takes ∙ ap (previous_holder slots) at, next (k + 1) (omega (arith, below, count), tail)))
     | inr no_virtual ↦
         (let same : filter is_virtual left ≡ drop k virtual = (rw no_virtual at now.1) in
         let above : length virtual ≤ index_of cells c = index_right virtual rest c (λ i. (let e : true ≡ false = sym (each c i) ∙ no_virtual in cc)) in
-        let none : taken slots (index_of cells c) ≡ None = grind (arith, above, count) in
+        let none : previous_holder slots (index_of cells c) ≡ None = grind (arith, above, count) in
         inl (omega (arith, output, above, count), takes ∙ none, next k (now.0, same)))
   ]
 
-  turn_given : (at k : ℕ) (n : Node) (which : Output) (output : Option Cell) (left : List Cell) (later : List Task) → Remain k (given output ++ left)
+  turn_given : (at k : ℕ) (n : Node) (which : Output) (output : Option Reference) (left : List Reference) (later : List Task) → Remain k (optional_cells output ++ left)
       → ((j : ℕ) → Remain j left → TakeTurns slots j later) → TakeTurns slots k (write_given cells slots radius at n which output ++ later)
   turn_given at k n which None left later now next = next k now
   turn_given at k n which (Some c) left later now next = turn_one (step_for cells slots radius at n which c) c refl refl k left later now next
 
-  skip : (k : ℕ) (n : Node) (left : List Cell) → filter is_virtual (outputs n) ≡ [] → Remain k (outputs n ++ left) → Remain k left
-  skip k n left none now = (now.0, ap (λ (l : List Cell). l ++ filter is_virtual left) (sym none) ∙ sym (filter-append is_virtual (outputs n) left) ∙ now.1)
+  skip : (k : ℕ) (n : Node) (left : List Reference) → filter is_virtual (outputs n) ≡ [] → Remain k (outputs n ++ left) → Remain k left
+  skip k n left none now = (now.0, ap (λ (l : List Reference). l ++ filter is_virtual left) (sym none) ∙ sym (filter-append is_virtual (outputs n) left) ∙ now.1)
 
   -- the outputs of a node are images, or are none of the virtual ones
-  turn_by : (at tally k : ℕ) (n : Node) (left : List Cell) (later : List Task) → (wanted : Kind) → (wanted ≢ kind.Image → filter is_virtual (outputs n) ≡ []) → Remain k (outputs n ++ left)
+  turn_by : (at tally k : ℕ) (n : Node) (left : List Reference) (later : List Task) → (wanted : Kind) → (wanted ≢ kind.Image → filter is_virtual (outputs n) ≡ []) → Remain k (outputs n ++ left)
       → ((j : ℕ) → Remain j left → TakeTurns slots j later) → TakeTurns slots k (tasks_by cells slots radius at tally n wanted ++ later)
   turn_by at tally k n left later kind.Image plain now next =
       subst (TakeTurns slots k) (sym (append_assoc (write_given cells slots radius at n First n.out1) (write_given cells slots radius at n Second n.out2) later))
-      (turn_given at k n First n.out1 (given n.out2 ++ left) (write_given cells slots radius at n Second n.out2 ++ later)
-      (subst (Remain k) (append_assoc (given n.out1) (given n.out2) left) now)
+      (turn_given at k n First n.out1 (optional_cells n.out2 ++ left) (write_given cells slots radius at n Second n.out2 ++ later)
+      (subst (Remain k) (append_assoc (optional_cells n.out1) (optional_cells n.out2) left) now)
       (λ j then. turn_given at j n Second n.out2 left later then next))
   turn_by at tally k n left later other plain now next = next k (skip k n left (plain (λ e. cc)) now)
 
@@ -174,11 +174,11 @@ module _ (is_virtual : Cell → Bool) (virtual rest : List Cell) (slots : List �
       (λ j then. turn_all nodes (at + 1) (tally_after tally (parameters n.function).output) j (λ m i. plain m (inr i)) then)
 
 -- those of a graph's nodes do
-pub turns_of : (is_virtual : Cell → Bool) (nodes : List Node) (slots : List ℕ) (radius : Node → ℕ) → length slots ≡ length (filter is_virtual (flat_map outputs nodes))
-    → has_twice (filter is_virtual (flat_map outputs nodes)) ≡ false → WriteImages is_virtual nodes → (more : List Cell)
+pub turns_of : (is_virtual : Reference → Bool) (nodes : List Node) (slots : List ℕ) (radius : Node → ℕ) → length slots ≡ length (filter is_virtual (flat_map outputs nodes))
+    → has_twice (filter is_virtual (flat_map outputs nodes)) ≡ false → WriteImages is_virtual nodes → (more : List Reference)
     → TakeTurns slots 0 (tasks_from (with_cells (filter is_virtual (flat_map outputs nodes)) more) slots radius 0 0 nodes)
 turns_of is_virtual nodes slots radius count once plain more =
-    let virtual : List Cell = filter is_virtual (flat_map outputs nodes) in
+    let virtual : List Reference = filter is_virtual (flat_map outputs nodes) in
     let behind = added_behind virtual more in
-    subst (λ (cells : List Cell). TakeTurns slots 0 (tasks_from cells slots radius 0 0 nodes)) (sym behind.1)
+    subst (λ (cells : List Reference). TakeTurns slots 0 (tasks_from cells slots radius 0 0 nodes)) (sym behind.1)
     (turn_all is_virtual virtual behind.0 slots radius count once (λ c i. (In-from_filter is_virtual c (flat_map outputs nodes) i).1) nodes 0 0 0 plain (omega arith, refl))

@@ -1,6 +1,6 @@
 -- A graph that is found able to run: how it runs.
 use Rattle.std.proofs.Common.{◌≡◌, ℕ, ◌<◌, true, false, List, Option, Some, None, inl, inr, sym, ap, subst, ◌∙◌, arith, All, unwrap_or, option_map}
-use Rattle.graph_run.proofs.Common.{AllPairs, flat_map, IsStrictlyIncreasing, cases_Bool, or_left, or_right, length-map, get_or-map, Kind, Node, Cell, IsNode, inputs, outputs, operands, ObjectValue, object_kind, Named, held, VirtualOutput, Operand, Image, Delay, Verified, writes, is_written, In, operand_of, operand_kind, operands_of, resolved, outlines, verdict, verdict_on, IsVerified, same-from_In, In-outputs, In-left, In-right, In-from_any, In-filter, In-from_map, AllIn-permutation, CanRun, HoldsOperand, names_cell, CellsStand, operand_held, HoldsKind, CanRunNow, names_of}
+use Rattle.graph_run.proofs.Common.{AllPairs, flat_map, IsStrictlyIncreasing, cases_Bool, or_left, or_right, length-map, get_or-map, Kind, Node, Reference, IsNode, inputs, outputs, operands, ObjectValue, object_kind, NamedObject, object_at, VirtualOutput, Operand, Image, Delay, Verified, writes, is_written, In, operand_of, operand_kind, operands_of, resolved_operand, partial_descs, verdict, verdict_on, IsVerified, same-from_In, In-outputs, In-left, In-right, In-from_any, In-filter, In-from_map, AllIn-permutation, CanRun, HoldsOperand, names_cell, CellsStand, operand_held, HoldsKind, CanRunNow, names_of}
 use Rattle.graph_verify.specs.Links.{reads}
 use Rattle.graph_verify.proofs.VerdictLemmas.{can_run}
 use Rattle.graph_run.specs.Operands.{StandsFor}
@@ -13,17 +13,17 @@ use Rattle.graph_run.proofs.TurnLaws.{each_alone}
 -- ---- cells that a node names
 
 module _ (n : Node) where
-  pub named_by_input : (cell : Cell) → In cell (inputs n) → names_cell n cell ≡ true
+  pub named_by_input : (cell : Reference) → In cell (inputs n) → names_cell n cell ≡ true
   named_by_input cell i = or_left (reads n cell) (writes n cell) (same-from_In cell (inputs n) i)
 
-  pub named_by_output : (cell : Cell) → In cell (outputs n) → names_cell n cell ≡ true
+  pub named_by_output : (cell : Reference) → In cell (outputs n) → names_cell n cell ≡ true
   named_by_output cell i = or_right (reads n cell) (writes n cell) (same-from_In cell (outputs n) i)
 
-  pub operand_named : (operand : Cell × Kind) → In operand (operands n) → names_cell n operand.0 ≡ true
+  pub operand_named : (operand : Reference × Kind) → In operand (operands n) → names_cell n operand.0 ≡ true
   operand_named operand z1 = grind (arith, named_by_output)
 
   -- what is the same of each cell that a node names makes the same operands
-  pub same_operands : (one other : Cell → Operand) → ((cell : Cell) → names_cell n cell ≡ true → one cell ≡ other cell)
+  pub same_operands : (one other : Reference → Operand) → ((cell : Reference) → names_cell n cell ≡ true → one cell ≡ other cell)
       → operands_of one n ≡ operands_of other n
   same_operands one other same = grind (arith, named_by_input, named_by_output, In-left, In-right)
 
@@ -38,15 +38,15 @@ kind_found x operand wanted e is_kind = grind arith
 -- ---- the virtual images that nodes write
 
 -- the virtual images that the nodes of a verified graph write
-module _ (is : Cell → Operand) (nodes : List Node) (v : Verified) (how : IsVerified is nodes v) where
+module _ (is : Reference → Operand) (nodes : List Node) (v : Verified) (how : IsVerified is nodes v) where
   abbrev written : List VirtualOutput
   written = v.virtual_outputs.items
 
-  pub output_known : (o : VirtualOutput) → In o written → resolved is nodes o.cell ≡ Image o.desc
-  output_known o i = In-from_All (λ (p : VirtualOutput). resolved is nodes p.cell ≡ Image p.desc) written how.descriptions o i
+  pub output_known : (o : VirtualOutput) → In o written → resolved_operand is nodes o.cell ≡ Image o.desc
+  output_known o i = In-from_All (λ (p : VirtualOutput). resolved_operand is nodes p.cell ≡ Image p.desc) written how.descriptions o i
 
   -- each virtual image that the nodes write is an output
-  pub in_outputs : (cell : Cell) → is_written nodes cell ≡ true → is_virtual_operand (is cell) ≡ true
+  pub in_outputs : (cell : Reference) → is_written nodes cell ≡ true → is_virtual_operand (is cell) ≡ true
       → (o : VirtualOutput) × In o written × (cell ≡ o.cell)
   in_outputs cell by_node virtual =
       let writer = In-from_any (λ m. writes m cell) nodes by_node in
@@ -54,13 +54,13 @@ module _ (is : Cell → Operand) (nodes : List Node) (v : Verified) (how : IsVer
       In-from_map (λ (p : VirtualOutput). p.cell) cell written
       (subst (λ l. In cell l) (sym how.cells) (In-filter (λ c. is_virtual_operand (is c)) cell (flat_map outputs v.steps.items) out virtual))
 
-module _ (objects : List Named) (nodes : List Node) (v : Verified) (work : ℕ) (how : IsVerified (operand_held objects) nodes v)
+module _ (objects : List NamedObject) (nodes : List Node) (v : Verified) (work : ℕ) (how : IsVerified (operand_held objects) nodes v)
     (runs : verdict work (operand_held objects) nodes ≡ None) where
-  abbrev pub is : Cell → Operand
+  abbrev pub is : Reference → Operand
   is = operand_held objects
 
-  abbrev pub known : Cell → Operand
-  known = resolved is nodes
+  abbrev pub known : Reference → Operand
+  known = resolved_operand is nodes
 
   abbrev pub steps : List Node
   steps = v.steps.items
@@ -72,18 +72,18 @@ module _ (objects : List Named) (nodes : List Node) (v : Verified) (work : ℕ) 
 
   module _ (stand : CellsStand is nodes objects) where
     -- a cell that a node names is then of the kind that stands there
-    known_kind : (n : Node) (cell : Cell) (wanted : Kind) → In n nodes → names_cell n cell ≡ true → StandsFor (is cell) wanted
+    known_kind : (n : Node) (cell : Reference) (wanted : Kind) → In n nodes → names_cell n cell ≡ true → StandsFor (is cell) wanted
         → operand_kind (known cell) ≡ wanted
     known_kind n cell wanted i named_there stands = elim (cases_Bool (is_virtual_operand (is cell))) [
       | inl virtual ↦
           (let output = in_outputs is nodes v how cell (virtual_written work is nodes can n cell i named_there virtual) virtual in
-          let outline = outline_of_virtual (is cell) virtual in
-          ap operand_kind (ap known output.2 ∙ output_known is nodes v how output.0 output.1) ∙ sym (subst (λ o. StandsFor o wanted) outline.1 stands))
-      | inr real ↦ ap operand_kind (known_kept (is cell) (outlines is nodes cell) real) ∙ real_kind (is cell) wanted real stands
+          let partial_desc = outline_of_virtual (is cell) virtual in
+          ap operand_kind (ap known output.2 ∙ output_known is nodes v how output.0 output.1) ∙ sym (subst (λ o. StandsFor o wanted) partial_desc.1 stands))
+      | inr real ↦ ap operand_kind (known_kept (is cell) (partial_descs is nodes cell) real) ∙ real_kind (is cell) wanted real stands
     ]
 
-    pub can_run_now : (n : Node) (now : List Named) → In n nodes → IsNode n → All (λ operand. StandsFor (is operand.0) operand.1) (operands n)
-        → ((cell : Cell) → names_cell n cell ≡ true → HoldsOperand now cell (known cell)) → CanRunNow now n
+    pub can_run_now : (n : Node) (now : List NamedObject) → In n nodes → IsNode n → All (λ operand. StandsFor (is operand.0) operand.1) (operands n)
+        → ((cell : Reference) → names_cell n cell ≡ true → HoldsOperand now cell (known cell)) → CanRunNow now n
     can_run_now n now i node stands found =
         record {
           node = node;
@@ -91,8 +91,8 @@ module _ (objects : List Named) (nodes : List Node) (v : Verified) (work : ℕ) 
               All-from_In (HoldsKind now) (operands n)
               (λ operand j.
               let named_there = operand_named n operand j in
-              kind_found (held now operand.0) (known operand.0) operand.1 (found operand.0 named_there)
-              (known_kind n operand.0 operand.1 i named_there (In-from_All (λ (o : Cell × Kind). StandsFor (is o.0) o.1) (operands n)
+              kind_found (object_at now operand.0) (known operand.0) operand.1 (found operand.0 named_there)
+              (known_kind n operand.0 operand.1 i named_there (In-from_All (λ (o : Reference × Kind). StandsFor (is o.0) o.1) (operands n)
               stands operand j)));
           verdict =
               ap (verdict_on n)
@@ -103,6 +103,6 @@ module _ (objects : List Named) (nodes : List Node) (v : Verified) (work : ℕ) 
 -- ---- a graph that is ready to run on what a table holds
 
 -- names that increase, each below all later ones
-pub pairs_of : (objects : List Named) → IsStrictlyIncreasing (names_of objects) → AllPairs (λ a b. a.name < b.name) objects
+pub pairs_of : (objects : List NamedObject) → IsStrictlyIncreasing (names_of objects) → AllPairs (λ a b. a.name < b.name) objects
 pairs_of objects h i j d less within =
-    grind (arith, AllPairs-from_increasing (names_of objects) h i j 0 less (omega (arith, within, length-map objects (λ (o : Named). o.name))), names_of objects, length-map objects (λ (o : Named). o.name), get_or-map (λ (o : Named). o.name) objects i d 0 (omega (arith, less, within)), get_or-map (λ (o : Named). o.name) objects j d 0 within)
+    grind (arith, AllPairs-from_increasing (names_of objects) h i j 0 less (omega (arith, within, length-map objects (λ (o : NamedObject). o.name))), names_of objects, length-map objects (λ (o : NamedObject). o.name), get_or-map (λ (o : NamedObject). o.name) objects i d 0 (omega (arith, less, within)), get_or-map (λ (o : NamedObject). o.name) objects j d 0 within)

@@ -5,35 +5,35 @@ use Rattle.std.proofs.lemmas.List.FromFn.{map-range_with_len_more}
 use Rattle.graph_run.proofs.Common.{list_any, range_with_len, map-append, nat_tests, Format, U8, Samples, samples_format, values, VirtualOutput}
 use Rattle.graph_steps.specs.Planes.{PlaneValue, no_plane, plane}
 use Rattle.graph_steps.specs.Steps.{capacities, capacity}
-use Rattle.graph_run.specs.Blocks.{block_size, room_at}
+use Rattle.graph_run.specs.Blocks.{block_size, block_capacity}
 use Rattle.graph_run.specs.Tasks.{block_at, is_at, last_in}
 use Rattle.graph_run.proofs.CycleLemmas.{last_below}
 
 -- ---- blocks of slots
 
 -- the block of another slot
-pub other_room : (blocks : List Samples) (s t : ℕ) (b : Samples) → s ≢ t → room_at (slice_set blocks t b) s ≡ room_at blocks s
+pub other_room : (blocks : List Samples) (s t : ℕ) (b : Samples) → s ≢ t → block_capacity (slice_set blocks t b) s ≡ block_capacity blocks s
 other_room blocks s t b differ =
     ap (λ (l : List (Format × ℕ)). get_or l s (U8, 0)) (map-set block_size blocks t b) ∙ get_or-set_other (map block_size blocks) t s (block_size b) (U8, 0) differ
 
 -- the block of the slot itself
-own_room : (blocks : List Samples) (t : ℕ) (b : Samples) → t < length blocks → room_at (slice_set blocks t b) t ≡ block_size b
+own_room : (blocks : List Samples) (t : ℕ) (b : Samples) → t < length blocks → block_capacity (slice_set blocks t b) t ≡ block_size b
 own_room blocks t b inside =
     ap (λ (l : List (Format × ℕ)). get_or l t (U8, 0)) (map-set block_size blocks t b)
     ∙ get_or-set_same (map block_size blocks) t (block_size b) (U8, 0) (omega (arith, inside, length-map blocks block_size))
 
 -- the format of a slot's block
-room_format : (blocks : List Samples) (s : ℕ) → (room_at blocks s).0 ≡ get_or (map samples_format blocks) s U8
+room_format : (blocks : List Samples) (s : ℕ) → (block_capacity blocks s).0 ≡ get_or (map samples_format blocks) s U8
 room_format [] s = refl
 room_format (b ∷ blocks) zero = refl
 room_format (b ∷ blocks) (suc s) = room_format blocks s
 
-pub same_format_at : (old now : List Samples) (s : ℕ) → map samples_format now ≡ map samples_format old → (room_at now s).0 ≡ (room_at old s).0
+pub same_format_at : (old now : List Samples) (s : ℕ) → map samples_format now ≡ map samples_format old → (block_capacity now s).0 ≡ (block_capacity old s).0
 same_format_at old now s same = room_format now s ∙ ap (λ l. get_or l s U8) same ∙ sym (room_format old s)
 
 -- the samples that a plane gives back are of the format of the block in its slot
 pub returned_format : (old now : List Samples) (start planes : List PlaneValue) (k s : ℕ) (b x : Samples) (r : PlaneValue) → samples_format b ≡ (get_or planes k r).format → k < length planes
-    → plane planes k ≡ plane start k → (plane start k).format ≡ (room_at old s).0 → map samples_format now ≡ map samples_format old → s < length now
+    → plane planes k ≡ plane start k → (plane start k).format ≡ (block_capacity old s).0 → map samples_format now ≡ map samples_format old → s < length now
     → samples_format b ≡ samples_format (get_or now s x)
 returned_format old now start planes k s b x r gives below here is same inside =
     gives ∙ ap (λ (p : PlaneValue). p.format) (get_or_default planes k r no_plane below ∙ here) ∙ is ∙ sym (same_format_at old now s same)
@@ -78,7 +78,7 @@ last_differs slots s t j k is there later same =
 
 -- slots of which those that are still to be given to planes are as they were
 pub same_block : (slots : List ℕ) (old now : List Samples) (k : ℕ) → map samples_format now ≡ map samples_format old
-    → ((s j : ℕ) → last_in s slots ≡ Some j → k ≤ j → room_at now s ≡ room_at old s) → block_at slots (room_at now) 0 k ≡ block_at slots (room_at old) 0 k
+    → ((s j : ℕ) → last_in s slots ≡ Some j → k ≤ j → block_capacity now s ≡ block_capacity old s) → block_at slots (block_capacity now) 0 k ≡ block_at slots (block_capacity old) 0 k
 same_block slots old now k formats others =
     let s = get_or slots k 0 in
     by_last (last_in s slots) refl
@@ -86,17 +86,17 @@ same_block slots old now k formats others =
     of_room : Option ℕ → Format × ℕ → Format × ℕ
     of_room last room = (room.0, (if is_at k last then room.1 else 0))
 
-    by_last : (last : Option ℕ) → last_in (get_or slots k 0) slots ≡ last → of_room last (room_at now (get_or slots k 0)) ≡ of_room last (room_at old (get_or slots k 0))
+    by_last : (last : Option ℕ) → last_in (get_or slots k 0) slots ≡ last → of_room last (block_capacity now (get_or slots k 0)) ≡ of_room last (block_capacity old (get_or slots k 0))
     by_last None e = ap (λ f. (f, 0)) (same_format_at old now (get_or slots k 0) formats)
     by_last (Some j) e = by_test (j == k) refl
       where
-        by_test : (here : Bool) → (j == k) ≡ here → of_room (Some j) (room_at now (get_or slots k 0)) ≡ of_room (Some j) (room_at old (get_or slots k 0))
+        by_test : (here : Bool) → (j == k) ≡ here → of_room (Some j) (block_capacity now (get_or slots k 0)) ≡ of_room (Some j) (block_capacity old (get_or slots k 0))
         by_test true is = ap (of_room (Some j)) (others (get_or slots k 0) j e (omega (arith, eqb-true j k is)))
         by_test false is = simp is (ap (λ f. (f, 0)) (same_format_at old now (get_or slots k 0) formats))
 
 -- the block of a slot without images
 pub unused_more : (slots : List ℕ) (blocks : List Samples) (k s : ℕ) (b : Samples) → is_at k (last_in (get_or slots k 0) slots) ≡ true → last_in s slots ≡ None
-    → room_at (slice_set blocks (get_or slots k 0) b) s ≡ room_at blocks s
+    → block_capacity (slice_set blocks (get_or slots k 0) b) s ≡ block_capacity blocks s
 unused_more slots blocks k s b is none = other_room blocks s (get_or slots k 0) b differ
   where
     differ : s ≢ get_or slots k 0
@@ -106,8 +106,8 @@ unused_more slots blocks k s b is none = other_room blocks s (get_or slots k 0) 
 
 -- the last image in a slot gives its block back
 pub back_more : (slots : List ℕ) (blocks : List Samples) (sizes : List (Format × ℕ)) (k : ℕ) (b : Samples) → is_at k (last_in (get_or slots k 0) slots) ≡ true → get_or slots k 0 < length blocks
-    → block_size b ≡ capacity sizes k → ((s j : ℕ) → last_in s slots ≡ Some j → j < k → room_at blocks s ≡ capacity sizes j)
-    → (s j : ℕ) → last_in s slots ≡ Some j → j < k + 1 → room_at (slice_set blocks (get_or slots k 0) b) s ≡ capacity sizes j
+    → block_size b ≡ capacity sizes k → ((s j : ℕ) → last_in s slots ≡ Some j → j < k → block_capacity blocks s ≡ capacity sizes j)
+    → (s j : ℕ) → last_in s slots ≡ Some j → j < k + 1 → block_capacity (slice_set blocks (get_or slots k 0) b) s ≡ capacity sizes j
 back_more slots blocks sizes k b is inside size before s j there below = by_test (s == get_or slots k 0) refl
   where
     t : ℕ
@@ -116,12 +116,12 @@ back_more slots blocks sizes k b is inside size before s j there below = by_test
     last : last_in t slots ≡ Some k
     last = last_is slots t k is
 
-    by_test : (here : Bool) → (s == get_or slots k 0) ≡ here → room_at (slice_set blocks (get_or slots k 0) b) s ≡ capacity sizes j
+    by_test : (here : Bool) → (s == get_or slots k 0) ≡ here → block_capacity (slice_set blocks (get_or slots k 0) b) s ≡ capacity sizes j
     by_test true same =
         let at : s ≡ t = eqb-true s t same in
         let one : last_in s slots ≡ Some k = ap (λ x. last_in x slots) at ∙ last in
         let here : k ≡ j = grind (arith, there, one) in
-        ap (room_at (slice_set blocks t b)) at ∙ own_room blocks t b inside ∙ size ∙ ap (capacity sizes) here
+        ap (block_capacity (slice_set blocks t b)) at ∙ own_room blocks t b inside ∙ size ∙ ap (capacity sizes) here
     by_test false other =
         let differ : s ≢ t = grind (arith, nat_tests, other) in
         let later : j ≢ k = λ same. differ (sym (last_below s slots j 0 there).1 ∙ ap (λ n. get_or slots n 0) same) in
@@ -129,8 +129,8 @@ back_more slots blocks sizes k b is inside size before s j there below = by_test
 
 -- another image gives none
 pub back_stays : (slots : List ℕ) (blocks : List Samples) (sizes : List (Format × ℕ)) (k : ℕ) → is_at k (last_in (get_or slots k 0) slots) ≡ false
-    → ((s j : ℕ) → last_in s slots ≡ Some j → j < k → room_at blocks s ≡ capacity sizes j)
-    → (s j : ℕ) → last_in s slots ≡ Some j → j < k + 1 → room_at blocks s ≡ capacity sizes j
+    → ((s j : ℕ) → last_in s slots ≡ Some j → j < k → block_capacity blocks s ≡ capacity sizes j)
+    → (s j : ℕ) → last_in s slots ≡ Some j → j < k + 1 → block_capacity blocks s ≡ capacity sizes j
 back_stays slots blocks sizes k other before s j there below = before s j there (omega (arith, below, later))
   where
     later : j ≢ k
@@ -150,15 +150,15 @@ full_block slots rooms s k last =
 
 -- once all have, each slot has its block again
 pub rooms_back : (slots : List ℕ) (old between new : List Samples) (sizes : List (Format × ℕ)) → length new ≡ length old
-    → ((k : ℕ) → k < length slots → capacity sizes k ≡ block_at slots (room_at old) 0 k) → ((s : ℕ) → last_in s slots ≡ None → room_at between s ≡ room_at old s)
-    → ((s k : ℕ) → last_in s slots ≡ Some k → room_at new s ≡ capacity sizes k) → ((s : ℕ) → last_in s slots ≡ None → room_at new s ≡ room_at between s)
+    → ((k : ℕ) → k < length slots → capacity sizes k ≡ block_at slots (block_capacity old) 0 k) → ((s : ℕ) → last_in s slots ≡ None → block_capacity between s ≡ block_capacity old s)
+    → ((s k : ℕ) → last_in s slots ≡ Some k → block_capacity new s ≡ capacity sizes k) → ((s : ℕ) → last_in s slots ≡ None → block_capacity new s ≡ block_capacity between s)
     → map block_size new ≡ map block_size old
 rooms_back slots old between new sizes count first unused back left =
     ext_get_or (U8, 0) (map block_size new) (map block_size old) (omega (arith, count, length-map new block_size, length-map old block_size)) (λ s below. by_last s (last_in s slots) refl)
   where
-    by_last : (s : ℕ) (last : Option ℕ) → last_in s slots ≡ last → room_at new s ≡ room_at old s
+    by_last : (s : ℕ) (last : Option ℕ) → last_in s slots ≡ last → block_capacity new s ≡ block_capacity old s
     by_last s None e = left s e ∙ unused s e
-    by_last s (Some k) e = back s k e ∙ first k (last_below s slots k 0 e).0 ∙ full_block slots (room_at old) s k e
+    by_last s (Some k) e = back s k e ∙ first k (last_below s slots k 0 e).0 ∙ full_block slots (block_capacity old) s k e
 
 -- ---- one plane more
 

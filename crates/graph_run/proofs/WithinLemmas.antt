@@ -1,17 +1,17 @@
 -- The tasks of a graph: the fields of a program that its plan and its order give.
 use Rattle.std.proofs.Common.{◌≡◌, ◌≢◌, ℕ, ◌<◌, ◌≤◌, Bool, true, false, List, [], ◌∷◌, length, map, refl, sym, ap, subst, ◌∙◌, inl, inr, arith, Option, Some, None, ◌+◌, ◌-◌, ◌++◌, get_or}
 use Rattle.std.proofs.lemmas.List.{get_or-append_right, get_or-map, length-append, length-map}
-use Rattle.graph_run.proofs.Common.{flat_map, ImageValue, IsImage, Node, Cell, VirtualOutput, PlanValue, place_of, accumulates, outputs, In, In-from_filter}
+use Rattle.graph_run.proofs.Common.{flat_map, ImageValue, IsImage, Node, Reference, VirtualOutput, PlanView, place_of, accumulates, outputs, In, In-from_filter}
 use Rattle.graph_steps.specs.declared.step.Step.{Step}
 use Rattle.graph_steps.specs.declared.step.Task.{Task}
 use Rattle.graph_steps.specs.declared.step.Task.TheVariants.{Write, Reduce}
 use Rattle.graph_steps.specs.Planes.{PlaneValue, no_plane, plane}
-use Rattle.graph_run.proofs.Common.{In-at, Named, image_held}
+use Rattle.graph_run.proofs.Common.{In-at, NamedObject, image_held}
 use Rattle.graph_steps.specs.Program.{AreFree, AreInOrder, HaveOneWriter, IsClient, IsStepOf, KeepsBlock, IsLive, IsUnwritten, NamesPlanes}
 use Rattle.graph_steps.specs.Steps.{ReadsPlane}
 use Rattle.graph_run.specs.Bind.{image_plane, image_planes}
 use Rattle.graph_run.specs.Cells.{images_named, index_of}
-use Rattle.graph_run.specs.Tasks.{AreNamed, AreReadAfter, AreReadWithin, AreUntaken, HaveTasks, TakeTurns, graph_cells, graph_tasks, taken}
+use Rattle.graph_run.specs.Tasks.{AreNamed, AreReadAfter, AreReadWithin, AreUntaken, HaveTasks, TakeTurns, graph_cells, graph_tasks, previous_holder}
 use Rattle.graph_run.proofs.IndexLemmas.{added_behind, index_below, index_right}
 use Rattle.graph_run.proofs.SlotLemmas.{planned_slots}
 use Rattle.graph_run.proofs.TaskLemmas.{turns_kept, turns_take}
@@ -40,8 +40,8 @@ reads_untaken (Write w ∷ later) s untaken (inr i) c read = reads_untaken later
 
 -- ---- a graph
 
-module _ (steps : List Node) (outs : List VirtualOutput) (p : PlanValue) (is_virtual : Cell → Bool) (have : HaveTasks steps outs p is_virtual) (radius : Node → ℕ) where
-  abbrev virtual : List Cell
+module _ (steps : List Node) (outs : List VirtualOutput) (p : PlanView) (is_virtual : Reference → Bool) (have : HaveTasks steps outs p is_virtual) (radius : Node → ℕ) where
+  abbrev virtual : List Reference
   virtual = map (λ (o : VirtualOutput). o.cell) outs
 
   abbrev tasks : List Task
@@ -89,9 +89,9 @@ module _ (steps : List Node) (outs : List VirtualOutput) (p : PlanValue) (is_vir
       let client : is_virtual of.cell ≡ false = have.adds of.node of.inside adds_there of.cell of.written in
       let outside = λ (j : In of.cell virtual). (let k = In-from_filter is_virtual of.cell (flat_map outputs steps) (subst (In of.cell) have.order j) in let clash : true ≡ false = sym k.1 ∙ client in let no : ⊥ = cc in no) in
       let above : length virtual ≤ index_of (graph_cells steps outs) of.cell =
-      subst (λ (l : List Cell). length virtual ≤ index_of l of.cell) (sym behind.1) (index_right virtual behind.0 of.cell outside) in
+      subst (λ (l : List Reference). length virtual ≤ index_of l of.cell) (sym behind.1) (index_right virtual behind.0 of.cell outside) in
       let high : length (map (place_of p) outs) ≤ index_of (graph_cells steps outs) of.cell = omega (arith, above, length-map outs (place_of p), length-map outs (λ (o : VirtualOutput). o.cell)) in
-      let none : taken (map (place_of p) outs) (index_of (graph_cells steps outs) of.cell) ≡ None = grind (arith, high) in
+      let none : previous_holder (map (place_of p) outs) (index_of (graph_cells steps outs) of.cell) ≡ None = grind (arith, high) in
       ap (λ (x : Step). x.takes) of.is ∙ none
 
   pub steps_within : (s : Step) → IsStepOf s tasks → NamesPlanes count s
@@ -127,15 +127,15 @@ client_plane : (image : ImageValue) → IsImage image → IsClient (image_plane 
 client_plane image is = record { whole = record { format = refl; top = refl; size = is.size; valid = is.room }; rows = refl; image = is }
 
 -- planes behind others, of the images that cells hold
-pub client_planes : (planes : List PlaneValue) (objects : List Named) (cells : List Cell) → ((c : Cell) → In c cells → IsImage (image_held objects c))
+pub client_planes : (planes : List PlaneValue) (objects : List NamedObject) (cells : List Reference) → ((c : Reference) → In c cells → IsImage (image_held objects c))
     → (k : ℕ) → length planes ≤ k → k < length planes + length cells → IsClient (plane (planes ++ image_planes objects cells) k)
 client_planes planes objects cells are k above below =
     let at : ℕ = k - length planes in
     let small : at < length cells = omega (arith, above, below) in
-    let none : Cell = record { name = 0; slot = None } in
-    let c : Cell = get_or cells at none in
+    let none : Reference = record { name = 0; slot = None } in
+    let c : Reference = get_or cells at none in
     subst IsClient
     (sym
     (get_or-append_right planes (image_planes objects cells) (length planes) k no_plane refl above
-    ∙ get_or-map (λ (x : Cell). image_plane (image_held objects x)) cells at none no_plane small))
+    ∙ get_or-map (λ (x : Reference). image_plane (image_held objects x)) cells at none no_plane small))
     (client_plane (image_held objects c) (are c (In-at cells at none small)))

@@ -1,30 +1,30 @@
 -- Images that move from a table to planes while a graph runs, and back.
 use Rattle.std.specs.Prelude.{◌≡◌, ⊤, List, [], ◌∷◌, map}
-use Rattle.vx_base.specs.Cell.{Cell}
+use Rattle.vx_base.specs.Reference.{Reference}
 use Rattle.vx_base.specs.Image.{ImageValue, image_over, description_of}
 use Rattle.vx_base.specs.Object.{ObjectValue, ImageObject}
 use Rattle.image_core.specs.Bands.{all_rows}
-use Rattle.object_table.specs.Named.{Named}
+use Rattle.object_table.specs.NamedObject.{NamedObject}
 use Rattle.object_table.specs.Table.{HoldsImage, image_held}
 use Rattle.graph_verify.specs.Members.{In}
 use Rattle.graph_steps.specs.Planes.{PlaneValue, block_image}
 use Rattle.graph_run.specs.Steps.{AreApart}
 
 -- each reference names an image
-abbrev pub HoldImages : List Named → List Cell → Type 0
-HoldImages objects cells = (c : Cell) → In c cells → HoldsImage objects c
+abbrev pub HoldImages : List NamedObject → List Reference → Type 0
+HoldImages objects cells = (c : Reference) → In c cells → HoldsImage objects c
 
 -- any two of the references can be written independently
-abbrev pub AreAllApart : List Cell → Type 0
+abbrev pub AreAllApart : List Reference → Type 0
 AreAllApart [] = ⊤
-AreAllApart (c ∷ cells) = ((p : Cell) → In p cells → AreApart p c) × AreAllApart cells
+AreAllApart (c ∷ cells) = ((p : Reference) → In p cells → AreApart p c) × AreAllApart cells
 
 -- the image that stays in the table while its samples are in a plane
 abbrev pub without_samples : ImageValue → ImageValue
 without_samples image = image_over (description_of image) image.valid []
 
 -- the references, each with its image without samples
-abbrev pub bare_images : List Named → List Cell → List (Cell × ObjectValue)
+abbrev pub bare_images : List NamedObject → List Reference → List (Reference × ObjectValue)
 bare_images objects [] = []
 bare_images objects (c ∷ cells) = (c, ImageObject (without_samples (image_held objects c))) ∷ bare_images objects cells
 
@@ -34,17 +34,17 @@ image_plane image =
     record { desc = description_of image; valid = image.valid; top = 0; rows = all_rows image.height; format = image.format; samples = image.samples }
 
 -- the planes of the images that the references name
-abbrev pub image_planes : List Named → List Cell → List PlaneValue
+abbrev pub image_planes : List NamedObject → List Reference → List PlaneValue
 image_planes objects cells = map (λ c. image_plane (image_held objects c)) cells
 
 -- the references, each with the image of its plane
-abbrev pub plane_objects : List Cell → List PlaneValue → List (Cell × ObjectValue)
+abbrev pub plane_objects : List Reference → List PlaneValue → List (Reference × ObjectValue)
 plane_objects [] planes = []
 plane_objects (c ∷ cells) [] = []
 plane_objects (c ∷ cells) (p ∷ planes) = (c, ImageObject (block_image p)) ∷ plane_objects cells planes
 
 -- there is a plane for each reference, with the description and format of its image
-abbrev pub AreFor : List Named → List Cell → List PlaneValue → Type 0
+abbrev pub AreFor : List NamedObject → List Reference → List PlaneValue → Type 0
 AreFor objects [] planes = ⊤
 AreFor objects (c ∷ cells) [] = ⊥
 AreFor objects (c ∷ cells) (p ∷ planes) =

@@ -6,7 +6,7 @@ use Rattle.vx_base.specs.declared.samples.Samples.{Samples}
 use Rattle.vx_base.specs.Description.{Description}
 use Rattle.vx_base.specs.Picture.{values, samples_format}
 use Rattle.pixel_pool.specs.Pool.{one_of}
-use Rattle.buffer_plan.specs.Plan.{PlanValue}
+use Rattle.buffer_plan.specs.Plan.{PlanView}
 use Rattle.graph_verify.specs.declared.known.VirtualOutput.{VirtualOutput}
 use Rattle.graph_steps.specs.declared.step.Step.{Step}
 use Rattle.graph_steps.specs.declared.step.Task.{Task}
@@ -19,12 +19,12 @@ abbrev pub block_size : Samples → Format × ℕ
 block_size block = (samples_format block, length (values block))
 
 -- the same for the block at an index
-abbrev pub room_at : List Samples → ℕ → Format × ℕ
-room_at blocks place = slice_index_or (map block_size blocks) place (U8, 0)
+abbrev pub block_capacity : List Samples → ℕ → Format × ℕ
+block_capacity blocks place = slice_index_or (map block_size blocks) place (U8, 0)
 
 -- the number of blocks of a format
-abbrev pub block_count : List Samples → Format → ℕ
-block_count blocks format = sum_by (λ b. one_of (samples_format b) format) blocks
+abbrev pub blocks_of_format : List Samples → Format → ℕ
+blocks_of_format blocks format = sum_by (λ b. one_of (samples_format b) format) blocks
 
 -- the number of formats and sizes that are of this format
 abbrev pub room_count : List (Format × ℕ) → Format → ℕ
@@ -42,7 +42,7 @@ samples_from size halos k (o ∷ outs) (s ∷ slots) place =
     max (if s == place then band_samples size (halo halos k) o.desc else 0) (samples_from size halos (k + 1) outs slots place)
 
 -- the plan with slots that are large enough for bands of `size` rows
-abbrev pub band_plan : ℕ → List ℕ → List VirtualOutput → List ℕ → PlanValue → PlanValue
+abbrev pub band_plan : ℕ → List ℕ → List VirtualOutput → List ℕ → PlanView → PlanView
 band_plan size halos outs slots p =
     record p { slot_samples = λ format k. samples_from size halos 0 outs slots (slot_place p format k) }
 

@@ -3,10 +3,10 @@ use Rattle.std.specs.Prelude.{◌≡◌, ⊤, List, [], ◌∷◌, length, All, 
 use Rattle.vx_base.specs.declared.kind.Kind.{Kind}
 use Rattle.vx_base.specs.declared.kind.Kind.TheVariants as kind
 use Rattle.vx_base.specs.declared.node.Node.{Node}
-use Rattle.vx_base.specs.Cell.{Cell}
+use Rattle.vx_base.specs.Reference.{Reference}
 use Rattle.vx_base.specs.Function.{parameters}
 use Rattle.vx_base.specs.Object.{object_kind}
-use Rattle.object_table.specs.Named.{Named}
+use Rattle.object_table.specs.NamedObject.{NamedObject}
 use Rattle.object_table.specs.Object.{distribution_value}
 use Rattle.object_table.specs.Table.{cell_object}
 use Rattle.graph_steps.specs.declared.tally.Tally.{Tally}
@@ -24,30 +24,30 @@ IsLent kind.Convolution = ⊤
 IsLent other = ⊥
 
 -- the second inputs of the nodes that aren't images can be read as tables
-abbrev pub LendTables : List Named → List Node → Type 0
+abbrev pub LendTables : List NamedObject → List Node → Type 0
 LendTables objects nodes = All (λ n. IfSome (node_table objects n) (λ object. IsLent (object_kind object))) nodes
 
 -- ---- tallies
 
 -- the node's output can take its tally, by the kind of the output
-abbrev pub KeepsTally : List Named → Kind → Cell → Type 0
+abbrev pub KeepsTally : List NamedObject → Kind → Reference → Type 0
 KeepsTally objects kind.Image cell = ⊤
 KeepsTally objects kind.Distribution cell = HoldsKind objects (cell, kind.Distribution)
 KeepsTally objects kind.Extremes cell = HoldsKind objects (cell, kind.Extremes)
 KeepsTally objects other cell = ⊥
 
 -- the outputs of all nodes can take their tallies
-abbrev pub KeepTallies : List Named → List Node → Type 0
+abbrev pub KeepTallies : List NamedObject → List Node → Type 0
 KeepTallies objects nodes = All (λ n. KeepsTally objects (parameters n.function).output (unwrap_or n.out1 n.in1)) nodes
 
 -- the tally fits the object that a reference names
-abbrev pub IsTallyFor : List Named → Cell → Tally → Type 0
+abbrev pub IsTallyFor : List NamedObject → Reference → Tally → Type 0
 IsTallyFor objects cell (tally.Histogram d) =
     HoldsKind objects (cell, kind.Distribution) × (d.bins ≡ (distribution_value (cell_object objects cell)).bins) × (length d.counts ≡ d.bins.bins)
 IsTallyFor objects cell (tally.Extremes e) = HoldsKind objects (cell, kind.Extremes)
 
 -- there is a fitting tally for each reference
-abbrev pub AreTalliesFor : List Named → List Cell → List Tally → Type 0
+abbrev pub AreTalliesFor : List NamedObject → List Reference → List Tally → Type 0
 AreTalliesFor objects [] tallies = ⊤
 AreTalliesFor objects (c ∷ cells) [] = ⊥
 AreTalliesFor objects (c ∷ cells) (t ∷ tallies) = IsTallyFor objects c t × AreTalliesFor objects cells tallies

@@ -4,41 +4,41 @@ use Rattle.std.specs.List.{list_any, flat_map}
 use Rattle.vx_base.specs.declared.kind.Kind.{Kind}
 use Rattle.vx_base.specs.declared.kind.Kind.TheVariants as kind
 use Rattle.vx_base.specs.declared.node.Node.{Node}
-use Rattle.vx_base.specs.Cell.{Cell, same_cell}
+use Rattle.vx_base.specs.Reference.{Reference, same_reference}
 use Rattle.vx_base.specs.Function.{parameters}
-use Rattle.vx_base.specs.Node.{given, second_kind}
+use Rattle.vx_base.specs.Node.{optional_cells, second_kind}
 use Rattle.graph_verify.specs.declared.verified.Verified.{Verified}
 
 -- the reference of an operand, if that is given and an image
-abbrev pub image_given : Kind → Option Cell → List Cell
-image_given kind.Image cell = given cell
+abbrev pub image_given : Kind → Option Reference → List Reference
+image_given kind.Image cell = optional_cells cell
 image_given other cell = []
 
 -- references to the images that a node reads or writes, and that several nodes do
-abbrev pub node_images : Node → List Cell
+abbrev pub node_images : Node → List Reference
 node_images n =
     n.in1 ∷ (image_given (second_kind n) n.in2
     ++ (image_given (parameters n.function).output n.out1 ++ image_given (parameters n.function).output n.out2))
 
-abbrev pub images_named : List Node → List Cell
+abbrev pub images_named : List Node → List Reference
 images_named nodes = flat_map node_images nodes
 
 -- the list with one more reference, or several more, unless they are in it
-abbrev pub with_cell : List Cell → Cell → List Cell
-with_cell cells c = if list_any (λ d. same_cell d c) cells then cells else cells ++ c ∷ []
+abbrev pub with_cell : List Reference → Reference → List Reference
+with_cell cells c = if list_any (λ d. same_reference d c) cells then cells else cells ++ c ∷ []
 
-abbrev pub with_cells : List Cell → List Cell → List Cell
+abbrev pub with_cells : List Reference → List Reference → List Reference
 with_cells cells [] = cells
 with_cells cells (c ∷ more) = with_cells (with_cell cells c) more
 
 -- references to the virtual images that a verified graph writes, and to all of its images
-abbrev pub virtual_cells : Verified → List Cell
+abbrev pub virtual_cells : Verified → List Reference
 virtual_cells v = map (λ o. o.cell) v.virtual_outputs.items
 
-abbrev pub cells_of : Verified → List Cell
+abbrev pub cells_of : Verified → List Reference
 cells_of v = with_cells (virtual_cells v) (images_named v.steps.items)
 
 -- the index of a reference
-abbrev pub index_of : List Cell → Cell → ℕ
+abbrev pub index_of : List Reference → Reference → ℕ
 index_of [] c = 0
-index_of (d ∷ cells) c = if same_cell d c then 0 else index_of cells c + 1
+index_of (d ∷ cells) c = if same_reference d c then 0 else index_of cells c + 1

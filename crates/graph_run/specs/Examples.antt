@@ -2,10 +2,10 @@
 use Rattle.std.specs.Prelude.{ℕ, true, [], ◌∷◌, None, pos}
 use Rattle.vx_base.specs.declared.format.Format.TheVariants.{U8, S16}
 use Rattle.vx_base.specs.Object.{ImageObject, VirtualObject}
-use Rattle.object_table.specs.Named.{Named}
+use Rattle.object_table.specs.NamedObject.{NamedObject}
 
 -- a valid U8 image of one pixel
-abbrev pub pixel : ℕ → ℕ → Named
+abbrev pub pixel : ℕ → ℕ → NamedObject
 pixel name sample =
     record {
       name = name;
@@ -14,7 +14,7 @@ pixel name sample =
     }
 
 -- a valid S16 image of one pixel
-abbrev pub short_pixel : ℕ → ℕ → Named
+abbrev pub short_pixel : ℕ → ℕ → NamedObject
 short_pixel name sample =
     record {
       name = name;
@@ -23,6 +23,6 @@ short_pixel name sample =
     }
 
 -- a virtual image without a declared size or format
-abbrev pub open_image : ℕ → Named
+abbrev pub open_image : ℕ → NamedObject
 open_image name =
     record { name = name; live = true; object = VirtualObject (record { graph = 4; declared = record { width = None; height = None; format = None } }) }

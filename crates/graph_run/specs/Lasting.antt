@@ -2,19 +2,19 @@
 use Rattle.std.specs.Prelude.{◌≡◌, List, map, All}
 use Rattle.vx_base.specs.declared.node.Node.{Node}
 use Rattle.vx_base.specs.Object.{ObjectValue, IsObject}
-use Rattle.object_table.specs.Named.{Named}
+use Rattle.object_table.specs.NamedObject.{NamedObject}
 use Rattle.object_table.specs.Skeleton.{skeleton}
 use Rattle.object_table.specs.Uses.{nodes_in}
 
 -- the part of an object that writes don't change: its skeleton, and the nodes of a graph
-abbrev pub lasting : ObjectValue → ObjectValue × List Node
-lasting object = (skeleton object, nodes_in object)
+abbrev pub lasting_part : ObjectValue → ObjectValue × List Node
+lasting_part object = (skeleton object, nodes_in object)
 
 -- the same with the object's name, and whether that is live
-abbrev pub lasting_named : Named → Named × List Node
+abbrev pub lasting_named : NamedObject → NamedObject × List Node
 lasting_named o = (record o { object = skeleton o.object }, nodes_in o.object)
 
 -- the new objects are valid, and their lasting parts are as before
-pub record Lasts (old new : List Named) : Type 0 where
+pub record Lasts (old new : List NamedObject) : Type 0 where
   pub objects : All (λ o. IsObject o.object) new
   pub lasting : map lasting_named new ≡ map lasting_named old

@@ -4,10 +4,10 @@ use Rattle.std.specs.Option.{option_map}
 use Rattle.vx_base.specs.declared.kind.Kind.{Kind}
 use Rattle.vx_base.specs.declared.kind.Kind.TheVariants as kind
 use Rattle.vx_base.specs.declared.node.Node.{Node}
-use Rattle.vx_base.specs.Cell.{Cell}
+use Rattle.vx_base.specs.Reference.{Reference}
 use Rattle.vx_base.specs.Function.{parameters}
 use Rattle.vx_base.specs.Node.{IsNode, operands}
-use Rattle.object_table.specs.Named.{Named, held}
+use Rattle.object_table.specs.NamedObject.{NamedObject, object_at}
 use Rattle.graph_verify.specs.declared.operand.Operand.{Operand}
 use Rattle.graph_verify.specs.declared.operand.Operand.TheVariants.{Virtual, Delay}
 use Rattle.graph_verify.specs.Links.{reads, writes}
@@ -18,11 +18,11 @@ use Rattle.graph_verify.specs.Verdict.{verdict}
 use Rattle.graph_verify.specs.Verified.{IsVerified}
 
 -- the reference names an object with this operand
-abbrev pub HoldsOperand : List Named → Cell → Operand → Type 0
-HoldsOperand objects cell operand = option_map operand_of (held objects cell) ≡ Some operand
+abbrev pub HoldsOperand : List NamedObject → Reference → Operand → Type 0
+HoldsOperand objects cell operand = option_map operand_of (object_at objects cell) ≡ Some operand
 
 -- whether a node reads or writes an object
-abbrev pub names_cell : Node → Cell → Bool
+abbrev pub names_cell : Node → Reference → Bool
 names_cell n cell = reads n cell || writes n cell
 
 -- the operand is of this kind; a virtual image counts as an image
@@ -31,20 +31,20 @@ StandsFor (Virtual declared) wanted = wanted ≡ kind.Image
 StandsFor operand wanted = operand_kind operand ≡ wanted
 
 -- each reference in the nodes names an object with the resolved operand, and each output has the kind that its function writes
-pub record CellsStand (is : Cell → Operand) (nodes : List Node) (objects : List Named) : Type 0 where
-  pub found : (n : Node) (cell : Cell) → In n nodes → names_cell n cell ≡ true → HoldsOperand objects cell (is cell)
-  pub kinds : (n : Node) (cell : Cell) → In n nodes → writes n cell ≡ true → StandsFor (is cell) (parameters n.function).output
+pub record CellsStand (is : Reference → Operand) (nodes : List Node) (objects : List NamedObject) : Type 0 where
+  pub found : (n : Node) (cell : Reference) → In n nodes → names_cell n cell ≡ true → HoldsOperand objects cell (is cell)
+  pub kinds : (n : Node) (cell : Reference) → In n nodes → writes n cell ≡ true → StandsFor (is cell) (parameters n.function).output
 
 -- the operand of a reference that names no object: a delay, since no function takes one
-abbrev pub missing : Operand
-missing = Delay
+abbrev pub missing_operand : Operand
+missing_operand = Delay
 
 -- the operand that a reference in a node of a graph names
-abbrev pub operand_held : List Named → Cell → Operand
-operand_held objects cell = unwrap_or (option_map operand_of (held objects cell)) missing
+abbrev pub operand_held : List NamedObject → Reference → Operand
+operand_held objects cell = unwrap_or (option_map operand_of (object_at objects cell)) missing_operand
 
 -- the graph is verified and can run: nothing refuses it, and each reference names an object of the kind that the function has there
-pub record IsReady (objects : List Named) (nodes : List Node) (v : Verified) : Type 0 where
+pub record IsReady (objects : List NamedObject) (nodes : List Node) (v : Verified) : Type 0 where
   pub verified : IsVerified (operand_held objects) nodes v
   pub runs : (work : ℕ) × (verdict work (operand_held objects) nodes ≡ None)
   pub are_nodes : All IsNode nodes

@@ -6,28 +6,28 @@ use Rattle.vx_base.specs.declared.format.Format.{Format}
 use Rattle.vx_base.specs.declared.kind.Kind.{Kind}
 use Rattle.vx_base.specs.declared.kind.Kind.TheVariants as kind
 use Rattle.vx_base.specs.declared.node.Node.{Node}
-use Rattle.vx_base.specs.Cell.{Cell}
+use Rattle.vx_base.specs.Reference.{Reference}
 use Rattle.vx_base.specs.Description.{Description}
 use Rattle.vx_base.specs.Function.{parameters}
 use Rattle.vx_base.specs.Node.{second_kind}
 use Rattle.vx_base.specs.Object.{ObjectValue, IsObject, new_distribution, no_extremes}
-use Rattle.image_core.specs.declared.second.Second.{Second}
+use Rattle.image_core.specs.declared.second.SecondInput.{SecondInput}
 use Rattle.image_core.specs.Second.{second_object}
-use Rattle.node_rows.specs.Reach.{matrix_in}
-use Rattle.object_table.specs.Named.{Named, held}
+use Rattle.node_rows.specs.Radius.{matrix_in}
+use Rattle.object_table.specs.NamedObject.{NamedObject, object_at}
 use Rattle.object_table.specs.Object.{distribution_value}
 use Rattle.object_table.specs.Table.{cell_object}
 use Rattle.graph_verify.specs.declared.known.VirtualOutput.{VirtualOutput}
 use Rattle.graph_verify.specs.declared.verified.Verified.{Verified}
 use Rattle.graph_verify.specs.Members.{In}
-use Rattle.buffer_plan.specs.Plan.{IsPlan, PlanValue}
+use Rattle.buffer_plan.specs.Plan.{IsPlan, PlanView}
 use Rattle.graph_steps.specs.declared.step.Step.{Step}
 use Rattle.graph_steps.specs.declared.step.Task.{Task}
 use Rattle.graph_steps.specs.declared.tally.Tally.{Tally}
 use Rattle.graph_steps.specs.declared.tally.Tally.TheVariants as tally
 use Rattle.graph_steps.specs.Planes.{PlaneValue, no_plane}
 use Rattle.graph_steps.specs.Program.{IsStepOf, Suffice, halo}
-use Rattle.graph_steps.specs.Steps.{Covers, capacities, reads_output, step_reach}
+use Rattle.graph_steps.specs.Steps.{Covers, capacities, reads_output, step_radius}
 use Rattle.graph_run.specs.Bind.{image_planes}
 use Rattle.graph_run.specs.Operands.{IsReady}
 use Rattle.graph_run.specs.Slots.{place_of}
@@ -41,35 +41,35 @@ table_by kind.Image object = None
 table_by other object = object
 
 -- the table, threshold or matrix that a node reads, if it reads one
-abbrev pub node_table : List Named → Node → Option ObjectValue
-node_table objects n = table_by (second_kind n) (option_and_then (held objects) n.in2)
+abbrev pub node_table : List NamedObject → Node → Option ObjectValue
+node_table objects n = table_by (second_kind n) (option_and_then (object_at objects) n.in2)
 
 -- the table of each node, if it reads one
-abbrev pub tables_of : List Named → List Node → List (Option ObjectValue)
+abbrev pub tables_of : List NamedObject → List Node → List (Option ObjectValue)
 tables_of objects nodes = map (node_table objects) nodes
 
 -- ---- radii
 
 -- a node's radius: the number of input rows above and below an output row that it reads; None if it reads all
-abbrev pub node_reach : List Named → Node → Option ℕ
-node_reach objects n = step_reach n.function (matrix_in (option_and_then (held objects) n.in2))
+abbrev pub node_radius : List NamedObject → Node → Option ℕ
+node_radius objects n = step_radius n.function (matrix_in (option_and_then (object_at objects) n.in2))
 
 -- the same for images of at most this height
-abbrev pub radius_of : List Named → ℕ → Node → ℕ
-radius_of objects high n = unwrap_or (node_reach objects n) high
+abbrev pub radius_of : List NamedObject → ℕ → Node → ℕ
+radius_of objects high n = unwrap_or (node_radius objects n) high
 
 -- the radii cover the rows that the nodes read
-abbrev pub AreNear : List Named → ℕ → (Node → ℕ) → List Node → Type 0
-AreNear objects high radius nodes = (n : Node) → In n nodes → Covers (node_reach objects n) (radius n) high
+abbrev pub AreNear : List NamedObject → ℕ → (Node → ℕ) → List Node → Type 0
+AreNear objects high radius nodes = (n : Node) → In n nodes → Covers (node_radius objects n) (radius n) high
 
 -- ---- planes
 
 -- references to the clients' images
-abbrev pub client_cells : List Node → List VirtualOutput → List Cell
+abbrev pub client_cells : List Node → List VirtualOutput → List Reference
 client_cells steps outs = drop (length outs) (graph_cells steps outs)
 
 -- the planes of a graph: first those of its virtual images, then those of the clients' images
-abbrev pub planes_of : List Named → List Node → List VirtualOutput → List PlaneValue → List PlaneValue
+abbrev pub planes_of : List NamedObject → List Node → List VirtualOutput → List PlaneValue → List PlaneValue
 planes_of objects steps outs virtuals = virtuals ++ image_planes objects (client_cells steps outs)
 
 -- the description of the virtual image at an index
@@ -89,11 +89,11 @@ tally_by kind.Distribution object = tally.Histogram (new_distribution (distribut
 tally_by other object = tally.Extremes no_extremes ∷ []
 
 -- the empty tally of a node
-abbrev pub node_tallies : List Named → Node → List Tally
+abbrev pub node_tallies : List NamedObject → Node → List Tally
 node_tallies objects n = tally_by (parameters n.function).output (cell_object objects (unwrap_or n.out1 n.in1))
 
 -- the empty tallies of nodes, in their order
-abbrev pub tallies_of : List Named → List Node → List Tally
+abbrev pub tallies_of : List NamedObject → List Node → List Tally
 tallies_of objects nodes = flat_map (node_tallies objects) nodes
 
 -- ---- programs
@@ -105,7 +105,7 @@ AddOnce high size halos tasks =
     (s : Step) → IsStepOf s tasks → reads_output s.node.function ≡ true → ((halo halos s.output ≡ 0) × (s.takes ≡ None)) ⊎ (high ≤ size)
 
 -- a verified graph can run as a program with these tables, radii, halos, band height, planes of virtual images, and sizes of slots
-pub record IsBound (objects : List Named) (nodes : List Node) (v : Verified) (p : PlanValue) (tables : List Second) (radius : Node → ℕ) (high size : ℕ) (halos : List ℕ) (virtuals : List PlaneValue) (rooms : ℕ → Format × ℕ) : Type 0 where
+pub record IsBound (objects : List NamedObject) (nodes : List Node) (v : Verified) (p : PlanView) (tables : List SecondInput) (radius : Node → ℕ) (high size : ℕ) (halos : List ℕ) (virtuals : List PlaneValue) (rooms : ℕ → Format × ℕ) : Type 0 where
   pub objects_are : All (λ o. IsObject o.object) objects
   pub ready : IsReady objects nodes v
   pub plan : IsPlan v.steps.items v.virtual_outputs.items p

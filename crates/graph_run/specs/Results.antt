@@ -4,14 +4,14 @@ use Rattle.std.specs.List.{flat_map}
 use Rattle.vx_base.specs.declared.kind.Kind.{Kind}
 use Rattle.vx_base.specs.declared.kind.Kind.TheVariants as kind
 use Rattle.vx_base.specs.declared.node.Node.{Node}
-use Rattle.vx_base.specs.Cell.{Cell, cell_of}
+use Rattle.vx_base.specs.Reference.{Reference, reference_to}
 use Rattle.vx_base.specs.Function.{parameters}
 use Rattle.vx_base.specs.Image.{ImageValue}
 use Rattle.vx_base.specs.Object.{ObjectValue, DistributionObject, ExtremesObject}
-use Rattle.image_core.specs.declared.second.Second.{Second}
-use Rattle.object_table.specs.Named.{Named}
+use Rattle.image_core.specs.declared.second.SecondInput.{SecondInput}
+use Rattle.object_table.specs.NamedObject.{NamedObject}
 use Rattle.object_table.specs.Table.{image_held}
-use Rattle.graph_verify.specs.Outlines.{resolved}
+use Rattle.graph_verify.specs.PartialDescriptions.{resolved_operand}
 use Rattle.graph_steps.specs.declared.step.Reduction.{Reduction}
 use Rattle.graph_steps.specs.declared.step.Task.{Task}
 use Rattle.graph_steps.specs.declared.tally.Tally.{Tally}
@@ -19,21 +19,21 @@ use Rattle.graph_steps.specs.declared.tally.Tally.TheVariants as tally
 use Rattle.graph_steps.specs.Planes.{PlaneValue, plane, block_image, block_images, IsWhole}
 use Rattle.graph_steps.specs.Program.{KeepsBlock, Reduces, SolvesSteps}
 use Rattle.graph_steps.specs.Tallies.{IsNew, tally_at, tally_of}
-use Rattle.graph_run.specs.Graph.{begun, rounds_of_nodes}
+use Rattle.graph_run.specs.Graph.{named_at_start, rounds_of_nodes}
 use Rattle.graph_run.specs.Operands.{operand_held}
 
 -- ---- images
 
 -- the objects at the start of a run, and at its end before virtual images are restored
-abbrev pub first_objects : List Named → List Node → List Named
-first_objects objects nodes = map (begun (resolved (operand_held objects) nodes) nodes) objects
+abbrev pub first_objects : List NamedObject → List Node → List NamedObject
+first_objects objects nodes = map (named_at_start (resolved_operand (operand_held objects) nodes) nodes) objects
 
-abbrev pub last_objects : List Named → List Node → List Named
+abbrev pub last_objects : List NamedObject → List Node → List NamedObject
 last_objects objects nodes = rounds_of_nodes nodes (length nodes) (first_objects objects nodes)
 
 -- the images that these references name, and then others
-abbrev pub images_in : List Named → List Cell → (ℕ → ImageValue) → ℕ → ImageValue
-images_in objects cells others k = if nat_lt k (length cells) then image_held objects (slice_index_or cells k (cell_of 0)) else others k
+abbrev pub images_in : List NamedObject → List Reference → (ℕ → ImageValue) → ℕ → ImageValue
+images_in objects cells others k = if nat_lt k (length cells) then image_held objects (slice_index_or cells k (reference_to 0)) else others k
 
 -- ---- tallies
 
@@ -43,15 +43,15 @@ tally_object (tally.Histogram d) = DistributionObject d
 tally_object (tally.Extremes e) = ExtremesObject e
 
 -- the reference of a node's tally, if its output isn't an image; and those of several nodes, in their order
-abbrev pub tally_cell : Kind → Node → List Cell
+abbrev pub tally_cell : Kind → Node → List Reference
 tally_cell kind.Image n = []
 tally_cell other n = unwrap_or n.out1 n.in1 ∷ []
 
-abbrev pub tally_cells : List Node → List Cell
+abbrev pub tally_cells : List Node → List Reference
 tally_cells nodes = flat_map (λ n. tally_cell (parameters n.function).output n) nodes
 
 -- the references, each with its tally
-abbrev pub tally_objects : List Cell → List Tally → List (Cell × ObjectValue)
+abbrev pub tally_objects : List Reference → List Tally → List (Reference × ObjectValue)
 tally_objects [] tallies = []
 tally_objects (c ∷ cells) [] = []
 tally_objects (c ∷ cells) (t ∷ tallies) = (c, tally_object t) ∷ tally_objects cells tallies
@@ -59,7 +59,7 @@ tally_objects (c ∷ cells) (t ∷ tallies) = (c, tally_object t) ∷ tally_obje
 -- ---- runs
 
 -- the results of a run of tasks: each plane that keeps its block has the image of every solution, and the tallies are those of such images
-pub record Leaves (tables : List Second) (tasks : List Task) (planes : List PlaneValue) (tallies : List Tally) (after : List PlaneValue) (counted : List Tally) : Type 0 where
+pub record Leaves (tables : List SecondInput) (tasks : List Task) (planes : List PlaneValue) (tallies : List Tally) (after : List PlaneValue) (counted : List Tally) : Type 0 where
   pub images : (whole : ℕ → ImageValue) → SolvesSteps tables (length planes) tasks (block_images planes) whole
       → (c : ℕ) → KeepsBlock (length planes) tasks c → block_image (plane after c) ≡ whole c
   pub reductions : (whole : ℕ → ImageValue) → SolvesSteps tables (length planes) tasks (block_images planes) whole

@@ -4,21 +4,21 @@ use Rattle.std.specs.List.{range_with_len}
 use Rattle.vx_base.specs.declared.format.Format.{Format}
 use Rattle.vx_base.specs.declared.format.Format.TheVariants.{U8, S16, U32}
 use Rattle.graph_verify.specs.declared.known.VirtualOutput.{VirtualOutput}
-use Rattle.buffer_plan.specs.Plan.{PlanValue}
+use Rattle.buffer_plan.specs.Plan.{PlanView}
 
 -- the index of a format's slot among all slots: first those of U8, then those of S16, then those of U32
-abbrev pub slot_place : PlanValue → Format → ℕ → ℕ
+abbrev pub slot_place : PlanView → Format → ℕ → ℕ
 slot_place p U8 k = k
 slot_place p S16 k = p.slot_count U8 + k
 slot_place p U32 k = p.slot_count U8 + p.slot_count S16 + k
 
 -- the index of a virtual image's slot among all slots
-abbrev pub place_of : PlanValue → VirtualOutput → ℕ
+abbrev pub place_of : PlanView → VirtualOutput → ℕ
 place_of p o = slot_place p o.desc.format (unwrap_or (p.slot_of o.cell) 0)
 
 -- the formats and sizes of a format's slots, and of all slots
-abbrev pub rooms_for : PlanValue → Format → List (Format × ℕ)
-rooms_for p format = map (λ k. (format, p.slot_samples format k)) (range_with_len 0 (p.slot_count format))
+abbrev pub capacities_for : PlanView → Format → List (Format × ℕ)
+capacities_for p format = map (λ k. (format, p.slot_samples format k)) (range_with_len 0 (p.slot_count format))
 
-abbrev pub planned_rooms : PlanValue → List (Format × ℕ)
-planned_rooms p = rooms_for p U8 ++ rooms_for p S16 ++ rooms_for p U32
+abbrev pub planned_capacities : PlanView → List (Format × ℕ)
+planned_capacities p = capacities_for p U8 ++ capacities_for p S16 ++ capacities_for p U32

@@ -4,7 +4,7 @@ use Rattle.std.specs.Option.{option_map, option_and_then}
 use Rattle.vx_base.specs.declared.kind.Kind.TheVariants as kind
 use Rattle.vx_base.specs.declared.node.Node.{Node}
 use Rattle.vx_base.specs.declared.output.Output.{Output}
-use Rattle.vx_base.specs.Cell.{Cell}
+use Rattle.vx_base.specs.Reference.{Reference}
 use Rattle.vx_base.specs.Formats.{takes_formats}
 use Rattle.vx_base.specs.Function.{parameters}
 use Rattle.vx_base.specs.Image.{IsImage}
@@ -12,13 +12,13 @@ use Rattle.vx_base.specs.Node.{IsNode}
 use Rattle.vx_base.specs.Object.{ObjectValue, IsObject, object_kind, object_format}
 use Rattle.vx_base.specs.Outputs.{node_output}
 use Rattle.image_core.specs.Fits.{SecondHasSize}
-use Rattle.object_table.specs.Named.{Named, held, with_object}
+use Rattle.object_table.specs.NamedObject.{NamedObject, object_at, with_object}
 use Rattle.object_table.specs.Object.{image_value}
 use Rattle.object_table.specs.Table.{cell_object, image_held, HoldsImage}
 
 -- the reference names an object
-abbrev pub Holds : List Named → Cell → Type 0
-Holds objects cell = IsTrue (is_some (held objects cell))
+abbrev pub Holds : List NamedObject → Reference → Type 0
+Holds objects cell = IsTrue (is_some (object_at objects cell))
 
 -- the node can run on these inputs and this output, by their kinds, formats and sizes
 pub record RunsOn (n : Node) (first : ObjectValue) (second : Option ObjectValue) (out : ObjectValue) : Type 0 where
@@ -38,11 +38,11 @@ abbrev pub TwoSlots : Option ℕ → Option ℕ → Type 0
 TwoSlots (Some j) (Some k) = j ≢ k
 TwoSlots j k = ⊥
 
-abbrev pub AreApart : Cell → Cell → Type 0
+abbrev pub AreApart : Reference → Reference → Type 0
 AreApart a b = a.name ≡ b.name → TwoSlots a.slot b.slot
 
 -- the node can write this output, which isn't an input
-pub record RunsTo (objects : List Named) (n : Node) (output : Cell) : Type 0 where
+pub record RunsTo (objects : List NamedObject) (n : Node) (output : Reference) : Type 0 where
   pub in1 : HoldsImage objects n.in1
   pub in2 : IfSome n.in2 (Holds objects)
   pub out : Holds objects output
@@ -51,7 +51,7 @@ pub record RunsTo (objects : List Named) (n : Node) (output : Cell) : Type 0 whe
   pub runs : RunsOn n (cell_object objects n.in1) (option_map (cell_object objects) n.in2) (cell_object objects output)
 
 -- the node's inputs exist: the first is an image, and the second has the kind that its function reads
-pub record CanRead (objects : List Named) (n : Node) : Type 0 where
+pub record HasInputs (objects : List NamedObject) (n : Node) : Type 0 where
   pub first : HoldsImage objects n.in1
   pub image : IsImage (image_held objects n.in1)
   pub second : IfSome n.in2 (Holds objects)
@@ -59,10 +59,10 @@ pub record CanRead (objects : List Named) (n : Node) : Type 0 where
   pub kind : IfSome (option_map (cell_object objects) n.in2) (λ object. (parameters n.function).second_input ≡ Some (object_kind object))
 
 -- the value of an output after the node has run
-abbrev pub output_of : List Named → Node → Output → Cell → ObjectValue
+abbrev pub output_of : List NamedObject → Node → Output → Reference → ObjectValue
 output_of objects n which output = node_output n which (cell_object objects n.in1) (option_map (cell_object objects) n.in2) (cell_object objects output)
 
 -- the objects after the output is written, if it is given
-abbrev pub with_output : List Named → Node → Output → Option Cell → List Named
-with_output objects n which None = objects
-with_output objects n which (Some output) = with_object objects output (output_of objects n which output)
+abbrev pub with_output_object : List NamedObject → Node → Output → Option Reference → List NamedObject
+with_output_object objects n which None = objects
+with_output_object objects n which (Some output) = with_object objects output (output_of objects n which output)

@@ -8,7 +8,7 @@ use Rattle.vx_base.specs.declared.kind.Kind.TheVariants as kind
 use Rattle.vx_base.specs.declared.node.Node.{Node}
 use Rattle.vx_base.specs.declared.output.Output.{Output}
 use Rattle.vx_base.specs.declared.output.Output.TheVariants.{First, Second}
-use Rattle.vx_base.specs.Cell.{Cell}
+use Rattle.vx_base.specs.Reference.{Reference}
 use Rattle.vx_base.specs.Description.{Description}
 use Rattle.vx_base.specs.Function.{accumulates, parameters}
 use Rattle.vx_base.specs.Node.{outputs, second_kind}
@@ -24,7 +24,7 @@ use Rattle.graph_verify.specs.Links.{feeds}
 use Rattle.graph_verify.specs.Members.{In}
 use Rattle.graph_verify.specs.Order.{InTurn}
 use Rattle.graph_verify.specs.Verdict.{two_writers}
-use Rattle.buffer_plan.specs.Plan.{IsPlan, PlanValue}
+use Rattle.buffer_plan.specs.Plan.{IsPlan, PlanView}
 use Rattle.graph_run.specs.Cells.{images_named, index_of, node_images, with_cells}
 use Rattle.graph_run.specs.Slots.{place_of}
 
@@ -41,8 +41,8 @@ abbrev pub holder : List ℕ → ℕ → ℕ → Option ℕ
 holder slots slot count = option_or (last_in slot (take count slots)) (last_in slot slots)
 
 -- the image whose block the image at an index takes; none if that is a client's image
-abbrev pub taken : List ℕ → ℕ → Option ℕ
-taken slots at = if nat_lt at (length slots) then holder slots (slice_index_or slots at 0) at else None
+abbrev pub previous_holder : List ℕ → ℕ → Option ℕ
+previous_holder slots at = if nat_lt at (length slots) then holder slots (slice_index_or slots at 0) at else None
 
 -- whether this is the index k
 abbrev pub is_at : ℕ → Option ℕ → Bool
@@ -62,13 +62,13 @@ blocks_at slots rooms clients count = map (block_at slots rooms count) (range_wi
 -- ---- tasks
 
 -- the source of the second input of the node at index `at` of the order
-abbrev pub source : List Cell → ℕ → Kind → Option Cell → Source
+abbrev pub source : List Reference → ℕ → Kind → Option Reference → Source
 source cells at k None = Nothing
 source cells at kind.Image (Some c) = Plane (index_of cells c)
 source cells at other (Some c) = Table at
 
 -- the step that writes an output of a node
-abbrev pub step_for : List Cell → List ℕ → (Node → ℕ) → ℕ → Node → Output → Cell → Step
+abbrev pub step_for : List Reference → List ℕ → (Node → ℕ) → ℕ → Node → Output → Reference → Step
 step_for cells slots radius at n which output =
     record {
       node = n;
@@ -76,17 +76,17 @@ step_for cells slots radius at n which output =
       first = index_of cells n.in1;
       second = source cells at (second_kind n) n.in2;
       output = index_of cells output;
-      takes = taken slots (index_of cells output);
+      takes = previous_holder slots (index_of cells output);
       radius = radius n;
     }
 
 -- its task, if the output is given
-abbrev pub write_given : List Cell → List ℕ → (Node → ℕ) → ℕ → Node → Output → Option Cell → List Task
+abbrev pub write_given : List Reference → List ℕ → (Node → ℕ) → ℕ → Node → Output → Option Reference → List Task
 write_given cells slots radius at n which None = []
 write_given cells slots radius at n which (Some output) = Write (step_for cells slots radius at n which output) ∷ []
 
 -- the tasks of a node, by the kind of its outputs; `tally` is the index of the next tally
-abbrev pub tasks_by : List Cell → List ℕ → (Node → ℕ) → ℕ → ℕ → Node → Kind → List Task
+abbrev pub tasks_by : List Reference → List ℕ → (Node → ℕ) → ℕ → ℕ → Node → Kind → List Task
 tasks_by cells slots radius at tally n kind.Image =
     write_given cells slots radius at n First n.out1 ++ write_given cells slots radius at n Second n.out2
 tasks_by cells slots radius at tally n other = Reduce (record { input = index_of cells n.in1; tally = tally }) ∷ []
@@ -97,14 +97,14 @@ tally_after tally kind.Image = tally
 tally_after tally other = tally + 1
 
 -- the tasks of nodes, the first of which has index `at` in the order
-abbrev pub tasks_from : List Cell → List ℕ → (Node → ℕ) → ℕ → ℕ → List Node → List Task
+abbrev pub tasks_from : List Reference → List ℕ → (Node → ℕ) → ℕ → ℕ → List Node → List Task
 tasks_from cells slots radius at tally [] = []
 tasks_from cells slots radius at tally (n ∷ nodes) =
     tasks_by cells slots radius at tally n (parameters n.function).output
     ++ tasks_from cells slots radius (at + 1) (tally_after tally (parameters n.function).output) nodes
 
 -- the tasks of all nodes
-abbrev pub tasks_of : List Cell → List ℕ → (Node → ℕ) → List Node → List Task
+abbrev pub tasks_of : List Reference → List ℕ → (Node → ℕ) → List Node → List Task
 tasks_of cells slots radius nodes = tasks_from cells slots radius 0 0 nodes
 
 -- ---- blocks that tasks take
@@ -116,14 +116,14 @@ TakeTurns slots k [] = k ≡ length slots
 TakeTurns slots k (Reduce r ∷ later) = TakeTurns slots k later
 TakeTurns slots k (Write s ∷ later) =
     ((length slots ≤ s.output) × (s.takes ≡ None) × TakeTurns slots k later)
-    ⊎ ((k < length slots) × (s.output ≡ k) × (s.takes ≡ taken slots k) × TakeTurns slots (k + 1) later)
+    ⊎ ((k < length slots) × (s.output ≡ k) × (s.takes ≡ previous_holder slots k) × TakeTurns slots (k + 1) later)
 
 -- each slot is large enough for the rows of its images
 abbrev pub SlotsHold : ℕ → List ℕ → (ℕ → Description) → List ℕ → (ℕ → Format × ℕ) → Type 0
 SlotsHold size halos descs slots rooms = (k : ℕ) → k < length slots → HoldsRows size (halo halos k) (descs k) (rooms (slice_index_or slots k 0))
 
 -- the nodes' outputs other than images aren't virtual
-abbrev pub WriteImages : (Cell → Bool) → List Node → Type 0
+abbrev pub WriteImages : (Reference → Bool) → List Node → Type 0
 WriteImages is_virtual nodes =
     (n : Node) → In n nodes → (parameters n.function).output ≢ kind.Image → filter is_virtual (outputs n) ≡ []
 
@@ -142,8 +142,8 @@ AreReadWithin count (Write s ∷ later) = ((c : ℕ) → ReadsPlane s c → c < 
 AreReadWithin count (Reduce r ∷ later) = (r.input < count) × AreReadWithin count later
 
 -- the list has the references to the images that nodes read or write
-abbrev pub AreNamed : List Cell → List Node → Type 0
-AreNamed cells nodes = (n : Node) → In n nodes → (c : Cell) → In c (node_images n) → In c cells
+abbrev pub AreNamed : List Reference → List Node → Type 0
+AreNamed cells nodes = (n : Node) → In n nodes → (c : Reference) → In c (node_images n) → In c cells
 
 -- no step reads the plane whose block its output takes
 abbrev pub AreUntaken : List Task → Type 0
@@ -154,19 +154,19 @@ AreUntaken (Reduce r ∷ later) = AreUntaken later
 -- ---- graphs that have tasks
 
 -- a verified order of nodes, the virtual images that they write in this order, and a plan of their slots
-pub record HaveTasks (steps : List Node) (outs : List VirtualOutput) (p : PlanValue) (is_virtual : Cell → Bool) : Type 0 where
+pub record HaveTasks (steps : List Node) (outs : List VirtualOutput) (p : PlanView) (is_virtual : Reference → Bool) : Type 0 where
   pub plan : IsPlan steps outs p
   pub order : map (λ o. o.cell) outs ≡ filter is_virtual (flat_map outputs steps)
   pub images : WriteImages is_virtual steps
   pub turn : InTurn feeds steps
   pub writers : two_writers steps ≡ false
   -- a node that accumulates writes a client's image
-  pub adds : (n : Node) → In n steps → accumulates n.function ≡ true → (c : Cell) → In c (outputs n) → is_virtual c ≡ false
+  pub adds : (n : Node) → In n steps → accumulates n.function ≡ true → (c : Reference) → In c (outputs n) → is_virtual c ≡ false
 
 -- references to the images of the graph, by its nodes in order and its virtual images
-abbrev pub graph_cells : List Node → List VirtualOutput → List Cell
+abbrev pub graph_cells : List Node → List VirtualOutput → List Reference
 graph_cells steps outs = with_cells (map (λ o. o.cell) outs) (images_named steps)
 
 -- the tasks of the graph
-abbrev pub graph_tasks : List Node → List VirtualOutput → PlanValue → (Node → ℕ) → List Task
+abbrev pub graph_tasks : List Node → List VirtualOutput → PlanView → (Node → ℕ) → List Task
 graph_tasks steps outs p radius = tasks_of (graph_cells steps outs) (map (place_of p) outs) radius steps

@@ -3,20 +3,20 @@ use Rattle.std.specs.Prelude.{◌≡◌, List, All, Some, None}
 use Rattle.std.specs.Option.{option_map}
 use Rattle.vx_base.specs.declared.kind.Kind.{Kind}
 use Rattle.vx_base.specs.declared.node.Node.{Node}
-use Rattle.vx_base.specs.Cell.{Cell}
+use Rattle.vx_base.specs.Reference.{Reference}
 use Rattle.vx_base.specs.Node.{IsNode, operands}
 use Rattle.vx_base.specs.Object.{object_kind}
-use Rattle.object_table.specs.Named.{Named, held}
+use Rattle.object_table.specs.NamedObject.{NamedObject, object_at}
 use Rattle.graph_verify.specs.Operand.{operands_of}
 use Rattle.graph_verify.specs.Verdict.{verdict_on}
 use Rattle.graph_run.specs.Operands.{operand_held}
 
 -- the reference names an object of this kind
-abbrev pub HoldsKind : List Named → Cell × Kind → Type 0
-HoldsKind objects operand = option_map object_kind (held objects operand.0) ≡ Some operand.1
+abbrev pub HoldsKind : List NamedObject → Reference × Kind → Type 0
+HoldsKind objects operand = option_map object_kind (object_at objects operand.0) ≡ Some operand.1
 
 -- the node can run now: its references name objects of the kinds that its function has there, and nothing refuses it
-pub record CanRunNow (objects : List Named) (n : Node) : Type 0 where
+pub record CanRunNow (objects : List NamedObject) (n : Node) : Type 0 where
   pub node : IsNode n
   pub kinds : All (HoldsKind objects) (operands n)
   pub verdict : verdict_on n (operands_of (operand_held objects) n) ≡ None

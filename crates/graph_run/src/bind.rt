@@ -3,7 +3,7 @@ ghost use Rattle.std.specs.Prelude.{◌≡◌, ◌+◌, ◌≤◌, ◌++◌, len
 ghost use Rattle.vx_base.specs.Image.{description_of};
 ghost use Rattle.vx_base.specs.Object.{ImageObject};
 ghost use Rattle.object_table.specs.Context.{with_objects};
-ghost use Rattle.object_table.specs.Named.{with_object, with_written};
+ghost use Rattle.object_table.specs.NamedObject.{with_object, with_written};
 ghost use Rattle.object_table.specs.Table.{HoldsImage, image_held};
 ghost use Rattle.graph_steps.specs.Planes.{block_image};
 ghost use Rattle.graph_run.specs.Bind.{AreAllApart, HoldImages, bare_images, image_plane};

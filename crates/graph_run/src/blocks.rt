@@ -4,11 +4,11 @@ ghost use Rattle.std.specs.Prelude.{IfOk, OnOk, OnErr, if◌then◌else◌, max,
 ghost use Rattle.vx_base.specs.declared.format.Format.{Format as SampleFormat};
 ghost use Rattle.pixel_pool.specs.Pool.{KeepsLent, KeepsBlockCounts, blocks_of};
 ghost use Rattle.object_table.specs.Blocks.{LendsAtLeast, LendsMore, LendsLess};
-ghost use Rattle.buffer_plan.specs.Places.{told};
+ghost use Rattle.buffer_plan.specs.Places.{plan_view};
 ghost use Rattle.buffer_plan.specs.Plan.{IsPlan};
-ghost use Rattle.graph_run.specs.Blocks.{band_plan, band_samples, block_count, block_size};
+ghost use Rattle.graph_run.specs.Blocks.{band_plan, band_samples, blocks_of_format, block_size};
 ghost use Rattle.graph_run.specs.Blocks.{room_count, samples_from};
-ghost use Rattle.graph_run.specs.Slots.{place_of, planned_rooms, rooms_for, slot_place};
+ghost use Rattle.graph_run.specs.Slots.{place_of, planned_capacities, capacities_for, slot_place};
 
 use buffer_plan::Plan;
 use graph_verify::{Verified, VirtualOutput};
@@ -32,9 +32,9 @@ pub struct Demand<'a> {
 
 /// Returns the slots of the virtual images that a graph writes, as indices among all slots.
 pub fn slots_of(alloc: Global, plan: &Plan, verified: &Verified) -> Result<Vec<usize>, AllocError>
-    requires { IsPlan verified.now.steps.items verified.now.virtual_outputs.items (told plan.now) }
+    requires { IsPlan verified.now.steps.items verified.now.virtual_outputs.items (plan_view plan.now) }
     ensures { IfOk result (λ slots. slots.items
-        ≡ map (place_of (told plan.now)) verified.now.virtual_outputs.items) }
+        ≡ map (place_of (plan_view plan.now)) verified.now.virtual_outputs.items) }
 {
     let images = verified.virtual_outputs.as_slice();
     let mut slots = Vec::with_capacity(alloc, images.len())?;
@@ -46,8 +46,8 @@ pub fn slots_of(alloc: Global, plan: &Plan, verified: &Verified) -> Result<Vec<u
 
 /// Returns the slot of a virtual image, as an index among all slots.
 fn slot_of(plan: &Plan, image: &VirtualOutput) -> usize
-    requires { place_of (told plan.now) image.now < 2 ^ 64 }
-    ensures { result ≡ place_of (told plan.now) image.now }
+    requires { place_of (plan_view plan.now) image.now < 2 ^ 64 }
+    ensures { result ≡ place_of (plan_view plan.now) image.now }
 {
     let slot = plan.slot_of(image.cell).unwrap_or(0);
     slot_place(plan, image.desc.format(), slot)
@@ -64,8 +64,8 @@ pub fn rooms_of(
 ) -> Result<Vec<(Format, usize)>, AllocError>
     requires slots { length demand.now.slots.now ≡ length demand.now.images.now }
     requires halos { length demand.now.images.now ≤ length demand.now.halos.now }
-    ensures { IfOk result (λ rooms. rooms.items ≡ planned_rooms (band_plan demand.now.size
-        demand.now.halos.now demand.now.images.now demand.now.slots.now (told plan.now))) }
+    ensures { IfOk result (λ rooms. rooms.items ≡ planned_capacities (band_plan demand.now.size
+        demand.now.halos.now demand.now.images.now demand.now.slots.now (plan_view plan.now))) }
 {
     let mut rooms = Vec::new(alloc);
     add_rooms(&mut rooms, plan, demand, Format::U8)?;
@@ -81,12 +81,12 @@ fn add_rooms(
     demand: &Demand<'_>,
     format: Format,
 ) -> Result<(), AllocError>
-    requires behind { length rooms.old.items ≡ slot_place (told plan.now) format 0 }
+    requires behind { length rooms.old.items ≡ slot_place (plan_view plan.now) format 0 }
     requires slots { length demand.now.slots.now ≡ length demand.now.images.now }
     requires halos { length demand.now.images.now ≤ length demand.now.halos.now }
-    ensures { OnOk result (rooms.new.items ≡ rooms.old.items ++ rooms_for (band_plan
+    ensures { OnOk result (rooms.new.items ≡ rooms.old.items ++ capacities_for (band_plan
         demand.now.size demand.now.halos.now demand.now.images.now demand.now.slots.now
-        (told plan.now)) format) }
+        (plan_view plan.now)) format) }
 {
     let count = plan.slot_count(format);
     rooms.reserve(count)?;
@@ -133,8 +133,8 @@ fn band_samples(size: u16, halo: u16, desc: Desc) -> usize
 
 /// Returns the index of a format's slot among all slots.
 fn slot_place(plan: &Plan, format: Format, slot: usize) -> usize
-    requires { slot_place (told plan.now) format slot < 2 ^ 64 }
-    ensures { result ≡ slot_place (told plan.now) format slot }
+    requires { slot_place (plan_view plan.now) format slot < 2 ^ 64 }
+    ensures { result ≡ slot_place (plan_view plan.now) format slot }
 {
     match format {
         Format::U8 => slot,
@@ -153,7 +153,7 @@ pub fn blocks_for(
 ) -> Result<Vec<Block>, AllocError>
     ensures rooms { IfOk result (λ blocks. map block_size blocks.items ≡ rooms.now) }
     ensures lends { IfOk result (λ blocks.
-        LendsMore pool.old pool.new (block_count blocks.items)) }
+        LendsMore pool.old pool.new (blocks_of_format blocks.items)) }
     ensures err { OnErr result (KeepsLent pool.old pool.new) }
     ensures adds { (format : SampleFormat) → blocks_of pool.new format
         ≤ blocks_of pool.old format + room_count rooms.now format }
@@ -177,7 +177,7 @@ fn add_blocks(
     requires none { blocks.old.items ≡ [] }
     requires room { length rooms.now ≤ vec_capacity blocks.old }
     ensures rooms { OnOk result (map block_size blocks.new.items ≡ rooms.now) }
-    ensures lends { LendsMore pool.old pool.new (block_count blocks.new.items) }
+    ensures lends { LendsMore pool.old pool.new (blocks_of_format blocks.new.items) }
     ensures adds { (format : SampleFormat) → blocks_of pool.new format
         ≤ blocks_of pool.old format + room_count rooms.now format }
 {
@@ -191,8 +191,8 @@ fn add_blocks(
 
 /// Gives blocks back to the pool.
 pub fn give_back(blocks: Vec<Block>, pool: &mut Pool)
-    requires { LendsAtLeast pool.old (block_count blocks.items) }
-    ensures lent { LendsLess pool.old pool.new (block_count blocks.items) }
+    requires { LendsAtLeast pool.old (blocks_of_format blocks.items) }
+    ensures lent { LendsLess pool.old pool.new (blocks_of_format blocks.items) }
     ensures blocks { KeepsBlockCounts pool.old pool.new }
 {
     for block in blocks {

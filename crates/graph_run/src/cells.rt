@@ -2,7 +2,7 @@
 //! clients' images that they read or write.
 ghost use Rattle.std.specs.Prelude.{◌≡◌, position, IfOk, OnOk};
 ghost use Rattle.std.specs.List.{list_any};
-ghost use Rattle.vx_base.specs.Cell.{same_cell};
+ghost use Rattle.vx_base.specs.Reference.{same_reference};
 ghost use Rattle.graph_run.specs.Cells.{cells_of, image_given, index_of, node_images};
 ghost use Rattle.graph_run.specs.Cells.{virtual_cells, with_cell, with_cells};
 
@@ -68,14 +68,14 @@ fn add_cell(cells: &mut Vec<ObjRef>, cell: ObjRef) -> Result<(), AllocError>
 
 /// Returns whether a reference is in the list.
 fn is_there(cells: &[ObjRef], cell: ObjRef) -> bool
-    ensures { result ≡ list_any (λ other. same_cell other cell) cells.now }
+    ensures { result ≡ list_any (λ other. same_reference other cell) cells.now }
 {
     cells.iter().any(|other| *other == cell)
 }
 
 /// Returns the first index of a reference.
 fn position_of(cells: &[ObjRef], cell: ObjRef) -> Option<usize>
-    ensures { result ≡ position (λ other. same_cell other cell) cells.now }
+    ensures { result ≡ position (λ other. same_reference other cell) cells.now }
 {
     cells.iter().position(|other| *other == cell)
 }

@@ -6,22 +6,22 @@ ghost use Rattle.vx_base.specs.declared.kind.Kind.TheVariants as kind;
 ghost use Rattle.vx_base.specs.declared.output.Output.{Output as OutputValue};
 ghost use Rattle.vx_base.specs.Function.{parameters};
 ghost use Rattle.vx_base.specs.Object.{ImageObject, IsObject};
-ghost use Rattle.vx_base.specs.Outputs.{beside_first, node_image, written_by};
+ghost use Rattle.vx_base.specs.Outputs.{second_or_output, node_image, written_by};
 ghost use Rattle.image_core.specs.Second.{second_object};
 ghost use Rattle.object_table.specs.Context.{with_objects};
-ghost use Rattle.object_table.specs.Named.{held, with_written};
+ghost use Rattle.object_table.specs.NamedObject.{object_at, with_written};
 ghost use Rattle.object_table.specs.Table.{cell_object, image_held};
 ghost use Rattle.graph_steps.specs.Planes.{block_image, IsWhole};
 ghost use Rattle.graph_steps.specs.Steps.{CanMake, lent_step};
 ghost use Rattle.graph_run.specs.Lasting.{Lasts};
-ghost use Rattle.graph_run.specs.Steps.{CanRead, RunsTo, with_output};
+ghost use Rattle.graph_run.specs.Steps.{HasInputs, RunsTo, with_output_object};
 ghost use Rattle.graph_run.specs.Turns.{CanRunNow};
 
 use crate::bind::{put_image, take_image};
 use crate::tables::table_of;
 use crate::tallies::{set_tally, tally_for};
 use graph_steps::{Kernel, Plane, Step};
-use image_core::Second;
+use image_core::SecondInput;
 use object_table::Table;
 use vx_base::{Kind, Node, ObjRef, Output};
 
@@ -31,7 +31,7 @@ pub fn run_once(table: &mut Table, node: &Node)
     requires names { IsStrictlyIncreasing (map (λ o. o.name) table.old.objects) }
     requires runs { CanRunNow table.old.objects node.now }
     ensures value { table.new ≡ with_objects table.old (with_written table.old.objects
-        (written_by node.now (held table.old.objects))) }
+        (written_by node.now (object_at table.old.objects))) }
     ensures lasts { Lasts table.old.objects table.new.objects }
 {
     run_to(table, node, Output::First, node.out1);
@@ -42,7 +42,7 @@ pub fn run_once(table: &mut Table, node: &Node)
 fn run_to(table: &mut Table, node: &Node, which: Output, output: Option<ObjRef>)
     requires { IfSome output (RunsTo table.old.objects node.now) }
     ensures { table.new ≡ with_objects table.old
-        (with_output table.old.objects node.now which output) }
+        (with_output_object table.old.objects node.now which output) }
 {
     if let Some(output) = output {
         match node.function.parameters().output {
@@ -57,7 +57,7 @@ fn write_to(table: &mut Table, node: &Node, which: Output, output: ObjRef)
     requires runs { RunsTo table.old.objects node.now output }
     requires kind { (parameters node.now.function).output ≡ kind.Image }
     ensures { table.new ≡ with_objects table.old
-        (with_output table.old.objects node.now which (Some output)) }
+        (with_output_object table.old.objects node.now which (Some output)) }
 {
     let mut plane = take_image(table, output);
     write_plane(table, node, which, &mut plane);
@@ -66,13 +66,13 @@ fn write_to(table: &mut Table, node: &Node, which: Output, output: ObjRef)
 
 /// Writes a node's image to a plane. The inputs are read in the table.
 fn write_plane(table: &Table, node: &Node, which: Output, output: &mut Plane)
-    requires reads { CanRead table.now.objects node.now }
+    requires reads { HasInputs table.now.objects node.now }
     requires whole { IsWhole output.old }
     requires can { CanMake (lent_step node.now which) (image_held table.now.objects node.now.in1)
         (option_map (cell_object table.now.objects) node.now.in2) output.old.desc }
     ensures image { block_image output.new ≡ node_image node.now which output.old.desc.format
         (image_held table.now.objects node.now.in1)
-        (beside_first node.now (option_map (cell_object table.now.objects) node.now.in2)
+        (second_or_output node.now (option_map (cell_object table.now.objects) node.now.in2)
         (ImageObject (block_image output.old))) }
     ensures desc { output.new.desc ≡ output.old.desc }
     ensures format { output.new.format ≡ output.old.format }
@@ -89,13 +89,13 @@ fn write_plane(table: &Table, node: &Node, which: Output, output: &mut Plane)
 }
 
 /// Returns a node's second input, as its kernel reads it.
-fn second_of<'a>(table: &'a Table, node: &Node) -> Second<'a>
-    requires { CanRead table.now.objects node.now }
+fn second_of<'a>(table: &'a Table, node: &Node) -> SecondInput<'a>
+    requires { HasInputs table.now.objects node.now }
     ensures { second_object result ≡ option_map (cell_object table.now.objects) node.now.in2 }
 {
     let kind = node.function.parameters().second_input;
     match (node.in2, kind.unwrap_or(Kind::Image)) {
-        (Some(cell), Kind::Image) => Second::Image(table.image(cell).image()),
+        (Some(cell), Kind::Image) => SecondInput::Image(table.image(cell).image()),
         _ => table_of(table, node),
     }
 }
@@ -106,7 +106,7 @@ fn reduce_to(table: &mut Table, node: &Node, wanted: Kind, output: ObjRef)
     requires wanted { (parameters node.now.function).output ≡ wanted }
     requires other { wanted ≢ kind.Image }
     ensures { (which : OutputValue) → table.new ≡ with_objects table.old
-        (with_output table.old.objects node.now which (Some output)) }
+        (with_output_object table.old.objects node.now which (Some output)) }
 {
     let mut tally = tally_for(table, wanted, output);
     tally.add_all(&table.image(node.in1).image());

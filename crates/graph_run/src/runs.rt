@@ -9,29 +9,29 @@ ghost use Rattle.vx_base.specs.Description.{IsDescription};
 ghost use Rattle.vx_base.specs.Object.{IsObject};
 ghost use Rattle.pixel_pool.specs.Free.{free_count};
 ghost use Rattle.pixel_pool.specs.Pool.{KeepsLent, blocks_of, free_of};
-ghost use Rattle.graph_verify.specs.Outlines.{resolved};
-ghost use Rattle.buffer_plan.specs.Places.{told};
-ghost use Rattle.buffer_plan.specs.Plan.{IsPlan, PlanValue};
+ghost use Rattle.graph_verify.specs.PartialDescriptions.{resolved_operand};
+ghost use Rattle.buffer_plan.specs.Places.{plan_view};
+ghost use Rattle.buffer_plan.specs.Plan.{IsPlan, PlanView};
 ghost use Rattle.graph_run.specs.Graph.{run_of_graph};
 ghost use Rattle.graph_run.specs.Lasting.{Lasts};
 ghost use Rattle.graph_run.specs.Operands.{operand_held, IsReady};
 ghost use Rattle.vx_base.specs.Picture.{samples_format};
-ghost use Rattle.image_core.specs.declared.second.Second.{Second as SecondValue};
+ghost use Rattle.image_core.specs.declared.second.SecondInput.{SecondInput as SecondValue};
 ghost use Rattle.image_core.specs.Second.{second_object};
 ghost use Rattle.object_table.specs.Context.{with_objects};
-ghost use Rattle.object_table.specs.Named.{with_written};
+ghost use Rattle.object_table.specs.NamedObject.{with_written};
 ghost use Rattle.graph_steps.specs.Planes.{PlaneValue, plane};
 ghost use Rattle.graph_steps.specs.Program.{IsProgram};
 ghost use Rattle.graph_steps.specs.Runs.{CanReduceBand};
 ghost use Rattle.graph_steps.specs.Steps.{capacities, capacity};
 ghost use Rattle.graph_run.specs.Bind.{AreAllApart, AreFor, HoldImages, bare_images};
 ghost use Rattle.graph_run.specs.Bind.{image_planes, plane_objects};
-ghost use Rattle.graph_run.specs.Blocks.{band_plan, block_size, room_at, room_count};
+ghost use Rattle.graph_run.specs.Blocks.{band_plan, block_size, block_capacity, room_count};
 ghost use Rattle.graph_run.specs.Bound.{AreTalliesFor, LendTables};
 ghost use Rattle.graph_run.specs.Program.{first_blocks, tables_of, tallies_of};
 ghost use Rattle.graph_run.specs.Results.{Leaves, tally_objects};
 ghost use Rattle.graph_run.specs.Schedule.{IsSchedule, schedule_clients, schedule_objects};
-ghost use Rattle.graph_run.specs.Slots.{planned_rooms};
+ghost use Rattle.graph_run.specs.Slots.{planned_capacities};
 ghost use Rattle.graph_run.specs.Tasks.{last_in};
 
 use crate::bind::{put_back, take_out};
@@ -43,7 +43,7 @@ use crate::virtual_planes::{add_virtual, return_blocks};
 use buffer_plan::Plan;
 use graph_steps::{Plane, Tally};
 use graph_verify::{Verified, VirtualOutput};
-use image_core::Second;
+use image_core::SecondInput;
 use object_table::Table;
 use pixel_pool::{Block, Pool};
 use std::alloc::{AllocError, Global};
@@ -68,20 +68,20 @@ pub fn run(
     requires ready { (nodes : List NodeFields) ×
         IsReady table.old.objects nodes verified.now }
     requires plan { IsPlan verified.now.steps.items verified.now.virtual_outputs.items
-        (told plan.now) }
+        (plan_view plan.now) }
     ensures value { OnOk result ((nodes : List NodeFields) →
         IsReady table.old.objects nodes verified.now →
         table.new ≡ with_objects table.old
-        (run_of_graph (resolved (operand_held table.old.objects) nodes) nodes table.old.objects)) }
+        (run_of_graph (resolved_operand (operand_held table.old.objects) nodes) nodes table.old.objects)) }
     ensures lasts { Lasts table.old.objects table.new.objects }
     ensures lent { KeepsLent pool.old pool.new }
     ensures err { OnErr result (table.new ≡ table.old) }
     ensures adds { (format : SampleFormat) → blocks_of pool.new format
-        ≤ blocks_of pool.old format + (told plan.now).slot_count format }
+        ≤ blocks_of pool.old format + (plan_view plan.now).slot_count format }
 
     // The blocks that it used are free for the next run.
     ensures free { OnOk result ((format : SampleFormat) →
-        (told plan.now).slot_count format ≤ free_count (free_of pool.new format)) }
+        (plan_view plan.now).slot_count format ≤ free_count (free_of pool.new format)) }
 {
     let schedule = schedule_of(alloc, table, verified, plan)?;
     run_scheduled(alloc, verified, &schedule, table, pool)
@@ -100,13 +100,13 @@ pub fn run_scheduled(
     requires names { IsStrictlyIncreasing (map (λ o. o.name) table.old.objects) }
     requires ready { (nodes : List NodeFields) ×
         IsReady table.old.objects nodes verified.now }
-    requires schedule { (p : PlanValue) ×
+    requires schedule { (p : PlanView) ×
         IsPlan verified.now.steps.items verified.now.virtual_outputs.items p ×
         IsSchedule table.old.objects verified.now p schedule.now }
     ensures value { OnOk result ((nodes : List NodeFields) →
         IsReady table.old.objects nodes verified.now →
         table.new ≡ with_objects table.old
-        (run_of_graph (resolved (operand_held table.old.objects) nodes) nodes table.old.objects)) }
+        (run_of_graph (resolved_operand (operand_held table.old.objects) nodes) nodes table.old.objects)) }
     ensures lasts { Lasts table.old.objects table.new.objects }
     ensures lent { KeepsLent pool.old pool.new }
     ensures err { OnErr result (table.new ≡ table.old) }
@@ -147,10 +147,10 @@ fn run_over(
     requires names { IsStrictlyIncreasing (map (λ o. o.name) table.old.objects) }
     requires ready { (nodes : List NodeFields) ×
         IsReady table.old.objects nodes verified.now }
-    requires schedule { (p : PlanValue) ×
+    requires schedule { (p : PlanView) ×
         IsPlan verified.now.steps.items verified.now.virtual_outputs.items p ×
         IsSchedule table.old.objects verified.now p schedule.now ×
-        (map block_size blocks.old.items ≡ planned_rooms (band_plan schedule.now.size
+        (map block_size blocks.old.items ≡ planned_capacities (band_plan schedule.now.size
         schedule.now.halos.items verified.now.virtual_outputs.items
         schedule.now.slots.items p)) }
     requires none { planes.old.items ≡ [] }
@@ -159,7 +159,7 @@ fn run_over(
     ensures value { OnOk result ((nodes : List NodeFields) →
         IsReady table.old.objects nodes verified.now →
         table.new ≡ with_objects table.old
-        (run_of_graph (resolved (operand_held table.old.objects) nodes) nodes table.old.objects)) }
+        (run_of_graph (resolved_operand (operand_held table.old.objects) nodes) nodes table.old.objects)) }
     ensures lasts { Lasts table.old.objects table.new.objects }
     ensures err { OnErr result (table.new ≡ table.old) }
     ensures formats { map samples_format blocks.new.items ≡ map samples_format blocks.old.items }
@@ -190,7 +190,7 @@ fn run_tasks<'a>(
     table: &'a Table,
     verified: &Verified,
     schedule: &Schedule,
-    mut tables: Vec<Second<'a>>,
+    mut tables: Vec<SecondInput<'a>>,
     planes: &mut [Plane],
     tallies: &mut [Tally],
 )
@@ -240,12 +240,12 @@ fn take(
     requires apart { AreAllApart (schedule_clients verified.now schedule.now) }
     ensures planes { (virtuals : List PlaneValue) ×
         (map (λ q. q.desc) virtuals ≡ map (λ o. o.desc) verified.now.virtual_outputs.items) ×
-        (capacities virtuals ≡ first_blocks schedule.now.slots.items (room_at blocks.old)) ×
+        (capacities virtuals ≡ first_blocks schedule.now.slots.items (block_capacity blocks.old)) ×
         (planes.new.items ≡ virtuals ++ image_planes table.old.objects
         (schedule_clients verified.now schedule.now)) }
     ensures formats { map samples_format blocks.new ≡ map samples_format blocks.old }
     ensures unused { (s : ℕ) → last_in s schedule.now.slots.items ≡ None →
-        room_at blocks.new s ≡ room_at blocks.old s }
+        block_capacity blocks.new s ≡ block_capacity blocks.old s }
     ensures left { table.new ≡ with_objects table.old (with_written table.old.objects
         (bare_images table.old.objects
         (schedule_clients verified.now schedule.now))) }
@@ -272,7 +272,7 @@ fn give(
         slice_index_or schedule.now.slots.items k 0 < length blocks.old }
     requires formats { (k : ℕ) → k < length schedule.now.slots.items →
         (plane planes.old k).format
-        ≡ (room_at blocks.old (slice_index_or schedule.now.slots.items k 0)).0 }
+        ≡ (block_capacity blocks.old (slice_index_or schedule.now.slots.items k 0)).0 }
     requires images { HoldImages table.old.objects (schedule_clients verified.now schedule.now) }
     requires apart { AreAllApart (schedule_clients verified.now schedule.now) }
     requires back { AreFor table.old.objects (schedule_clients verified.now schedule.now)
@@ -285,9 +285,9 @@ fn give(
         (schedule_objects verified.now schedule.now planes.old))
         (tally_objects schedule.now.tally_cells.items tallies.now)) }
     ensures back { (s k : ℕ) → last_in s schedule.now.slots.items ≡ Some k →
-        room_at blocks.new s ≡ capacity (capacities planes.old) k }
+        block_capacity blocks.new s ≡ capacity (capacities planes.old) k }
     ensures unused { (s : ℕ) → last_in s schedule.now.slots.items ≡ None →
-        room_at blocks.new s ≡ room_at blocks.old s }
+        block_capacity blocks.new s ≡ block_capacity blocks.old s }
     ensures formats { map samples_format blocks.new ≡ map samples_format blocks.old }
 {
     return_blocks(&schedule.slots, blocks, planes);

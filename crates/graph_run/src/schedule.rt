@@ -1,7 +1,7 @@
 //! The schedule of a verified graph: its tasks over planes, and the blocks that they need.
 ghost use Rattle.std.specs.Prelude.{◌≡◌, ◌≤◌, List, length, drop, IfOk};
 ghost use Rattle.vx_base.specs.declared.node.Node.{Node as NodeFields};
-ghost use Rattle.buffer_plan.specs.Places.{told};
+ghost use Rattle.buffer_plan.specs.Places.{plan_view};
 ghost use Rattle.buffer_plan.specs.Plan.{IsPlan};
 ghost use Rattle.graph_run.specs.Operands.{IsReady};
 ghost use Rattle.graph_run.specs.Program.{radius_of};
@@ -50,8 +50,8 @@ pub fn schedule_of(
 ) -> Result<Schedule, AllocError>
     requires ready { (nodes : List NodeFields) × IsReady table.now.objects nodes verified.now }
     requires plan { IsPlan verified.now.steps.items verified.now.virtual_outputs.items
-        (told plan.now) }
-    ensures { IfOk result (λ s. IsSchedule table.now.objects verified.now (told plan.now) s) }
+        (plan_view plan.now) }
+    ensures { IfOk result (λ s. IsSchedule table.now.objects verified.now (plan_view plan.now) s) }
 {
     let images = verified.virtual_outputs.as_slice();
     let cells = cells_of(alloc, verified)?;

@@ -4,7 +4,7 @@ ghost use Rattle.vx_base.specs.declared.kind.Kind.TheVariants as kind;
 ghost use Rattle.vx_base.specs.Function.{parameters};
 ghost use Rattle.vx_base.specs.Object.{no_extremes, object_kind};
 ghost use Rattle.object_table.specs.Context.{with_objects};
-ghost use Rattle.object_table.specs.Named.{with_object, with_written};
+ghost use Rattle.object_table.specs.NamedObject.{with_object, with_written};
 ghost use Rattle.object_table.specs.Object.{distribution_value};
 ghost use Rattle.object_table.specs.Table.{cell_object};
 ghost use Rattle.graph_run.specs.Bound.{AreTalliesFor, IsTallyFor, KeepTallies, KeepsTally};

@@ -3,16 +3,16 @@ ghost use Rattle.std.specs.Prelude.{◌≡◌, ◌+◌, ◌++◌, ◌≤◌, ◌
 ghost use Rattle.std.specs.Option.{option_and_then, option_copied};
 ghost use Rattle.vx_base.specs.Function.{parameters};
 ghost use Rattle.vx_base.specs.Node.{second_kind};
-ghost use Rattle.object_table.specs.Named.{held};
-ghost use Rattle.node_rows.specs.Reach.{matrix_in};
+ghost use Rattle.object_table.specs.NamedObject.{object_at};
+ghost use Rattle.node_rows.specs.Radius.{matrix_in};
 ghost use Rattle.graph_run.specs.Cells.{index_of};
 ghost use Rattle.graph_run.specs.Blocks.{step_tasks};
 ghost use Rattle.graph_run.specs.Program.{radius_of};
-ghost use Rattle.graph_run.specs.Tasks.{holder, last_in, source, step_for, taken, tally_after};
+ghost use Rattle.graph_run.specs.Tasks.{holder, last_in, source, step_for, previous_holder, tally_after};
 ghost use Rattle.graph_run.specs.Tasks.{tasks_by, tasks_of, write_given};
 
 use crate::cells::index_of;
-use graph_steps::{Reduction, Source, Step, Task, step_reach};
+use graph_steps::{Reduction, Source, Step, Task, step_radius};
 use object_table::{Content, Table};
 use std::alloc::{AllocError, Global};
 use vx_base::{Convolution, Kind, Node, ObjRef, Output};
@@ -151,13 +151,13 @@ fn source(cells: &[ObjRef], at: usize, node: &Node) -> Source
 pub fn radius_of(table: &Table, high: u16, node: &Node) -> u16
     ensures { result ≡ radius_of table.now.objects high node.now }
 {
-    step_reach(node.function, matrix_of(table, node)).unwrap_or(high)
+    step_radius(node.function, matrix_of(table, node)).unwrap_or(high)
 }
 
 /// Returns the matrix that is a node's second input.
 fn matrix_of<'a>(table: &'a Table, node: &Node) -> Option<&'a Convolution>
     ensures { option_copied result
-        ≡ matrix_in (option_and_then (held table.now.objects) node.now.in2) }
+        ≡ matrix_in (option_and_then (object_at table.now.objects) node.now.in2) }
 {
     let cell = node.in2?;
     if cell.slot().is_some() {
@@ -174,7 +174,7 @@ fn matrix_of<'a>(table: &'a Table, node: &Node) -> Option<&'a Convolution>
 /// Returns the index of the image whose block the image at index `at` takes; `None` if that is a
 /// client's image.
 fn taken(slots: &[usize], at: usize) -> Option<usize>
-    ensures { result ≡ taken slots.now at }
+    ensures { result ≡ previous_holder slots.now at }
 {
     if at < slots.len() {
         holder(slots, slots[at], at)

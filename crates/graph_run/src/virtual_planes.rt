@@ -4,7 +4,7 @@ ghost use Rattle.vx_base.specs.Picture.{samples_format};
 ghost use Rattle.std.specs.Prelude.{slice_index_or, vec_capacity};
 ghost use Rattle.graph_steps.specs.Planes.{plane};
 ghost use Rattle.graph_steps.specs.Steps.{capacities, capacity};
-ghost use Rattle.graph_run.specs.Blocks.{block_size, room_at};
+ghost use Rattle.graph_run.specs.Blocks.{block_size, block_capacity};
 ghost use Rattle.graph_run.specs.Program.{first_blocks};
 ghost use Rattle.graph_run.specs.Tasks.{block_at, is_at, last_in};
 
@@ -29,10 +29,10 @@ pub fn add_virtual(
         slice_index_or slots.now k 0 < length blocks.old }
     ensures descs { map (λ q. q.desc) planes.new.items ≡ map (λ o. o.desc) images.now }
     ensures blocks { capacities planes.new.items
-        ≡ first_blocks slots.now (room_at blocks.old) }
+        ≡ first_blocks slots.now (block_capacity blocks.old) }
     ensures formats { map samples_format blocks.new ≡ map samples_format blocks.old }
     ensures unused { (s : ℕ) → last_in s slots.now ≡ None →
-        room_at blocks.new s ≡ room_at blocks.old s }
+        block_capacity blocks.new s ≡ block_capacity blocks.old s }
     ensures capacity { vec_capacity planes.new ≡ vec_capacity planes.old }
 {
     for k in 0..images.len() {
@@ -46,12 +46,12 @@ pub fn add_virtual(
 fn first_block(alloc: Global, slots: &[usize], k: usize, blocks: &mut [Block]) -> Samples
     requires there { k < length slots.now }
     requires within { slice_index_or slots.now k 0 < length blocks.old }
-    ensures size { block_size result ≡ block_at slots.now (room_at blocks.old) 0 k }
+    ensures size { block_size result ≡ block_at slots.now (block_capacity blocks.old) 0 k }
     ensures formats { map samples_format blocks.new ≡ map samples_format blocks.old }
     ensures others { (s j : ℕ) → last_in s slots.now ≡ Some j → k < j →
-        room_at blocks.new s ≡ room_at blocks.old s }
+        block_capacity blocks.new s ≡ block_capacity blocks.old s }
     ensures unused { (s : ℕ) → last_in s slots.now ≡ None →
-        room_at blocks.new s ≡ room_at blocks.old s }
+        block_capacity blocks.new s ≡ block_capacity blocks.old s }
 {
     let slot = slots[k];
     if is_last(slots, k) {
@@ -86,11 +86,11 @@ pub fn return_blocks(slots: &[usize], blocks: &mut [Block], planes: &mut [Plane]
     requires within { (k : ℕ) → k < length slots.now →
         slice_index_or slots.now k 0 < length blocks.old }
     requires formats { (k : ℕ) → k < length slots.now → (plane planes.old k).format
-        ≡ (room_at blocks.old (slice_index_or slots.now k 0)).0 }
+        ≡ (block_capacity blocks.old (slice_index_or slots.now k 0)).0 }
     ensures back { (s k : ℕ) → last_in s slots.now ≡ Some k →
-        room_at blocks.new s ≡ capacity (capacities planes.old) k }
+        block_capacity blocks.new s ≡ capacity (capacities planes.old) k }
     ensures unused { (s : ℕ) → last_in s slots.now ≡ None →
-        room_at blocks.new s ≡ room_at blocks.old s }
+        block_capacity blocks.new s ≡ block_capacity blocks.old s }
     ensures formats { map samples_format blocks.new ≡ map samples_format blocks.old }
     ensures others { drop (length slots.now) planes.new ≡ drop (length slots.now) planes.old }
     ensures count { length planes.new ≡ length planes.old }

@@ -9,20 +9,20 @@ use Rattle.vx_base.specs.declared.node.Node.{Node}
 use Rattle.vx_base.specs.declared.output.Output.{Output}
 use Rattle.vx_base.specs.Description.{Description}
 use Rattle.vx_base.specs.Function.{accumulates}
-use Rattle.vx_base.specs.Image.{ImageValue, IsImage, at, made, within, description_of}
+use Rattle.vx_base.specs.Image.{ImageValue, IsImage, pixel_at, image_from, zero_outside, description_of}
 use Rattle.vx_base.specs.Object.{ObjectValue, ImageObject, IsObject}
 use Rattle.vx_base.specs.Outputs.{image_of_one, node_image}
 use Rattle.vx_base.specs.Pixelwise.{from_two, formula_of_two}
 use Rattle.vx_base.specs.Statistics.{sum_to, sums_in}
-use Rattle.vx_base.specs.Rectangle.{Rectangle, inside, bounded, empty, meet_of}
+use Rattle.vx_base.specs.Rectangle.{Rectangle, has_pixel, rectangle_or_empty, empty_rectangle, meet_of}
 use Rattle.vx_base.proofs.ImageLaws.{at-made, at-made_outside}
 use Rattle.image_core.specs.declared.band.Band.{Band}
-use Rattle.image_core.specs.declared.second.Second.{Second}
+use Rattle.image_core.specs.declared.second.SecondInput.{SecondInput}
 use Rattle.image_core.specs.Bands.{IsInRows, has_row}
 use Rattle.stat_kernels.specs.Sums.{sum_on}
 use Rattle.stat_kernels.proofs.ScanLaws.{scan_agrees}
-use Rattle.node_rows.specs.Reach.{reach, matrix_in}
-use Rattle.node_rows.specs.Rows.{AgreeInRows, AgreeBeside}
+use Rattle.node_rows.specs.Radius.{window_radius, matrix_in}
+use Rattle.node_rows.specs.Rows.{AgreeInRows, SecondsAgree}
 use Rattle.node_rows.proofs.RowLaws.{agree_fewer, agree_in_all, node_rows}
 use Rattle.graph_steps.specs.declared.step.Reduction.{Reduction}
 use Rattle.graph_steps.specs.declared.step.Step.{Step}
@@ -53,22 +53,22 @@ agree_trans first last a b c p q =
       samples = λ x y i j k l. p.samples x y i j k l ∙ q.samples x y (omega arith) (omega arith) k l;
     }
 
-beside_itself : (first last : ℕ) (second : Option ObjectValue) → AgreeBeside first last second second
+beside_itself : (first last : ℕ) (second : Option ObjectValue) → SecondsAgree first last second second
 beside_itself first last (Some (ImageObject a)) = agree_same first last a a refl
 beside_itself first last other = refl
 
 -- ---- rectangles that meet again
 
-bounds_same : (a b c d e f g h : ℕ) → a ≡ e → b ≡ f → c ≡ g → d ≡ h → bounded a b c d ≡ bounded e f g h
-bounds_same a b c d e f g h p q r s = ap (λ n. bounded n b c d) p ∙ ap (λ n. bounded e n c d) q ∙ ap (λ n. bounded e f n d) r ∙ ap (bounded e f g) s
+bounds_same : (a b c d e f g h : ℕ) → a ≡ e → b ≡ f → c ≡ g → d ≡ h → rectangle_or_empty a b c d ≡ rectangle_or_empty e f g h
+bounds_same a b c d e f g h p q r s = ap (λ n. rectangle_or_empty n b c d) p ∙ ap (λ n. rectangle_or_empty e n c d) q ∙ ap (λ n. rectangle_or_empty e f n d) r ∙ ap (rectangle_or_empty e f g) s
 
 meet_again : (r s : Rectangle) → meet_of r (meet_of r s) ≡ meet_of r s
 meet_again r s = elim (cases_Bool (nat_lt x0 x1 && nat_lt y0 y1)) [
   | inl e ↦
-      ap (meet_of r) (ap (λ b. cond b both empty) e)
+      ap (meet_of r) (ap (λ b. cond b both empty_rectangle) e)
       ∙ bounds_same (max r.x0 x0) (max r.y0 y0) (min r.x1 x1) (min r.y1 y1) x0 y0 x1 y1 (omega arith) (omega arith) (omega arith) (omega arith)
   | inr e ↦
-      let none : meet_of r s ≡ empty = ap (λ b. cond b both empty) e in
+      let none : meet_of r s ≡ empty_rectangle = ap (λ b. cond b both empty_rectangle) e in
       ap (meet_of r) none ∙ bounds_same (max r.x0 0) (max r.y0 0) (min r.x1 0) (min r.y1 0) r.x0 r.y0 0 0 (omega arith) (omega arith) (omega arith) (omega arith) ∙ flat r.x0 r.y0 ∙ sym none
 ]
   where
@@ -87,20 +87,20 @@ meet_again r s = elim (cases_Bool (nat_lt x0 x1 && nat_lt y0 y1)) [
     both : Rectangle
     both = record { x0 = x0; y0 = y0; x1 = x1; y1 = y1 }
 
-    flat : (a b : ℕ) → bounded a b 0 0 ≡ empty
+    flat : (a b : ℕ) → rectangle_or_empty a b 0 0 ≡ empty_rectangle
     flat a b = grind (arith, nat_tests)
 
 -- ---- images that accumulate
 
-made_same : (width height : ℕ) (format : Format) (r : Rectangle) (f g : ℕ → ℕ → ℤ) (x y : ℕ) → x < width → y < height → f x y ≡ g x y → at (made width height format r f) x y ≡ at (made width height format r g) x y
-made_same width height format r f g x y i j same = elim (cases_Bool (inside r x y)) [
+made_same : (width height : ℕ) (format : Format) (r : Rectangle) (f g : ℕ → ℕ → ℤ) (x y : ℕ) → x < width → y < height → f x y ≡ g x y → pixel_at (image_from width height format r f) x y ≡ pixel_at (image_from width height format r g) x y
+made_same width height format r f g x y i j same = elim (cases_Bool (has_pixel r x y)) [
   | inl e ↦ at-made width height format r f x y i j e ∙ same ∙ sym (at-made width height format r g x y i j e)
   | inr e ↦ at-made_outside width height format r f x y i j e ∙ sym (at-made_outside width height format r g x y i j e)
 ]
 
 -- sums agree in the rows in which the images and the old sums agree
 sums_agree : (format : Format) (f : ℤ → ℤ → ℤ) (a b own other : ImageValue) (first last : ℕ) → AgreeInRows first last a b → meet_of a.valid own.valid ≡ meet_of b.valid other.valid
-    → ((x y : ℕ) → x < a.width → y < a.height → first ≤ y → y ≤ last → at own x y ≡ at other x y) → AgreeInRows first last (from_two format f a own) (from_two format f b other)
+    → ((x y : ℕ) → x < a.width → y < a.height → first ≤ y → y ≤ last → pixel_at own x y ≡ pixel_at other x y) → AgreeInRows first last (from_two format f a own) (from_two format f b other)
 sums_agree format f a b own other first last agree meets same =
     let wide : a.width ≡ b.width = ap (λ (d : Description). d.width) agree.alike.description in
     let tall : a.height ≡ b.height = ap (λ (d : Description). d.height) agree.alike.description in
@@ -110,26 +110,26 @@ sums_agree format f a b own other first last agree meets same =
         valid = meets;
       };
       samples = λ x y i j k l.
-          made_same a.width a.height format (meet_of a.valid own.valid) (λ u v. f (at a u v) (at own u v)) (λ u v. f (at b u v) (at other u v)) x y i j
-          (ap (λ z. f z (at own x y)) (agree.samples x y i j k l) ∙ ap (f (at b x y)) (same x y i j k l))
-          ∙ ap (λ w. at (made w a.height format (meet_of a.valid own.valid) (λ u v. f (at b u v) (at other u v))) x y) wide
-          ∙ ap (λ h. at (made b.width h format (meet_of a.valid own.valid) (λ u v. f (at b u v) (at other u v))) x y) tall
-          ∙ ap (λ r. at (made b.width b.height format r (λ u v. f (at b u v) (at other u v))) x y) meets;
+          made_same a.width a.height format (meet_of a.valid own.valid) (λ u v. f (pixel_at a u v) (pixel_at own u v)) (λ u v. f (pixel_at b u v) (pixel_at other u v)) x y i j
+          (ap (λ z. f z (pixel_at own x y)) (agree.samples x y i j k l) ∙ ap (f (pixel_at b x y)) (same x y i j k l))
+          ∙ ap (λ w. pixel_at (image_from w a.height format (meet_of a.valid own.valid) (λ u v. f (pixel_at b u v) (pixel_at other u v))) x y) wide
+          ∙ ap (λ h. pixel_at (image_from b.width h format (meet_of a.valid own.valid) (λ u v. f (pixel_at b u v) (pixel_at other u v))) x y) tall
+          ∙ ap (λ r. pixel_at (image_from b.width b.height format r (λ u v. f (pixel_at b u v) (pixel_at other u v))) x y) meets;
     }
 
 -- ---- integral images
 
 -- a sample of the integral image
-pub sum_in : (format : Format) (image : ImageValue) (x y : ℕ) → x < image.width → y < image.height → at (sums_in format image) x y ≡ within image.valid (sum_to image) x y
-sum_in format image x y i j = elim (cases_Bool (inside image.valid x y)) [
+pub sum_in : (format : Format) (image : ImageValue) (x y : ℕ) → x < image.width → y < image.height → pixel_at (sums_in format image) x y ≡ zero_outside image.valid (sum_to image) x y
+sum_in format image x y i j = elim (cases_Bool (has_pixel image.valid x y)) [
   | inl e ↦ at-made image.width image.height format image.valid (sum_to image) x y i j e ∙ sym (ap (λ t. cond t (sum_to image x y) (pos 0)) e)
   | inr e ↦ at-made_outside image.width image.height format image.valid (sum_to image) x y i j e ∙ sym (ap (λ t. cond t (sum_to image x y) (pos 0)) e)
 ]
 
 -- rows that follow from the row above them agree with the integral image where that row does
 scans_agree : (format : Format) (a b : ImageValue) (start : ℕ) (above : ℕ → ℕ) (first last : ℕ) → AgreeInRows first last a b → ((y : ℕ) → first ≤ y → y < a.height → start ≡ first)
-    → ((x : ℕ) → x < a.width → start ≡ 0 → above x ≡ 0) → ((x : ℕ) → x < a.width → 1 ≤ start → above x ≡ unsigned_abs (within b.valid (sum_to b) x (start - 1)))
-    → AgreeInRows first last (made a.width a.height format a.valid (sum_on a start above)) (sums_in format b)
+    → ((x : ℕ) → x < a.width → start ≡ 0 → above x ≡ 0) → ((x : ℕ) → x < a.width → 1 ≤ start → above x ≡ unsigned_abs (zero_outside b.valid (sum_to b) x (start - 1)))
+    → AgreeInRows first last (image_from a.width a.height format a.valid (sum_on a start above)) (sums_in format b)
 scans_agree format a b start above first last agree starts none some =
     let wide : a.width ≡ b.width = ap (λ (d : Description). d.width) agree.alike.description in
     let tall : a.height ≡ b.height = ap (λ (d : Description). d.height) agree.alike.description in
@@ -138,15 +138,15 @@ scans_agree format a b start above first last agree starts none some =
         description = ap (λ (d : Description). let e : Description = record { width = d.width; height = d.height; format = format } in e) agree.alike.description;
         valid = agree.alike.valid;
       };
-      samples = λ x y i j k l. elim (cases_Bool (inside b.valid x y)) [
+      samples = λ x y i j k l. elim (cases_Bool (has_pixel b.valid x y)) [
         | inl e ↦
             let s = starts y k j in
-            at-made a.width a.height format a.valid (sum_on a start above) x y i j (ap (λ r. inside r x y) agree.alike.valid ∙ e)
+            at-made a.width a.height format a.valid (sum_on a start above) x y i j (ap (λ r. has_pixel r x y) agree.alike.valid ∙ e)
             ∙ scan_agrees a b start x y above agree.alike.valid (omega arith) e
             (λ m n left low high. agree.samples m n (omega arith) (omega arith) (omega arith) (omega arith)) (none x i) (some x i)
             ∙ sym (at-made b.width b.height format b.valid (sum_to b) x y (omega arith) (omega arith) e)
         | inr e ↦
-            at-made_outside a.width a.height format a.valid (sum_on a start above) x y i j (ap (λ r. inside r x y) agree.alike.valid ∙ e)
+            at-made_outside a.width a.height format a.valid (sum_on a start above) x y i j (ap (λ r. has_pixel r x y) agree.alike.valid ∙ e)
             ∙ sym (at-made_outside b.width b.height format b.valid (sum_to b) x y (omega arith) (omega arith) e)
       ];
     }
@@ -175,7 +175,7 @@ halo_has more height band y there =
 
 -- ---- one step
 
-module _ (tables : List Second) (high : ℕ) (halos : List ℕ) (band : Band) (some : 1 ≤ band.count) (below : band.start < high) (kept : ℕ → Type 0) (origin whole : ℕ → ImageValue) (count : ℕ) (are : (c : ℕ) → c < count → IsImage (whole c)) where
+module _ (tables : List SecondInput) (high : ℕ) (halos : List ℕ) (band : Band) (some : 1 ≤ band.count) (below : band.start < high) (kept : ℕ → Type 0) (origin whole : ℕ → ImageValue) (count : ℕ) (are : (c : ℕ) → c < count → IsImage (whole c)) where
   abbrev first_row : ℕ → ℕ
   first_row c = band.start - halo halos c
 
@@ -189,7 +189,7 @@ module _ (tables : List Second) (high : ℕ) (halos : List ℕ) (band : Band) (s
 
   -- if the step accumulates, the rows to be written are as before the run; the valid rectangle is as before or already the solution's
   pub record IsOwn (planes : List PlaneValue) (s : Step) : Type 0 where
-    pub row : (x y : ℕ) → x < (plane planes s.output).desc.width → has_row (band_rows planes halos band s.output) y ≡ true → at (block_images planes s.output) x y ≡ at (origin s.output) x y
+    pub row : (x y : ℕ) → x < (plane planes s.output).desc.width → has_row (band_rows planes halos band s.output) y ≡ true → pixel_at (block_images planes s.output) x y ≡ pixel_at (origin s.output) x y
     pub valid : ((plane planes s.output).valid ≡ (origin s.output).valid) ⊎ ((plane planes s.output).valid ≡ (whole s.output).valid)
 
   -- if the output continues from the row above, that row is the solution's, if there is one
@@ -197,7 +197,7 @@ module _ (tables : List Second) (high : ℕ) (halos : List ℕ) (band : Band) (s
   HasRowAbove planes s =
       (first_row s.output ≡ 0)
       ⊎ ((s.takes ≡ None)
-      × ((x y : ℕ) → x < (plane planes s.output).desc.width → y < first_row s.output → y < (plane planes s.output).desc.height → at (block_images planes s.output) x y ≡ at (whole s.output) x y))
+      × ((x y : ℕ) → x < (plane planes s.output).desc.width → y < first_row s.output → y < (plane planes s.output).desc.height → pixel_at (block_images planes s.output) x y ≡ pixel_at (whole s.output) x y))
 
   -- the planes when a band comes to a step
   pub record Meets (planes : List PlaneValue) : Type 0 where
@@ -260,10 +260,10 @@ module _ (tables : List Second) (high : ℕ) (halos : List ℕ) (band : Band) (s
         agree_in_all (read_images planes c) (whole c) (input_image c reads) (are c (let n = meets.length_is in let b = (fits.reads c reads).0 in omega arith))
         (agree_fewer (first - s.radius) 0 (read_images planes c).height (last + s.radius) (read_images planes c) (whole c) (omega arith) (omega arith) (near c reads))
 
-    beside : AgreeBeside first last (second_in tables (read_images planes) s.second) (second_in tables whole s.second)
+    beside : SecondsAgree first last (second_in tables (read_images planes) s.second) (second_in tables whole s.second)
     beside = by_source s.second (λ c e. near c (inr e))
       where
-        by_source : (source : Source) → ((c : ℕ) → source ≡ Plane c → AgreeInRows (first - s.radius) (last + s.radius) (read_images planes c) (whole c)) → AgreeBeside first last (second_in tables (read_images planes) source) (second_in tables whole source)
+        by_source : (source : Source) → ((c : ℕ) → source ≡ Plane c → AgreeInRows (first - s.radius) (last + s.radius) (read_images planes c) (whole c)) → SecondsAgree first last (second_in tables (read_images planes) source) (second_in tables whole source)
         by_source Nothing image = refl
         by_source (Plane c) image = agree_fewer (first - s.radius) first last (last + s.radius) (read_images planes c) (whole c) (omega arith) (omega arith) (image c refl)
         by_source (Table k) image = beside_itself first last (second_in tables whole (Table k))
@@ -277,11 +277,11 @@ module _ (tables : List Second) (high : ℕ) (halos : List ℕ) (band : Band) (s
     -- a node that doesn't accumulate
     plain_agrees : is_integral s.node.function ≡ false → AgreeInRows first last (node_image s.node s.which own.format (read_images planes s.first) (second_in tables (read_images planes) s.second))
         (node_image s.node s.which own.format (whole s.first) (second_in tables whole s.second))
-    plain_agrees other = by_reach (reach s.node.function (matrix_in (second_in tables (read_images planes) s.second))) refl
-        (subst (λ m. Covers (reach s.node.function m) s.radius high) (matrix_told tables (plane planes (second_plane s.second)).desc (read_images planes) s.second)
-        (subst (λ b. Covers (cond b (Some 0) (reach s.node.function (matrix_in (second_in tables (λ _. blank_image (plane planes (second_plane s.second)).desc) s.second)))) s.radius high) other fits.suits.near))
+    plain_agrees other = by_reach (window_radius s.node.function (matrix_in (second_in tables (read_images planes) s.second))) refl
+        (subst (λ m. Covers (window_radius s.node.function m) s.radius high) (matrix_told tables (plane planes (second_plane s.second)).desc (read_images planes) s.second)
+        (subst (λ b. Covers (cond b (Some 0) (window_radius s.node.function (matrix_in (second_in tables (λ _. blank_image (plane planes (second_plane s.second)).desc) s.second)))) s.radius high) other fits.suits.near))
       where
-        by_reach : (o : Option ℕ) → reach s.node.function (matrix_in (second_in tables (read_images planes) s.second)) ≡ o → Covers o s.radius high
+        by_reach : (o : Option ℕ) → window_radius s.node.function (matrix_in (second_in tables (read_images planes) s.second)) ≡ o → Covers o s.radius high
             → AgreeInRows first last (node_image s.node s.which own.format (read_images planes s.first) (second_in tables (read_images planes) s.second))
             (node_image s.node s.which own.format (whole s.first) (second_in tables whole s.second))
         by_reach (Some far) e covers =
@@ -310,7 +310,7 @@ module _ (tables : List Second) (high : ℕ) (halos : List ℕ) (band : Band) (s
         let w = sides.0 in
         let h = sides.1 in
         let there = in_halo (halo halos s.output) (plane planes s.output).desc.height band y some from to (omega arith) in
-        ap (λ p. at (plane_image (with_read_rows rows p)) x y) same
+        ap (λ p. pixel_at (plane_image (with_read_rows rows p)) x y) same
         ∙ read_at (plane planes s.output) (fits.whole none) rows fits.within x y (omega arith) there
         ∙ o.row x y (omega arith) there)
       where
@@ -378,8 +378,8 @@ module _ (tables : List Second) (high : ℕ) (halos : List ℕ) (band : Band) (s
             ap (λ b. cond b 0 (unsigned_abs (get_or out.samples ((rows.start - out.top - 1) * out.desc.width + x) (pos 0)))) e
 
         row_above : (x : ℕ) → x < wide → 1 ≤ rows.start → s.takes ≡ None
-            → ((x y : ℕ) → x < wide → y < first → y < (plane planes s.output).desc.height → at (block_images planes s.output) x y ≡ at (whole s.output) x y)
-            → sums_above out.desc.width out.top rows.start out.samples x ≡ unsigned_abs (within (whole s.first).valid (sum_to (whole s.first)) x (rows.start - 1))
+            → ((x y : ℕ) → x < wide → y < first → y < (plane planes s.output).desc.height → pixel_at (block_images planes s.output) x y ≡ pixel_at (whole s.output) x y)
+            → sums_above out.desc.width out.top rows.start out.samples x ≡ unsigned_abs (zero_outside (whole s.first).valid (sum_to (whole s.first)) x (rows.start - 1))
         row_above x across some none above =
             let same : out ≡ plane planes s.output = is.own none in
             let top = (fits.whole none).top in
@@ -393,7 +393,7 @@ module _ (tables : List Second) (high : ℕ) (halos : List ℕ) (band : Band) (s
             ∙ ap (λ n. unsigned_abs (get_or (plane planes s.output).samples (n * wide + x) (pos 0))) (let up : rows.start - (plane planes s.output).top - 1 ≡ rows.start - 1 = omega arith in up)
             ∙ ap unsigned_abs
             (above x (rows.start - 1) across (below_first (plane planes s.output).desc.height some) (omega arith)
-            ∙ ap (λ i. at i x (rows.start - 1)) (solves ∙ is_sums scans)
+            ∙ ap (λ i. pixel_at i x (rows.start - 1)) (solves ∙ is_sums scans)
             ∙ sum_in (origin s.output).format (whole s.first) x (rows.start - 1) (omega (arith, sides.0)) (omega (arith, sides.1)))
           where
             below_first : (height : ℕ) → 1 ≤ (with_halo (halo halos s.output) height band).start → (with_halo (halo halos s.output) height band).start - 1 < first
@@ -483,7 +483,7 @@ module _ (tables : List Second) (high : ℕ) (halos : List ℕ) (band : Band) (s
             let j = can.written t (inr i) none in
             let same : plane after t.output ≡ plane planes t.output = after_others tables high s rows planes fits t.output (λ e. k.one.0 t i e) (λ e. (can.keeps t.output j s (inl refl) t.output e).0 refl) in
             let o = k.was t (inr i) sums in
-            let P : PlaneValue → Type 0 = λ p. (x y : ℕ) → x < p.desc.width → has_row (with_halo (halo halos t.output) p.desc.height band) y ≡ true → at (block_image p) x y ≡ at (origin t.output) x y in
+            let P : PlaneValue → Type 0 = λ p. (x y : ℕ) → x < p.desc.width → has_row (with_halo (halo halos t.output) p.desc.height band) y ≡ true → pixel_at (block_image p) x y ≡ pixel_at (origin t.output) x y in
             let Q : PlaneValue → Type 0 = λ p. (p.valid ≡ (origin t.output).valid) ⊎ (p.valid ≡ (whole t.output).valid) in
             record { row = subst P (sym same) o.row; valid = subst Q (sym same) o.valid };
         above = λ t i scans. elim (k.above t (inr i) scans) [
@@ -491,7 +491,7 @@ module _ (tables : List Second) (high : ℕ) (halos : List ℕ) (band : Band) (s
           | inr (none, row) ↦
               let j = can.written t (inr i) none in
               let same : plane after t.output ≡ plane planes t.output = after_others tables high s rows planes fits t.output (λ e. k.one.0 t i e) (λ e. (can.keeps t.output j s (inl refl) t.output e).0 refl) in
-              let P : PlaneValue → Type 0 = λ p. (x y : ℕ) → x < p.desc.width → y < first_row t.output → y < p.desc.height → at (block_image p) x y ≡ at (whole t.output) x y in
+              let P : PlaneValue → Type 0 = λ p. (x y : ℕ) → x < p.desc.width → y < first_row t.output → y < p.desc.height → pixel_at (block_image p) x y ≡ pixel_at (whole t.output) x y in
               inr (none, subst P (sym same) row)
         ];
         known = λ d live. step_knows s later planes can k.meets (k.enough s (inl refl)) (λ e r. k.known e (inl r)) (k.solves s (inl refl)) (k.was s (inl refl)) (k.above s (inl refl)) d (λ other e. can.free.0 d e other live) (λ other. k.known d (inr (other, live)));

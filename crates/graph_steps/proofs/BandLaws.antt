@@ -2,9 +2,9 @@
 use Rattle.std.proofs.Common.{◌≡◌, ◌≢◌, ℕ, ◌+◌, ◌*◌, ◌<◌, ◌≤◌, min, false, List, [], ◌∷◌, length, Some, None, refl, sym, ◌∙◌, ap, subst, inl, inr, arith}
 use Rattle.vx_base.specs.declared.format.Format.{Format}
 use Rattle.vx_base.specs.Description.{Description}
-use Rattle.vx_base.specs.Image.{at}
+use Rattle.vx_base.specs.Image.{pixel_at}
 use Rattle.image_core.specs.declared.band.Band.{Band}
-use Rattle.image_core.specs.declared.second.Second.{Second}
+use Rattle.image_core.specs.declared.second.SecondInput.{SecondInput}
 use Rattle.image_core.specs.Bands.{IsInRows, has_row}
 use Rattle.graph_steps.specs.declared.step.Reduction.{Reduction}
 use Rattle.graph_steps.specs.declared.step.Step.{Step}
@@ -12,7 +12,7 @@ use Rattle.graph_steps.specs.declared.step.Task.{Task}
 use Rattle.graph_steps.specs.declared.step.Task.TheVariants.{Write, Reduce}
 use Rattle.graph_steps.specs.Planes.{PlaneValue, plane, block_image, block_images, with_halo, IsReadable, IsWhole}
 use Rattle.graph_steps.specs.Steps.{CanStep, Suits, second_plane, after_step, capacities, capacity, blocks_after_step}
-use Rattle.graph_steps.specs.Program.{IsUnwritten, halo, band_rows, after_task, after_tasks, HaveRoom, blocks_after_tasks, NamesPlanes}
+use Rattle.graph_steps.specs.Program.{IsUnwritten, halo, band_rows, after_task, after_tasks, HaveCapacity, blocks_after_tasks, NamesPlanes}
 use Rattle.graph_steps.specs.declared.tally.Tally.{Tally}
 use Rattle.graph_steps.specs.Runs.{CanDo, CanReduceBand, CanRunBand}
 use Rattle.graph_steps.proofs.StepLaws.{same_or_other, none_or_some, capacity_at, not_more, after_count, after_others, after_desc, after_capacities, after_readable, after_whole, after_beside}
@@ -28,7 +28,7 @@ halo_rows more height band = omega arith
 -- ---- one step
 
 -- the descriptions of planes decide the sizes of blocks
-pub room_same : (size : ℕ) (halos : List ℕ) (a b : ℕ → Description) (steps : List Task) (blocks : List (Format × ℕ)) → ((c : ℕ) → a c ≡ b c) → HaveRoom size halos a steps blocks → HaveRoom size halos b steps blocks
+pub room_same : (size : ℕ) (halos : List ℕ) (a b : ℕ → Description) (steps : List Task) (blocks : List (Format × ℕ)) → ((c : ℕ) → a c ≡ b c) → HaveCapacity size halos a steps blocks → HaveCapacity size halos b steps blocks
 room_same size halos a b [] blocks same room = room
 room_same size halos a b (Reduce r ∷ later) blocks same room = room_same size halos a b later blocks same room
 room_same size halos a b (Write s ∷ later) blocks same room = (
@@ -38,7 +38,7 @@ room_same size halos a b (Write s ∷ later) blocks same room = (
   room_same size halos a b later (blocks_after_step s blocks) same room.1,
 )
 
-module _ (tables : List Second) (high : ℕ) (halos : List ℕ) (band : Band) (kept : ℕ → Type 0) where
+module _ (tables : List SecondInput) (high : ℕ) (halos : List ℕ) (band : Band) (kept : ℕ → Type 0) where
   abbrev Can : List Task → List PlaneValue → Type 0
   Can steps planes = CanRunBand tables high halos band kept steps planes
 
@@ -102,7 +102,7 @@ module _ (tables : List Second) (high : ℕ) (halos : List ℕ) (band : Band) (k
         keeps = λ c k t i. can.keeps c k t (inr i);
         free = can.free.1;
         room =
-            subst (HaveRoom band.count halos (λ c. (plane after c).desc) later) (sym (after_capacities tables high s rows planes fits))
+            subst (HaveCapacity band.count halos (λ c. (plane after c).desc) later) (sym (after_capacities tables high s rows planes fits))
             (room_same band.count halos (λ c. (plane planes c).desc) (λ c. (plane after c).desc) later (blocks_after_step s (capacities planes)) (λ c. sym (desc c)) can.room.1);
       }
 
@@ -169,7 +169,7 @@ module _ (tables : List Second) (high : ℕ) (halos : List ℕ) (band : Band) (k
 
   -- the rows of a client's image that the band doesn't write stay
   pub band_keeps : (steps : List Task) (planes : List PlaneValue) → Can steps planes → (c : ℕ) → kept c → (x y : ℕ) → x < (plane planes c).desc.width → y < (plane planes c).desc.height
-      → has_row (band_rows planes halos band c) y ≡ false → at (block_images (after_tasks tables halos band steps planes) c) x y ≡ at (block_images planes c) x y
+      → has_row (band_rows planes halos band c) y ≡ false → pixel_at (block_images (after_tasks tables halos band steps planes) c) x y ≡ pixel_at (block_images planes c) x y
   band_keeps [] planes can c k x y across low beside = refl
   band_keeps (Reduce r ∷ later) planes can c k x y across low beside = band_keeps later planes (skip_next r later planes can) c k x y across low beside
   band_keeps (Write s ∷ later) planes can c k x y across low beside =
@@ -182,7 +182,7 @@ module _ (tables : List Second) (high : ℕ) (halos : List ℕ) (band : Band) (k
       (subst (λ (d : Description). has_row (with_halo (halo halos c) d.height band) y ≡ false) (sym desc) beside)
       ∙ elim (same_or_other c s.output) [
         | inl e ↦
-            let P : ℕ → Type 0 = λ j. kept j → x < (plane planes j).desc.width → y < (plane planes j).desc.height → has_row (band_rows planes halos band j) y ≡ false → at (block_images after j) x y ≡ at (block_images planes j) x y in
+            let P : ℕ → Type 0 = λ j. kept j → x < (plane planes j).desc.width → y < (plane planes j).desc.height → has_row (band_rows planes halos band j) y ≡ false → pixel_at (block_images after j) x y ≡ pixel_at (block_images planes j) x y in
             subst P (sym e) (λ j a b n. after_beside tables high s rows planes fits (keeps_none s later planes can j) x y a b n) k across low beside
-        | inr other ↦ ap (λ p. at (block_image p) x y) (after_others tables high s rows planes fits c other (untaken s later planes can c k))
+        | inr other ↦ ap (λ p. pixel_at (block_image p) x y) (after_others tables high s rows planes fits c other (untaken s later planes can c k))
       ]

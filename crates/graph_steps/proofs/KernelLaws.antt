@@ -10,10 +10,10 @@ use Rattle.vx_base.specs.declared.function.Function.TheVariants.{Integral, Sobel
 use Rattle.vx_base.specs.declared.node.Node.{Node}
 use Rattle.vx_base.specs.declared.output.Output.{Output}
 use Rattle.vx_base.specs.Description.{Description, same_size}
-use Rattle.vx_base.specs.Rectangle.{Rectangle, empty}
+use Rattle.vx_base.specs.Rectangle.{Rectangle, empty_rectangle}
 use Rattle.vx_base.specs.Formats.{takes_formats}
 use Rattle.vx_base.specs.Function.{parameters, accumulates}
-use Rattle.vx_base.specs.Image.{ImageValue, description_of, image_over, band, at}
+use Rattle.vx_base.specs.Image.{ImageValue, description_of, image_over, band, pixel_at}
 use Rattle.vx_base.specs.Object.{ObjectValue, ImageObject, object_kind}
 use Rattle.vx_base.specs.Outputs.{image_of_one, node_image}
 use Rattle.vx_base.specs.Pixelwise.{from_two, formula_of_two}
@@ -25,7 +25,7 @@ use Rattle.image_core.specs.declared.image_mut.ImageMut.{ImageMut}
 use Rattle.image_core.specs.Bands.{IsInRows, has_row, image_over_rows, rows_in}
 use Rattle.image_core.specs.Rows.{sample_at}
 use Rattle.image_core.specs.Second.{second_object}
-use Rattle.image_core.specs.Target.{written, IsTarget, Writes}
+use Rattle.image_core.specs.Target.{target_image, IsTarget, Writes}
 use Rattle.image_core.proofs.BandLaws.{written_same}
 use Rattle.image_core.proofs.HeldRows.{at_held}
 use Rattle.node_rows.proofs.RowLaws.{node_description}
@@ -115,7 +115,7 @@ rows_held d valid rows samples room size =
     ∙ samples_are_band samples d.width rows.count size)
   where
     f : ℕ → ℕ → ℤ
-    f = at (image_over_rows d valid rows samples)
+    f = pixel_at (image_over_rows d valid rows samples)
 
     one : (x y : ℕ) → x < d.width → y < rows.count → f x (rows.start + y) ≡ sample_at d.width samples x y
     one x y across high =
@@ -124,12 +124,12 @@ rows_held d valid rows samples room size =
         at_held d valid rows samples room size x (rows.start + y) across there
         ∙ ap (sample_at d.width samples x) back
 
-pub held_rows : (out : ImageMut) → IsTarget out → rows_in out.rows (held_image out) ≡ written out
-held_rows out target = rows_held out.desc out.valid out.rows (written out).samples target.rows target.size
+pub held_rows : (out : ImageMut) → IsTarget out → rows_in out.rows (held_image out) ≡ target_image out
+held_rows out target = rows_held out.desc out.valid out.rows (target_image out).samples target.rows target.size
 
 -- the result of a kernel in these samples of an output
-pub rows_written : (k : Kernel) (d : Description) (valid : Rectangle) (rows : Band) (samples : List ℤ) (old new : ImageMut) → written old ≡ image_over d valid samples → old.rows ≡ rows
-    → Writes (kernel_image k (held_image old)) old new → written new ≡ rows_in rows (kernel_image k (image_over_rows d valid rows samples))
+pub rows_written : (k : Kernel) (d : Description) (valid : Rectangle) (rows : Band) (samples : List ℤ) (old new : ImageMut) → target_image old ≡ image_over d valid samples → old.rows ≡ rows
+    → Writes (kernel_image k (held_image old)) old new → target_image new ≡ rows_in rows (kernel_image k (image_over_rows d valid rows samples))
 rows_written k d valid rows samples old new before same is =
     is.value
     ∙ ap (λ (r : Band). rows_in r (kernel_image k (held_image old))) same
@@ -138,8 +138,8 @@ rows_written k d valid rows samples old new before same is =
 
 -- the result of a kernel in exactly these samples
 pub rows_made : (k : Kernel) (d : Description) (valid : Rectangle) (rows : Band) (samples : List ℤ) (of old new : ImageMut) → CanMake k.step.now k.first.now (second_object k.second.now) d
-    → written of ≡ image_over d empty samples → written old ≡ image_over of.desc valid (written of).samples → old.rows ≡ rows → Writes (kernel_image k (held_image old)) old new
-    → (new.desc.format ≡ d.format) × ((written new).samples ≡ (rows_in rows (kernel_image k (image_over_rows d valid rows samples))).samples)
+    → target_image of ≡ image_over d empty_rectangle samples → target_image old ≡ image_over of.desc valid (target_image of).samples → old.rows ≡ rows → Writes (kernel_image k (held_image old)) old new
+    → (new.desc.format ≡ d.format) × ((target_image new).samples ≡ (rows_in rows (kernel_image k (image_over_rows d valid rows samples))).samples)
 rows_made k d valid rows samples of old new can of_is old_is same is =
     let before = old_is ∙ ap (λ (v : ImageValue). image_over (description_of v) valid v.samples) of_is in
     let made = rows_written k d valid rows samples old new before same is in (

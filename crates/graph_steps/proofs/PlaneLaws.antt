@@ -5,11 +5,11 @@ use borrow.Rule.Slice.PartMut.{put_mid}
 use Rattle.std.proofs.lemmas.Bool.{cases_Bool, ltb-true, ltb-false}
 use Rattle.std.proofs.lemmas.Bool.Decides.{nat_tests}
 use Rattle.vx_base.specs.Description.{Description}
-use Rattle.vx_base.specs.Image.{ImageValue, description_of, image_over, band, at}
+use Rattle.vx_base.specs.Image.{ImageValue, description_of, image_over, band, pixel_at}
 use Rattle.vx_base.proofs.ImageLaws.{samples_are_band}
 use Rattle.vx_base.proofs.TableLaws.{length-band}
 use Rattle.image_core.specs.declared.band.Band.{Band}
-use Rattle.image_core.specs.Bands.{has_row, all_rows, IsInRows, image_over_rows, held_in}
+use Rattle.image_core.specs.Bands.{has_row, all_rows, IsInRows, image_over_rows, zero_outside_rows}
 use Rattle.image_core.proofs.HeldRows.{at_held, at_held_in, all_held}
 use Rattle.node_rows.specs.Rows.{AgreeInRows}
 use Rattle.graph_steps.specs.Planes.{PlaneValue, plane_image, block_image, rows_of_block, with_read_rows, written_among, with_rows, IsWhole}
@@ -36,7 +36,7 @@ lent_rows value width top rows from n w lent items zs a b c same is =
 -- samples of any type, once a part of them is written
 pub rows_among : {T : Type 0} (value : T → ℤ) (image : ImageValue) (top : ℕ) (rows : Band) (from n width start count : ℕ) (out part : List T) → from ≡ rows.start - top → n ≡ rows.count → width ≡ image.width
     → start ≡ from * width → count ≡ start + n * width - start
-    → map value part ≡ band image.width rows.start rows.count (at image) → map value (put_mid start count out part) ≡ written_among top rows image (map value out)
+    → map value part ≡ band image.width rows.start rows.count (pixel_at image) → map value (put_mid start count out part) ≡ written_among top rows image (map value out)
 rows_among value image top rows from n width start count out part a b w at_start counted made =
     let begins : start ≡ (rows.start - top) * image.width = at_start ∙ ap (λ k. k * width) a ∙ ap (λ k. (rows.start - top) * k) w in
     let many : count ≡ rows.count * image.width = counted ∙ omega arith ∙ ap (λ k. k * width) b ∙ ap (λ k. rows.count * k) w in
@@ -46,7 +46,7 @@ rows_among value image top rows from n width start count out part a b w at_start
     ∙ ap (λ l. take ((rows.start - top) * image.width) (map value out) ++ l)
     (map-append value part (drop count (drop start out))
     ∙ ap (λ l. l ++ map value (drop count (drop start out))) made
-    ∙ ap (λ l. band image.width rows.start rows.count (at image) ++ l)
+    ∙ ap (λ l. band image.width rows.start rows.count (pixel_at image) ++ l)
     (ap (map value) (drop-drop count start out) ∙ sym (drop-map value (start + count) out) ∙ ap (λ k. drop k (map value out)) ends))
   where
     both : (k m w : ℕ) → k * w + m * w ≡ (k + m) * w
@@ -55,7 +55,7 @@ rows_among value image top rows from n width start count out part a b w at_start
 -- the image whose rows are read from this plane
 module _ (p : PlaneValue) (rows : Band) (image : ImageValue) (desc : p.desc ≡ description_of image) (room : (rows.start - p.top + rows.count) * p.desc.width ≤ length p.samples) where
   abbrev made : List ℤ
-  made = band image.width rows.start rows.count (at image)
+  made = band image.width rows.start rows.count (pixel_at image)
 
   abbrev above : List ℤ
   above = take ((rows.start - p.top) * image.width) p.samples
@@ -70,7 +70,7 @@ module _ (p : PlaneValue) (rows : Band) (image : ImageValue) (desc : p.desc ≡ 
       enough k n w v m e h = grind arith
 
   long_made : length made ≡ rows.count * image.width
-  long_made = length-band image.width rows.start rows.count (at image)
+  long_made = length-band image.width rows.start rows.count (pixel_at image)
 
   rows_are : rows_of_block p.desc.width p.top rows (written_among p.top rows image p.samples) ≡ made
   rows_are =
@@ -92,13 +92,13 @@ module _ (p : PlaneValue) (rows : Band) (image : ImageValue) (desc : p.desc ≡ 
       times s k w = grind arith
 
   -- a plane to which rows of an image are written has these rows of it
-  pub written_plane : plane_image (with_rows rows image p) ≡ held_in rows image
+  pub written_plane : plane_image (with_rows rows image p) ≡ zero_outside_rows rows image
   written_plane =
       ap (image_over_rows p.desc image.valid rows) rows_are
       ∙ ap (λ d. image_over_rows d image.valid rows made) desc
 
 -- it agrees with the whole image in the plane's rows
-pub held_agrees : (image : ImageValue) (rows : Band) (first last : ℕ) → IsInRows image.height rows → rows.start ≤ first → min (last + 1) image.height ≤ rows.start + rows.count → AgreeInRows first last (held_in rows image) image
+pub held_agrees : (image : ImageValue) (rows : Band) (first last : ℕ) → IsInRows image.height rows → rows.start ≤ first → min (last + 1) image.height ≤ rows.start + rows.count → AgreeInRows first last (zero_outside_rows rows image) image
 held_agrees image rows first last room from to = record {
   alike = record { description = refl; valid = refl };
   samples = (λ x y across low above below. at_held_in image rows room x y across (row_is_held rows y (omega arith) (omega arith)));
@@ -126,7 +126,7 @@ module _ (p : PlaneValue) (whole : IsWhole p) (rows : Band) (room : IsInRows p.d
       fits : (n k h w : ℕ) → n + k ≤ h → n * w ≤ h * w - k * w
       fits n k h w e = let s : (n + k) * w ≤ h * w = more (n + k) h w e in let t : (n + k) * w ≡ n * w + k * w = grind arith in omega arith
 
-  pub read_at : (x y : ℕ) → x < width → has_row rows y ≡ true → at (plane_image (with_read_rows rows p)) x y ≡ at (block_image p) x y
+  pub read_at : (x y : ℕ) → x < width → has_row rows y ≡ true → pixel_at (plane_image (with_read_rows rows p)) x y ≡ pixel_at (block_image p) x y
   read_at x y across there =
       let from : rows.start ≤ y = grind (arith, nat_tests) in
       let to : y - rows.start < rows.count = grind (arith, nat_tests) in
@@ -163,13 +163,13 @@ module _ (image : ImageValue) (top : ℕ) (rows : Band) (old : List ℤ) (room :
   columns = image.width
 
   abbrev between : List ℤ
-  between = band columns rows.start rows.count (at image)
+  between = band columns rows.start rows.count (pixel_at image)
 
   abbrev rest : List ℤ
   rest = drop ((rows.start - top + rows.count) * columns) old
 
   long_between : length between ≡ rows.count * columns
-  long_between = length-band columns rows.start rows.count (at image)
+  long_between = length-band columns rows.start rows.count (pixel_at image)
 
   places_fit : (x k n : ℕ) → k < n → x < columns → k * columns + x < n * columns
   places_fit x k n a b = grind arith
@@ -211,7 +211,7 @@ module _ (image : ImageValue) (top : ℕ) (rows : Band) (old : List ℤ) (room :
 
 -- after rows of a client's image are written, its other rows are as before
 pub written_beside : (p : PlaneValue) (rows : Band) (image : ImageValue) → p.desc ≡ description_of image → IsWhole p → IsInRows p.desc.height rows → (x y : ℕ) → x < p.desc.width → y < p.desc.height → has_row rows y ≡ false
-    → at (block_image (with_rows rows image p)) x y ≡ at (block_image p) x y
+    → pixel_at (block_image (with_rows rows image p)) x y ≡ pixel_at (block_image p) x y
 written_beside p rows image desc whole room x y across low beside =
     let wide : p.desc.width ≡ image.width = ap (λ (d : Description). d.width) desc in
     let tall : p.desc.height ≡ image.height = ap (λ (d : Description). d.height) desc in
@@ -228,10 +228,10 @@ written_whole p image desc whole size =
     let end : length p.samples ≤ (0 - p.top + p.desc.height) * image.width = enough (0 - p.top + p.desc.height) (omega (arith, whole.top)) wide whole.size in
     ap (λ (d : Description). image_over d image.valid (written_among p.top (all_rows p.desc.height) image p.samples)) desc
     ∙ ap (image_over (description_of image) image.valid)
-    (ap (λ n. take n p.samples ++ (band image.width 0 p.desc.height (at image) ++ drop ((0 - p.top + p.desc.height) * image.width) p.samples)) start
-    ∙ ap (λ l. band image.width 0 p.desc.height (at image) ++ l) (drop_all ((0 - p.top + p.desc.height) * image.width) p.samples end)
-    ∙ append-nil (band image.width 0 p.desc.height (at image))
-    ∙ ap (λ n. band image.width 0 n (at image)) tall
+    (ap (λ n. take n p.samples ++ (band image.width 0 p.desc.height (pixel_at image) ++ drop ((0 - p.top + p.desc.height) * image.width) p.samples)) start
+    ∙ ap (λ l. band image.width 0 p.desc.height (pixel_at image) ++ l) (drop_all ((0 - p.top + p.desc.height) * image.width) p.samples end)
+    ∙ append-nil (band image.width 0 p.desc.height (pixel_at image))
+    ∙ ap (λ n. band image.width 0 n (pixel_at image)) tall
     ∙ samples_are_band image.samples image.width image.height size)
   where
     times_none : (k : ℕ) → k ≡ 0 → k * image.width ≡ 0

@@ -7,11 +7,11 @@ use Rattle.vx_base.specs.declared.format.Format.{Format}
 use Rattle.vx_base.specs.declared.function.Function.{Function}
 use Rattle.vx_base.specs.Description.{Description}
 use Rattle.vx_base.specs.Function.{accumulates}
-use Rattle.vx_base.specs.Image.{ImageValue, IsImage, at, band as samples_in_band}
+use Rattle.vx_base.specs.Image.{ImageValue, IsImage, pixel_at, band as samples_in_band}
 use Rattle.vx_base.proofs.TableLaws.{band-same}
 use Rattle.vx_base.proofs.ImageLaws.{same_parts, samples_are_band}
 use Rattle.image_core.specs.declared.band.Band.{Band}
-use Rattle.image_core.specs.declared.second.Second.{Second}
+use Rattle.image_core.specs.declared.second.SecondInput.{SecondInput}
 use Rattle.image_core.specs.Bands.{IsInRows, all_rows, has_row}
 use Rattle.node_rows.specs.Rows.{AreAlike}
 use Rattle.graph_steps.specs.declared.step.Reduction.{Reduction}
@@ -20,7 +20,7 @@ use Rattle.graph_steps.specs.declared.step.Task.{Task}
 use Rattle.graph_steps.specs.declared.step.Task.TheVariants.{Write, Reduce}
 use Rattle.graph_steps.specs.Planes.{PlaneValue, plane, plane_image, block_image, block_images, read_images, with_halo, IsReadable, IsWhole}
 use Rattle.graph_steps.specs.Steps.{Suits, is_integral, reads_output, second_plane, capacities, blocks_after_step}
-use Rattle.graph_steps.specs.Program.{IsStepOf, Reduces, IsUnwritten, halo, band_rows, after_tasks, KeepsBlock, IsLive, HaveRoom, blocks_after_tasks, NamesPlanes, IsClient, IsProgram, SolvesSteps}
+use Rattle.graph_steps.specs.Program.{IsStepOf, Reduces, IsUnwritten, halo, band_rows, after_tasks, KeepsBlock, IsLive, HaveCapacity, blocks_after_tasks, NamesPlanes, IsClient, IsProgram, SolvesSteps}
 use Rattle.graph_steps.specs.declared.tally.Tally.{Tally}
 use Rattle.graph_steps.specs.Tallies.{IsNew, TakesFormat, IsBounded, with_rows_added, tally_of, tally_at, all_tallies_after}
 use Rattle.graph_steps.specs.Runs.{CanReduceBand, CanRunBand}
@@ -46,7 +46,7 @@ client_readable p c = record {
 }
 
 -- blocks that are large enough for a band are large enough for a smaller one
-room_less : (size less : ℕ) (halos : List ℕ) (descs : ℕ → Description) (steps : List Task) (blocks : List (Format × ℕ)) → less ≤ size → HaveRoom size halos descs steps blocks → HaveRoom less halos descs steps blocks
+room_less : (size less : ℕ) (halos : List ℕ) (descs : ℕ → Description) (steps : List Task) (blocks : List (Format × ℕ)) → less ≤ size → HaveCapacity size halos descs steps blocks → HaveCapacity less halos descs steps blocks
 room_less size less halos descs [] blocks h room = room
 room_less size less halos descs (Reduce r ∷ later) blocks h room = room_less size less halos descs later blocks h room
 room_less size less halos descs (Write s ∷ later) blocks h room = (
@@ -65,13 +65,13 @@ room_less size less halos descs (Write s ∷ later) blocks h room = (
 
 -- a client's image equals an image with which it agrees in all rows
 same_image : (p : PlaneValue) (b : ImageValue) → length p.samples ≡ p.desc.height * p.desc.width → length b.samples ≡ b.height * b.width → AreAlike (block_image p) b
-    → ((x y : ℕ) → x < p.desc.width → y < p.desc.height → at (block_image p) x y ≡ at b x y) → block_image p ≡ b
+    → ((x y : ℕ) → x < p.desc.width → y < p.desc.height → pixel_at (block_image p) x y ≡ pixel_at b x y) → block_image p ≡ b
 same_image p b size long alike same =
     same_parts (block_image p) b wide tall (ap (λ (d : Description). d.format) alike.description) alike.valid
     (sym (samples_are_band p.samples p.desc.width p.desc.height size)
-    ∙ band-same p.desc.width 0 p.desc.height (at (block_image p)) (at b) (λ x y across from low. same x y across (omega arith))
-    ∙ ap (λ n. samples_in_band n 0 p.desc.height (at b)) wide
-    ∙ ap (λ n. samples_in_band b.width 0 n (at b)) tall
+    ∙ band-same p.desc.width 0 p.desc.height (pixel_at (block_image p)) (pixel_at b) (λ x y across from low. same x y across (omega arith))
+    ∙ ap (λ n. samples_in_band n 0 p.desc.height (pixel_at b)) wide
+    ∙ ap (λ n. samples_in_band b.width 0 n (pixel_at b)) tall
     ∙ samples_are_band b.samples b.width b.height long)
   where
     wide : p.desc.width ≡ b.width
@@ -80,7 +80,7 @@ same_image p b size long alike same =
     tall : p.desc.height ≡ b.height
     tall = ap (λ (d : Description). d.height) alike.description
 
-module _ (tables : List Second) (high size : ℕ) (halos : List ℕ) (steps : List Task) (origin : List PlaneValue) (program : IsProgram tables high size halos steps origin) where
+module _ (tables : List SecondInput) (high size : ℕ) (halos : List ℕ) (steps : List Task) (origin : List PlaneValue) (program : IsProgram tables high size halos steps origin) where
   abbrev kept : ℕ → Type 0
   kept = KeepsBlock (length origin) steps
 
@@ -117,7 +117,7 @@ module _ (tables : List Second) (high size : ℕ) (halos : List ℕ) (steps : Li
     keeps = λ c k s i t e. k.1 s i t e;
     free = program.free;
     room =
-        subst (HaveRoom band.count halos (λ c. (plane planes c).desc) steps) (sym r.blocks)
+        subst (HaveCapacity band.count halos (λ c. (plane planes c).desc) steps) (sym r.blocks)
         (room_same band.count halos (λ c. (plane origin c).desc) (λ c. (plane planes c).desc) steps (capacities origin) (λ c. sym (r.desc c))
         (room_less size band.count halos (λ c. (plane origin c).desc) steps (capacities origin) less program.room));
   }
@@ -176,9 +176,9 @@ module _ (tables : List Second) (high size : ℕ) (halos : List ℕ) (steps : Li
     -- accumulates the others are as before the run
     pub record Stands (first : ℕ) (planes : List PlaneValue) : Type 0 where
       pub alike : (c : ℕ) → KeepsBlock (length origin) steps c → (first ≡ 0) ⊎ AreAlike (block_image (plane planes c)) (whole c)
-      pub above : (c : ℕ) → KeepsBlock (length origin) steps c → (x y : ℕ) → x < (plane origin c).desc.width → y < first → y < (plane origin c).desc.height → at (block_images planes c) x y ≡ at (whole c) x y
+      pub above : (c : ℕ) → KeepsBlock (length origin) steps c → (x y : ℕ) → x < (plane origin c).desc.width → y < first → y < (plane origin c).desc.height → pixel_at (block_images planes c) x y ≡ pixel_at (whole c) x y
       pub own : (s : Step) → IsStepOf s steps → accumulates s.node.function ≡ true → (x y : ℕ) → x < (plane origin s.output).desc.width → first ≤ y → y < (plane origin s.output).desc.height
-          → at (block_images planes s.output) x y ≡ at (block_images origin s.output) x y
+          → pixel_at (block_images planes s.output) x y ≡ pixel_at (block_images origin s.output) x y
       pub own_valid : (s : Step) → IsStepOf s steps → accumulates s.node.function ≡ true → ((plane planes s.output).valid ≡ (plane origin s.output).valid) ⊎ ((plane planes s.output).valid ≡ (whole s.output).valid)
 
     pub stands_first : Stands 0 origin

@@ -13,7 +13,7 @@ use Rattle.vx_base.specs.Description.{Description, same_size}
 use Rattle.vx_base.specs.Formats.{takes_formats}
 use Rattle.vx_base.specs.declared.format.Format.TheVariants.{U8}
 use Rattle.vx_base.specs.Function.{parameters, accumulates}
-use Rattle.vx_base.specs.Image.{ImageValue, IsImage, description_of, at}
+use Rattle.vx_base.specs.Image.{ImageValue, IsImage, description_of, pixel_at}
 use Rattle.vx_base.specs.Object.{ObjectValue, ImageObject, IsObject, object_kind, object_format}
 use Rattle.vx_base.specs.Outputs.{node_image}
 use Rattle.vx_base.specs.Pixelwise.{formula_of_two}
@@ -24,14 +24,14 @@ use Rattle.vx_base.proofs.NodeLaws.{node_image_is}
 use Rattle.vx_base.proofs.RectangleLaws.{bounded_canonical, bounded_within}
 use Rattle.vx_base.proofs.ResultLaws.{accumulated_is}
 use Rattle.image_core.specs.declared.band.Band.{Band}
-use Rattle.image_core.specs.declared.second.Second.{Second}
-use Rattle.image_core.specs.Bands.{IsInRows, has_row, held_in}
+use Rattle.image_core.specs.declared.second.SecondInput.{SecondInput}
+use Rattle.image_core.specs.Bands.{IsInRows, has_row, zero_outside_rows}
 use Rattle.image_core.specs.Fits.{SecondHasSize}
 use Rattle.image_core.specs.Second.{second_object}
 use Rattle.image_core.proofs.HeldRows.{held_in_is}
 use Rattle.stat_kernels.specs.Sums.{sum_on}
 use Rattle.stat_kernels.proofs.ScanLaws.{scan_sample}
-use Rattle.node_rows.specs.Reach.{matrix_in}
+use Rattle.node_rows.specs.Radius.{matrix_in}
 use Rattle.graph_steps.specs.declared.step.Step.{Step}
 use Rattle.graph_steps.specs.declared.step.Source.{Source}
 use Rattle.graph_steps.specs.declared.step.Source.TheVariants.{Nothing, Plane, Table}
@@ -52,7 +52,7 @@ none_not_some o t a b = let k : None ≡ Some t = sym a ∙ b in cc
 
 -- ---- the inputs of a step
 
-module _ (tables : List Second) (b : Description) (images : ℕ → ImageValue) where
+module _ (tables : List SecondInput) (b : Description) (images : ℕ → ImageValue) where
   abbrev told : Source → Option ObjectValue
   told source = second_in tables (λ _. blank_image b) source
 
@@ -108,8 +108,8 @@ module _ (tables : List Second) (b : Description) (images : ℕ → ImageValue) 
 -- a node that accumulates makes an image of any rows
 accumulated_any : (n : Node) (which : Output) (format : Format) (a own : ImageValue) → accumulates n.function ≡ true → IsImage a → IsImage (node_image n which format a (Some (ImageObject own)))
 accumulated_any n which format a own sums is =
-    made_image a.width a.height format (meet_of a.valid own.valid) (λ x y. formula_of_two n.function format n.policy n.amount (at a x y) (at own x y)) is.sides.width is.sides.height canonical room
-    (λ x y inside. accumulated_is n.function format n.policy n.amount (at a x y) (at own x y) sums)
+    made_image a.width a.height format (meet_of a.valid own.valid) (λ x y. formula_of_two n.function format n.policy n.amount (pixel_at a x y) (pixel_at own x y)) is.sides.width is.sides.height canonical room
+    (λ x y inside. accumulated_is n.function format n.policy n.amount (pixel_at a x y) (pixel_at own x y) sums)
   where
     canonical : IsCanonical (meet_of a.valid own.valid)
     canonical = bounded_canonical (max a.valid.x0 own.valid.x0) (max a.valid.y0 own.valid.y0) (min a.valid.x1 own.valid.x1) (min a.valid.y1 own.valid.y1)
@@ -132,12 +132,12 @@ made_is s first second out own can same is object = elim (cases_Bool (accumulate
 ]
 
 -- a step's image follows from the images that it reads
-pub second_same : (tables : List Second) (source : Source) (a b : ℕ → ImageValue) → ((c : ℕ) → source ≡ Plane c → a c ≡ b c) → second_in tables a source ≡ second_in tables b source
+pub second_same : (tables : List SecondInput) (source : Source) (a b : ℕ → ImageValue) → ((c : ℕ) → source ≡ Plane c → a c ≡ b c) → second_in tables a source ≡ second_in tables b source
 second_same tables Nothing a b same = refl
 second_same tables (Plane c) a b same = ap (λ i. Some (ImageObject i)) (same c refl)
 second_same tables (Table k) a b same = refl
 
-pub step_image_same : (tables : List Second) (s : Step) (a b : ℕ → ImageValue) → ((c : ℕ) → ReadsPlane s c → a c ≡ b c) → (own : ImageValue) → step_image tables s a own ≡ step_image tables s b own
+pub step_image_same : (tables : List SecondInput) (s : Step) (a b : ℕ → ImageValue) → ((c : ℕ) → ReadsPlane s c → a c ≡ b c) → (own : ImageValue) → step_image tables s a own ≡ step_image tables s b own
 step_image_same tables s a b same own =
     ap (λ i. image_from_inputs s i (second_in tables a s.second) own) (same s.first (inl refl))
     ∙ ap (λ o. image_from_inputs s (b s.first) o own) (second_same tables s.second a b (λ c e. same c (inr e)))
@@ -152,7 +152,7 @@ scan_is start s first second out can scans is =
     made_image first.width first.height out.desc.format first.valid (sum_on first start above) is.sides.width is.sides.height is.canonical is.room
     (λ x y inside. subst (λ f. IsSample f (sum_on first start above x y)) (sym known) (scan_sample first start above x y))
 
-module _ (tables : List Second) (s : Step) (rows : Band) (out : PlaneValue) where
+module _ (tables : List SecondInput) (s : Step) (rows : Band) (out : PlaneValue) where
   abbrev own_rows : ImageValue
   own_rows = plane_image (with_read_rows rows out)
 
@@ -185,12 +185,12 @@ pub image_read : (planes : List PlaneValue) (c : ℕ) (p : PlaneValue) (image : 
 image_read planes c p image below is image_is = image_is ∙ ap plane_image (plane_read planes c p below is)
 
 -- a step's second input
-pub plane_lent : (planes : List PlaneValue) (tables : List Second) (source : Source) (c : ℕ) (p : PlaneValue) (image : ImageValue) → source ≡ Plane c → c < length planes → p ≡ get_or planes c p → image ≡ plane_image p
+pub plane_lent : (planes : List PlaneValue) (tables : List SecondInput) (source : Source) (c : ℕ) (p : PlaneValue) (image : ImageValue) → source ≡ Plane c → c < length planes → p ≡ get_or planes c p → image ≡ plane_image p
     → Some (ImageObject image) ≡ second_in tables (read_images planes) source
 plane_lent planes tables source c p image is below there made =
     ap (λ i. Some (ImageObject i)) (image_read planes c p image below there made) ∙ ap (second_in tables (read_images planes)) (sym is)
 
-pub table_lent : (tables : List Second) (images : ℕ → ImageValue) (source : Source) (k : ℕ) (t : Second) → source ≡ Table k → k < length tables → t ≡ get_or tables k t
+pub table_lent : (tables : List SecondInput) (images : ℕ → ImageValue) (source : Source) (k : ℕ) (t : SecondInput) → source ≡ Table k → k < length tables → t ≡ get_or tables k t
     → second_object t ≡ second_in tables images source
 table_lent tables images source k t is below there =
     sym (ap (second_in tables images) is ∙ ap (option_and_then (λ u. second_object u)) (slice_get_read tables (length tables) k t refl below there))
@@ -274,7 +274,7 @@ pub record IsReady (s : Step) (rows : Band) (planes ready : List PlaneValue) : T
 pub not_more : (a b c : ℕ) → a ≤ b → a * c ≤ b * c
 not_more a b c h = grind arith
 
-module _ (tables : List Second) (high : ℕ) (s : Step) (rows : Band) (planes : List PlaneValue) (fits : CanStep tables high s rows planes) where
+module _ (tables : List SecondInput) (high : ℕ) (s : Step) (rows : Band) (planes : List PlaneValue) (fits : CanStep tables high s rows planes) where
   own_ready : s.takes ≡ None → IsReady s rows planes planes
   own_ready none =
       let w = fits.whole none in
@@ -327,7 +327,7 @@ module _ (tables : List Second) (high : ℕ) (s : Step) (rows : Band) (planes : 
 
 -- ---- after the step
 
-module _ (tables : List Second) (high : ℕ) (s : Step) (rows : Band) (planes : List PlaneValue) (fits : CanStep tables high s rows planes) where
+module _ (tables : List SecondInput) (high : ℕ) (s : Step) (rows : Band) (planes : List PlaneValue) (fits : CanStep tables high s rows planes) where
   abbrev before : List PlaneValue
   before = with_output_block s.takes s.output rows.start planes
 
@@ -396,7 +396,7 @@ module _ (tables : List Second) (high : ℕ) (s : Step) (rows : Band) (planes : 
       ∙ is.capacities
 
   -- the rows that are written can be read
-  pub after_image : read_images after s.output ≡ held_in rows (rows_image tables s rows (read_images planes) out)
+  pub after_image : read_images after s.output ≡ zero_outside_rows rows (rows_image tables s rows (read_images planes) out)
   after_image = ap plane_image after_output ∙ written_plane out rows (rows_image tables s rows (read_images planes) out) (sym image_desc) is.room
 
   pub after_readable : IsReadable (plane after s.output)
@@ -427,10 +427,10 @@ module _ (tables : List Second) (high : ℕ) (s : Step) (rows : Band) (planes : 
 
   -- and the rows that are not written stay
   pub after_beside : s.takes ≡ None → (x y : ℕ) → x < (plane planes s.output).desc.width → y < (plane planes s.output).desc.height → has_row rows y ≡ false
-      → at (block_image (plane after s.output)) x y ≡ at (block_image (plane planes s.output)) x y
+      → pixel_at (block_image (plane after s.output)) x y ≡ pixel_at (block_image (plane planes s.output)) x y
   after_beside none x y across low beside =
       let same = is.own none in
-      ap (λ p. at (block_image p) x y) after_output
+      ap (λ p. pixel_at (block_image p) x y) after_output
       ∙ written_beside out rows (rows_image tables s rows (read_images planes) out) (sym image_desc) (subst IsWhole (sym same) (fits.whole none)) (subst (λ (d : Description). IsInRows d.height rows) (sym (is.desc s.output)) fits.within) x y
       (subst (λ (p : PlaneValue). x < p.desc.width) (sym same) across) (subst (λ (p : PlaneValue). y < p.desc.height) (sym same) low) beside
-      ∙ ap (λ p. at (block_image p) x y) same
+      ∙ ap (λ p. pixel_at (block_image p) x y) same

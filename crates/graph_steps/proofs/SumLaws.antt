@@ -7,7 +7,7 @@ use Rattle.vx_base.specs.Description.{Description}
 use Rattle.vx_base.specs.declared.format.Format.{Format}
 use Rattle.vx_base.specs.declared.format.Format.TheVariants.{U32}
 use Rattle.vx_base.specs.Rectangle.{Rectangle}
-use Rattle.vx_base.specs.Image.{ImageValue, band, made, within, image_over}
+use Rattle.vx_base.specs.Image.{ImageValue, band, image_from, zero_outside, image_over}
 use Rattle.vx_base.proofs.TableLaws.{band-same}
 use Rattle.image_core.specs.declared.band.Band.{Band}
 use Rattle.image_core.specs.Bands.{IsInRows, rows_in}
@@ -46,14 +46,14 @@ lent_sums w top start from x front items across low from_is long is = elim (case
     times k n e = let more : (k + 1) * w ≡ k * w + w = grind arith in ap (λ m. m * w) e ∙ more
 
 -- a sample depends only on the sums above it
-follows : (image : ImageValue) (start : ℕ) (f g : ℕ → ℕ) (x y : ℕ) → f x ≡ g x → within image.valid (sum_on image start f) x y ≡ within image.valid (sum_on image start g) x y
-follows image start f g x y same = ap (λ n. within image.valid (λ u v. sum_on image start (λ _. n) u v) x y) same
+follows : (image : ImageValue) (start : ℕ) (f g : ℕ → ℕ) (x y : ℕ) → f x ≡ g x → zero_outside image.valid (sum_on image start f) x y ≡ zero_outside image.valid (sum_on image start g) x y
+follows image start f g x y same = ap (λ n. zero_outside image.valid (λ u v. sum_on image start (λ _. n) u v) x y) same
 
 -- a block in which rows of an integral image are written below those that are there
 pub sums_written : (image : ImageValue) (top : ℕ) (rows : Band) (from n w : ℕ) (front back items out : List ℕ) (count : ℕ) → IsInRows image.height rows → top ≤ rows.start → from ≡ rows.start - top → n ≡ rows.count → w ≡ image.width
     → front ≡ take (from * w) items → back ≡ drop (from * w) items → length front ≡ from * w → count ≡ from * w + n * w - from * w
-    → map pos out ≡ band image.width rows.start rows.count (within image.valid (sum_on image rows.start (row_sums (last_row w front))))
-    → map pos (front ++ (out ++ drop count back)) ≡ written_among top rows (made image.width image.height U32 image.valid (sum_on image rows.start (sums_above image.width top rows.start (map pos items)))) (map pos items)
+    → map pos out ≡ band image.width rows.start rows.count (zero_outside image.valid (sum_on image rows.start (row_sums (last_row w front))))
+    → map pos (front ++ (out ++ drop count back)) ≡ written_among top rows (image_from image.width image.height U32 image.valid (sum_on image rows.start (sums_above image.width top rows.start (map pos items)))) (map pos items)
 sums_written image top rows from n w front back items out count room low from_is n_is wide front_is back_is long counted are =
     ap (λ l. map pos (l ++ (out ++ drop count back))) front_is
     ∙ ap (λ l. map pos (take (from * w) items ++ (out ++ drop count l))) back_is
@@ -66,24 +66,24 @@ sums_written image top rows from n w front back items out count room low from_is
     drawn = record { width = image.width; height = image.height; format = U32 }
 
     whole : ImageValue
-    whole = made image.width image.height U32 image.valid f
+    whole = image_from image.width image.height U32 image.valid f
 
-    same : band image.width rows.start rows.count (within image.valid (sum_on image rows.start (row_sums (last_row w front)))) ≡ band image.width rows.start rows.count (within image.valid f)
-    same = band-same image.width rows.start rows.count (within image.valid (sum_on image rows.start (row_sums (last_row w front)))) (within image.valid f)
+    same : band image.width rows.start rows.count (zero_outside image.valid (sum_on image rows.start (row_sums (last_row w front)))) ≡ band image.width rows.start rows.count (zero_outside image.valid f)
+    same = band-same image.width rows.start rows.count (zero_outside image.valid (sum_on image rows.start (row_sums (last_row w front)))) (zero_outside image.valid f)
         (λ x y across from_row to. follows image rows.start (row_sums (last_row w front)) (sums_above image.width top rows.start (map pos items)) x y
         (lent_sums w top rows.start from x front items (omega arith) low from_is long front_is ∙ ap (λ k. sums_above k top rows.start (map pos items) x) wide))
 
-    made_rows : image_over drawn image.valid (band drawn.width rows.start rows.count (within image.valid f)) ≡ rows_in rows whole
+    made_rows : image_over drawn image.valid (band drawn.width rows.start rows.count (zero_outside image.valid f)) ≡ rows_in rows whole
     made_rows = rows_made drawn U32 image.valid image.valid f rows room refl refl
 
 -- the plane to which they are written
 pub plane_summed : (p : PlaneValue) (image : ImageValue) (rows : Band) (valid : Rectangle) (format : Format) (width : ℕ) (samples new : List ℤ) → valid ≡ image.valid → format ≡ p.format → samples ≡ p.samples → width ≡ p.desc.width
-    → new ≡ written_among p.top rows (made image.width image.height U32 image.valid (sum_on image rows.start (sums_above width p.top rows.start samples))) samples
+    → new ≡ written_among p.top rows (image_from image.width image.height U32 image.valid (sum_on image rows.start (sums_above width p.top rows.start samples))) samples
     → (let q : PlaneValue = record { desc = p.desc; valid = valid; top = p.top; rows = rows; format = format; samples = new } in q) ≡ with_rows rows (scan_image rows.start image p) p
 plane_summed p image rows valid format width samples new valid_is format_is samples_are wide is =
     ap (λ v. let q : PlaneValue = record { desc = p.desc; valid = v; top = p.top; rows = rows; format = format; samples = new } in q) valid_is
     ∙ ap (λ f. let q : PlaneValue = record { desc = p.desc; valid = image.valid; top = p.top; rows = rows; format = f; samples = new } in q) format_is
     ∙ ap (λ l. let q : PlaneValue = record { desc = p.desc; valid = image.valid; top = p.top; rows = rows; format = p.format; samples = l } in q)
     (is
-    ∙ ap (λ l. written_among p.top rows (made image.width image.height U32 image.valid (sum_on image rows.start (sums_above width p.top rows.start l))) l) samples_are
-    ∙ ap (λ w. written_among p.top rows (made image.width image.height U32 image.valid (sum_on image rows.start (sums_above w p.top rows.start p.samples))) p.samples) wide)
+    ∙ ap (λ l. written_among p.top rows (image_from image.width image.height U32 image.valid (sum_on image rows.start (sums_above width p.top rows.start l))) l) samples_are
+    ∙ ap (λ w. written_among p.top rows (image_from image.width image.height U32 image.valid (sum_on image rows.start (sums_above w p.top rows.start p.samples))) p.samples) wide)

@@ -9,10 +9,10 @@ use Rattle.std.proofs.lemmas.List.{map-append, length-map, get_or_past, get_or-r
 use Rattle.std.proofs.lemmas.List.FromFn.{get_or-map-range_with_len, length-map-range_with_len}
 use Rattle.vx_base.specs.declared.format.Format.{Format}
 use Rattle.vx_base.specs.Description.{Description}
-use Rattle.vx_base.specs.Image.{ImageValue, IsImage, at}
+use Rattle.vx_base.specs.Image.{ImageValue, IsImage, pixel_at}
 use Rattle.vx_base.specs.Object.{no_extremes}
-use Rattle.vx_base.specs.Rectangle.{Rectangle, inside}
-use Rattle.vx_base.specs.Statistics.{extremes, histogram, places, row_places, samples_in, tallies, valid_samples}
+use Rattle.vx_base.specs.Rectangle.{Rectangle, has_pixel}
+use Rattle.vx_base.specs.Statistics.{extremes, histogram, rectangle_pixels, row_pixels, samples_in, tallies, valid_samples}
 use Rattle.vx_base.proofs.PictureLaws.{side}
 use Rattle.vx_base.proofs.TableLaws.{run-same}
 use Rattle.vx_base.specs.Image.{run}
@@ -21,8 +21,8 @@ use Rattle.image_core.specs.declared.band.Band.{Band}
 use Rattle.image_core.specs.Bands.{IsInRows, all_rows}
 use Rattle.node_rows.specs.Rows.{AgreeInRows}
 use Rattle.stat_kernels.specs.declared.located.Located.{Located}
-use Rattle.stat_kernels.specs.Counts.{added}
-use Rattle.stat_kernels.specs.Located.{joined, lowered, found_of}
+use Rattle.stat_kernels.specs.Counts.{bin_sums}
+use Rattle.stat_kernels.specs.Located.{merge, shift_down, found_of}
 use Rattle.stat_kernels.specs.Part.{band_of, valid_in}
 use Rattle.stat_kernels.proofs.AlikeLaws.{parts_located}
 use Rattle.stat_kernels.proofs.BandLaws.{all_valid, bands_counted, extremes_few, few_samples, no_places, none_counted, none_located, one_row, row_of, rows_at, tally_few}
@@ -32,27 +32,27 @@ use Rattle.graph_steps.specs.Tallies.{with_rows_added, tally_of, IsNew, TakesFor
 
 -- ---- samples of images that agree
 
-row_samples : (f : ℕ → ℕ → ℤ) (x n y : ℕ) → map (λ p. f p.0 p.1) (row_places x n y) ≡ run x n (λ k. f k y)
+row_samples : (f : ℕ → ℕ → ℤ) (x n y : ℕ) → map (λ p. f p.0 p.1) (row_pixels x n y) ≡ run x n (λ k. f k y)
 row_samples f x zero y = refl
 row_samples f x (suc n) y = ap (λ l. f x y ∷ l) (row_samples f (x + 1) n y)
 
-length-row : (x n y : ℕ) → length (row_places x n y) ≡ n
+length-row : (x n y : ℕ) → length (row_pixels x n y) ≡ n
 length-row x zero y = refl
 length-row x (suc n) y = ap suc (length-row (x + 1) n y)
 
-length-rows : (x n y m : ℕ) → length (flat_map (row_places x n) (range_with_len y m)) ≡ m * n
+length-rows : (x n y m : ℕ) → length (flat_map (row_pixels x n) (range_with_len y m)) ≡ m * n
 length-rows x n y zero = omega arith
 length-rows x n y (suc m) =
-    length-append (row_places x n y) (flat_map (row_places x n) (range_with_len (y + 1) m))
+    length-append (row_pixels x n y) (flat_map (row_pixels x n) (range_with_len (y + 1) m))
     ∙ omega (arith, length-row x n y, length-rows x n (y + 1) m)
 
 length-samples : (r : Rectangle) (image : ImageValue) → length (samples_in r image) ≡ (r.y1 - r.y0) * (r.x1 - r.x0)
-length-samples r image = length-map (places r) (λ p. at image p.0 p.1) ∙ length-rows r.x0 (r.x1 - r.x0) r.y0 (r.y1 - r.y0)
+length-samples r image = length-map (rectangle_pixels r) (λ p. pixel_at image p.0 p.1) ∙ length-rows r.x0 (r.x1 - r.x0) r.y0 (r.y1 - r.y0)
 
 row_same : (f g : ℕ → ℕ → ℤ) (r : Rectangle) (y : ℕ) → ((x : ℕ) → r.x0 ≤ x → x < r.x1 → r.y0 ≤ y → y < r.y1 → f x y ≡ g x y) → map (λ p. f p.0 p.1) (row_of r y) ≡ map (λ p. g p.0 p.1) (row_of r y)
 row_same f g r y same = elim (cases_Bool (nat_le r.y0 y && nat_lt y r.y1)) [
   | inl e ↦
-      let is : row_of r y ≡ row_places r.x0 (r.x1 - r.x0) y = ap (λ b. cond b (row_places r.x0 (r.x1 - r.x0) y) []) e in
+      let is : row_of r y ≡ row_pixels r.x0 (r.x1 - r.x0) y = ap (λ b. cond b (row_pixels r.x0 (r.x1 - r.x0) y) []) e in
       let top : r.y0 ≤ y = grind (arith, nat_tests) in
       let bottom : y < r.y1 = grind (arith, nat_tests) in
       ap (map (λ p. f p.0 p.1)) is
@@ -61,23 +61,23 @@ row_same f g r y same = elim (cases_Bool (nat_le r.y0 y && nat_lt y r.y1)) [
       ∙ sym (row_samples g r.x0 (r.x1 - r.x0) y)
       ∙ ap (map (λ p. g p.0 p.1)) (sym is)
   | inr e ↦
-      let is : row_of r y ≡ [] = ap (λ b. cond b (row_places r.x0 (r.x1 - r.x0) y) []) e in
+      let is : row_of r y ≡ [] = ap (λ b. cond b (row_pixels r.x0 (r.x1 - r.x0) y) []) e in
       ap (map (λ p. f p.0 p.1)) is ∙ ap (map (λ p. g p.0 p.1)) (sym is)
 ]
 
-rows_same : (a b : ImageValue) (r : Rectangle) (start count : ℕ) → ((x y : ℕ) → r.x0 ≤ x → x < r.x1 → r.y0 ≤ y → y < r.y1 → start ≤ y → y < start + count → at a x y ≡ at b x y)
+rows_same : (a b : ImageValue) (r : Rectangle) (start count : ℕ) → ((x y : ℕ) → r.x0 ≤ x → x < r.x1 → r.y0 ≤ y → y < r.y1 → start ≤ y → y < start + count → pixel_at a x y ≡ pixel_at b x y)
     → samples_in (band_of (rows_at start count) r) a ≡ samples_in (band_of (rows_at start count) r) b
-rows_same a b r start zero same = ap (map (λ p. at a p.0 p.1)) (no_places r start) ∙ ap (map (λ p. at b p.0 p.1)) (sym (no_places r start))
+rows_same a b r start zero same = ap (map (λ p. pixel_at a p.0 p.1)) (no_places r start) ∙ ap (map (λ p. pixel_at b p.0 p.1)) (sym (no_places r start))
 rows_same a b r start (suc count) same =
     let next : suc count ≡ count + 1 = omega arith in
-    let before = places (band_of (rows_at start count) r) in
+    let before = rectangle_pixels (band_of (rows_at start count) r) in
     ap (λ n. samples_in (band_of (rows_at start n) r) a) next
-    ∙ ap (map (λ p. at a p.0 p.1)) (one_row r start count)
-    ∙ map-append (λ p. at a p.0 p.1) before (row_of r (start + count))
-    ∙ ap (λ l. l ++ map (λ p. at a p.0 p.1) (row_of r (start + count))) (rows_same a b r start count (λ x y i j k l m n. same x y i j k l m (omega arith)))
-    ∙ ap (λ l. map (λ p. at b p.0 p.1) before ++ l) (row_same (at a) (at b) r (start + count) (λ x i j k l. same x (start + count) i j k l (omega arith) (omega arith)))
-    ∙ sym (map-append (λ p. at b p.0 p.1) before (row_of r (start + count)))
-    ∙ ap (map (λ p. at b p.0 p.1)) (sym (one_row r start count))
+    ∙ ap (map (λ p. pixel_at a p.0 p.1)) (one_row r start count)
+    ∙ map-append (λ p. pixel_at a p.0 p.1) before (row_of r (start + count))
+    ∙ ap (λ l. l ++ map (λ p. pixel_at a p.0 p.1) (row_of r (start + count))) (rows_same a b r start count (λ x y i j k l m n. same x y i j k l m (omega arith)))
+    ∙ ap (λ l. map (λ p. pixel_at b p.0 p.1) before ++ l) (row_same (pixel_at a) (pixel_at b) r (start + count) (λ x i j k l. same x (start + count) i j k l (omega arith) (omega arith)))
+    ∙ sym (map-append (λ p. pixel_at b p.0 p.1) before (row_of r (start + count)))
+    ∙ ap (map (λ p. pixel_at b p.0 p.1)) (sym (one_row r start count))
     ∙ ap (λ n. samples_in (band_of (rows_at start n) r) b) (sym next)
 
 -- ---- one tally
@@ -112,7 +112,7 @@ can_add first rows image (tally.Extremes e) low is format bounded =
     let d = bounded.1 in
     record { format = format; room = (omega arith, omega arith) }
 
-added_most : (counts more : List ℕ) (k : ℕ) → slice_index (added counts more) k ≤ slice_index counts k + slice_index more k
+added_most : (counts more : List ℕ) (k : ℕ) → slice_index (bin_sums counts more) k ≤ slice_index counts k + slice_index more k
 added_most counts more k = elim (cases_Bool (nat_lt k (length counts))) [
   | inl e ↦
       let below : k < length counts = grind (arith, nat_tests) in
@@ -121,11 +121,11 @@ added_most counts more k = elim (cases_Bool (nat_lt k (length counts))) [
   | inr e ↦
       let past : length counts ≤ k = grind (arith, nat_tests) in
       let long = length-map-range_with_len (λ i. slice_index counts i + slice_index more i) 0 (length counts) in
-      let is = get_or_past (added counts more) k 0 (omega arith) in
+      let is = get_or_past (bin_sums counts more) k 0 (omega arith) in
       omega arith
 ]
 
-joined_most : (beyond : ℤ → ℤ → Bool) (a b : Located) → (joined beyond a b).count ≤ a.count + b.count
+joined_most : (beyond : ℤ → ℤ → Bool) (a b : Located) → (merge beyond a b).count ≤ a.count + b.count
 joined_most beyond a b = elim (cases_Bool (b.count == 0)) [
   | inl e ↦ rw e (omega arith)
   | inr e ↦ elim (cases_Bool (a.count == 0)) [
@@ -159,8 +159,8 @@ bounded_more most rows image (tally.Extremes e) is bounded =
     let c = bounded.0 in
     let d = bounded.1 in
     let x = extremes (valid_in rows image) in
-    let m = joined_most (λ z v. int_lt z v) (found_of e).least (lowered 0 (found_of x).least) in
-    let n = joined_most (λ z v. int_lt v z) (found_of e).greatest (lowered 0 (found_of x).greatest) in
+    let m = joined_most (λ z v. int_lt z v) (found_of e).least (shift_down 0 (found_of x).least) in
+    let n = joined_most (λ z v. int_lt v z) (found_of e).greatest (shift_down 0 (found_of x).greatest) in
     (omega arith, omega arith)
 
 pub bounded_less : (few most : ℕ) (t : Tally) → few ≤ most → IsBounded few t → IsBounded most t
@@ -185,9 +185,9 @@ added_above rows first last a image (tally.Histogram d) is agree near room =
     let h : a.height ≡ image.height = ap (λ (e : Description). e.height) agree.alike.description in
     let n = near y low high in
     agree.samples x y (omega arith) (omega arith) n.0 n.1) in
-    let counts : added (histogram b (valid_in (all_rows rows.start) image)) (histogram b (valid_in rows a)) ≡ histogram b (valid_in (all_rows (rows.start + rows.count)) image) =
-    ap (λ l. added (histogram b (valid_in (all_rows rows.start) image)) (tallies b l)) same
-    ∙ ap (λ n. added (histogram b (valid_in (all_rows rows.start) image)) (histogram b (valid_in (rows_at n rows.count) image))) {x = rows.start} {y = 0 + rows.start} (omega arith)
+    let counts : bin_sums (histogram b (valid_in (all_rows rows.start) image)) (histogram b (valid_in rows a)) ≡ histogram b (valid_in (all_rows (rows.start + rows.count)) image) =
+    ap (λ l. bin_sums (histogram b (valid_in (all_rows rows.start) image)) (tallies b l)) same
+    ∙ ap (λ n. bin_sums (histogram b (valid_in (all_rows rows.start) image)) (histogram b (valid_in (rows_at n rows.count) image))) {x = rows.start} {y = 0 + rows.start} (omega arith)
     ∙ sym (bands_counted b image 0 rows.start rows.count) in
     ap (λ l. tally.Histogram (record { bins = b; counts = l })) counts
 added_above rows first last a image (tally.Extremes e) is agree near room =
@@ -195,12 +195,12 @@ added_above rows first last a image (tally.Extremes e) is agree near room =
       is = is;
       each = λ k below. record {
         width = ap (λ (e : Description). e.width) agree.alike.description;
-        valid = λ x. ap (λ r. inside r x (rows.start + k)) agree.alike.valid ∙ ap (inside image.valid x) (omega arith);
+        valid = λ x. ap (λ r. has_pixel r x (rows.start + k)) agree.alike.valid ∙ ap (has_pixel image.valid x) (omega arith);
         samples = λ x across.
             let w : a.width ≡ image.width = ap (λ (e : Description). e.width) agree.alike.description in
             let h : a.height ≡ image.height = ap (λ (e : Description). e.height) agree.alike.description in
             let n = near (rows.start + k) (omega arith) (omega arith) in
-            agree.samples x (rows.start + k) (omega arith) (omega arith) n.0 n.1 ∙ ap (at image x) (omega arith);
+            agree.samples x (rows.start + k) (omega arith) (omega arith) n.0 n.1 ∙ ap (pixel_at image x) (omega arith);
       };
     }))
 

@@ -6,11 +6,11 @@ use Rattle.vx_base.specs.declared.function.Function.TheVariants.{Box, Integral}
 use Rattle.vx_base.specs.declared.node.Node.{Node}
 use Rattle.vx_base.specs.declared.output.Output.TheVariants.{First}
 use Rattle.vx_base.specs.declared.policy.Policy.TheVariants.{Wrap}
-use Rattle.vx_base.specs.Cell.{cell_of}
+use Rattle.vx_base.specs.Reference.{reference_to}
 use Rattle.vx_base.specs.Description.{Description}
 use Rattle.vx_base.specs.Image.{new_image}
 use Rattle.vx_base.specs.Object.{no_extremes}
-use Rattle.vx_base.specs.Rectangle.{empty, whole}
+use Rattle.vx_base.specs.Rectangle.{empty_rectangle, whole_rectangle}
 use Rattle.image_core.specs.Bands.{all_rows}
 use Rattle.graph_steps.specs.declared.step.Source.TheVariants.{Nothing}
 use Rattle.graph_steps.specs.declared.step.Step.{Step}
@@ -27,12 +27,12 @@ small_image_desc = record { width = 1; height = 4; format = U8 }
 -- a client's image with all rows
 abbrev pub client_plane : PlaneValue
 client_plane =
-    record { desc = small_image_desc; valid = whole 1 4; top = 0; rows = all_rows 4; format = U8; samples = (new_image 1 4 U8).samples }
+    record { desc = small_image_desc; valid = whole_rectangle 1 4; top = 0; rows = all_rows 4; format = U8; samples = (new_image 1 4 U8).samples }
 
 -- a virtual image, with a block for four rows
 abbrev pub block_plane : PlaneValue
 block_plane =
-    record { desc = small_image_desc; valid = empty; top = 0; rows = all_rows 0; format = U8; samples = (new_image 1 4 U8).samples }
+    record { desc = small_image_desc; valid = empty_rectangle; top = 0; rows = all_rows 0; format = U8; samples = (new_image 1 4 U8).samples }
 
 -- a box filter
 abbrev pub box_node : Node
@@ -42,9 +42,9 @@ box_node =
       border = Replicate;
       policy = Wrap;
       amount = 0;
-      in1 = cell_of 1;
+      in1 = reference_to 1;
       in2 = None;
-      out1 = Some (cell_of 2);
+      out1 = Some (reference_to 2);
       out2 = None;
     }
 
@@ -74,7 +74,7 @@ box_tallies = Extremes no_extremes ∷ []
 -- the client's image for the integral image
 abbrev pub sums_plane : PlaneValue
 sums_plane =
-    record { desc = record { width = 1; height = 4; format = U32 }; valid = whole 1 4; top = 0; rows = all_rows 4; format = U32; samples = (new_image 1 4 U32).samples }
+    record { desc = record { width = 1; height = 4; format = U32 }; valid = whole_rectangle 1 4; top = 0; rows = all_rows 4; format = U32; samples = (new_image 1 4 U32).samples }
 
 -- the integral image of a client's image
 abbrev pub integral_step : Step

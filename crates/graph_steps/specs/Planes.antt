@@ -5,8 +5,8 @@ use Rattle.vx_base.specs.declared.format.Format.TheVariants.{U8}
 use Rattle.vx_base.specs.declared.samples.Samples.{Samples}
 use Rattle.vx_base.specs.Picture.{values, samples_format}
 use Rattle.vx_base.specs.Description.{Description}
-use Rattle.vx_base.specs.Rectangle.{Rectangle, empty, IsWithin}
-use Rattle.vx_base.specs.Image.{ImageValue, IsImage, image_over, band, at}
+use Rattle.vx_base.specs.Rectangle.{Rectangle, empty_rectangle, IsWithin}
+use Rattle.vx_base.specs.Image.{ImageValue, IsImage, image_over, band, pixel_at}
 use Rattle.image_core.specs.declared.band.Band.{Band}
 use Rattle.image_core.specs.Bands.{IsInRows, all_rows, image_over_rows}
 
@@ -39,7 +39,7 @@ with_read_rows rows p = record p { rows = rows }
 abbrev pub written_among : ℕ → Band → ImageValue → List ℤ → List ℤ
 written_among top rows image old =
     take ((rows.start - top) * image.width) old
-    ++ (band image.width rows.start rows.count (at image) ++ drop ((rows.start - top + rows.count) * image.width) old)
+    ++ (band image.width rows.start rows.count (pixel_at image) ++ drop ((rows.start - top + rows.count) * image.width) old)
 
 -- the plane after these rows of an image are written to it; it gets the image's valid rectangle
 abbrev pub with_rows : Band → ImageValue → PlaneValue → PlaneValue
@@ -54,12 +54,12 @@ whole_plane d valid block =
 -- the plane of a virtual image, of which no row is written yet
 abbrev pub virtual_plane : Description → Samples → PlaneValue
 virtual_plane d block =
-    record { desc = d; valid = empty; top = 0; rows = all_rows 0; format = samples_format block; samples = values block }
+    record { desc = d; valid = empty_rectangle; top = 0; rows = all_rows 0; format = samples_format block; samples = values block }
 
 -- the plane with another block, which begins with row `top`; and without a block
 abbrev pub with_block : Format → List ℤ → ℕ → PlaneValue → PlaneValue
 with_block format samples top p =
-    record { desc = p.desc; valid = empty; top = top; rows = p.rows; format = format; samples = samples }
+    record { desc = p.desc; valid = empty_rectangle; top = top; rows = p.rows; format = format; samples = samples }
 
 abbrev pub without_block : PlaneValue → PlaneValue
 without_block p = record p { samples = [] }
@@ -69,7 +69,7 @@ without_block p = record p { samples = [] }
 -- the plane at an index that isn't in the list
 abbrev pub no_plane : PlaneValue
 no_plane =
-    record { desc = record { width = 0; height = 0; format = U8 }; valid = empty; top = 0; rows = all_rows 0; format = U8; samples = [] }
+    record { desc = record { width = 0; height = 0; format = U8 }; valid = empty_rectangle; top = 0; rows = all_rows 0; format = U8; samples = [] }
 
 -- the plane at an index, the image that a step reads there, and the image of its block
 abbrev pub plane : List PlaneValue → ℕ → PlaneValue

@@ -5,7 +5,7 @@ use Rattle.vx_base.specs.Description.{Description}
 use Rattle.vx_base.specs.Function.{accumulates}
 use Rattle.vx_base.specs.Image.{ImageValue, IsImage}
 use Rattle.image_core.specs.declared.band.Band.{Band}
-use Rattle.image_core.specs.declared.second.Second.{Second}
+use Rattle.image_core.specs.declared.second.SecondInput.{SecondInput}
 use Rattle.image_core.specs.Bands.{all_rows}
 use Rattle.graph_steps.specs.declared.step.Reduction.{Reduction}
 use Rattle.graph_steps.specs.declared.step.Step.{Step}
@@ -64,11 +64,11 @@ abbrev pub band_rows : List PlaneValue → List ℕ → Band → ℕ → Band
 band_rows planes halos rows c = with_halo (halo halos c) (plane planes c).desc.height rows
 
 -- the planes after a task on a band, and after all tasks
-abbrev pub after_task : List Second → List ℕ → Band → Task → List PlaneValue → List PlaneValue
+abbrev pub after_task : List SecondInput → List ℕ → Band → Task → List PlaneValue → List PlaneValue
 after_task tables halos rows (Write s) planes = after_step tables s (band_rows planes halos rows s.output) planes
 after_task tables halos rows (Reduce r) planes = planes
 
-abbrev pub after_tasks : List Second → List ℕ → Band → List Task → List PlaneValue → List PlaneValue
+abbrev pub after_tasks : List SecondInput → List ℕ → Band → List Task → List PlaneValue → List PlaneValue
 after_tasks tables halos rows [] planes = planes
 after_tasks tables halos rows (t ∷ later) planes = after_tasks tables halos rows later (after_task tables halos rows t planes)
 
@@ -95,12 +95,12 @@ abbrev pub HoldsRows : ℕ → ℕ → Description → Format × ℕ → Type 0
 HoldsRows size more d block = (block.0 ≡ d.format) × (min d.height (size + more + more) * d.width ≤ block.1)
 
 -- each block that a step takes is large enough for a band of the output with its halo
-abbrev pub HaveRoom : ℕ → List ℕ → (ℕ → Description) → List Task → List (Format × ℕ) → Type 0
-HaveRoom size halos descs [] blocks = Unit {0}
-HaveRoom size halos descs (Reduce r ∷ later) blocks = HaveRoom size halos descs later blocks
-HaveRoom size halos descs (Write s ∷ later) blocks =
+abbrev pub HaveCapacity : ℕ → List ℕ → (ℕ → Description) → List Task → List (Format × ℕ) → Type 0
+HaveCapacity size halos descs [] blocks = Unit {0}
+HaveCapacity size halos descs (Reduce r ∷ later) blocks = HaveCapacity size halos descs later blocks
+HaveCapacity size halos descs (Write s ∷ later) blocks =
     ((t : ℕ) → s.takes ≡ Some t → HoldsRows size (halo halos s.output) (descs s.output) (capacity blocks t))
-    × HaveRoom size halos descs later (blocks_after_step s blocks)
+    × HaveCapacity size halos descs later (blocks_after_step s blocks)
 
 -- the blocks of all planes after the tasks
 abbrev pub blocks_after_tasks : List Task → List (Format × ℕ) → List (Format × ℕ)
@@ -124,7 +124,7 @@ pub record IsClient (p : PlaneValue) : Type 0 where
   pub image : IsImage (block_image p)
 
 -- the tasks can run in bands of `size` rows over planes of at most `high` rows
-pub record IsProgram (tables : List Second) (high size : ℕ) (halos : List ℕ) (tasks : List Task) (planes : List PlaneValue) : Type 0 where
+pub record IsProgram (tables : List SecondInput) (high size : ℕ) (halos : List ℕ) (tasks : List Task) (planes : List PlaneValue) : Type 0 where
   pub some : 0 < high
   pub forward : 0 < size
   pub tall : (c : ℕ) → (plane planes c).desc.height ≤ high
@@ -141,12 +141,12 @@ pub record IsProgram (tables : List Second) (high size : ℕ) (halos : List ℕ)
   pub once : (s : Step) → IsStepOf s tasks → reads_output s.node.function ≡ true → ((halo halos s.output ≡ 0) × (s.takes ≡ None)) ⊎ (high ≤ size)
   -- blocks are free and large enough when they are taken, and back in their planes after a band
   pub free : AreFree (KeepsBlock (length planes) tasks) tasks
-  pub room : HaveRoom size halos (λ c. (plane planes c).desc) tasks (capacities planes)
+  pub room : HaveCapacity size halos (λ c. (plane planes c).desc) tasks (capacities planes)
   pub again : blocks_after_tasks tasks (capacities planes) ≡ capacities planes
 
 -- the images solve the steps' equations: each output is the step's image of them and, if the step accumulates, of the old output; all other
 -- images are unchanged
-pub record SolvesSteps (tables : List Second) (count : ℕ) (tasks : List Task) (before after : ℕ → ImageValue) : Type 0 where
+pub record SolvesSteps (tables : List SecondInput) (count : ℕ) (tasks : List Task) (before after : ℕ → ImageValue) : Type 0 where
   pub images : (c : ℕ) → c < count → IsImage (after c)
   pub written : (s : Step) → IsStepOf s tasks → after s.output ≡ step_image tables s after (before s.output)
   pub others : (c : ℕ) → IsUnwritten tasks c → after c ≡ before c
@@ -158,7 +158,7 @@ abbrev pub with_image : ℕ → ImageValue → (ℕ → ImageValue) → ℕ → 
 with_image c image images k = if k == c then image else images k
 
 -- the images after all steps, each run on whole images in order
-abbrev pub steps_in_turn : List Second → List Task → (ℕ → ImageValue) → ℕ → ImageValue
+abbrev pub steps_in_turn : List SecondInput → List Task → (ℕ → ImageValue) → ℕ → ImageValue
 steps_in_turn tables [] images = images
 steps_in_turn tables (Write s ∷ later) images = steps_in_turn tables later (with_image s.output (step_image tables s images (images s.output)) images)
 steps_in_turn tables (Reduce r ∷ later) images = steps_in_turn tables later images

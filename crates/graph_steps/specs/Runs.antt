@@ -1,7 +1,7 @@
 -- Premises of a band.
 use Rattle.std.specs.Prelude.{ℕ, ◌+◌, ◌<◌, ◌^◌, ◌≡◌, ◌≢◌, List, length, Some, None}
 use Rattle.image_core.specs.declared.band.Band.{Band}
-use Rattle.image_core.specs.declared.second.Second.{Second}
+use Rattle.image_core.specs.declared.second.SecondInput.{SecondInput}
 use Rattle.graph_steps.specs.declared.step.Reduction.{Reduction}
 use Rattle.graph_steps.specs.declared.step.Step.{Step}
 use Rattle.graph_steps.specs.declared.step.Task.{Task}
@@ -10,10 +10,10 @@ use Rattle.graph_steps.specs.Planes.{PlaneValue, plane, IsReadable, IsWhole}
 use Rattle.graph_steps.specs.Steps.{CanStep, SuitsPlanes, capacities}
 use Rattle.graph_steps.specs.declared.tally.Tally.{Tally}
 use Rattle.graph_steps.specs.Tallies.{CanReduce, HaveOneReduction}
-use Rattle.graph_steps.specs.Program.{Reduces, band_rows, IsStepOf, NamesPlanes, IsLive, AreFree, HaveRoom}
+use Rattle.graph_steps.specs.Program.{Reduces, band_rows, IsStepOf, NamesPlanes, IsLive, AreFree, HaveCapacity}
 
 -- the steps can run on a band, and these planes keep their blocks
-pub record CanRunBand (tables : List Second) (high : ℕ) (halos : List ℕ) (rows : Band) (kept : ℕ → Type 0) (tasks : List Task) (planes : List PlaneValue) : Type 0 where
+pub record CanRunBand (tables : List SecondInput) (high : ℕ) (halos : List ℕ) (rows : Band) (kept : ℕ → Type 0) (tasks : List Task) (planes : List PlaneValue) : Type 0 where
   pub fits : rows.start + rows.count < 2 ^ 16
   pub halo_count : length halos ≡ length planes
   pub within : (s : Step) → IsStepOf s tasks → NamesPlanes (length planes) s
@@ -23,7 +23,7 @@ pub record CanRunBand (tables : List Second) (high : ℕ) (halos : List ℕ) (ro
   pub written : (s : Step) → IsStepOf s tasks → s.takes ≡ None → kept s.output
   pub keeps : (c : ℕ) → kept c → (s : Step) → IsStepOf s tasks → (t : ℕ) → s.takes ≡ Some t → (t ≢ c) × (s.output ≢ c)
   pub free : AreFree kept tasks
-  pub room : HaveRoom rows.count halos (λ c. (plane planes c).desc) tasks (capacities planes)
+  pub room : HaveCapacity rows.count halos (λ c. (plane planes c).desc) tasks (capacities planes)
 
 -- the reductions can add a band, after the rows above `first`
 pub record CanReduceBand (first : ℕ) (tasks : List Task) (planes : List PlaneValue) (tallies : List Tally) : Type 0 where
@@ -31,6 +31,6 @@ pub record CanReduceBand (first : ℕ) (tasks : List Task) (planes : List PlaneV
   pub reduces : (r : Reduction) → Reduces r tasks → CanReduce first planes tallies r
 
 -- a task can run on a band
-abbrev pub CanDo : List Second → ℕ → List ℕ → Band → Task → List PlaneValue → List Tally → Type 0
+abbrev pub CanDo : List SecondInput → ℕ → List ℕ → Band → Task → List PlaneValue → List Tally → Type 0
 CanDo tables high halos rows (Write s) planes tallies = (s.output < length halos) × CanStep tables high s (band_rows planes halos rows s.output) planes
 CanDo tables high halos rows (Reduce r) planes tallies = IsReadable (plane planes r.input) × CanReduce rows.start planes tallies r

@@ -9,22 +9,22 @@ use Rattle.vx_base.specs.declared.function.Function.{Function}
 use Rattle.vx_base.specs.declared.function.Function.TheVariants.{Integral}
 use Rattle.vx_base.specs.Convolution.{ConvolutionValue}
 use Rattle.vx_base.specs.Function.{parameters, accumulates}
-use Rattle.vx_base.specs.Image.{ImageValue, description_of, image_over, made}
+use Rattle.vx_base.specs.Image.{ImageValue, description_of, image_over, image_from}
 use Rattle.vx_base.specs.declared.node.Node.{Node}
 use Rattle.vx_base.specs.declared.output.Output.{Output}
 use Rattle.vx_base.specs.Node.{IsNode}
 use Rattle.vx_base.specs.Object.{ObjectValue, ImageObject, IsObject, object_kind, object_format}
-use Rattle.vx_base.specs.Outputs.{node_image, beside_first}
-use Rattle.vx_base.specs.Rectangle.{empty}
+use Rattle.vx_base.specs.Outputs.{node_image, second_or_output}
+use Rattle.vx_base.specs.Rectangle.{empty_rectangle}
 use Rattle.image_core.specs.declared.band.Band.{Band}
-use Rattle.image_core.specs.declared.second.Second.{Second}
+use Rattle.image_core.specs.declared.second.SecondInput.{SecondInput}
 use Rattle.image_core.specs.declared.image_mut.ImageMut.{ImageMut}
 use Rattle.image_core.specs.Bands.{IsInRows, image_over_rows}
-use Rattle.image_core.specs.Target.{written}
+use Rattle.image_core.specs.Target.{target_image}
 use Rattle.image_core.specs.Fits.{SecondHasSize}
 use Rattle.image_core.specs.Second.{second_object}
 use Rattle.stat_kernels.specs.Sums.{sum_on}
-use Rattle.node_rows.specs.Reach.{reach, matrix_in}
+use Rattle.node_rows.specs.Radius.{window_radius, matrix_in}
 use Rattle.graph_steps.specs.declared.kernel.Kernel.{Kernel}
 use Rattle.graph_steps.specs.declared.step.Step.{Step}
 use Rattle.graph_steps.specs.declared.step.Source.{Source}
@@ -38,14 +38,14 @@ abbrev pub ReadsPlane : Step → ℕ → Type 0
 ReadsPlane s c = (s.first ≡ c) ⊎ (s.second ≡ Plane c)
 
 -- a step's second input: an image, a table, or none
-abbrev pub second_in : List Second → (ℕ → ImageValue) → Source → Option ObjectValue
+abbrev pub second_in : List SecondInput → (ℕ → ImageValue) → Source → Option ObjectValue
 second_in tables images Nothing = None
 second_in tables images (Plane c) = Some (ImageObject (images c))
 second_in tables images (Table k) = option_and_then (λ t. second_object t) (slice_get tables k)
 
 -- the image that a step computes from its inputs and, if it accumulates, from its old output
 abbrev pub image_from_inputs : Step → ImageValue → Option ObjectValue → ImageValue → ImageValue
-image_from_inputs s first second own = node_image s.node s.which own.format first (beside_first s.node second (ImageObject own))
+image_from_inputs s first second own = node_image s.node s.which own.format first (second_or_output s.node second (ImageObject own))
 
 -- the image that a kernel computes, given the old output
 abbrev pub kernel_image : Kernel → ImageValue → ImageValue
@@ -53,10 +53,10 @@ kernel_image k own = image_from_inputs k.step.now k.first.now (second_object k.s
 
 -- the image with the rows of an output, and 0 in all other rows
 abbrev pub held_image : ImageMut → ImageValue
-held_image out = image_over_rows out.desc out.valid out.rows (written out).samples
+held_image out = image_over_rows out.desc out.valid out.rows (target_image out).samples
 
 -- the image that a step computes from the images of its planes
-abbrev pub step_image : List Second → Step → (ℕ → ImageValue) → ImageValue → ImageValue
+abbrev pub step_image : List SecondInput → Step → (ℕ → ImageValue) → ImageValue → ImageValue
 step_image tables s images own = image_from_inputs s (images s.first) (second_in tables images s.second) own
 
 -- the step of a node whose inputs are passed to its kernel; its plane indices aren't used
@@ -80,16 +80,16 @@ sums_above width top start samples x = if start == top then 0 else unsigned_abs 
 
 -- the integral image in the rows from `start` on, continued from the row above them in the output's block
 abbrev pub scan_image : ℕ → ImageValue → PlaneValue → ImageValue
-scan_image start first out = made first.width first.height out.desc.format first.valid (sum_on first start (sums_above out.desc.width out.top start out.samples))
+scan_image start first out = image_from first.width first.height out.desc.format first.valid (sum_on first start (sums_above out.desc.width out.top start out.samples))
 
 -- the image whose rows a step writes
-abbrev pub rows_image : List Second → Step → Band → (ℕ → ImageValue) → PlaneValue → ImageValue
+abbrev pub rows_image : List SecondInput → Step → Band → (ℕ → ImageValue) → PlaneValue → ImageValue
 rows_image tables s rows images out =
     if is_integral s.node.function then scan_image rows.start (images s.first) out else step_image tables s images (plane_image (with_read_rows rows out))
 
 -- a step's radius: the number of input rows above and below an output row that it reads; None if it reads all
-abbrev pub step_reach : Function → Option ConvolutionValue → Option ℕ
-step_reach function matrix = if is_integral function then Some 0 else reach function matrix
+abbrev pub step_radius : Function → Option ConvolutionValue → Option ℕ
+step_radius function matrix = if is_integral function then Some 0 else window_radius function matrix
 
 -- ---- premises of a step
 
@@ -108,7 +108,7 @@ Covers None radius high = high ≤ radius
 
 -- an image for statements that depend on the description alone
 abbrev pub blank_image : Description → ImageValue
-blank_image d = image_over d empty []
+blank_image d = image_over d empty_rectangle []
 
 -- the plane of the second input, or index 0 if it isn't a plane
 abbrev pub second_plane : Source → ℕ
@@ -116,18 +116,18 @@ second_plane (Plane c) = c
 second_plane other = 0
 
 -- a step can run on planes with these descriptions, if the heights are at most `high`
-pub record Suits (tables : List Second) (high : ℕ) (s : Step) (first second out : Description) : Type 0 where
+pub record Suits (tables : List SecondInput) (high : ℕ) (s : Step) (first second out : Description) : Type 0 where
   pub makes : CanMake s (blank_image first) (second_in tables (λ _. blank_image second) s.second) out
   pub table : (k : ℕ) → s.second ≡ Table k → (k < length tables) × IfSome (second_in tables (λ _. blank_image second) s.second) IsObject
-  pub near : Covers (step_reach s.node.function (matrix_in (second_in tables (λ _. blank_image second) s.second))) s.radius high
+  pub near : Covers (step_radius s.node.function (matrix_in (second_in tables (λ _. blank_image second) s.second))) s.radius high
 
 -- the same for the planes at its indices
-abbrev pub SuitsPlanes : List Second → ℕ → Step → List PlaneValue → Type 0
+abbrev pub SuitsPlanes : List SecondInput → ℕ → Step → List PlaneValue → Type 0
 SuitsPlanes tables high s planes =
     Suits tables high s (plane planes s.first).desc (plane planes (second_plane s.second)).desc (plane planes s.output).desc
 
 -- a step can write these rows of its output
-pub record CanStep (tables : List Second) (high : ℕ) (s : Step) (rows : Band) (planes : List PlaneValue) : Type 0 where
+pub record CanStep (tables : List SecondInput) (high : ℕ) (s : Step) (rows : Band) (planes : List PlaneValue) : Type 0 where
   pub suits : SuitsPlanes tables high s planes
   pub output : s.output < length planes
   pub reads : (c : ℕ) → ReadsPlane s c → (c < length planes) × (c ≢ s.output) × (s.takes ≢ Some c) × IsReadable (plane planes c)
@@ -152,13 +152,13 @@ with_output_block None c top planes = planes
 with_output_block (Some t) c top planes = with_moved_block t c top planes
 
 -- the planes after these rows of the output are written
-abbrev pub with_output : List Second → Step → Band → List PlaneValue → List PlaneValue
+abbrev pub with_output : List SecondInput → Step → Band → List PlaneValue → List PlaneValue
 with_output tables s rows planes =
     let out = plane planes s.output in
     slice_set planes s.output (with_rows rows (rows_image tables s rows (read_images planes) out) out)
 
 -- the planes after a step has run on these rows of its output
-abbrev pub after_step : List Second → Step → Band → List PlaneValue → List PlaneValue
+abbrev pub after_step : List SecondInput → Step → Band → List PlaneValue → List PlaneValue
 after_step tables s rows planes = with_output tables s rows (with_output_block s.takes s.output rows.start planes)
 
 -- the format and the number of samples of each plane's block

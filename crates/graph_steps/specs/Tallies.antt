@@ -6,8 +6,8 @@ use Rattle.vx_base.specs.Image.{ImageValue}
 use Rattle.vx_base.specs.Object.{DistributionValue, no_extremes}
 use Rattle.vx_base.specs.Statistics.{extremes, histogram, valid_samples}
 use Rattle.image_core.specs.declared.band.Band.{Band}
-use Rattle.image_core.specs.declared.second.Second.{Second}
-use Rattle.stat_kernels.specs.Counts.{added}
+use Rattle.image_core.specs.declared.second.SecondInput.{SecondInput}
+use Rattle.stat_kernels.specs.Counts.{bin_sums}
 use Rattle.stat_kernels.specs.Located.{added_extremes}
 use Rattle.stat_kernels.specs.Part.{valid_in}
 use Rattle.graph_steps.specs.declared.step.Reduction.{Reduction}
@@ -22,7 +22,7 @@ use Rattle.graph_steps.specs.Program.{Reduces, after_task}
 
 -- the histogram with these rows of an image added
 abbrev pub with_rows_counted : Band → ImageValue → DistributionValue → DistributionValue
-with_rows_counted rows image d = record { bins = d.bins; counts = added d.counts (histogram d.bins (valid_in rows image)) }
+with_rows_counted rows image d = record { bins = d.bins; counts = bin_sums d.counts (histogram d.bins (valid_in rows image)) }
 
 -- a tally with these rows of an image added
 abbrev pub with_rows_added : Band → ImageValue → Tally → Tally
@@ -76,7 +76,7 @@ abbrev pub tallies_after : Band → Task → List PlaneValue → List Tally → 
 tallies_after rows (Write s) planes tallies = tallies
 tallies_after rows (Reduce r) planes tallies = after_reduction rows planes r tallies
 
-abbrev pub all_tallies_after : List Second → List ℕ → Band → List Task → List PlaneValue → List Tally → List Tally
+abbrev pub all_tallies_after : List SecondInput → List ℕ → Band → List Task → List PlaneValue → List Tally → List Tally
 all_tallies_after tables halos rows [] planes tallies = tallies
 all_tallies_after tables halos rows (t ∷ later) planes tallies =
     all_tallies_after tables halos rows later (after_task tables halos rows t planes) (tallies_after rows t planes tallies)

@@ -17,7 +17,7 @@ use crate::one_step::run_step;
 use crate::plane::Plane;
 use crate::step::{Reduction, Step, Task};
 use crate::tally::Tally;
-use image_core::{Band, Second};
+use image_core::{Band, SecondInput};
 
 /// Returns the rows of the step's output that a band needs: the band and the output's halo.
 fn rows_for(step: &Step, halos: &[u16], band: Band, planes: &[Plane]) -> Band
@@ -43,7 +43,7 @@ fn reduce(reduction: &Reduction, band: Band, planes: &[Plane], tallies: &mut [Ta
 
 /// Runs a task on a band.
 fn do_task(
-    tables: &[Second<'_>],
+    tables: &[SecondInput<'_>],
     task: &Task,
     halos: &[u16],
     band: Band,
@@ -68,7 +68,7 @@ fn do_task(
 /// Runs all tasks on a band. Each step writes the rows of the band and its output's halo, and each
 /// reduction adds the rows of the band to its tally.
 fn run_band(
-    tables: &[Second<'_>],
+    tables: &[SecondInput<'_>],
     tasks: &[Task],
     halos: &[u16],
     band: Band,
@@ -94,7 +94,7 @@ fn run_band(
 /// The results don't depend on `size`. Each client's image and each tally are those of any solution
 /// of the steps' equations over whole images.
 pub fn run(
-    tables: &[Second<'_>],
+    tables: &[SecondInput<'_>],
     tasks: &[Task],
     halos: &[u16],
     high: u16,

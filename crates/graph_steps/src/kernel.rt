@@ -10,12 +10,12 @@ ghost use Rattle.vx_base.specs.Rectangle.{IsWithin};
 ghost use Rattle.image_core.specs.Bands.{rows_in};
 ghost use Rattle.image_core.specs.Fits.{Fits};
 ghost use Rattle.image_core.specs.Second.{second_object};
-ghost use Rattle.image_core.specs.Target.{written, IsTarget, Writes};
+ghost use Rattle.image_core.specs.Target.{target_image, IsTarget, Writes};
 ghost use Rattle.graph_steps.specs.Kernels.{CanRun};
 ghost use Rattle.graph_steps.specs.Steps.{CanMake, kernel_image, held_image};
 
 use crate::step::Step;
-use image_core::{Image, ImageMut, Second};
+use image_core::{Image, ImageMut, SecondInput};
 use pixel_kernels::{
     absolute_difference, accumulate, accumulate_square, add, bit_and, bit_not, bit_or, bit_xor,
     convert_depth, lookup, maximum, minimum, multiply, subtract, threshold,
@@ -29,7 +29,7 @@ use window_kernels::{box3, convolve, dilate3, erode3, gaussian3, median3, sobel3
 pub struct Kernel<'k, 'f, 's> {
     pub step: &'k Step,
     pub first: &'k Image<'f>,
-    pub second: &'k Second<'s>,
+    pub second: &'k SecondInput<'s>,
 }
 
 impl<'k, 'f, 's> Kernel<'k, 'f, 's> {
@@ -60,19 +60,19 @@ pub fn run_node(
     node: &Node,
     which: Output,
     first: &Image<'_>,
-    second: &Second<'_>,
+    second: &SecondInput<'_>,
     output: &mut ImageMut<'_>,
 )
     requires { CanRun node.now first.now (second_object second.now) output.old }
-    ensures { Writes (node_image node.now which (written output.old).format first.now
+    ensures { Writes (node_image node.now which (target_image output.old).format first.now
         (second_object second.now)) output.old output.new }
 {
     match (node.function, second) {
-        (_, Second::Nothing) => run_on_one(node, which, first, output),
-        (_, Second::Image(second)) => run_on_two(node, which, first, second, output),
-        (Function::Threshold, Second::Threshold(rule)) => threshold(first, output, *rule),
-        (Function::TableLookup, Second::Lut(lut)) => lookup(first, output, lut),
-        (Function::Convolve, Second::Convolution(convolution)) => convolve(
+        (_, SecondInput::Nothing) => run_on_one(node, which, first, output),
+        (_, SecondInput::Image(second)) => run_on_two(node, which, first, second, output),
+        (Function::Threshold, SecondInput::Threshold(rule)) => threshold(first, output, *rule),
+        (Function::TableLookup, SecondInput::Lut(lut)) => lookup(first, output, lut),
+        (Function::Convolve, SecondInput::Convolution(convolution)) => convolve(
             first,
             convolution,
             output,
@@ -88,11 +88,11 @@ fn run_sum(node: &Node, image: &Image<'_>, sums: &mut ImageMut<'_>)
     requires function { accumulates node.now.function ≡ true }
     requires shape { IsTrue (is_node node.now) }
     requires fits { Fits node.now.function image.now None sums.old }
-    requires room { IsWithin (written sums.old).valid (written sums.old).width
-        (written sums.old).height }
+    requires room { IsWithin (target_image sums.old).valid (target_image sums.old).width
+        (target_image sums.old).height }
     ensures { (own : ImageValue) (which : OutputValue) →
-        rows_in sums.old.rows own ≡ written sums.old →
-        Writes (node_image node.now which (written sums.old).format image.now
+        rows_in sums.old.rows own ≡ target_image sums.old →
+        Writes (node_image node.now which (target_image sums.old).format image.now
         (Some (ImageObject own))) sums.old sums.new }
 {
     match node.function {
@@ -105,7 +105,7 @@ fn run_sum(node: &Node, image: &Image<'_>, sums: &mut ImageMut<'_>)
 /// Writes an output of a function of one image.
 fn run_on_one(node: &Node, which: Output, first: &Image<'_>, output: &mut ImageMut<'_>)
     requires { CanRun node.now first.now None output.old }
-    ensures { Writes (node_image node.now which (written output.old).format first.now None)
+    ensures { Writes (node_image node.now which (target_image output.old).format first.now None)
         output.old output.new }
 {
     let border = node.border;
@@ -135,7 +135,7 @@ fn run_on_two(
     output: &mut ImageMut<'_>,
 )
     requires { CanRun node.now first.now (Some (ImageObject second.now)) output.old }
-    ensures { Writes (node_image node.now which (written output.old).format first.now
+    ensures { Writes (node_image node.now which (target_image output.old).format first.now
         (Some (ImageObject second.now))) output.old output.new }
 {
     let (policy, amount) = (node.policy, node.amount);

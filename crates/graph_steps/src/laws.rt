@@ -1,6 +1,6 @@
 //! Laws of programs: functions that do nothing, whose contracts are facts.
 ghost use Rattle.std.specs.Prelude.{List, ℕ, length};
-ghost use Rattle.image_core.specs.declared.second.Second.{Second as SecondValue};
+ghost use Rattle.image_core.specs.declared.second.SecondInput.{SecondInput as SecondValue};
 ghost use Rattle.graph_steps.specs.declared.step.Task.{Task as TaskValue};
 ghost use Rattle.graph_steps.specs.Planes.{PlaneValue, block_images};
 ghost use Rattle.graph_steps.specs.Program.{AreFilled, AreInOrder, IsProgram, SolvesSteps};

@@ -15,7 +15,7 @@ ghost use Rattle.graph_steps.specs.Steps.{with_output, after_step};
 use crate::kernel::Kernel;
 use crate::plane::Plane;
 use crate::step::{Source, Step};
-use image_core::{Band, Second};
+use image_core::{Band, SecondInput};
 
 /// Moves a block from one plane to another, or to the same plane. The block then begins with row
 /// `top`.
@@ -41,7 +41,13 @@ fn make_ready(step: &Step, top: u16, planes: &mut [Plane])
 }
 
 /// Writes rows of the output of a step that isn't an integral image.
-fn write_made(tables: &[Second<'_>], step: &Step, rows: Band, planes: &[Plane], output: &mut Plane)
+fn write_made(
+    tables: &[SecondInput<'_>],
+    step: &Step,
+    rows: Band,
+    planes: &[Plane],
+    output: &mut Plane,
+)
     requires reads { (c : ℕ) → ReadsPlane step.now c →
         (c < length planes.now) × IsReadable (plane planes.now c) }
     requires table { (k : ℕ) → step.now.second ≡ Table k → k < length tables.now }
@@ -59,7 +65,7 @@ fn write_made(tables: &[Second<'_>], step: &Step, rows: Band, planes: &[Plane], 
     let first = planes[step.first].image();
     match step.second {
         Source::Nothing => {
-            let second = Second::Nothing;
+            let second = SecondInput::Nothing;
             let kernel = Kernel {
                 step,
                 first: &first,
@@ -68,7 +74,7 @@ fn write_made(tables: &[Second<'_>], step: &Step, rows: Band, planes: &[Plane], 
             output.write(&kernel, rows);
         }
         Source::Plane(at) => {
-            let second = Second::Image(planes[at].image());
+            let second = SecondInput::Image(planes[at].image());
             let kernel = Kernel {
                 step,
                 first: &first,
@@ -106,7 +112,13 @@ fn write_integral(step: &Step, rows: Band, planes: &[Plane], output: &mut Plane)
 }
 
 /// Writes rows of the step's output, which has been taken out of `planes`.
-fn write_rows(tables: &[Second<'_>], step: &Step, rows: Band, planes: &[Plane], output: &mut Plane)
+fn write_rows(
+    tables: &[SecondInput<'_>],
+    step: &Step,
+    rows: Band,
+    planes: &[Plane],
+    output: &mut Plane,
+)
     requires reads { (c : ℕ) → ReadsPlane step.now c →
         (c < length planes.now) × IsReadable (plane planes.now c) }
     requires table { (k : ℕ) → step.now.second ≡ Table k → k < length tables.now }
@@ -129,7 +141,7 @@ fn write_rows(tables: &[Second<'_>], step: &Step, rows: Band, planes: &[Plane], 
 }
 
 /// Writes rows of the step's output.
-fn write_output(tables: &[Second<'_>], step: &Step, rows: Band, planes: &mut [Plane])
+fn write_output(tables: &[SecondInput<'_>], step: &Step, rows: Band, planes: &mut [Plane])
     requires reads { (c : ℕ) → ReadsPlane step.now c →
         (c < length planes.old) × (c ≢ step.now.output) × IsReadable (plane planes.old c) }
     requires table { (k : ℕ) → step.now.second ≡ Table k → k < length tables.now }
@@ -155,7 +167,7 @@ fn write_output(tables: &[Second<'_>], step: &Step, rows: Band, planes: &mut [Pl
 }
 
 /// Runs a step on these rows of its output.
-pub fn run_step(tables: &[Second<'_>], step: &Step, rows: Band, planes: &mut [Plane])
+pub fn run_step(tables: &[SecondInput<'_>], step: &Step, rows: Band, planes: &mut [Plane])
     requires { (high : ℕ) × CanStep tables.now high step.now rows planes.old }
     ensures { planes.new ≡ after_step tables.now step.now rows planes.old }
 {

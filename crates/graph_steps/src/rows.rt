@@ -1,7 +1,7 @@
 //! Writes rows in a block of samples.
 ghost use Rattle.std.specs.Prelude.{◌≡◌, ◌+◌, ◌-◌, ◌*◌, ◌≤◌, length, map, pos};
 ghost use Rattle.vx_base.specs.declared.format.Format.TheVariants.{U8, S16, U32};
-ghost use Rattle.vx_base.specs.Image.{made};
+ghost use Rattle.vx_base.specs.Image.{image_from};
 ghost use Rattle.vx_base.specs.Rectangle.{IsWithin};
 ghost use Rattle.image_core.specs.Bands.{IsInRows, image_over_rows, rows_in};
 ghost use Rattle.image_core.specs.Second.{second_object};
@@ -208,7 +208,7 @@ pub fn write_sums(width: u16, top: u16, rows: Band, image: &Image<'_>, samples: 
     requires top { top ≤ rows.start }
     requires room { (rows.start - top + rows.count) * width ≤ length samples.old }
     ensures { map pos samples.new ≡ written_among top rows
-        (made image.now.width image.now.height U32 image.now.valid
+        (image_from image.now.width image.now.height U32 image.now.valid
         (sum_on image.now rows.start (sums_above width top rows.start (map pos samples.old))))
         (map pos samples.old) }
 {

@@ -1,9 +1,9 @@
 //! Tasks: steps and reductions.
 ghost use Rattle.std.specs.Prelude.{◌≡◌};
 ghost use Rattle.std.specs.Option.{option_copied};
-ghost use Rattle.graph_steps.specs.Steps.{is_integral, lent_step, reads_output, step_reach};
+ghost use Rattle.graph_steps.specs.Steps.{is_integral, lent_step, reads_output, step_radius};
 
-use node_rows::reach;
+use node_rows::window_radius;
 use vx_base::{Convolution, Function, Node, Output};
 
 /// The source of a step's second input.
@@ -38,13 +38,13 @@ pub struct Step {
 /// Returns the radius of a step: the number of input rows above and below an output row that it
 /// reads. `None` means all rows. An integral image has radius 0, since a row continues from the row
 /// above it.
-pub fn step_reach(function: Function, matrix: Option<&Convolution>) -> Option<u16>
-    ensures { result ≡ step_reach function (option_copied matrix.entry) }
+pub fn step_radius(function: Function, matrix: Option<&Convolution>) -> Option<u16>
+    ensures { result ≡ step_radius function (option_copied matrix.entry) }
 {
     if is_integral(function) {
         Some(0)
     } else {
-        reach(function, matrix)
+        window_radius(function, matrix)
     }
 }
 

@@ -7,19 +7,19 @@ use Rattle.vx_base.specs.Object.{GraphObject}
 use Rattle.pixel_pool.specs.declared.pool.Pool.{Pool}
 use Rattle.object_table.specs.Blocks.{LendsAtLeast, blocks_in, object_blocks}
 use Rattle.object_table.specs.Context.{Context, with_objects, with_graph}
-use Rattle.object_table.specs.Named.{Named}
+use Rattle.object_table.specs.NamedObject.{NamedObject}
 
 module _ (format : Format) where
-  abbrev weight : Named → ℕ
+  abbrev weight : NamedObject → ℕ
   weight o = object_blocks o.object format
 
   -- the one that a graph replaces, or another one
-  one : (o : Named) (graph : GraphValue) (same : Bool) → weight (if same then record o { object = GraphObject graph } else o) ≤ weight o
+  one : (o : NamedObject) (graph : GraphValue) (same : Bool) → weight (if same then record o { object = GraphObject graph } else o) ≤ weight o
   one o graph true = omega arith
   one o graph false = omega arith
 
   -- replacing an object by a graph does not raise the number of blocks that the objects occupy
-  pub with_graph-blocks : (objects : List Named) (name : ℕ) (graph : GraphValue) → blocks_in (with_graph objects name graph) format ≤ blocks_in objects format
+  pub with_graph-blocks : (objects : List NamedObject) (name : ℕ) (graph : GraphValue) → blocks_in (with_graph objects name graph) format ≤ blocks_in objects format
   with_graph-blocks [] name graph = omega arith
   with_graph-blocks (o ∷ objects) name graph =
       grind (

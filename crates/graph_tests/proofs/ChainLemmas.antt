@@ -6,15 +6,15 @@ use Rattle.vx_base.specs.declared.function.Function.TheVariants.{Box}
 use Rattle.vx_base.specs.declared.kind.Kind.TheVariants as kind
 use Rattle.vx_base.specs.declared.node.Node.{Node}
 use Rattle.vx_base.specs.declared.numbered.Numbered.{Numbered}
-use Rattle.vx_base.specs.declared.outline.Outline.{Outline}
-use Rattle.vx_base.specs.Cell.{Cell, cell_of}
+use Rattle.vx_base.specs.declared.partial_desc.PartialDesc.{PartialDesc}
+use Rattle.vx_base.specs.Reference.{Reference, reference_to}
 use Rattle.vx_base.specs.Graph.{GraphValue, IsGraph, can_add, new_graph, nodes_of, with_node}
 use Rattle.vx_base.specs.Image.{ImageValue, IsImage}
 use Rattle.vx_base.specs.Node.{IsNode}
 use Rattle.vx_base.specs.Object.{ObjectValue, GraphObject, IsObject, object_kind}
-use Rattle.vx_base.specs.Outline.{IsOutline}
+use Rattle.vx_base.specs.PartialDescription.{IsPartialDescription}
 use Rattle.object_table.specs.Context.{Context, with_objects, with_graph}
-use Rattle.object_table.specs.Named.{Named, held, object_held}
+use Rattle.object_table.specs.NamedObject.{NamedObject, object_at, object_held}
 use Rattle.object_table.specs.Object.{graph_value}
 use Rattle.object_table.specs.Skeleton.{skeleton}
 use Rattle.object_table.specs.Table.{IsUnder, graph_under}
@@ -23,11 +23,11 @@ use Rattle.object_table.proofs.SkeletonLaws.{kind-skeleton, option_map-told}
 use Rattle.graph_verify.specs.declared.operand.Operand.{Operand}
 use Rattle.graph_verify.specs.Operand.{is_image, operand_of}
 use Rattle.graph_verify.proofs.GraphLemmas.{IsGraph-with_node}
-use Rattle.graph_run.specs.Lasting.{Lasts, lasting}
+use Rattle.graph_run.specs.Lasting.{Lasts, lasting_part}
 use Rattle.graph_run.specs.Operands.{operand_held}
 use Rattle.graph_run.proofs.LastingLemmas.{Lasts-names, cell-lasts, held-lasts, nodes-last, skeletons-last}
 use Rattle.graph_run.proofs.OperandLaws.{operand-skeleton}
-use Rattle.graph_tests.specs.Chain.{box_to, linked_by, six_boxes, with_boxes, through}
+use Rattle.graph_tests.specs.Chain.{box_to, linked_by, six_boxes, with_boxes, chain_image}
 use Rattle.graph_tests.proofs.LinkLemmas.{Finds, IsThere, link_finds, link_is, operands_in}
 
 -- ---- the table is made
@@ -37,7 +37,7 @@ pub step : (f : Context → Context) (k next value : Context) → next ≡ f k �
 step f k next value is before = is ∙ ap f before
 
 -- one more node
-pub added : (a b : ImageValue) (d : Outline) (g : GraphValue) (n : Node) (k next : Context) → next ≡ with_objects k (with_graph k.objects 3 (with_node (graph_under k.objects 3) n))
+pub added : (a b : ImageValue) (d : PartialDesc) (g : GraphValue) (n : Node) (k next : Context) → next ≡ with_objects k (with_graph k.objects 3 (with_node (graph_under k.objects 3) n))
     → k ≡ record { next = 9; objects = linked_by g a b d } → next ≡ record { next = 9; objects = linked_by (with_node g n) a b d }
 added a b d g n k next is before = is ∙ ap (λ (c : Context). with_objects c (with_graph c.objects 3 (with_node (graph_under c.objects 3) n))) before
 
@@ -71,18 +71,18 @@ six_are =
       ),
     )
 
-abbrev pub chain : ImageValue → ImageValue → Outline → List Named
+abbrev pub chain : ImageValue → ImageValue → PartialDesc → List NamedObject
 chain a b d = linked_by six_boxes a b d
 
-pub chain_objects : (a b : ImageValue) (d : Outline) → IsImage a → IsImage b → IsOutline d → All (λ o. IsObject o.object) (chain a b d)
-chain_objects a b d first second outline =
-    let virtual : IsObject (through d) = record { graph = omega arith; declared = outline } in
-    All-from_recursion (λ (o : Named). IsObject o.object) (chain a b d) (first, (second, (six_are, (virtual, (virtual, (virtual, (virtual, (virtual, tt))))))))
+pub chain_objects : (a b : ImageValue) (d : PartialDesc) → IsImage a → IsImage b → IsPartialDescription d → All (λ o. IsObject o.object) (chain a b d)
+chain_objects a b d first second partial_desc =
+    let virtual : IsObject (chain_image d) = record { graph = omega arith; declared = partial_desc } in
+    All-from_recursion (λ (o : NamedObject). IsObject o.object) (chain a b d) (first, (second, (six_are, (virtual, (virtual, (virtual, (virtual, (virtual, tt))))))))
 
 abbrev names : List ℕ
 names = 1 ∷ 2 ∷ 3 ∷ 4 ∷ 5 ∷ 6 ∷ 7 ∷ 8 ∷ []
 
-chain_names : (a b : ImageValue) (d : Outline) → IsStrictlyIncreasing (map {A = Named} {B = ℕ} (λ o. o.name) (chain a b d))
+chain_names : (a b : ImageValue) (d : PartialDesc) → IsStrictlyIncreasing (map {A = NamedObject} {B = ℕ} (λ o. o.name) (chain a b d))
 chain_names a b d = each
   where
     each : (k : ℕ) → k + 1 < 8 → slice_index names k < slice_index names (k + 1)
@@ -106,17 +106,17 @@ chain_nodes = nodes_of six_boxes
 pub nodes_are : All IsNode chain_nodes
 nodes_are = All-map IsNode (λ (n : Numbered). n.node) six_boxes.nodes six_are.nodes
 
-module _ (objects : List Named) (a b : ImageValue) (d : Outline) (lasts : Lasts (chain a b d) objects) where
-  abbrev is : Cell → Option Operand
+module _ (objects : List NamedObject) (a b : ImageValue) (d : PartialDesc) (lasts : Lasts (chain a b d) objects) where
+  abbrev is : Reference → Option Operand
   is = operands_in objects
 
   -- each cell is to a node what it was at first
-  stays : (cell : Cell) → is cell ≡ operands_in (chain a b d) cell
-  stays cell = option_map-told skeleton operand_of operand_of operand-skeleton (held objects cell) (held (chain a b d) cell)
-      (skeletons-last (held objects cell) (held (chain a b d) cell) (cell-lasts (chain a b d) objects cell lasts.lasting))
+  stays : (cell : Reference) → is cell ≡ operands_in (chain a b d) cell
+  stays cell = option_map-told skeleton operand_of operand_of operand-skeleton (object_at objects cell) (object_at (chain a b d) cell)
+      (skeletons-last (object_at objects cell) (object_at (chain a b d) cell) (cell-lasts (chain a b d) objects cell lasts.lasting))
 
-  there : (name : ℕ) → IsThere (operands_in (chain a b d) (cell_of name)) → IsThere (is (cell_of name))
-  there name at_first = subst IsThere (sym (stays (cell_of name))) at_first
+  there : (name : ℕ) → IsThere (operands_in (chain a b d) (reference_to name)) → IsThere (is (reference_to name))
+  there name at_first = subst IsThere (sym (stays (reference_to name))) at_first
 
   pub all_find : All (Finds is) chain_nodes
   all_find =
@@ -142,7 +142,7 @@ module _ (objects : List Named) (a b : ImageValue) (d : Outline) (lasts : Lasts 
       )
 
   -- the object under name 3 is the graph
-  graph_there : option_map lasting (object_held objects 3) ≡ Some (lasting (GraphObject six_boxes))
+  graph_there : option_map lasting_part (object_held objects 3) ≡ Some (lasting_part (GraphObject six_boxes))
   graph_there = held-lasts (chain a b d) objects 3 lasts.lasting
 
   pub is_graph : IsUnder objects kind.Graph 3
@@ -154,5 +154,5 @@ module _ (objects : List Named) (a b : ImageValue) (d : Outline) (lasts : Lasts 
   pub first_images : All (λ n. IsTrue (is_image (operand_held objects n.in1))) chain_nodes
   first_images = All-weaker (Finds is) (λ n. IsTrue (is_image (operand_held objects n.in1))) (λ n f. f.first) chain_nodes all_find
 
-  pub names_increase : IsStrictlyIncreasing (map {A = Named} {B = ℕ} (λ o. o.name) objects)
+  pub names_increase : IsStrictlyIncreasing (map {A = NamedObject} {B = ℕ} (λ o. o.name) objects)
   names_increase = Lasts-names (chain a b d) objects lasts (chain_names a b d)

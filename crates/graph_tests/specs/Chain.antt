@@ -2,12 +2,12 @@
 use Rattle.std.specs.Prelude.{ℕ, List, [], ◌∷◌, true, None}
 use Rattle.vx_base.specs.declared.function.Function.TheVariants.{Box}
 use Rattle.vx_base.specs.declared.node.Node.{Node}
-use Rattle.vx_base.specs.declared.outline.Outline.{Outline}
+use Rattle.vx_base.specs.declared.partial_desc.PartialDesc.{PartialDesc}
 use Rattle.vx_base.specs.declared.policy.Policy.TheVariants.{Wrap}
 use Rattle.vx_base.specs.Graph.{GraphValue, new_graph, with_node}
 use Rattle.vx_base.specs.Image.{ImageValue}
 use Rattle.vx_base.specs.Object.{ObjectValue, ImageObject, GraphObject, VirtualObject}
-use Rattle.object_table.specs.Named.{Named}
+use Rattle.object_table.specs.NamedObject.{NamedObject}
 use Rattle.graph_verify.specs.Examples.{node_to}
 use Rattle.graph_run.specs.Lasting.{Lasts}
 
@@ -25,18 +25,18 @@ abbrev pub six_boxes : GraphValue
 six_boxes = with_boxes new_graph ((1, 4) ∷ (4, 5) ∷ (5, 6) ∷ (6, 7) ∷ (7, 8) ∷ (8, 2) ∷ [])
 
 -- an object under a live name
-abbrev pub live : ℕ → ObjectValue → Named
+abbrev pub live : ℕ → ObjectValue → NamedObject
 live name object = record { name = name; live = true; object = object }
 
 -- a virtual image of graph 3
-abbrev pub through : Outline → ObjectValue
-through declared = VirtualObject (record { graph = 3; declared = declared })
+abbrev pub chain_image : PartialDesc → ObjectValue
+chain_image declared = VirtualObject (record { graph = 3; declared = declared })
 
 -- the objects of a table: two images, a graph, and five virtual images
-abbrev pub linked_by : GraphValue → ImageValue → ImageValue → Outline → List Named
-linked_by graph a b declared = live 1 (ImageObject a) ∷ live 2 (ImageObject b) ∷ live 3 (GraphObject graph) ∷ live 4 (through declared)
-    ∷ live 5 (through declared) ∷ live 6 (through declared) ∷ live 7 (through declared) ∷ live 8 (through declared) ∷ []
+abbrev pub linked_by : GraphValue → ImageValue → ImageValue → PartialDesc → List NamedObject
+linked_by graph a b declared = live 1 (ImageObject a) ∷ live 2 (ImageObject b) ∷ live 3 (GraphObject graph) ∷ live 4 (chain_image declared)
+    ∷ live 5 (chain_image declared) ∷ live 6 (chain_image declared) ∷ live 7 (chain_image declared) ∷ live 8 (chain_image declared) ∷ []
 
 -- the objects are those of a chain, except for what requests may change
-abbrev pub IsChain : List Named → Type 0
-IsChain objects = (a : ImageValue) × (b : ImageValue) × (declared : Outline) × Lasts (linked_by six_boxes a b declared) objects
+abbrev pub IsChain : List NamedObject → Type 0
+IsChain objects = (a : ImageValue) × (b : ImageValue) × (declared : PartialDesc) × Lasts (linked_by six_boxes a b declared) objects

@@ -1,7 +1,7 @@
 //! References into a table: images, and slots of delays.
 ghost use Rattle.std.specs.Prelude.{◌≡◌, true, IfOk};
 ghost use Rattle.vx_base.specs.declared.format.Format.TheVariants.{U8};
-ghost use Rattle.vx_base.specs.Cell.{cell_of};
+ghost use Rattle.vx_base.specs.Reference.{reference_to};
 ghost use Rattle.vx_base.specs.Image.{IsImage, description_of};
 ghost use Rattle.vx_base.specs.Object.{IsDelay};
 ghost use Rattle.vx_base.specs.Rectangle.{IsWithin};
@@ -49,7 +49,7 @@ fn a_new_image_is_0_everywhere(rt: HostRuntime) -> Result<(), Fail> {
 
 /// Returns whether an image is held under a name.
 fn is_image(table: &Table, name: u32) -> bool
-    ensures { result ≡ true → HoldsImage table.now.objects (cell_of name) }
+    ensures { result ≡ true → HoldsImage table.now.objects (reference_to name) }
 {
     match table.get_held(name) {
         Some(object) => object.kind() == Kind::Image,

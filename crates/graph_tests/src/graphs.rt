@@ -11,7 +11,7 @@ use object_table::{Content, Object, Table, TableFault};
 use std::alloc::Global;
 use std::test::Fail;
 use vx_base::{
-    Border, Desc, Format, Function, Kind, Node, NodeSpec, ObjRef, Outline, Policy, VirtualImage,
+    Border, Desc, Format, Function, Kind, Node, NodeSpec, ObjRef, PartialDesc, Policy, VirtualImage,
 };
 
 /// Returns the node Not, from the image of one name to that of another.
@@ -66,15 +66,15 @@ fn a_graph_has_at_most_256_nodes(rt: HostRuntime) -> Result<(), Fail> {
 #[test]
 fn open_parts_are_filled(rt: HostRuntime) -> Result<(), Fail> {
     let desc = Desc::new(3, 2, Format::S16).ok_or("within the limits")?;
-    let open = Outline::new(Some(5), None, None).ok_or("within the limits")?;
-    assert!(rt; Outline::new(Some(0), None, None).is_none());
-    assert!(rt; Outline::new(None, Some(8193), None).is_none());
-    assert!(rt; open.closed() == None);
-    let filled = open.filled(Outline::of(desc));
-    assert!(rt; (filled.width(), filled.height()) == (Some(5), Some(2)));
-    assert!(rt; filled.format() == Some(Format::S16));
-    assert!(rt; filled.closed() == Desc::new(5, 2, Format::S16));
-    assert!(rt; Outline::of(desc).closed() == Some(desc));
+    let open = PartialDesc::new(Some(5), None, None).ok_or("within the limits")?;
+    assert!(rt; PartialDesc::new(Some(0), None, None).is_none());
+    assert!(rt; PartialDesc::new(None, Some(8193), None).is_none());
+    assert!(rt; open.full_desc() == None);
+    let with_defaults = open.with_defaults(PartialDesc::of(desc));
+    assert!(rt; (with_defaults.width(), with_defaults.height()) == (Some(5), Some(2)));
+    assert!(rt; with_defaults.format() == Some(Format::S16));
+    assert!(rt; with_defaults.full_desc() == Desc::new(5, 2, Format::S16));
+    assert!(rt; PartialDesc::of(desc).full_desc() == Some(desc));
     assert!(rt; Function::ConvertDepth.open_format(Format::S16) == Format::U8);
     assert!(rt; Function::Sobel.open_format(Format::U8) == Format::S16);
     Ok(())
@@ -99,7 +99,7 @@ fn linked(node: NodeSpec, in1: Operand, out1: Operand) -> Linked
 #[test]
 fn a_verified_graph_has_an_order_and_descriptions(rt: HostRuntime) -> Result<(), Fail> {
     let desc = Desc::new(3, 2, Format::U8).ok_or("within the limits")?;
-    let open = Outline::new(None, None, None).ok_or("within the limits")?;
+    let open = PartialDesc::new(None, None, None).ok_or("within the limits")?;
     let (image, between) = (Operand::Image(desc), Operand::Virtual(open));
     let (last, first) = (not(2, 3)?, not(1, 2)?);
     let nodes = [linked(last, between, image), linked(first, image, between)];
@@ -213,7 +213,7 @@ fn a_released_graph_uses_nothing(rt: HostRuntime) -> Result<(), Fail> {
 
 #[test]
 fn virtual_images_are_charged_nothing(rt: HostRuntime) -> Result<(), Fail> {
-    let declared = Outline::new(Some(8192), None, None).ok_or("within the limits")?;
+    let declared = PartialDesc::new(Some(8192), None, None).ok_or("within the limits")?;
     let image = VirtualImage { graph: 1, declared };
     let mut table = Table::new(rt.alloc());
     let object = Object::new(Content::Virtual(image));

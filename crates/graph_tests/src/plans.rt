@@ -6,7 +6,7 @@ ghost use Rattle.graph_verify.specs.Operand.{is_image};
 use buffer_plan::Plan;
 use graph_verify::{Linked, Operand, Operands, verify};
 use std::test::Fail;
-use vx_base::{Border, Desc, Format, Function, Node, ObjRef, Outline, Policy};
+use vx_base::{Border, Desc, Format, Function, Node, ObjRef, PartialDesc, Policy};
 
 /// Returns the reference to the object of this name.
 fn cell(name: u32) -> ObjRef {
@@ -27,8 +27,8 @@ fn operand(name: u32) -> Operand
 }
 
 /// Returns a partial description with everything open.
-fn open() -> Outline {
-    Outline::new(None, None, None).unwrap()
+fn open() -> PartialDesc {
+    PartialDesc::new(None, None, None).unwrap()
 }
 
 /// Returns a node of a function that has no policy and no amount.

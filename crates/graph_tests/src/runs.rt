@@ -5,7 +5,7 @@ ghost use Rattle.vx_base.specs.Graph.{with_node};
 ghost use Rattle.vx_base.specs.Image.{IsImage, description_of};
 ghost use Rattle.object_table.specs.Context.{new_context, with_graph, with_new, with_objects};
 ghost use Rattle.object_table.specs.Table.{graph_under};
-ghost use Rattle.graph_tests.specs.Chain.{IsChain, box_to, through};
+ghost use Rattle.graph_tests.specs.Chain.{IsChain, box_to, chain_image};
 
 use crate::cells::holds;
 use crate::graphs::{is_graph, not};
@@ -14,13 +14,13 @@ use buffer_plan::Plan;
 use graph_run::{operand_in, operand_of, run, run_once, verify_in};
 use graph_steps::run_node;
 use graph_verify::{Graph, Operand};
-use image_core::{ImageMut, Second};
+use image_core::{ImageMut, SecondInput};
 use object_table::{Content, Delay, Object, Stored, Table};
 use pixel_pool::Pool;
 use std::alloc::Global;
 use std::test::Fail;
 use vx_base::{
-    Border, Desc, Format, Function, Node, NodeSpec, ObjRef, Outline, Output, Picture, Policy,
+    Border, Desc, Format, Function, Node, NodeSpec, ObjRef, Output, PartialDesc, Picture, Policy,
     Samples, SlotCount, VirtualImage,
 };
 
@@ -65,7 +65,7 @@ fn not_of(alloc: Global, samples: [u8; 2]) -> Result<[u8; 2], Fail> {
         &node,
         Output::First,
         &input.image(),
-        &Second::Nothing,
+        &SecondInput::Nothing,
         &mut output,
     );
     Ok(written)
@@ -112,7 +112,7 @@ fn run_two(
     pool: &mut Pool,
     input: Stored,
     output: Stored,
-    declared: Outline,
+    declared: PartialDesc,
 ) -> Result<(), Fail>
     requires table { table.old ≡ new_context }
     requires input { IsImage input }
@@ -135,7 +135,7 @@ fn run_two(
 #[test]
 fn a_graph_runs_through_a_virtual_image(rt: HostRuntime) -> Result<(), Fail> {
     let alloc = rt.alloc();
-    let open = Outline::new(None, None, None).ok_or("nothing is declared")?;
+    let open = PartialDesc::new(None, None, None).ok_or("nothing is declared")?;
     let (mut table, mut pool) = (Table::new(alloc), Pool::new(alloc));
     let input = image(alloc, &mut pool, [10, 255])?;
     let output = image(alloc, &mut pool, [1, 2])?;
@@ -150,8 +150,8 @@ fn a_graph_runs_through_a_virtual_image(rt: HostRuntime) -> Result<(), Fail> {
 }
 
 /// Creates a virtual image of graph 3.
-fn hold_through(table: &mut Table, declared: Outline) -> Result<(), Fail>
-    ensures { OnOk result (table.new ≡ with_new table.old (through declared)) }
+fn hold_through(table: &mut Table, declared: PartialDesc) -> Result<(), Fail>
+    ensures { OnOk result (table.new ≡ with_new table.old (chain_image declared)) }
 {
     hold(table, Content::Virtual(VirtualImage { graph: 3, declared }))?;
     Ok(())
@@ -189,7 +189,7 @@ fn add_box(table: &mut Table, input: u32, output: u32) -> Result<(), Fail>
 
 /// Returns a table with two images, a graph and five virtual images. The graph is a chain of six
 /// nodes Box from the first image through the virtual ones to the second.
-fn chain(alloc: Global, input: Stored, output: Stored, declared: Outline) -> Result<Table, Fail>
+fn chain(alloc: Global, input: Stored, output: Stored, declared: PartialDesc) -> Result<Table, Fail>
     requires input { IsImage input }
     requires output { IsImage output }
     ensures { IfOk result (λ table. IsChain table.objects) }
@@ -227,7 +227,7 @@ fn run_chain(alloc: Global, table: &mut Table, pool: &mut Pool) -> Result<usize,
 #[test]
 fn six_nodes_in_a_row_run_in_two_blocks(rt: HostRuntime) -> Result<(), Fail> {
     let alloc = rt.alloc();
-    let open = Outline::new(None, None, None).ok_or("nothing is declared")?;
+    let open = PartialDesc::new(None, None, None).ok_or("nothing is declared")?;
 
     // The blocks of the two images are from another pool.
     let (mut pool, mut others) = (Pool::new(alloc), Pool::new(alloc));

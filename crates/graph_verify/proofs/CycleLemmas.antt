@@ -1,6 +1,6 @@
 -- Cycles, and the test that finds them.
 use Rattle.std.proofs.Common.{◌≡◌, ℕ, ◌≤◌, ◌⊎◌, suc, zero, Bool, true, false, List, [], ◌∷◌, ◌++◌, length, refl, sym, ◌∙◌, ap, subst, inl, inr, arith, rules, ◌↔◌}
-use Rattle.graph_verify.proofs.Common.{filter, list_any, cases_Bool, not-true, In, AllIn, HasCycle, waiting, left_after, is_empty, has_cycle, InTurn}
+use Rattle.graph_verify.proofs.Common.{filter, list_any, cases_Bool, not-true, In, AllIn, HasCycle, fed_nodes, left_after, is_empty, has_cycle, InTurn}
 use Rattle.std.proofs.lemmas.Bool.{cases_lt}
 use Rattle.std.proofs.lemmas.List.Sums.{length-filter, count_by-le-length}
 use Rattle.graph_verify.specs.Cycle.{Chain, IsCycle}
@@ -79,14 +79,14 @@ no_cycle_in_turn feeds g steps turn within c =
 
 -- the test
 
-AllIn-waiting : {N : Type 0} (feeds : N → N → Bool) (g ns : List N) → Fed feeds ns → AllIn ns g → AllIn ns (waiting feeds g)
+AllIn-waiting : {N : Type 0} (feeds : N → N → Bool) (g ns : List N) → Fed feeds ns → AllIn ns g → AllIn ns (fed_nodes feeds g)
 AllIn-waiting feeds g ns fed within n i =
     let f = fed n i in
     In-filter (λ k. list_any (λ m. feeds m k) g) n g (within n i) (any-from_In (λ m. feeds m n) f.0 g (within f.0 f.1) f.2)
 
 AllIn-left : {N : Type 0} (feeds : N → N → Bool) (k : ℕ) (g ns : List N) → Fed feeds ns → AllIn ns g → AllIn ns (left_after feeds k g)
 AllIn-left feeds zero g ns fed within = within
-AllIn-left feeds (suc k) g ns fed within = AllIn-left feeds k (waiting feeds g) ns fed (AllIn-waiting feeds g ns fed within)
+AllIn-left feeds (suc k) g ns fed within = AllIn-left feeds k (fed_nodes feeds g) ns fed (AllIn-waiting feeds g ns fed within)
 
 not_empty : {N : Type 0} (x : N) (xs : List N) → In x xs → is_empty xs ≡ false
 not_empty x xs h = grind arith
@@ -100,22 +100,22 @@ all_pass p [] h x i = absurd i
 all_pass p (y ∷ ys) h x i = grind (arith, all_pass p ys, length-filter p ys, count_by-le-length p ys, cases_Bool (p y))
 
 -- `left_after` of at least as many rounds as there are nodes leaves nodes that feed each other
-Fed-waiting : {N : Type 0} (feeds : N → N → Bool) (g : List N) → Fed feeds g → Fed feeds (waiting feeds g)
+Fed-waiting : {N : Type 0} (feeds : N → N → Bool) (g : List N) → Fed feeds g → Fed feeds (fed_nodes feeds g)
 Fed-waiting feeds g fed n h = grind (arith, In-from_filter, AllIn-waiting)
 
 Fed-left : {N : Type 0} (feeds : N → N → Bool) (k : ℕ) (g : List N) → Fed feeds g → Fed feeds (left_after feeds k g)
 Fed-left feeds zero g fed = fed
-Fed-left feeds (suc k) g fed = Fed-left feeds k (waiting feeds g) (Fed-waiting feeds g fed)
+Fed-left feeds (suc k) g fed = Fed-left feeds k (fed_nodes feeds g) (Fed-waiting feeds g fed)
 
 left_within : {N : Type 0} (feeds : N → N → Bool) (k : ℕ) (g : List N) → AllIn (left_after feeds k g) g
 left_within feeds zero g = λ x h. h
-left_within feeds (suc k) g = λ x h. (In-from_filter (λ n. list_any (λ m. feeds m n) g) x g (left_within feeds k (waiting feeds g) x h)).0
+left_within feeds (suc k) g = λ x h. (In-from_filter (λ n. list_any (λ m. feeds m n) g) x g (left_within feeds k (fed_nodes feeds g) x h)).0
 
 Fed-left_enough : {N : Type 0} (feeds : N → N → Bool) (k : ℕ) (g : List N) → length g ≤ k → Fed feeds (left_after feeds k g)
 Fed-left_enough feeds zero [] h = λ n i. absurd i
 Fed-left_enough feeds zero (x ∷ xs) h = absurd (omega arith)
-Fed-left_enough feeds (suc k) g h = elim (cases_lt (length (waiting feeds g)) (length g)) [
-  | inl l ↦ Fed-left_enough feeds k (waiting feeds g) (omega arith)
+Fed-left_enough feeds (suc k) g h = elim (cases_lt (length (fed_nodes feeds g)) (length g)) [
+  | inl l ↦ Fed-left_enough feeds k (fed_nodes feeds g) (omega arith)
   | inr l ↦ Fed-left feeds (suc k) g (λ n i. In-from_any (λ m. feeds m n) g (all_pass (λ n. list_any (λ m. feeds m n) g) g l n i))
 ]
 

@@ -7,7 +7,7 @@ pub mod RoundLemmas
 pub mod LinkLemmas
 pub mod WaitingLemmas
 pub mod SolutionLemmas
-pub mod OutlineLemmas
+pub mod PartialDescriptionLemmas
 pub mod KnownLemmas
 pub mod LooseLemmas
 pub mod VerdictLemmas

@@ -1,36 +1,36 @@
 -- How nodes are linked by cells, where no cell has two writers.
 use Rattle.std.proofs.Common.{◌≡◌, ℕ, ◌+◌, ◌≤◌, Bool, true, false, cond, List, [], ◌∷◌, ◌++◌, refl, sym, ◌∙◌, ap, subst, arith, ◌==◌, Option, ◌||◌, count_by, sum_by, nat_lt}
-use Rattle.graph_verify.proofs.Common.{list_any, flat_map, IsPermutation, cases_Bool, or_parts, and_parts, flat_map-append, list_any-append, sum_by-IsPermutation, Node, Cell, same_cell, inputs, outputs, In, reads, writes, feeds, is_written, OneWriter, two_writers, writes_twice, sum_by-append, sum_by-cons, fun_ext}
+use Rattle.graph_verify.proofs.Common.{list_any, flat_map, IsPermutation, cases_Bool, or_parts, and_parts, flat_map-append, list_any-append, sum_by-IsPermutation, Node, Reference, same_reference, inputs, outputs, In, reads, writes, feeds, is_written, OneWriter, two_writers, writes_twice, sum_by-append, sum_by-cons, fun_ext}
 use Rattle.graph_verify.specs.Links.{has_twice}
-use Rattle.vx_base.specs.Cell.{same_slot}
+use Rattle.vx_base.specs.Reference.{same_slot}
 use Rattle.graph_verify.proofs.MemberLemmas.{In-from_any, any-from_In, In-flat_map}
 use Rattle.graph_verify.proofs.OrderLemmas.{is_fed}
 
 -- ---- cells
 
-pub same_cell-true : (a b : Cell) → same_cell a b ≡ true → a ≡ b
+pub same_cell-true : (a b : Reference) → same_reference a b ≡ true → a ≡ b
 same_cell-true a b h = grind (arith, and_parts (a.name == b.name) (same_slot a.slot b.slot) h)
 
 same_slot-refl : (a : Option ℕ) → same_slot a a ≡ true
 same_slot-refl a = grind arith
 
-pub same_cell-refl : (a : Cell) → same_cell a a ≡ true
+pub same_cell-refl : (a : Reference) → same_reference a a ≡ true
 same_cell-refl a = grind (arith, same_slot-refl a.slot)
 
-pub same_cell-is : (a b : Cell) → a ≡ b → same_cell a b ≡ true
-same_cell-is a b e = ap (same_cell a) (sym e) ∙ same_cell-refl a
+pub same_cell-is : (a b : Reference) → a ≡ b → same_reference a b ≡ true
+same_cell-is a b e = ap (same_reference a) (sym e) ∙ same_cell-refl a
 
 -- a cell among others
-pub In-from_same : (c : Cell) (cs : List Cell) → list_any (same_cell c) cs ≡ true → In c cs
-In-from_same c cs h = let r = In-from_any (same_cell c) cs h in subst (λ d. In d cs) (sym (same_cell-true c r.0 r.2)) r.1
+pub In-from_same : (c : Reference) (cs : List Reference) → list_any (same_reference c) cs ≡ true → In c cs
+In-from_same c cs h = let r = In-from_any (same_reference c) cs h in subst (λ d. In d cs) (sym (same_cell-true c r.0 r.2)) r.1
 
-pub same-from_In : (c : Cell) (cs : List Cell) → In c cs → list_any (same_cell c) cs ≡ true
-same-from_In c cs h = any-from_In (same_cell c) c cs h (same_cell-refl c)
+pub same-from_In : (c : Reference) (cs : List Reference) → In c cs → list_any (same_reference c) cs ≡ true
+same-from_In c cs h = any-from_In (same_reference c) c cs h (same_cell-refl c)
 
 -- ---- links
 
 -- a node that writes what another reads feeds it
-pub feeds_is : (m n : Node) (c : Cell) → writes m c ≡ true → reads n c ≡ true → feeds m n ≡ true
+pub feeds_is : (m n : Node) (c : Reference) → writes m c ≡ true → reads n c ≡ true → feeds m n ≡ true
 feeds_is m n c w r = any-from_In (reads n) c (outputs m) (In-from_same c (outputs m) w) r
 
 pub same_tests : (a b : Bool) → (a ≡ true → b ≡ true) → (b ≡ true → a ≡ true) → a ≡ b
@@ -51,17 +51,17 @@ is_fed-written g n = sym (same_tests (list_any (is_written g) (inputs n)) (is_fe
 
 -- ---- lists without a repeated reference
 
-has_twice-append : (xs ys : List Cell) → has_twice (xs ++ ys) ≡ ((has_twice xs || list_any (λ c. list_any (same_cell c) ys) xs) || has_twice ys)
+has_twice-append : (xs ys : List Reference) → has_twice (xs ++ ys) ≡ ((has_twice xs || list_any (λ c. list_any (same_reference c) ys) xs) || has_twice ys)
 has_twice-append [] ys = refl
-has_twice-append (x ∷ xs) ys = grind (arith, has_twice-append xs ys, list_any-append (same_cell x) xs ys)
+has_twice-append (x ∷ xs) ys = grind (arith, has_twice-append xs ys, list_any-append (same_reference x) xs ys)
 
-pub once_across : (c : Cell) (xs ys : List Cell) → has_twice (xs ++ ys) ≡ false → In c xs → In c ys → ⊥
-once_across c xs ys h i j = grind (arith, has_twice-append xs ys, any-from_In (λ d. list_any (same_cell d) ys) c xs i (same-from_In c ys j))
+pub once_across : (c : Reference) (xs ys : List Reference) → has_twice (xs ++ ys) ≡ false → In c xs → In c ys → ⊥
+once_across c xs ys h i j = grind (arith, has_twice-append xs ys, any-from_In (λ d. list_any (same_reference d) ys) c xs i (same-from_In c ys j))
 
-pub once_after : (xs ys : List Cell) → has_twice (xs ++ ys) ≡ false → has_twice ys ≡ false
+pub once_after : (xs ys : List Reference) → has_twice (xs ++ ys) ≡ false → has_twice ys ≡ false
 once_after xs ys h = grind (arith, has_twice-append xs ys)
 
-pub In-outputs : (n : Node) (c : Cell) (g : List Node) → In n g → writes n c ≡ true → In c (flat_map outputs g)
+pub In-outputs : (n : Node) (c : Reference) (g : List Node) → In n g → writes n c ≡ true → In c (flat_map outputs g)
 In-outputs n c g i w = In-flat_map outputs n c g i (In-from_same c (outputs n) w)
 
 -- ---- the order of the nodes has no effect on whether a cell has two writers
@@ -73,25 +73,25 @@ any_counted : {X : Type 0} (p : X → Bool) (xs : List X) → list_any p xs ≡ 
 any_counted p [] = refl
 any_counted p (x ∷ xs) = grind (arith, any_counted p xs, count_by-cons p x xs)
 
-counted_once : (xs : List Cell) (c : Cell) → has_twice xs ≡ false → count_by (same_cell c) xs ≤ 1
+counted_once : (xs : List Reference) (c : Reference) → has_twice xs ≡ false → count_by (same_reference c) xs ≤ 1
 counted_once [] c h = omega arith
 counted_once (x ∷ xs) c h =
     grind (
       arith,
       same_cell-true c x,
-      any_counted (same_cell x) xs,
+      any_counted (same_reference x) xs,
       counted_once xs c,
-      count_by-cons (same_cell c) x xs,
-      cases_Bool (same_cell c x),
+      count_by-cons (same_reference c) x xs,
+      cases_Bool (same_reference c x),
     )
 
-once_since_count : (xs : List Cell) → ((c : Cell) → count_by (same_cell c) xs ≤ 1) → has_twice xs ≡ false
+once_since_count : (xs : List Reference) → ((c : Reference) → count_by (same_reference c) xs ≤ 1) → has_twice xs ≡ false
 once_since_count [] h = refl
 once_since_count (x ∷ xs) h =
-    let fewer : (c : Cell) → count_by (same_cell c) xs ≤ 1 = λ c. omega (arith, h c, count_by-cons (same_cell c) x xs) in
-    grind (arith, h x, same_cell-refl x, any_counted (same_cell x) xs, count_by-cons (same_cell x) x xs, once_since_count xs fewer)
+    let fewer : (c : Reference) → count_by (same_reference c) xs ≤ 1 = λ c. omega (arith, h c, count_by-cons (same_reference c) x xs) in
+    grind (arith, h x, same_cell-refl x, any_counted (same_reference x) xs, count_by-cons (same_reference x) x xs, once_since_count xs fewer)
 
-counted-flat_map : (p : Cell → Bool) (g : List Node) → count_by p (flat_map outputs g) ≡ sum_by (λ n. count_by p (outputs n)) g
+counted-flat_map : (p : Reference → Bool) (g : List Node) → count_by p (flat_map outputs g) ≡ sum_by (λ n. count_by p (outputs n)) g
 counted-flat_map p [] = refl
 counted-flat_map p (n ∷ ns) =
     grind (
@@ -106,16 +106,16 @@ two_writers-permutation g steps same h = once_since_count (flat_map outputs step
     omega (
       arith,
       counted_once (flat_map outputs g) c h,
-      counted-flat_map (same_cell c) g,
-      counted-flat_map (same_cell c) steps,
-      sum_by-IsPermutation (λ n. count_by (same_cell c) (outputs n)) g steps same,
+      counted-flat_map (same_reference c) g,
+      counted-flat_map (same_reference c) steps,
+      sum_by-IsPermutation (λ n. count_by (same_reference c) (outputs n)) g steps same,
     ))
 
 -- ---- the test of the writers, node by node
 
-is_written-outputs : (ns : List Node) (c : Cell) → list_any (same_cell c) (flat_map outputs ns) ≡ is_written ns c
+is_written-outputs : (ns : List Node) (c : Reference) → list_any (same_reference c) (flat_map outputs ns) ≡ is_written ns c
 is_written-outputs [] c = refl
-is_written-outputs (n ∷ ns) c = list_any-append (same_cell c) (outputs n) (flat_map outputs ns) ∙ ap (λ b. writes n c || b) (is_written-outputs ns c)
+is_written-outputs (n ∷ ns) c = list_any-append (same_reference c) (outputs n) (flat_map outputs ns) ∙ ap (λ b. writes n c || b) (is_written-outputs ns c)
 
 pub any_agree : {X : Type 0} (p q : X → Bool) (xs : List X) → ((x : X) → p x ≡ q x) → list_any p xs ≡ list_any q xs
 any_agree p q xs same = ap (λ r. list_any r xs) (fun_ext same)
@@ -128,7 +128,7 @@ pub two_writers-after : (ms ns : List Node) → two_writers (ms ++ ns) ≡ false
 two_writers-after ms ns h = once_after (flat_map outputs ms) (flat_map outputs ns) (ap has_twice (sym (flat_map-append outputs ms ns)) ∙ h)
 
 -- what one node writes none of the others writes
-pub written_once : (n : Node) (ns : List Node) → two_writers (n ∷ ns) ≡ false → (c : Cell) → writes n c ≡ true → is_written ns c ≡ false
+pub written_once : (n : Node) (ns : List Node) → two_writers (n ∷ ns) ≡ false → (c : Reference) → writes n c ≡ true → is_written ns c ≡ false
 written_once n ns h c w =
     grind (arith, or_parts (writes_twice n || list_any (is_written ns) (outputs n)) (two_writers ns) (sym (two_writers-cons n ns) ∙ h), two_writers-cons n ns, In-from_same c (outputs n) w)
 

@@ -1,25 +1,25 @@
 -- Virtual images that are read but not written, or accumulated into.
 use Rattle.std.proofs.Common.{◌≡◌, zero, suc, List, [], ◌∷◌, refl, arith, Option, ◌||◌}
-use Rattle.graph_verify.proofs.Common.{option_map, list_any, list_any-append, Node, Cell, given, inputs, Linked, Operand, linked_nodes, AreOperands, has_loose_input, has_virtual_sum, operands_of, is_virtual, is_loose}
-use Rattle.graph_verify.specs.Linked.{is_given_loose, is_given_virtual}
-use Rattle.graph_verify.specs.Verdict.{reads_loose, adds_to_virtual}
+use Rattle.graph_verify.proofs.Common.{option_map, list_any, list_any-append, Node, Reference, optional_cells, inputs, Linked, Operand, linked_nodes, AreOperands, reads_unwritten_virtual, has_virtual_sum, operands_of, is_virtual, is_unwritten_image}
+use Rattle.graph_verify.specs.Linked.{given_unwritten, is_given_virtual}
+use Rattle.graph_verify.specs.Verdict.{reads_unwritten, adds_to_virtual}
 
-module _ (is : Cell → Operand) (all : List Node) where
-  given_loose : (cell : Option Cell) → is_given_loose all cell (option_map is cell) ≡ list_any (is_loose is all) (given cell)
+module _ (is : Reference → Operand) (all : List Node) where
+  given_loose : (cell : Option Reference) → given_unwritten all cell (option_map is cell) ≡ list_any (is_unwritten_image is all) (optional_cells cell)
   given_loose cell = grind arith
 
-  loose_input : (l : Linked) → l.operands ≡ operands_of is l.node → has_loose_input all l ≡ list_any (is_loose is all) (inputs l.node)
+  loose_input : (l : Linked) → l.operands ≡ operands_of is l.node → reads_unwritten_virtual all l ≡ list_any (is_unwritten_image is all) (inputs l.node)
   loose_input l operands = grind (arith, given_loose l.node.in2)
 
-  given_virtual : (cell : Option Cell) → is_given_virtual (option_map is cell) ≡ list_any (λ c. is_virtual (is c)) (given cell)
+  given_virtual : (cell : Option Reference) → is_given_virtual (option_map is cell) ≡ list_any (λ c. is_virtual (is c)) (optional_cells cell)
   given_virtual cell = grind arith
 
   virtual_sum : (l : Linked) → l.operands ≡ operands_of is l.node → has_virtual_sum l ≡ adds_to_virtual is l.node
-  virtual_sum l operands = grind (arith, given_virtual l.node.out1, given_virtual l.node.out2, list_any-append (λ c. is_virtual (is c)) (given l.node.out1) (given l.node.out2))
+  virtual_sum l operands = grind (arith, given_virtual l.node.out1, given_virtual l.node.out2, list_any-append (λ c. is_virtual (is c)) (optional_cells l.node.out1) (optional_cells l.node.out2))
 
   -- whether a node needs the content of an unwritten virtual image, from the nodes with their operands
   pub loose_end-linked : (nodes : List Linked) → AreOperands is nodes
-      → list_any (λ l. has_loose_input all l || has_virtual_sum l) nodes ≡ list_any (λ n. reads_loose is all n || adds_to_virtual is n) (linked_nodes nodes)
+      → list_any (λ l. reads_unwritten_virtual all l || has_virtual_sum l) nodes ≡ list_any (λ n. reads_unwritten is all n || adds_to_virtual is n) (linked_nodes nodes)
   loose_end-linked [] operands = refl
   loose_end-linked (l ∷ nodes) operands =
       grind (arith, loose_end-linked nodes (λ k d within. operands (suc k) d (omega (arith, within))), loose_input l (operands zero l (omega arith)), virtual_sum l (operands zero l (omega arith)))

@@ -1,6 +1,6 @@
 -- The nodes of a graph that can run, one by one.
 use Rattle.std.proofs.Common.{◌≡◌, ◌≢◌, ℕ, Bool, true, false, List, [], ◌∷◌, Option, Some, None, inl, inr, arith, not}
-use Rattle.graph_verify.proofs.Common.{list_any, list_all, option_and_then, cases_Bool, not-false, and_parts, Format, Function, Node, takes_formats, Cell, same_cell, inputs, outputs, Operand, Operands, InvalidFormat, In, feeds, has_cycle, operand_format, written_operands, operands_of, resolved, two_writers, node_fault, writes_twice, reads_own_output, verdict_on, takes_first, takes_operands}
+use Rattle.graph_verify.proofs.Common.{list_any, list_all, option_and_then, cases_Bool, not-false, and_parts, Format, Function, Node, takes_formats, Reference, same_reference, inputs, outputs, Operand, Operands, InvalidFormat, In, feeds, has_cycle, operand_format, written_operands, operands_of, resolved_operand, two_writers, node_fault, writes_twice, reads_own_output, verdict_on, takes_first, takes_operands}
 use Rattle.vx_base.specs.declared.kind.Kind.TheVariants as kind
 use Rattle.vx_base.specs.Function.{parameters}
 use Rattle.graph_verify.proofs.MemberLemmas.{In-from_any}
@@ -18,13 +18,13 @@ no_twice_each (m ∷ nodes) n h member = grind (arith, two_writers-cons m nodes,
 -- a node that reads what it writes is a cycle
 cycle_of_one : (nodes : List Node) (n : Node) → In n nodes → reads_own_output n ≡ true → has_cycle feeds nodes ≡ true
 cycle_of_one nodes n member own =
-    let cell = In-from_any (λ a. list_any (same_cell a) (outputs n)) (inputs n) own in
+    let cell = In-from_any (λ a. list_any (same_reference a) (outputs n)) (inputs n) own in
     has_cycle-from_cycle feeds nodes (n ∷ [], feeds_is n n cell.0 cell.2 (same-from_In cell.0 (inputs n) cell.1), λ x i. elim i [ inl e ↦ rw e member | inr k ↦ absurd k ])
 
 -- a node of a graph that can run can run by itself, on what its cells are found to be
-pub runs_alone : (work : ℕ) (is : Cell → Operand) (nodes : List Node) (n : Node) → CanRun work is nodes → In n nodes → verdict_on n (operands_of (resolved is nodes) n) ≡ None
+pub runs_alone : (work : ℕ) (is : Reference → Operand) (nodes : List Node) (n : Node) → CanRun work is nodes → In n nodes → verdict_on n (operands_of (resolved_operand is nodes) n) ≡ None
 runs_alone work is nodes n can member =
-    grind (arith, no_twice_each nodes n can.one_writer member, cases_Bool (reads_own_output n), first_fault-None (resolved is nodes) nodes can.no_fault n member, no_twice_each, cases_Bool, cycle_of_one)
+    grind (arith, no_twice_each nodes n can.one_writer member, cases_Bool (reads_own_output n), first_fault-None (resolved_operand is nodes) nodes can.no_fault n member, no_twice_each, cases_Bool, cycle_of_one)
 
 -- ---- what a node without a fault writes
 

@@ -1,6 +1,6 @@
 -- Orders of nodes: that there is one where there is no cycle, and how one is made node by node.
 use Rattle.std.proofs.Common.{◌≡◌, ℕ, ◌<◌, suc, zero, Bool, true, false, List, [], ◌∷◌, ◌++◌, length, get_or, map, append-nil, length-append, refl, ◌∙◌, ap, inl, inr, arith, rules, not}
-use Rattle.graph_verify.proofs.Common.{filter, list_any, remove, IsPermutation, cases_Bool, false_from_ne_true, not-true, not-false, length-map, length-filter_both, IsPermutation-remove, IsPermutation-map, length_permutation, In, AllIn, HasCycle, waiting, left_after, is_empty, has_cycle, InTurn, IsOrder}
+use Rattle.graph_verify.proofs.Common.{filter, list_any, remove, IsPermutation, cases_Bool, false_from_ne_true, not-true, not-false, length-map, length-filter_both, IsPermutation-remove, IsPermutation-map, length_permutation, In, AllIn, HasCycle, fed_nodes, left_after, is_empty, has_cycle, InTurn, IsOrder}
 use Rattle.graph_verify.proofs.MemberLemmas.{In-left, In-right, In-append, In-from_any, fails-from_In, In-filter, In-from_filter, In-from_map, any-map, filter-map, AllIn-permutation, AllIn-permutation_back}
 use Rattle.graph_verify.proofs.CycleLemmas.{cycle_or_empty, no_cycle_in_turn, cycle_from-has_cycle}
 
@@ -32,7 +32,7 @@ module _ {N : Type 0} (feeds : N → N → Bool) where
   steps_exist zero [] h = ([], record { in_turn = tt; to = (λ x i. i); from = (λ x i. i); long = refl })
   steps_exist zero (x ∷ xs) h = absurd (cc h)
   steps_exist (suc k) g h =
-      let found = steps_exist k (waiting feeds g) h in
+      let found = steps_exist k (fed_nodes feeds g) h in
       let steps = found.0 in
       let o = found.1 in
       let fed : N → Bool = λ n. is_fed feeds g n in
@@ -116,7 +116,7 @@ module _ {M N : Type 0} (f : M → N) (feeds : N → N → Bool) where
   left-map : (k : ℕ) (g : List M) → map f (left_after links k g) ≡ left_after feeds k (map f g)
   left-map zero g = refl
   left-map (suc k) g =
-      grind (arith, left-map k (waiting links g), filter-map f (λ n. list_any (λ m. links m n) g) (λ n. list_any (λ m. feeds m n) (map f g)) (λ n. any-map f (λ m. feeds m (f n)) g) g)
+      grind (arith, left-map k (fed_nodes links g), filter-map f (λ n. list_any (λ m. links m n) g) (λ n. list_any (λ m. feeds m n) (map f g)) (λ n. any-map f (λ m. feeds m (f n)) g) g)
 
   is_empty-map : (g : List M) → is_empty (map f g) ≡ is_empty g
   is_empty-map g = grind arith

@@ -1,6 +1,6 @@
 -- Rounds in which all nodes act simultaneously, and a run of the nodes one after another.
 use Rattle.std.proofs.Common.{◌≡◌, ℕ, ◌+◌, ◌⊎◌, suc, Bool, true, false, List, [], ◌∷◌, length, refl, sym, ◌∙◌, ap, subst, inl, inr, arith}
-use Rattle.graph_verify.proofs.Common.{cases_Bool, false_from_ne_true, list_any, In, AllIn, InTurn, round, rounds, once, OneWriter, IsSolution, ReadsAlone}
+use Rattle.graph_verify.proofs.Common.{cases_Bool, false_from_ne_true, list_any, In, AllIn, InTurn, round, rounds, one_pass, OneWriter, IsSolution, ReadsAlone}
 use Rattle.graph_verify.specs.Rounds.{step}
 use Rattle.graph_verify.proofs.MemberLemmas.{In-from_any, any-from_In}
 
@@ -10,16 +10,16 @@ module _ {N C V : Type 0} (reads writes : N → C → Bool) (feeds : N → N →
     (reads_alone : ReadsAlone reads value)
   where
     -- what no node of the list writes stays
-    pub once_stays : (ns : List N) (held : C → V) (c : C) → ((n : N) → In n ns → writes n c ≡ false) → once writes value ns held c ≡ held c
+    pub once_stays : (ns : List N) (held : C → V) (c : C) → ((n : N) → In n ns → writes n c ≡ false) → one_pass writes value ns held c ≡ held c
     once_stays [] held c h = refl
     once_stays (n ∷ ns) held c h = grind (arith, once_stays ns (step writes value n held) c (λ m i. h m (inr i)))
 
     -- a node that no node of the list feeds reads the values from before the run
-    unread : (ns : List N) (n : N) → ((m : N) → In m ns → feeds m n ≡ false) → (held : C → V) (c : C) → reads n c ≡ true → once writes value ns held c ≡ held c
+    unread : (ns : List N) (n : N) → ((m : N) → In m ns → feeds m n ≡ false) → (held : C → V) (c : C) → reads n c ≡ true → one_pass writes value ns held c ≡ held c
     unread ns n h held c r = once_stays ns held c (λ m i. false_from_ne_true (writes m c) (λ w. let k = h m i in let l = feeds_is m n c w r in cc))
 
     pub once_written : (ns : List N) (held : C → V) → InTurn feeds ns → OneWriter writes ns → (n : N) (c : C) → In n ns → writes n c ≡ true
-        → once writes value ns held c ≡ value n (once writes value ns held) c
+        → one_pass writes value ns held c ≡ value n (one_pass writes value ns held) c
     once_written [] held turn one n c h w = absurd h
     once_written (m ∷ ns) held turn one n c (inr i) w = once_written ns (step writes value m held) turn.1 (λ x y d p q. one x y d (inr p) (inr q)) n c i w
     once_written (m ∷ ns) held turn one n c (inl e) w = elim (cases_Bool (list_any (λ k. writes k c) ns)) [
@@ -29,16 +29,16 @@ module _ {N C V : Type 0} (reads writes : N → C → Bool) (feeds : N → N →
           (subst (λ z. In z ns) (one k.0 n c (inr k.1) (inl e) k.2 w) k.1) w)
       | inr none ↦
           (let w' : writes m c ≡ true = ap (λ z. writes z c) (sym e) ∙ w in
-          let stays : once writes value (m ∷ ns) held c ≡ step writes value m held c = once_stays ns (step writes value m held) c
+          let stays : one_pass writes value (m ∷ ns) held c ≡ step writes value m held c = once_stays ns (step writes value m held) c
           (λ k i. false_from_ne_true (writes k c) (λ t. let u = any-from_In (λ z. writes z c) k ns i t in cc)) in
-          let same : value m (once writes value (m ∷ ns) held) c ≡ value m held c =
-          reads_alone m (once writes value (m ∷ ns) held) held (λ d r. unread (m ∷ ns) m turn.0 held d r) c in
+          let same : value m (one_pass writes value (m ∷ ns) held) c ≡ value m held c =
+          reads_alone m (one_pass writes value (m ∷ ns) held) held (λ d r. unread (m ∷ ns) m turn.0 held d r) c in
           let this : step writes value m held c ≡ value m held c = rw w' refl in
-          stays ∙ this ∙ sym same ∙ ap (λ z. value z (once writes value (m ∷ ns) held) c) (sym e))
+          stays ∙ this ∙ sym same ∙ ap (λ z. value z (one_pass writes value (m ∷ ns) held) c) (sym e))
     ]
 
     -- running once through an order gives a solution
-    pub once_solves : (g ns : List N) (held : C → V) → InTurn feeds ns → OneWriter writes ns → AllIn g ns → AllIn ns g → IsSolution writes value g held (once writes value ns held)
+    pub once_solves : (g ns : List N) (held : C → V) → InTurn feeds ns → OneWriter writes ns → AllIn g ns → AllIn ns g → IsSolution writes value g held (one_pass writes value ns held)
     once_solves g ns held turn one to from = grind (arith, once_written, once_stays)
 
     -- what a round gives a cell
@@ -76,9 +76,9 @@ module _ {N C V : Type 0} (reads writes : N → C → Bool) (feeds : N → N →
 
     -- once through an order is the rounds
     pub once_is_rounds : (g steps : List N) (held : C → V) → InTurn feeds steps → AllIn g steps → AllIn steps g → length steps ≡ length g → OneWriter writes steps
-        → (c : C) → rounds writes value g (length g) held c ≡ once writes value steps held c
+        → (c : C) → rounds writes value g (length g) held c ≡ one_pass writes value steps held c
     once_is_rounds g steps held turn to from same one =
-        solution_is_rounds g steps held (once writes value steps held) turn to from same (once_solves g steps held turn one to from)
+        solution_is_rounds g steps held (one_pass writes value steps held) turn to from same (once_solves g steps held turn one to from)
 
     -- the rounds give a solution
     pub rounds_solve : (g steps : List N) (held : C → V) → InTurn feeds steps → AllIn g steps → AllIn steps g → length steps ≡ length g → OneWriter writes steps

@@ -1,6 +1,6 @@
 -- Nodes that are put in order one by one.
 use Rattle.std.proofs.Common.{◌≡◌, ℕ, ◌<◌, Bool, true, false, List, [], ◌∷◌, ◌++◌, length, get_or, map, refl, sym, ◌∙◌, ap, subst, arith, ◌&&◌, position, Some, None, not, ◌||◌, map-id}
-use Rattle.graph_verify.proofs.Common.{remove, IsPermutation, cases_Bool, not-true, not-false, map-append, length-map, IsPermutation-refl, IsPermutation-map, IsPermutation-remove, Node, Cell, Linked, In, has_cycle, is_empty, linked_nodes, writes, feeds, is_written, IsOrder, two_writers, once_ordered, fun_ext}
+use Rattle.graph_verify.proofs.Common.{remove, IsPermutation, cases_Bool, not-true, not-false, map-append, length-map, IsPermutation-refl, IsPermutation-map, IsPermutation-remove, Node, Reference, Linked, In, has_cycle, is_empty, linked_nodes, writes, feeds, is_written, IsOrder, two_writers, once_ordered, fun_ext}
 use Rattle.std.proofs.lemmas.List.{get_or-map}
 use Rattle.std.proofs.lemmas.List.Quantifiers.{position-Some}
 use Rattle.std.proofs.lemmas.List.Sorted.{IsPermutation-more, IsPermutation-trans, IsPermutation-append_right, list_any-IsPermutation}
@@ -69,7 +69,7 @@ no_cycle_when_ordered nodes steps order = sym (has_cycle-map (λ (l : Linked). l
 without_one : (a b : Bool) → (a ≡ true → b ≡ false) → ((a || b) && not a) ≡ b
 without_one a b h = grind (arith, cases_Bool a, cases_Bool b)
 
-once_ordered-among : (n : Node) (all others : List Node) → ((c : Cell) → (is_written all c && not (writes n c)) ≡ is_written others c)
+once_ordered-among : (n : Node) (all others : List Node) → ((c : Reference) → (is_written all c && not (writes n c)) ≡ is_written others c)
     → (l : Linked) → once_ordered n (waiting_among all l) ≡ waiting_among others l
 once_ordered-among n all others same l = grind arith
 
@@ -96,7 +96,7 @@ one_more_ordered nodes steps steps' (v ∷ vs) rest' i ordered one h found read 
     two_writers-after (linked_nodes steps) (linked_nodes (ordered ∷ others))
     (ap two_writers (sym (map-append (λ (l : Linked). l.node) steps (ordered ∷ others)))
     ∙ two_writers-permutation (linked_nodes nodes) (linked_nodes (steps ++ ordered ∷ others)) (IsPermutation-map (λ (l : Linked). l.node) nodes (steps ++ ordered ∷ others) all_others) one) in
-    let written : (c : Cell) → (is_written (linked_nodes us) c && not (writes ordered.node c)) ≡ is_written (linked_nodes others) c = λ c.
+    let written : (c : Reference) → (is_written (linked_nodes us) c && not (writes ordered.node c)) ≡ is_written (linked_nodes others) c = λ c.
     ap (λ b. b && not (writes ordered.node c)) (list_any-IsPermutation (λ n. writes n c) (linked_nodes us) (linked_nodes (ordered ∷ others)) (IsPermutation-map (λ (l : Linked). l.node) us (ordered ∷ others) around))
     ∙ without_one (writes ordered.node c) (is_written (linked_nodes others) c) (written_once ordered.node (linked_nodes others) one_of_these c) in
     record {

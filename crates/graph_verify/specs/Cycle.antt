@@ -20,13 +20,13 @@ abbrev pub HasCycle : {N : Type 0} → (N → N → Bool) → List N → Type 0
 HasCycle {N} feeds g = (ns : List N) × IsCycle feeds ns × AllIn ns g
 
 -- the nodes that a node of the list feeds
-abbrev pub waiting : {N : Type 0} → (N → N → Bool) → List N → List N
-waiting feeds g = filter (λ n. list_any (λ m. feeds m n) g) g
+abbrev pub fed_nodes : {N : Type 0} → (N → N → Bool) → List N → List N
+fed_nodes feeds g = filter (λ n. list_any (λ m. feeds m n) g) g
 
 -- the nodes left after k rounds, each of which removes the nodes that no remaining node feeds
 abbrev pub left_after : {N : Type 0} → (N → N → Bool) → ℕ → List N → List N
 left_after feeds zero g = g
-left_after feeds (suc k) g = left_after feeds k (waiting feeds g)
+left_after feeds (suc k) g = left_after feeds k (fed_nodes feeds g)
 
 abbrev pub is_empty : {N : Type 0} → List N → Bool
 is_empty [] = true

@@ -6,8 +6,8 @@ pub mod Waiting
 pub mod Rounds
 pub mod Operand
 pub mod Linked
-pub mod Outlines
+pub mod PartialDescriptions
 pub mod Verdict
-pub mod Known
+pub mod ResolvedOutputs
 pub mod Verified
 pub mod Examples

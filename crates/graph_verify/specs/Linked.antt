@@ -1,7 +1,7 @@
 -- Nodes together with their operands.
 use Rattle.std.specs.Prelude.{◌≡◌, Bool, false, not, ◌&&◌, ◌||◌, List, map, All, Option, Some, None}
 use Rattle.vx_base.specs.declared.node.Node.{Node}
-use Rattle.vx_base.specs.Cell.{Cell}
+use Rattle.vx_base.specs.Reference.{Reference}
 use Rattle.vx_base.specs.Function.{accumulates}
 use Rattle.graph_verify.specs.declared.linked.Linked.{Linked}
 use Rattle.graph_verify.specs.declared.operand.Operand.{Operand}
@@ -13,21 +13,21 @@ abbrev pub linked_nodes : List Linked → List Node
 linked_nodes nodes = map (λ l. l.node) nodes
 
 -- each node comes with the operands that its references stand for
-abbrev pub AreOperands : (Cell → Operand) → List Linked → Type 0
+abbrev pub AreOperands : (Reference → Operand) → List Linked → Type 0
 AreOperands is nodes = All (λ l. l.operands ≡ operands_of is l.node) nodes
 
 -- whether an operand is a virtual image that none of the nodes writes
-abbrev pub is_loose_end : List Node → Cell → Operand → Bool
-is_loose_end nodes cell operand = is_virtual operand && not (is_written nodes cell)
+abbrev pub lacks_writer : List Node → Reference → Operand → Bool
+lacks_writer nodes cell operand = is_virtual operand && not (is_written nodes cell)
 
 -- whether an operand, if it is given, is a virtual image that none of the nodes writes
-abbrev pub is_given_loose : List Node → Option Cell → Option Operand → Bool
-is_given_loose nodes (Some cell) (Some operand) = is_loose_end nodes cell operand
-is_given_loose nodes cell operand = false
+abbrev pub given_unwritten : List Node → Option Reference → Option Operand → Bool
+given_unwritten nodes (Some cell) (Some operand) = lacks_writer nodes cell operand
+given_unwritten nodes cell operand = false
 
 -- whether a node reads an unwritten virtual image
-abbrev pub has_loose_input : List Node → Linked → Bool
-has_loose_input nodes l = is_loose_end nodes l.node.in1 l.operands.in1 || is_given_loose nodes l.node.in2 l.operands.in2
+abbrev pub reads_unwritten_virtual : List Node → Linked → Bool
+reads_unwritten_virtual nodes l = lacks_writer nodes l.node.in1 l.operands.in1 || given_unwritten nodes l.node.in2 l.operands.in2
 
 abbrev pub is_given_virtual : Option Operand → Bool
 is_given_virtual None = false

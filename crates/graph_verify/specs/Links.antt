@@ -2,26 +2,26 @@
 use Rattle.std.specs.Prelude.{Bool, false, ◌||◌, List, [], ◌∷◌}
 use Rattle.std.specs.List.{list_any}
 use Rattle.vx_base.specs.declared.node.Node.{Node}
-use Rattle.vx_base.specs.Cell.{Cell, same_cell}
+use Rattle.vx_base.specs.Reference.{Reference, same_reference}
 use Rattle.vx_base.specs.Node.{inputs, outputs}
 
 -- whether a node reads an object
-abbrev pub reads : Node → Cell → Bool
-reads n cell = list_any (same_cell cell) (inputs n)
+abbrev pub reads : Node → Reference → Bool
+reads n cell = list_any (same_reference cell) (inputs n)
 
 -- whether a node writes an object
-abbrev pub writes : Node → Cell → Bool
-writes n cell = list_any (same_cell cell) (outputs n)
+abbrev pub writes : Node → Reference → Bool
+writes n cell = list_any (same_reference cell) (outputs n)
 
 -- whether node m writes an object that node n reads
 abbrev pub feeds : Node → Node → Bool
 feeds m n = list_any (reads n) (outputs m)
 
 -- whether a reference occurs twice in the list
-abbrev pub has_twice : List Cell → Bool
+abbrev pub has_twice : List Reference → Bool
 has_twice [] = false
-has_twice (cell ∷ cells) = list_any (same_cell cell) cells || has_twice cells
+has_twice (cell ∷ cells) = list_any (same_reference cell) cells || has_twice cells
 
 -- whether a node of the list writes an object
-abbrev pub is_written : List Node → Cell → Bool
+abbrev pub is_written : List Node → Reference → Bool
 is_written nodes cell = list_any (λ n. writes n cell) nodes

@@ -6,7 +6,7 @@ use Rattle.vx_base.specs.declared.format.Format.TheVariants.{S16}
 use Rattle.vx_base.specs.declared.kind.Kind.{Kind}
 use Rattle.vx_base.specs.declared.kind.Kind.TheVariants as kind
 use Rattle.vx_base.specs.declared.node.Node.{Node}
-use Rattle.vx_base.specs.Cell.{Cell}
+use Rattle.vx_base.specs.Reference.{Reference}
 use Rattle.vx_base.specs.Description.{Description, same_size, byte_count}
 use Rattle.vx_base.specs.Image.{description_of}
 use Rattle.vx_base.specs.Object.{ObjectValue, ImageObject, LutObject, ThresholdObject, DelayObject, ConvolutionObject, DistributionObject, ExtremesObject, GraphObject, VirtualObject}
@@ -73,7 +73,7 @@ virtual_bytes (Image d) = byte_count d
 virtual_bytes other = 0
 
 -- the operands of a node, by its references
-abbrev pub operands_of : (Cell → Operand) → Node → Operands
+abbrev pub operands_of : (Reference → Operand) → Node → Operands
 operands_of is n = record { in1 = is n.in1; in2 = option_map is n.in2; out1 = option_map is n.out1; out2 = option_map is n.out2 }
 
 -- a node's output operands

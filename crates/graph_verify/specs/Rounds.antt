@@ -17,9 +17,9 @@ abbrev pub step : {N C V : Type 0} → (N → C → Bool) → (N → (C → V) �
 step writes value n held c = if writes n c then value n held c else held c
 
 -- the values after the nodes of the list, one after another
-abbrev pub once : {N C V : Type 0} → (N → C → Bool) → (N → (C → V) → C → V) → List N → (C → V) → C → V
-once writes value [] held = held
-once writes value (n ∷ ns) held = once writes value ns (step writes value n held)
+abbrev pub one_pass : {N C V : Type 0} → (N → C → Bool) → (N → (C → V) → C → V) → List N → (C → V) → C → V
+one_pass writes value [] held = held
+one_pass writes value (n ∷ ns) held = one_pass writes value ns (step writes value n held)
 
 -- no object has two writers in the list
 abbrev pub OneWriter : {N C : Type 0} → (N → C → Bool) → List N → Type 0

@@ -7,7 +7,7 @@ use Rattle.vx_base.specs.declared.function.Function.{Function}
 use Rattle.vx_base.specs.declared.node.Node.{Node}
 use Rattle.vx_base.specs.declared.code.Code.{Code}
 use Rattle.vx_base.specs.declared.code.Code.TheVariants as code
-use Rattle.vx_base.specs.Cell.{Cell, same_cell}
+use Rattle.vx_base.specs.Reference.{Reference, same_reference}
 use Rattle.vx_base.specs.Function.{accumulates}
 use Rattle.vx_base.specs.Node.{inputs, outputs}
 use Rattle.vx_base.specs.Formats.{takes_formats}
@@ -18,7 +18,7 @@ use Rattle.graph_verify.specs.declared.verdict.Verdict.TheVariants.{MultipleWrit
 use Rattle.graph_verify.specs.Operand.{operand_format, are_of_one_size, written_operands, other_operands, operands_of, is_virtual, virtual_bytes}
 use Rattle.graph_verify.specs.Links.{feeds, has_twice, is_written}
 use Rattle.graph_verify.specs.Cycle.{has_cycle}
-use Rattle.graph_verify.specs.Outlines.{resolved}
+use Rattle.graph_verify.specs.PartialDescriptions.{resolved_operand}
 
 -- the status code of a verdict
 abbrev pub verdict_code : Verdict → Code
@@ -35,7 +35,7 @@ writes_twice n = has_twice (outputs n)
 
 -- whether a node reads an object that it writes: a cycle of one node
 abbrev pub reads_own_output : Node → Bool
-reads_own_output n = list_any (λ a. list_any (same_cell a) (outputs n)) (inputs n)
+reads_own_output n = list_any (λ a. list_any (same_reference a) (outputs n)) (inputs n)
 
 -- whether the function takes the formats of its inputs together with that of each output
 abbrev pub takes_first : Function → Option Format → Option Format → List Operand → Bool
@@ -66,38 +66,38 @@ abbrev pub two_writers : List Node → Bool
 two_writers nodes = has_twice (flat_map outputs nodes)
 
 -- whether an object is a virtual image that no node writes
-abbrev pub is_loose : (Cell → Operand) → List Node → Cell → Bool
-is_loose is nodes cell = is_virtual (is cell) && not (is_written nodes cell)
+abbrev pub is_unwritten_image : (Reference → Operand) → List Node → Reference → Bool
+is_unwritten_image is nodes cell = is_virtual (is cell) && not (is_written nodes cell)
 
 -- whether a node reads an unwritten virtual image
-abbrev pub reads_loose : (Cell → Operand) → List Node → Node → Bool
-reads_loose is nodes n = list_any (is_loose is nodes) (inputs n)
+abbrev pub reads_unwritten : (Reference → Operand) → List Node → Node → Bool
+reads_unwritten is nodes n = list_any (is_unwritten_image is nodes) (inputs n)
 
 -- whether a node accumulates into a virtual image, which has no content when a run begins
-abbrev pub adds_to_virtual : (Cell → Operand) → Node → Bool
+abbrev pub adds_to_virtual : (Reference → Operand) → Node → Bool
 adds_to_virtual is n = accumulates n.function && list_any (λ cell. is_virtual (is cell)) (outputs n)
 
 -- whether a node needs the content of a virtual image that nothing has written
-abbrev pub has_loose_end : (Cell → Operand) → List Node → Bool
-has_loose_end is nodes = list_any (λ n. reads_loose is nodes n || adds_to_virtual is n) nodes
+abbrev pub has_unwritten_input : (Reference → Operand) → List Node → Bool
+has_unwritten_input is nodes = list_any (λ n. reads_unwritten is nodes n || adds_to_virtual is n) nodes
 
 -- the fault of the earliest added node that has one
-abbrev pub first_fault : (Cell → Operand) → List Node → Option Verdict
+abbrev pub first_fault : (Reference → Operand) → List Node → Option Verdict
 first_fault is [] = None
 first_fault is (n ∷ nodes) = option_or (node_fault n.function (operands_of is n)) (first_fault is nodes)
 
 -- the virtual images that the nodes write
-abbrev pub virtual_outputs : (Cell → Operand) → List Node → List Cell
+abbrev pub virtual_outputs : (Reference → Operand) → List Node → List Reference
 virtual_outputs is nodes = filter (λ cell. is_virtual (is cell)) (flat_map outputs nodes)
 
 -- the bytes of the samples of all virtual images that the nodes write
-abbrev pub work_bytes : (Cell → Operand) → List Node → ℕ
-work_bytes is nodes = sum_by (λ cell. virtual_bytes (resolved is nodes cell)) (virtual_outputs is nodes)
+abbrev pub work_bytes : (Reference → Operand) → List Node → ℕ
+work_bytes is nodes = sum_by (λ cell. virtual_bytes (resolved_operand is nodes cell)) (virtual_outputs is nodes)
 
 -- the verdict on a graph with these operands, whose virtual images may take `work` bytes; None if it can run
-abbrev pub verdict : ℕ → (Cell → Operand) → List Node → Option Verdict
+abbrev pub verdict : ℕ → (Reference → Operand) → List Node → Option Verdict
 verdict work is nodes =
     if two_writers nodes then Some MultipleWriters
     else (if has_cycle feeds nodes then Some InvalidGraph
-    else (if has_loose_end is nodes then Some InvalidLink
-    else option_or (first_fault (resolved is nodes) nodes) (if nat_le (work_bytes is nodes) work then None else Some NoResources)))
+    else (if has_unwritten_input is nodes then Some InvalidLink
+    else option_or (first_fault (resolved_operand is nodes) nodes) (if nat_le (work_bytes is nodes) work then None else Some NoResources)))

@@ -1,7 +1,7 @@
 -- Verified graphs. OpenVX 1.3, "Graphs", vxVerifyGraph.
 use Rattle.std.specs.Prelude.{◌≡◌, ◌&&◌, if◌then◌else◌, ⊤, Option, None, List, map, All}
 use Rattle.vx_base.specs.declared.node.Node.{Node}
-use Rattle.vx_base.specs.Cell.{Cell}
+use Rattle.vx_base.specs.Reference.{Reference}
 use Rattle.vx_base.specs.Description.{Description}
 use Rattle.graph_verify.specs.declared.operand.Operand.{Operand}
 use Rattle.graph_verify.specs.declared.operand.Operand.TheVariants.{Image}
@@ -12,18 +12,18 @@ use Rattle.graph_verify.specs.declared.verified.VerifyFault.TheVariants.{NoMemor
 use Rattle.graph_verify.specs.Links.{feeds, is_written}
 use Rattle.graph_verify.specs.Operand.{is_virtual, operand_description}
 use Rattle.graph_verify.specs.Order.{IsOrder}
-use Rattle.graph_verify.specs.Outlines.{resolved}
+use Rattle.graph_verify.specs.PartialDescriptions.{resolved_operand}
 use Rattle.graph_verify.specs.Verdict.{virtual_outputs}
 
 -- the nodes in an order in which they can run, and the virtual images that they write, with their resolved descriptions
-pub record IsVerified (is : Cell → Operand) (nodes : List Node) (v : Verified) : Type 0 where
+pub record IsVerified (is : Reference → Operand) (nodes : List Node) (v : Verified) : Type 0 where
   pub order : IsOrder feeds nodes v.steps.items
   pub cells : map (λ o. o.cell) v.virtual_outputs.items ≡ virtual_outputs is v.steps.items
-  pub descriptions : All (λ o. resolved is nodes o.cell ≡ Image o.desc) v.virtual_outputs.items
+  pub descriptions : All (λ o. resolved_operand is nodes o.cell ≡ Image o.desc) v.virtual_outputs.items
 
 -- the resolved description of a virtual image that the nodes write; None for any other object
-abbrev pub written_description : (Cell → Operand) → List Node → Cell → Option Description
-written_description is nodes cell = if is_virtual (is cell) && is_written nodes cell then operand_description (resolved is nodes cell) else None
+abbrev pub written_description : (Reference → Operand) → List Node → Reference → Option Description
+written_description is nodes cell = if is_virtual (is cell) && is_written nodes cell then operand_description (resolved_operand is nodes cell) else None
 
 -- a fact about the verdict that refuses a graph; nothing is stated if memory ran out
 abbrev pub IfRefused : VerifyFault → (Verdict → Type 0) → Type 0

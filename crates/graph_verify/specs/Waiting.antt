@@ -2,7 +2,7 @@
 use Rattle.std.specs.Prelude.{Bool, not, ◌&&◌, List}
 use Rattle.std.specs.List.{list_any}
 use Rattle.vx_base.specs.declared.node.Node.{Node}
-use Rattle.vx_base.specs.Node.{given}
+use Rattle.vx_base.specs.Node.{optional_cells}
 use Rattle.graph_verify.specs.declared.linked.Linked.{Linked}
 use Rattle.graph_verify.specs.Links.{writes, is_written}
 
@@ -15,7 +15,7 @@ pub record WaitingNode : Type 0 where
 -- a node among those that aren't ordered yet
 abbrev pub waiting_among : List Node → Linked → WaitingNode
 waiting_among nodes l =
-    record { linked = l; for_in1 = is_written nodes l.node.in1; for_in2 = list_any (is_written nodes) (given l.node.in2) }
+    record { linked = l; for_in1 = is_written nodes l.node.in1; for_in2 = list_any (is_written nodes) (optional_cells l.node.in2) }
 
 -- the same after another node is ordered; the inputs that it writes have no other writer
 abbrev pub once_ordered : Node → WaitingNode → WaitingNode
@@ -23,5 +23,5 @@ once_ordered ordered w =
     record {
       linked = w.linked;
       for_in1 = w.for_in1 && not (writes ordered w.linked.node.in1);
-      for_in2 = w.for_in2 && not (list_any (writes ordered) (given w.linked.node.in2));
+      for_in2 = w.for_in2 && not (list_any (writes ordered) (optional_cells w.linked.node.in2));
     }

@@ -12,11 +12,11 @@ ghost use Rattle.graph_verify.specs.declared.verdict.Verdict.TheVariants.{Invali
 ghost use Rattle.graph_verify.specs.declared.verdict.Verdict.TheVariants.{InvalidFormat};
 ghost use Rattle.graph_verify.specs.declared.verdict.Verdict.TheVariants.{InvalidDimension};
 ghost use Rattle.graph_verify.specs.declared.verdict.Verdict.TheVariants.{NoResources};
-ghost use Rattle.graph_verify.specs.Outlines.{resolved};
+ghost use Rattle.graph_verify.specs.PartialDescriptions.{resolved_operand};
 ghost use Rattle.graph_verify.specs.Verdict.{verdict_on, node_fault, verdict};
-ghost use Rattle.vx_base.specs.Cell.{cell_of};
+ghost use Rattle.vx_base.specs.Reference.{reference_to};
 ghost use Rattle.graph_verify.specs.Examples.{not_to, and_to, adds, convert_to, image_operand};
-ghost use Rattle.graph_verify.specs.Examples.{accumulate_to, virtual_of, small, but_for};
+ghost use Rattle.graph_verify.specs.Examples.{accumulate_to, virtual_of, example_operand, operand_except};
 
 /// A node that reads its own output is a cycle, and a node can't write both outputs to one object.
 pub fn cells()
@@ -115,50 +115,50 @@ pub fn operands()
 /// A graph for each verdict on links, formats and sizes. A graph with all their nodes is refused
 /// for its two writers. A graph without nodes can run.
 pub fn graphs()
-    ensures writers { verdict 9 small (not_to 1 2 ∷ not_to 3 2 ∷ []) ≡ Some MultipleWriters }
-    ensures itself { verdict 9 small (not_to 1 1 ∷ []) ≡ Some InvalidGraph }
-    ensures ring { verdict 9 small (not_to 6 7 ∷ not_to 7 8 ∷ not_to 8 6 ∷ []) ≡ Some InvalidGraph }
-    ensures link { verdict 9 small (not_to 6 2 ∷ []) ≡ Some InvalidLink }
-    ensures format { verdict 9 small (not_to 4 2 ∷ []) ≡ Some InvalidFormat }
-    ensures size { verdict 9 small (and_to 1 5 2 ∷ []) ≡ Some InvalidDimension }
-    ensures all { verdict 9 small (not_to 1 2 ∷ not_to 3 2 ∷ not_to 1 1 ∷ not_to 6 7 ∷ not_to 7 8
+    ensures writers { verdict 9 example_operand (not_to 1 2 ∷ not_to 3 2 ∷ []) ≡ Some MultipleWriters }
+    ensures itself { verdict 9 example_operand (not_to 1 1 ∷ []) ≡ Some InvalidGraph }
+    ensures ring { verdict 9 example_operand (not_to 6 7 ∷ not_to 7 8 ∷ not_to 8 6 ∷ []) ≡ Some InvalidGraph }
+    ensures link { verdict 9 example_operand (not_to 6 2 ∷ []) ≡ Some InvalidLink }
+    ensures format { verdict 9 example_operand (not_to 4 2 ∷ []) ≡ Some InvalidFormat }
+    ensures size { verdict 9 example_operand (and_to 1 5 2 ∷ []) ≡ Some InvalidDimension }
+    ensures all { verdict 9 example_operand (not_to 1 2 ∷ not_to 3 2 ∷ not_to 1 1 ∷ not_to 6 7 ∷ not_to 7 8
         ∷ not_to 8 6 ∷ not_to 6 2 ∷ not_to 4 2 ∷ and_to 1 5 2 ∷ []) ≡ Some MultipleWriters }
-    ensures none { verdict 9 small [] ≡ None }
+    ensures none { verdict 9 example_operand [] ≡ None }
 {}
 
 /// Graphs that accumulate: the earlier content of the output is no read of the graph, but the
 /// output must not be virtual.
 pub fn sums()
-    ensures once { verdict 9 small (accumulate_to 1 4 ∷ []) ≡ None }
-    ensures read { verdict 9 small (convert_to 4 3 ∷ accumulate_to 1 4 ∷ []) ≡ None }
-    ensures twice { verdict 9 small (accumulate_to 1 4 ∷ accumulate_to 2 4 ∷ [])
+    ensures once { verdict 9 example_operand (accumulate_to 1 4 ∷ []) ≡ None }
+    ensures read { verdict 9 example_operand (convert_to 4 3 ∷ accumulate_to 1 4 ∷ []) ≡ None }
+    ensures twice { verdict 9 example_operand (accumulate_to 1 4 ∷ accumulate_to 2 4 ∷ [])
         ≡ Some MultipleWriters }
-    ensures itself { verdict 9 small (accumulate_to 4 4 ∷ []) ≡ Some InvalidGraph }
-    ensures to_virtual { verdict 9 small (accumulate_to 1 6 ∷ []) ≡ Some InvalidLink }
-    ensures to_bytes { verdict 9 small (accumulate_to 1 2 ∷ []) ≡ Some InvalidFormat }
+    ensures itself { verdict 9 example_operand (accumulate_to 4 4 ∷ []) ≡ Some InvalidGraph }
+    ensures to_virtual { verdict 9 example_operand (accumulate_to 1 6 ∷ []) ≡ Some InvalidLink }
+    ensures to_bytes { verdict 9 example_operand (accumulate_to 1 2 ∷ []) ≡ Some InvalidFormat }
 {}
 
 /// The fault is that of the node that was added first, even if it runs last.
 pub fn earliest_added()
-    ensures { verdict 9 small (and_to 6 5 2 ∷ not_to 4 3 ∷ not_to 1 6 ∷ [])
+    ensures { verdict 9 example_operand (and_to 6 5 2 ∷ not_to 4 3 ∷ not_to 1 6 ∷ [])
         ≡ Some InvalidDimension }
 {}
 
 /// Two nodes linked by a virtual image of 2x2 pixels, which takes four bytes.
 pub fn work()
-    ensures little { verdict 3 (but_for (virtual_of None) 2 2) (not_to 1 2 ∷ not_to 2 3 ∷ [])
+    ensures little { verdict 3 (operand_except (virtual_of None) 2 2) (not_to 1 2 ∷ not_to 2 3 ∷ [])
         ≡ Some NoResources }
-    ensures enough { verdict 4 (but_for (virtual_of None) 2 2)
+    ensures enough { verdict 4 (operand_except (virtual_of None) 2 2)
         (not_to 1 2 ∷ not_to 2 3 ∷ []) ≡ None }
 {}
 
 /// The sum in a virtual image with an open format is S16. A declared U8 stays, and Convert Bit
 /// Depth can't take it.
 pub fn open_formats()
-    ensures found { resolved (but_for (virtual_of None) 1 1) (adds 1 3 2 ∷ convert_to 2 4 ∷ [])
-        (cell_of 2) ≡ image_operand 1 1 S16 }
-    ensures opened { verdict 9 (but_for (virtual_of None) 1 1)
+    ensures found { resolved_operand (operand_except (virtual_of None) 1 1) (adds 1 3 2 ∷ convert_to 2 4 ∷ [])
+        (reference_to 2) ≡ image_operand 1 1 S16 }
+    ensures opened { verdict 9 (operand_except (virtual_of None) 1 1)
         (adds 1 3 2 ∷ convert_to 2 4 ∷ []) ≡ None }
-    ensures declared { verdict 9 (but_for (virtual_of (Some U8)) 1 1)
+    ensures declared { verdict 9 (operand_except (virtual_of (Some U8)) 1 1)
         (adds 1 3 2 ∷ convert_to 2 4 ∷ []) ≡ Some InvalidFormat }
 {}

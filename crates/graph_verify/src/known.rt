@@ -2,30 +2,30 @@
 ghost use Rattle.std.specs.Prelude.{◌≡◌, ◌++◌, ◌+◌, ◌*◌, ◌≤◌, false, IsTrue, length, sum_by, All};
 ghost use Rattle.std.specs.Prelude.{Some, OnOk, IfOk};
 ghost use Rattle.std.specs.List.{filter_map};
-ghost use Rattle.vx_base.specs.Cell.{Cell};
+ghost use Rattle.vx_base.specs.Reference.{Reference};
 ghost use Rattle.vx_base.specs.Description.{byte_count};
-ghost use Rattle.vx_base.specs.Outline.{closed};
+ghost use Rattle.vx_base.specs.PartialDescription.{full_description};
 ghost use Rattle.graph_verify.specs.declared.operand.Operand.{Operand};
 ghost use Rattle.graph_verify.specs.Operand.{is_image};
 ghost use Rattle.graph_verify.specs.Linked.{linked_nodes, AreOperands};
 ghost use Rattle.graph_verify.specs.Links.{feeds};
 ghost use Rattle.graph_verify.specs.Order.{InTurn};
 ghost use Rattle.graph_verify.specs.Verdict.{two_writers};
-ghost use Rattle.graph_verify.specs.Outlines.{unknown, given_outline, virtual_or_image};
-ghost use Rattle.graph_verify.specs.Known.{known_of, known_outline, learnt, learnt_from};
-ghost use Rattle.graph_verify.specs.Known.{known_operand, known_given, known_operands};
-ghost use Rattle.graph_verify.specs.Known.{closed_output, AreKnown};
+ghost use Rattle.graph_verify.specs.PartialDescriptions.{all_unknown, given_partial_desc, virtual_or_image};
+ghost use Rattle.graph_verify.specs.ResolvedOutputs.{known_of, known_partial_desc, resolved_output, resolved_by};
+ghost use Rattle.graph_verify.specs.ResolvedOutputs.{known_operand, known_given, known_operands};
+ghost use Rattle.graph_verify.specs.ResolvedOutputs.{described_output, AreResolved};
 
 use crate::linked::Linked;
 use crate::operand::{Operand, Operands};
 use std::alloc::{AllocError, Global};
-use vx_base::{Desc, Function, ObjRef, Outline};
+use vx_base::{Desc, Function, ObjRef, PartialDesc};
 
 /// A virtual image that a node writes, with its description as far as it is resolved.
 #[derive(Clone, Copy)]
-pub struct Known {
+pub struct ResolvedOutput {
     pub cell: ObjRef,
-    pub outline: Outline,
+    pub partial_desc: PartialDesc,
 }
 
 /// A virtual image that a node writes, with its full description.
@@ -35,12 +35,12 @@ pub struct VirtualOutput {
     pub desc: Desc,
 }
 
-impl Known {
+impl ResolvedOutput {
     /// Returns the virtual image with its full description, or `None` if a part of it is open.
     pub fn described(self) -> Option<VirtualOutput>
-        ensures { result ≡ closed_output self }
+        ensures { result ≡ described_output self }
     {
-        let desc = self.outline.closed()?;
+        let desc = self.partial_desc.full_desc()?;
         Some(VirtualOutput {
             cell: self.cell,
             desc,
@@ -49,59 +49,59 @@ impl Known {
 }
 
 /// The description of a written virtual image, as far as it is resolved.
-fn known_of(known: &[Known], cell: ObjRef) -> Option<Outline>
+fn known_of(known: &[ResolvedOutput], cell: ObjRef) -> Option<PartialDesc>
     ensures { result ≡ known_of known.now cell }
 {
     known
         .iter()
         .find(|known| known.cell == cell)
-        .map(|known| known.outline)
+        .map(|known| known.partial_desc)
 }
 
 /// An operand's description as an image: for a virtual image the resolved one, or the declared one
 /// if no node has written it yet.
-fn known_outline(known: &[Known], cell: ObjRef, operand: Operand) -> Outline
-    ensures { result ≡ known_outline known.now cell operand }
+fn known_partial_desc(known: &[ResolvedOutput], cell: ObjRef, operand: Operand) -> PartialDesc
+    ensures { result ≡ known_partial_desc known.now cell operand }
 {
     match operand {
-        Operand::Image(desc) => Outline::of(desc),
+        Operand::Image(desc) => PartialDesc::of(desc),
         Operand::Virtual(declared) => known_of(known, cell).unwrap_or(declared),
-        _ => unknown(),
+        _ => all_unknown(),
     }
 }
 
 /// A description with all parts open.
-fn unknown() -> Outline
-    ensures { result ≡ unknown }
+fn all_unknown() -> PartialDesc
+    ensures { result ≡ all_unknown }
 {
-    Outline::new(None, None, None).unwrap()
+    PartialDesc::new(None, None, None).unwrap()
 }
 
 /// The description that a function gives its output image: the size of its first input, and its own
 /// default format.
-fn given_outline(function: Function, first: Outline) -> Outline
-    ensures { result ≡ given_outline function first }
+fn given_partial_desc(function: Function, first: PartialDesc) -> PartialDesc
+    ensures { result ≡ given_partial_desc function first }
 {
     first.has_sides();
     let format = first.format().map(|format| function.open_format(format));
-    Outline::new(first.width(), first.height(), format).unwrap()
+    PartialDesc::new(first.width(), first.height(), format).unwrap()
 }
 
 /// Resolves an output, if it is a virtual image.
 fn learn_cell(
-    known: &mut Vec<Known>,
+    known: &mut Vec<ResolvedOutput>,
     cell: ObjRef,
     operand: Operand,
-    given: Outline,
+    given: PartialDesc,
 ) -> Result<(), AllocError>
     ensures learnt { OnOk result (known.new.items
-        ≡ known.old.items ++ learnt (Some cell) (Some operand) given) }
+        ≡ known.old.items ++ resolved_output (Some cell) (Some operand) given) }
     ensures limit { OnOk result (length known.new.items ≤ length known.old.items + 1) }
 {
     match operand {
         Operand::Virtual(declared) => {
-            let outline = declared.filled(given);
-            known.push(Known { cell, outline })?;
+            let partial_desc = declared.with_defaults(given);
+            known.push(ResolvedOutput { cell, partial_desc })?;
             Ok(())
         }
         _ => Ok(()),
@@ -110,12 +110,12 @@ fn learn_cell(
 
 /// Resolves an output, if it is given.
 fn learn_output(
-    known: &mut Vec<Known>,
+    known: &mut Vec<ResolvedOutput>,
     cell: Option<ObjRef>,
     operand: Option<Operand>,
-    given: Outline,
+    given: PartialDesc,
 ) -> Result<(), AllocError>
-    ensures learnt { OnOk result (known.new.items ≡ known.old.items ++ learnt cell operand given) }
+    ensures learnt { OnOk result (known.new.items ≡ known.old.items ++ resolved_output cell operand given) }
     ensures limit { OnOk result (length known.new.items ≤ length known.old.items + 1) }
 {
     match (cell, operand) {
@@ -125,40 +125,44 @@ fn learn_output(
 }
 
 /// Resolves the outputs of a node.
-fn learn(known: &mut Vec<Known>, linked: &Linked) -> Result<(), AllocError>
+fn learn(known: &mut Vec<ResolvedOutput>, linked: &Linked) -> Result<(), AllocError>
     ensures learnt { OnOk result (known.new.items
-        ≡ known.old.items ++ learnt_from known.old.items linked.now) }
+        ≡ known.old.items ++ resolved_by known.old.items linked.now) }
     ensures limit { OnOk result (length known.new.items ≤ length known.old.items + 2) }
 {
     let Linked { node, operands } = linked;
-    let first = known_outline(known, node.in1, operands.in1);
-    let given = given_outline(node.function, first);
+    let first = known_partial_desc(known, node.in1, operands.in1);
+    let given = given_partial_desc(node.function, first);
     learn_output(known, node.out1, operands.out1, given)?;
     learn_output(known, node.out2, operands.out2, given)
 }
 
 /// An operand as it is resolved.
-fn known_operand(known: &[Known], cell: ObjRef, operand: Operand) -> Operand
+fn known_operand(known: &[ResolvedOutput], cell: ObjRef, operand: Operand) -> Operand
     ensures { result ≡ known_operand known.now cell operand }
 {
     match operand {
-        Operand::Virtual(_) => as_described(known_outline(known, cell, operand)),
+        Operand::Virtual(_) => as_described(known_partial_desc(known, cell, operand)),
         operand => operand,
     }
 }
 
 /// A virtual image without open parts becomes an image.
-fn as_described(known: Outline) -> Operand
-    ensures { result ≡ virtual_or_image known (closed known) }
+fn as_described(known: PartialDesc) -> Operand
+    ensures { result ≡ virtual_or_image known (full_description known) }
 {
-    match known.closed() {
+    match known.full_desc() {
         None => Operand::Virtual(known),
         Some(desc) => Operand::Image(desc),
     }
 }
 
 /// An operand, if it is given, as it is resolved.
-fn known_given(known: &[Known], cell: Option<ObjRef>, operand: Option<Operand>) -> Option<Operand>
+fn known_given(
+    known: &[ResolvedOutput],
+    cell: Option<ObjRef>,
+    operand: Option<Operand>,
+) -> Option<Operand>
     ensures { result ≡ known_given known.now cell operand }
 {
     match (cell, operand) {
@@ -168,7 +172,7 @@ fn known_given(known: &[Known], cell: Option<ObjRef>, operand: Option<Operand>) 
 }
 
 /// Returns the operands of a node as they are resolved.
-pub fn known_operands(known: &[Known], linked: &Linked) -> Operands
+pub fn known_operands(known: &[ResolvedOutput], linked: &Linked) -> Operands
     ensures { result ≡ known_operands known.now linked.now }
 {
     let Linked { node, operands } = linked;
@@ -183,12 +187,12 @@ pub fn known_operands(known: &[Known], linked: &Linked) -> Operands
 /// Returns the virtual images that nodes write, resolved along an order of the nodes. The first
 /// input of each node is an image, and no object has two writers. An error means that there is no
 /// memory for the result.
-pub fn known_after(alloc: Global, steps: &[Linked]) -> Result<Vec<Known>, AllocError>
+pub fn known_after(alloc: Global, steps: &[Linked]) -> Result<Vec<ResolvedOutput>, AllocError>
     requires one_writer { two_writers (linked_nodes steps.now) ≡ false }
     requires in_turn { InTurn feeds (linked_nodes steps.now) }
     requires images { All (λ l. IsTrue (is_image l.operands.in1)) steps.now }
-    ensures known { IfOk result (λ known. (is : Cell → Operand) → AreOperands is steps.now →
-        AreKnown is (linked_nodes steps.now) known.items) }
+    ensures known { IfOk result (λ known. (is : Reference → Operand) → AreOperands is steps.now →
+        AreResolved is (linked_nodes steps.now) known.items) }
     ensures limit { IfOk result (λ known. length known.items ≤ 2 * length steps.now) }
 {
     let mut known = Vec::new(alloc);
@@ -200,8 +204,11 @@ pub fn known_after(alloc: Global, steps: &[Linked]) -> Result<Vec<Known>, AllocE
 
 /// Returns the virtual images that have a full description, or an error if there is no memory for
 /// them.
-pub fn all_described(alloc: Global, known: &[Known]) -> Result<Vec<VirtualOutput>, AllocError>
-    ensures { IfOk result (λ outputs. outputs.items ≡ filter_map closed_output known.now) }
+pub fn all_described(
+    alloc: Global,
+    known: &[ResolvedOutput],
+) -> Result<Vec<VirtualOutput>, AllocError>
+    ensures { IfOk result (λ outputs. outputs.items ≡ filter_map described_output known.now) }
 {
     known
         .iter()

@@ -1,14 +1,14 @@
 //! Nodes with their operands, and the links between them.
 ghost use Rattle.std.specs.Prelude.{◌≡◌, ◌||◌};
 ghost use Rattle.std.specs.List.{list_any};
-ghost use Rattle.vx_base.specs.Cell.{Cell};
-ghost use Rattle.vx_base.specs.Node.{given, outputs};
+ghost use Rattle.vx_base.specs.Reference.{Reference};
+ghost use Rattle.vx_base.specs.Node.{optional_cells, outputs};
 ghost use Rattle.graph_verify.specs.Links.{writes, is_written};
 ghost use Rattle.graph_verify.specs.declared.operand.Operand.{Operand};
-ghost use Rattle.graph_verify.specs.Linked.{linked_nodes, AreOperands, is_loose_end};
-ghost use Rattle.graph_verify.specs.Linked.{is_given_loose, has_loose_input};
+ghost use Rattle.graph_verify.specs.Linked.{linked_nodes, AreOperands, lacks_writer};
+ghost use Rattle.graph_verify.specs.Linked.{given_unwritten, reads_unwritten_virtual};
 ghost use Rattle.graph_verify.specs.Linked.{is_given_virtual, has_virtual_sum};
-ghost use Rattle.graph_verify.specs.Verdict.{two_writers, writes_twice, has_loose_end};
+ghost use Rattle.graph_verify.specs.Verdict.{two_writers, writes_twice, has_unwritten_input};
 
 use crate::operand::{Operand, Operands};
 use vx_base::{Node, ObjRef};
@@ -29,7 +29,7 @@ pub fn writes(node: &Node, cell: ObjRef) -> bool
 
 /// Checks whether a node writes an object, if it is given.
 pub fn writes_given(node: &Node, cell: Option<ObjRef>) -> bool
-    ensures { result ≡ list_any (writes node.now) (given cell) }
+    ensures { result ≡ list_any (writes node.now) (optional_cells cell) }
 {
     cell.is_some_and(|cell| writes(node, cell))
 }
@@ -53,7 +53,7 @@ pub fn is_written(nodes: &[Linked], cell: ObjRef) -> bool
 
 /// Checks whether one of the nodes writes an object, if it is given.
 pub fn is_given_written(nodes: &[Linked], cell: Option<ObjRef>) -> bool
-    ensures { result ≡ list_any (is_written (linked_nodes nodes.now)) (given cell) }
+    ensures { result ≡ list_any (is_written (linked_nodes nodes.now)) (optional_cells cell) }
 {
     cell.is_some_and(|cell| is_written(nodes, cell))
 }
@@ -81,28 +81,28 @@ pub fn has_two_writers(nodes: &[Linked]) -> bool
 }
 
 /// Whether an operand is a virtual image that none of the nodes writes.
-fn is_loose_end(nodes: &[Linked], cell: ObjRef, operand: Operand) -> bool
-    ensures { result ≡ is_loose_end (linked_nodes nodes.now) cell operand }
+fn lacks_writer(nodes: &[Linked], cell: ObjRef, operand: Operand) -> bool
+    ensures { result ≡ lacks_writer (linked_nodes nodes.now) cell operand }
 {
     operand.is_virtual() && !is_written(nodes, cell)
 }
 
 /// Whether an operand, if it is given, is a virtual image that none of the nodes writes.
-fn is_given_loose(nodes: &[Linked], cell: Option<ObjRef>, operand: Option<Operand>) -> bool
-    ensures { result ≡ is_given_loose (linked_nodes nodes.now) cell operand }
+fn given_unwritten(nodes: &[Linked], cell: Option<ObjRef>, operand: Option<Operand>) -> bool
+    ensures { result ≡ given_unwritten (linked_nodes nodes.now) cell operand }
 {
     match (cell, operand) {
-        (Some(cell), Some(operand)) => is_loose_end(nodes, cell, operand),
+        (Some(cell), Some(operand)) => lacks_writer(nodes, cell, operand),
         _ => false,
     }
 }
 
 /// Whether a node reads an unwritten virtual image.
-fn has_loose_input(nodes: &[Linked], linked: &Linked) -> bool
-    ensures { result ≡ has_loose_input (linked_nodes nodes.now) linked.now }
+fn reads_unwritten_virtual(nodes: &[Linked], linked: &Linked) -> bool
+    ensures { result ≡ reads_unwritten_virtual (linked_nodes nodes.now) linked.now }
 {
     let Linked { node, operands } = linked;
-    is_loose_end(nodes, node.in1, operands.in1) || is_given_loose(nodes, node.in2, operands.in2)
+    lacks_writer(nodes, node.in1, operands.in1) || given_unwritten(nodes, node.in2, operands.in2)
 }
 
 /// Whether an operand, if it is given, is a virtual image.
@@ -122,9 +122,9 @@ fn has_virtual_sum(linked: &Linked) -> bool
 }
 
 /// Checks whether a node needs the content of a virtual image that nothing has written.
-pub fn has_loose_end(nodes: &[Linked]) -> bool
-    ensures { (is : Cell → Operand) → AreOperands is nodes.now →
-        result ≡ has_loose_end is (linked_nodes nodes.now) }
+pub fn has_unwritten_input(nodes: &[Linked]) -> bool
+    ensures { (is : Reference → Operand) → AreOperands is nodes.now →
+        result ≡ has_unwritten_input is (linked_nodes nodes.now) }
 {
-    nodes.iter().any(|linked| has_loose_input(nodes, linked) || has_virtual_sum(linked))
+    nodes.iter().any(|linked| reads_unwritten_virtual(nodes, linked) || has_virtual_sum(linked))
 }

@@ -1,7 +1,7 @@
 //! Operands: the properties of objects on which a verdict depends.
 ghost use Rattle.std.specs.Prelude.{◌≡◌};
 
-use vx_base::{Desc, Format, Kind, Outline};
+use vx_base::{Desc, Format, Kind, PartialDesc};
 
 /// An object that a node names, by its kind and the properties on which a verdict depends.
 #[derive(Clone, Copy, PartialEq, Eq, Debug)]
@@ -23,7 +23,7 @@ pub enum Operand {
     /// A graph, which no function takes.
     Graph,
     /// A virtual image, as it is declared.
-    Virtual(Outline),
+    Virtual(PartialDesc),
 }
 
 /// The operands of a node; those that it doesn't have are `None`.

@@ -2,7 +2,7 @@
 ghost use Rattle.std.specs.Prelude.{◌≡◌, option_to_list};
 ghost use Rattle.std.specs.List.{list_any, list_all};
 ghost use Rattle.std.specs.Option.{option_and_then};
-ghost use Rattle.vx_base.specs.Cell.{same_cell};
+ghost use Rattle.vx_base.specs.Reference.{same_reference};
 ghost use Rattle.vx_base.specs.Node.{outputs};
 ghost use Rattle.vx_base.specs.Formats.{takes_formats};
 ghost use Rattle.graph_verify.specs.declared.operand.Operand.TheVariants.{Image};

@@ -1,10 +1,10 @@
 //! Verified graphs: the verdict on a graph, and the order in which it runs.
 ghost use Rattle.std.specs.Prelude.{◌≡◌, ◌≤◌, false, IsTrue, length, find, List, All, Some, None};
 ghost use Rattle.std.specs.Prelude.{IfOk, IfErr, OnOk};
-ghost use Rattle.vx_base.specs.Cell.{Cell, same_cell};
+ghost use Rattle.vx_base.specs.Reference.{Reference, same_reference};
 ghost use Rattle.vx_base.specs.declared.node.Node.{Node as NodeFields};
 ghost use Rattle.graph_verify.specs.declared.operand.Operand.{Operand};
-ghost use Rattle.graph_verify.specs.Known.{known_operands};
+ghost use Rattle.graph_verify.specs.ResolvedOutputs.{known_operands};
 ghost use Rattle.graph_verify.specs.Linked.{linked_nodes, AreOperands};
 ghost use Rattle.graph_verify.specs.Links.{feeds};
 ghost use Rattle.graph_verify.specs.Order.{IsOrder};
@@ -14,9 +14,9 @@ ghost use Rattle.graph_verify.specs.Verified.{IfRefused, IsVerified, written_des
 ghost use Rattle.vx_base.specs.declared.node.TheConstants.{GREATEST_NODES};
 
 use crate::known::{
-    Known, VirtualOutput, all_described, known_after, known_operands, sample_bytes,
+    ResolvedOutput, VirtualOutput, all_described, known_after, known_operands, sample_bytes,
 };
-use crate::linked::{Linked, has_loose_end, has_two_writers};
+use crate::linked::{Linked, has_two_writers, has_unwritten_input};
 use crate::order::put_in_order;
 use crate::verdict::{Verdict, node_fault};
 use std::alloc::{AllocError, Global};
@@ -54,7 +54,7 @@ impl Verified {
     /// Returns the description of a virtual image that the nodes write, or `None` for any other
     /// object.
     pub fn desc_of(&self, cell: ObjRef) -> Option<Desc>
-        ensures { (is : Cell → Operand) (nodes : List NodeFields) → IsVerified is nodes self.now →
+        ensures { (is : Reference → Operand) (nodes : List NodeFields) → IsVerified is nodes self.now →
             result ≡ written_description is nodes cell }
     {
         let output = self.find(cell)?;
@@ -63,7 +63,7 @@ impl Verified {
 
     /// The virtual image with this reference, if the nodes write it.
     fn find(&self, cell: ObjRef) -> Option<VirtualOutput>
-        ensures { result ≡ find (λ o. same_cell o.cell cell) self.now.virtual_outputs.items }
+        ensures { result ≡ find (λ o. same_reference o.cell cell) self.now.virtual_outputs.items }
     {
         self.virtual_outputs
             .iter()
@@ -73,8 +73,8 @@ impl Verified {
 }
 
 /// The fault of the earliest added node that has one, by the resolved operands.
-fn first_fault(nodes: &[Linked], known: &[Known]) -> Option<Verdict>
-    ensures { (is : Cell → Operand) → All (λ l. known_operands known.now l ≡ operands_of is l.node)
+fn first_fault(nodes: &[Linked], known: &[ResolvedOutput]) -> Option<Verdict>
+    ensures { (is : Reference → Operand) → All (λ l. known_operands known.now l ≡ operands_of is l.node)
         nodes.now → result ≡ first_fault is (linked_nodes nodes.now) }
 {
     for linked in nodes {
@@ -108,14 +108,14 @@ fn verify_ordered(
     requires images { All (λ l. IsTrue (is_image l.operands.in1)) nodes.now }
     requires one_writer { two_writers (linked_nodes nodes.now) ≡ false }
     requires order { IsOrder (λ a b. feeds a.node b.node) nodes.now steps.now }
-    ensures verified { IfOk result (λ v. (is : Cell → Operand) → AreOperands is nodes.now →
+    ensures verified { IfOk result (λ v. (is : Reference → Operand) → AreOperands is nodes.now →
         IsVerified is (linked_nodes nodes.now) v) }
-    ensures ok { OnOk result ((is : Cell → Operand) → AreOperands is nodes.now →
+    ensures ok { OnOk result ((is : Reference → Operand) → AreOperands is nodes.now →
         verdict work is (linked_nodes nodes.now) ≡ None) }
-    ensures refused { IfErr result (λ fault. (is : Cell → Operand) → AreOperands is nodes.now →
+    ensures refused { IfErr result (λ fault. (is : Reference → Operand) → AreOperands is nodes.now →
         IfRefused fault (λ v. verdict work is (linked_nodes nodes.now) ≡ Some v)) }
 {
-    if has_loose_end(nodes) {
+    if has_unwritten_input(nodes) {
         return Err(VerifyFault::Refused(Verdict::InvalidLink));
     }
     let known = known_after(alloc, steps)?;
@@ -140,11 +140,11 @@ fn verify_ordered(
 pub fn verify(alloc: Global, nodes: &[Linked], work: u64) -> Result<Verified, VerifyFault>
     requires count { length nodes.now ≤ GREATEST_NODES }
     requires images { All (λ l. IsTrue (is_image l.operands.in1)) nodes.now }
-    ensures verified { IfOk result (λ v. (is : Cell → Operand) → AreOperands is nodes.now →
+    ensures verified { IfOk result (λ v. (is : Reference → Operand) → AreOperands is nodes.now →
         IsVerified is (linked_nodes nodes.now) v) }
-    ensures ok { OnOk result ((is : Cell → Operand) → AreOperands is nodes.now →
+    ensures ok { OnOk result ((is : Reference → Operand) → AreOperands is nodes.now →
         verdict work is (linked_nodes nodes.now) ≡ None) }
-    ensures refused { IfErr result (λ fault. (is : Cell → Operand) → AreOperands is nodes.now →
+    ensures refused { IfErr result (λ fault. (is : Reference → Operand) → AreOperands is nodes.now →
         IfRefused fault (λ v. verdict work is (linked_nodes nodes.now) ≡ Some v)) }
 {
     if has_two_writers(nodes) {

@@ -2,8 +2,8 @@
 use Rattle.std.proofs.Common.{◌≡◌, ℕ, ℤ, pos, ◌+◌, ◌-◌, ◌*◌, ◌<◌, ◌≤◌, zero, suc, List, length, refl, ap, ◌∙◌, sym, subst, cond, arith, add-zero}
 use Rattle.vx_base.specs.declared.format.Format.{Format}
 use Rattle.vx_base.specs.Description.{Description}
-use Rattle.vx_base.specs.Rectangle.{Rectangle, inside}
-use Rattle.vx_base.specs.Image.{ImageValue, band, within, at, made, image_over}
+use Rattle.vx_base.specs.Rectangle.{Rectangle, has_pixel}
+use Rattle.vx_base.specs.Image.{ImageValue, band, zero_outside, pixel_at, image_from, image_over}
 use Rattle.vx_base.proofs.TableLaws.{length-band, band-same}
 use Rattle.vx_base.proofs.ImageLaws.{get_or-table, band_of_table, samples_are_band, same_parts}
 use Rattle.image_core.specs.declared.band.Band.{Band}
@@ -11,26 +11,26 @@ use Rattle.image_core.specs.declared.image_mut.ImageMut.{ImageMut}
 use Rattle.image_core.specs.Bands.{IsInRows, all_rows, rows_in}
 use Rattle.image_core.specs.Rows.{sample_from}
 use Rattle.image_core.specs.Slices.{slice_of}
-use Rattle.image_core.specs.Target.{written, IsTarget, SameSlices, Writes}
+use Rattle.image_core.specs.Target.{target_image, IsTarget, SameSlices, Writes}
 
 -- the rows of an image that is made of a function
 pub rows_made : (d : Description) (format : Format) (r s : Rectangle) (f : ℕ → ℕ → ℤ) (rows : Band) → IsInRows d.height rows → d.format ≡ format → r ≡ s
-    → image_over d r (band d.width rows.start rows.count (within s f)) ≡ rows_in rows (made d.width d.height format s f)
+    → image_over d r (band d.width rows.start rows.count (zero_outside s f)) ≡ rows_in rows (image_from d.width d.height format s f)
 rows_made d format r s f rows room same is =
-    rw (is, ← same) (ap (image_over d s) (sym (band_of_table d.width d.height rows.start rows.count (within s f) room)))
+    rw (is, ← same) (ap (image_over d s) (sym (band_of_table d.width d.height rows.start rows.count (zero_outside s f) room)))
 
 -- an output whose samples are these rows
 pub made_written : (old new : ImageMut) (format : Format) (r s : Rectangle) (f : ℕ → ℕ → ℤ) → IsTarget old → SameSlices old new
-    → written new ≡ image_over old.desc r (band old.desc.width old.rows.start old.rows.count (within s f)) → old.desc.format ≡ format → r ≡ s → Writes (made old.desc.width old.desc.height format s f) old new
-made_written old new format r s f target same is known at =
+    → target_image new ≡ image_over old.desc r (band old.desc.width old.rows.start old.rows.count (zero_outside s f)) → old.desc.format ≡ format → r ≡ s → Writes (image_from old.desc.width old.desc.height format s f) old new
+made_written old new format r s f target same is known pixel_at =
     let wide : new.desc.width ≡ old.desc.width = ap (λ (a : ImageValue). a.width) is in
     let high : new.desc.height ≡ old.desc.height = ap (λ (a : ImageValue). a.height) is in
     record {
-      value = is ∙ rows_made old.desc format r s f old.rows target.rows known at;
+      value = is ∙ rows_made old.desc format r s f old.rows target.rows known pixel_at;
       target = record {
         size =
             ap (λ (a : ImageValue). length a.samples) is
-            ∙ length-band old.desc.width old.rows.start old.rows.count (within s f)
+            ∙ length-band old.desc.width old.rows.start old.rows.count (zero_outside s f)
             ∙ ap (λ n. old.rows.count * n) (sym wide)
             ∙ ap (λ (rows : Band). rows.count * new.desc.width) (sym same.rows);
         rows = subst (λ n. IsInRows n new.rows) (sym high) (subst (IsInRows old.desc.height) (sym same.rows) target.rows);
@@ -40,30 +40,30 @@ made_written old new format r s f target same is known at =
 
 -- the same, of the samples in the slice of the format
 pub slice_written : (old new : ImageMut) (format : Format) (s : Rectangle) (f : ℕ → ℕ → ℤ) → IsTarget old → SameSlices old new → new.desc ≡ old.desc → new.valid ≡ s → old.desc.format ≡ format
-    → slice_of format new.bytes.now new.shorts.now new.words.now ≡ band old.desc.width old.rows.start old.rows.count (within s f) → Writes (made old.desc.width old.desc.height format s f) old new
+    → slice_of format new.bytes.now new.shorts.now new.words.now ≡ band old.desc.width old.rows.start old.rows.count (zero_outside s f) → Writes (image_from old.desc.width old.desc.height format s f) old new
 slice_written old new format s f target same desc valid known is =
     made_written old new format new.valid s f target same (rw (desc, known, is) refl) known valid
 
 -- the same, with other terms for the image's sides
 pub slice_written_as : (old new : ImageMut) (format : Format) (width height : ℕ) (s : Rectangle) (f : ℕ → ℕ → ℤ) → IsTarget old → SameSlices old new → new.desc ≡ old.desc → new.valid ≡ s → old.desc.format ≡ format
-    → old.desc.width ≡ width → old.desc.height ≡ height → slice_of format new.bytes.now new.shorts.now new.words.now ≡ band width old.rows.start old.rows.count (within s f) → Writes (made width height format s f) old new
+    → old.desc.width ≡ width → old.desc.height ≡ height → slice_of format new.bytes.now new.shorts.now new.words.now ≡ band width old.rows.start old.rows.count (zero_outside s f) → Writes (image_from width height format s f) old new
 slice_written_as old new format width height s f target same desc valid known wide high is =
-    rw (← wide, ← high) (slice_written old new format s f target same desc valid known (rw (← wide) at is))
+    rw (← wide, ← high) (slice_written old new format s f target same desc valid known (rw (← wide) pixel_at is))
 
 -- samples outside the rectangle are made 0
 pub slice_cleared : (old new : ImageMut) (format : Format) (width : ℕ) (before : List ℤ) → IsTarget old → SameSlices old new → new.desc ≡ old.desc → new.valid ≡ old.valid → old.desc.format ≡ format → width ≡ old.desc.width
     → before ≡ slice_of format old.bytes.now old.shorts.now old.words.now
-    → slice_of format new.bytes.now new.shorts.now new.words.now ≡ band width old.rows.start old.rows.count (within old.valid (sample_from width old.rows.start before))
-    → Writes (made old.desc.width old.desc.height old.desc.format old.valid (sample_from old.desc.width old.rows.start (written old).samples)) old new
+    → slice_of format new.bytes.now new.shorts.now new.words.now ≡ band width old.rows.start old.rows.count (zero_outside old.valid (sample_from width old.rows.start before))
+    → Writes (image_from old.desc.width old.desc.height old.desc.format old.valid (sample_from old.desc.width old.rows.start (target_image old).samples)) old new
 slice_cleared old new format width before target same desc valid known wide held is =
-    slice_written old new old.desc.format old.valid (sample_from old.desc.width old.rows.start (written old).samples) target same desc valid refl (rw (known, is, wide, held) refl)
+    slice_written old new old.desc.format old.valid (sample_from old.desc.width old.rows.start (target_image old).samples) target same desc valid refl (rw (known, is, wide, held) refl)
 
 -- all rows of an image are the image
 pub all_rows_are : (image : ImageValue) → length image.samples ≡ image.height * image.width → rows_in (all_rows image.height) image ≡ image
 all_rows_are image size = same_parts (rows_in (all_rows image.height) image) image refl refl refl refl (samples_are_band image.samples image.width image.height size)
 
 -- an output over all rows is the whole image
-pub all_written : (image : ImageValue) (old new : ImageMut) → old.rows ≡ all_rows image.height → length image.samples ≡ image.height * image.width → Writes image old new → written new ≡ image
+pub all_written : (image : ImageValue) (old new : ImageMut) → old.rows ≡ all_rows image.height → length image.samples ≡ image.height * image.width → Writes image old new → target_image new ≡ image
 all_written image old new all size is = is.value ∙ ap (λ rows. rows_in rows image) all ∙ all_rows_are image size
 
 -- ---- equal descriptions of an output
@@ -77,7 +77,7 @@ pub in_format : (image : Format → ImageValue) (format known : Format) (old new
 in_format image format known old new is = written_same (image format) (image known) old new (ap image is)
 
 -- an image of the same size and rectangle
-pub written_alike : (width height w h : ℕ) (format : Format) (r s : Rectangle) (f : ℕ → ℕ → ℤ) (old new : ImageMut) → width ≡ w → height ≡ h → r ≡ s → Writes (made width height format r f) old new → Writes (made w h format s f) old new
+pub written_alike : (width height w h : ℕ) (format : Format) (r s : Rectangle) (f : ℕ → ℕ → ℤ) (old new : ImageMut) → width ≡ w → height ≡ h → r ≡ s → Writes (image_from width height format r f) old new → Writes (image_from w h format s f) old new
 written_alike width height w h format r s f old new a b c is = rw (← a, ← b, ← c) is
 
 -- ---- what an update writes
@@ -97,9 +97,9 @@ place_of_band width start count x y f across above below =
     ∙ ap (f x) back
 
 -- an update of a band writes the band of the updated image
-pub updated_written : (old new : ImageMut) (before : ImageValue) (format : Format) (r : Rectangle) (next : ℕ → ℕ → ℤ → ℤ) → IsTarget old → rows_in old.rows before ≡ written old
-    → Writes (made old.desc.width old.desc.height format r (λ x y. next x y (sample_from old.desc.width old.rows.start (written old).samples x y))) old new
-    → Writes (made old.desc.width old.desc.height format r (λ x y. next x y (at before x y))) old new
+pub updated_written : (old new : ImageMut) (before : ImageValue) (format : Format) (r : Rectangle) (next : ℕ → ℕ → ℤ → ℤ) → IsTarget old → rows_in old.rows before ≡ target_image old
+    → Writes (image_from old.desc.width old.desc.height format r (λ x y. next x y (sample_from old.desc.width old.rows.start (target_image old).samples x y))) old new
+    → Writes (image_from old.desc.width old.desc.height format r (λ x y. next x y (pixel_at before x y))) old new
 updated_written old new before format r next target is written_so =
     record { value = written_so.value ∙ same; target = written_so.target; slices = written_so.slices }
   where
@@ -113,23 +113,23 @@ updated_written old new before format r next target is written_so =
     count = old.rows.count
 
     from : ℕ → ℕ → ℤ
-    from = sample_from width start (written old).samples
+    from = sample_from width start (target_image old).samples
 
-    held : (x y : ℕ) → x < width → start ≤ y → y < start + count → from x y ≡ at before x y
+    held : (x y : ℕ) → x < width → start ≤ y → y < start + count → from x y ≡ pixel_at before x y
     held x y across above below =
         ap (λ (a : ImageValue). sample_from width start a.samples x y) (sym is)
-        ∙ ap (λ n. sample_from width start (band n start count (at before)) x y) (ap (λ (a : ImageValue). a.width) is)
-        ∙ place_of_band width start count x y (at before) across above below
+        ∙ ap (λ n. sample_from width start (band n start count (pixel_at before)) x y) (ap (λ (a : ImageValue). a.width) is)
+        ∙ place_of_band width start count x y (pixel_at before) across above below
 
     became : (ℕ → ℕ → ℤ) → ImageValue
-    became f = made width old.desc.height format r (λ x y. next x y (f x y))
+    became f = image_from width old.desc.height format r (λ x y. next x y (f x y))
 
     over : List ℤ → ImageValue
     over zs = record { width = width; height = old.desc.height; format = format; valid = r; samples = zs }
 
-    same : rows_in old.rows (became from) ≡ rows_in old.rows (became (at before))
+    same : rows_in old.rows (became from) ≡ rows_in old.rows (became (pixel_at before))
     same =
-        ap over (band_of_table width old.desc.height start count (within r (λ x y. next x y (from x y))) target.rows
-        ∙ band-same width start count (within r (λ x y. next x y (from x y))) (within r (λ x y. next x y (at before x y)))
-        (λ x y a b c. ap (λ z. cond (inside r x y) (next x y z) (pos 0)) (held x y a b c))
-        ∙ sym (band_of_table width old.desc.height start count (within r (λ x y. next x y (at before x y))) target.rows))
+        ap over (band_of_table width old.desc.height start count (zero_outside r (λ x y. next x y (from x y))) target.rows
+        ∙ band-same width start count (zero_outside r (λ x y. next x y (from x y))) (zero_outside r (λ x y. next x y (pixel_at before x y)))
+        (λ x y a b c. ap (λ z. cond (has_pixel r x y) (next x y z) (pos 0)) (held x y a b c))
+        ∙ sym (band_of_table width old.desc.height start count (zero_outside r (λ x y. next x y (pixel_at before x y))) target.rows))

@@ -9,9 +9,9 @@ use Rattle.vx_base.proofs.TableLaws.{length-band, run-same, run-constant, row_pa
 use Rattle.vx_base.specs.Sample.{IsSample}
 use Rattle.vx_base.specs.Description.{Description}
 use Rattle.vx_base.specs.Rectangle.{Rectangle}
-use Rattle.vx_base.specs.Image.{ImageValue, IsImage, description_of, image_over, band, run, at}
+use Rattle.vx_base.specs.Image.{ImageValue, IsImage, description_of, image_over, band, run, pixel_at}
 use Rattle.image_core.specs.declared.band.Band.{Band}
-use Rattle.image_core.specs.Bands.{IsInRows, all_rows, has_row, zero_rows, image_over_rows, held_in}
+use Rattle.image_core.specs.Bands.{IsInRows, all_rows, has_row, zero_rows, image_over_rows, zero_outside_rows}
 use Rattle.image_core.specs.Rows.{row_of, sample_from}
 use Rattle.image_core.proofs.BandLaws.{place_of_band}
 
@@ -72,7 +72,7 @@ module _ (d : Description) (valid : Rectangle) (rows : Band) (samples : List ℤ
   fits x k n a b = grind arith
 
   -- a sample in a row of the band
-  pub at_held : (x y : ℕ) → x < width → has_row rows y ≡ true → at (image_over_rows d valid rows samples) x y ≡ sample_from width rows.start samples x y
+  pub at_held : (x y : ℕ) → x < width → has_row rows y ≡ true → pixel_at (image_over_rows d valid rows samples) x y ≡ sample_from width rows.start samples x y
   at_held x y across there =
       let from : rows.start ≤ y = grind (arith, nat_tests) in
       let inside : y - rows.start < rows.count = grind (arith, nat_tests) in
@@ -83,7 +83,7 @@ module _ (d : Description) (valid : Rectangle) (rows : Band) (samples : List ℤ
       ∙ get_or_append_left samples below (pos 0) ((y - rows.start) * width + x) (omega arith)
 
   -- a sample in any other row
-  pub at_other : (x y : ℕ) → x < width → y < d.height → has_row rows y ≡ false → at (image_over_rows d valid rows samples) x y ≡ pos 0
+  pub at_other : (x y : ℕ) → x < width → y < d.height → has_row rows y ≡ false → pixel_at (image_over_rows d valid rows samples) x y ≡ pos 0
   at_other x y across low absent = elim (cases_Bool (ltb y rows.start)) [
     | inl e ↦
         let high : y < rows.start = ltb-true y rows.start e in
@@ -113,7 +113,7 @@ module _ (d : Description) (valid : Rectangle) (rows : Band) (samples : List ℤ
   -- any other row
   pub row_other : (y : ℕ) → y < d.height → has_row rows y ≡ false → replicate width (pos 0) ≡ row_of (image_over_rows d valid rows samples) y
   row_other y low absent =
-      sym (run-same (λ x. at (image_over_rows d valid rows samples) x y) (λ _. pos 0) 0 width (λ x a b. at_other x y (omega arith) low absent) ∙ run-constant (pos 0) 0 width)
+      sym (run-same (λ x. pixel_at (image_over_rows d valid rows samples) x y) (λ _. pos 0) 0 width (λ x a b. at_other x y (omega arith) low absent) ∙ run-constant (pos 0) 0 width)
 
 -- the samples of a row of the band are within the band's samples
 pub row_in_held : (rows : Band) (width y : ℕ) → has_row rows y ≡ true → (y - rows.start) * width + width ≤ rows.count * width
@@ -123,22 +123,22 @@ row_in_held rows width y there =
 
 -- a band of an image
 module _ (a : ImageValue) (rows : Band) (room : IsInRows a.height rows) where
-  size : length (band a.width rows.start rows.count (at a)) ≡ rows.count * a.width
-  size = length-band a.width rows.start rows.count (at a)
+  size : length (band a.width rows.start rows.count (pixel_at a)) ≡ rows.count * a.width
+  size = length-band a.width rows.start rows.count (pixel_at a)
 
   -- have the image's samples
-  pub at_held_in : (x y : ℕ) → x < a.width → has_row rows y ≡ true → at (held_in rows a) x y ≡ at a x y
+  pub at_held_in : (x y : ℕ) → x < a.width → has_row rows y ≡ true → pixel_at (zero_outside_rows rows a) x y ≡ pixel_at a x y
   at_held_in x y across there =
       let from : rows.start ≤ y = grind (arith, nat_tests) in
       let to : y < rows.start + rows.count = grind (arith, nat_tests) in
-      at_held (description_of a) a.valid rows (band a.width rows.start rows.count (at a)) room size x y across there
-      ∙ place_of_band a.width rows.start rows.count x y (at a) across from to
+      at_held (description_of a) a.valid rows (band a.width rows.start rows.count (pixel_at a)) room size x y across there
+      ∙ place_of_band a.width rows.start rows.count x y (pixel_at a) across from to
 
   -- and are an image
-  pub held_in_is : IsImage a → IsImage (held_in rows a)
+  pub held_in_is : IsImage a → IsImage (zero_outside_rows rows a)
   held_in_is is = record {
     sides = is.sides;
-    size = held_size (description_of a) a.valid rows (band a.width rows.start rows.count (at a)) room size;
+    size = held_size (description_of a) a.valid rows (band a.width rows.start rows.count (pixel_at a)) room size;
     canonical = is.canonical;
     room = is.room;
     sampled = (λ x y across low. elim (cases_Bool (has_row rows y)) [
@@ -151,5 +151,5 @@ module _ (a : ImageValue) (rows : Band) (room : IsInRows a.height rows) where
     ]);
   }
     where
-      absent : (x y : ℕ) → x < a.width → y < a.height → has_row rows y ≡ false → at (held_in rows a) x y ≡ pos 0
-      absent x y across low e = at_other (description_of a) a.valid rows (band a.width rows.start rows.count (at a)) room size x y across low e
+      absent : (x y : ℕ) → x < a.width → y < a.height → has_row rows y ≡ false → pixel_at (zero_outside_rows rows a) x y ≡ pos 0
+      absent x y across low e = at_other (description_of a) a.valid rows (band a.width rows.start rows.count (pixel_at a)) room size x y across low e

@@ -3,7 +3,7 @@ use Rattle.std.proofs.Common.{◌≡◌, ℕ, ℤ, pos, ◌+◌, ◌-◌, ◌*�
 use Rattle.std.proofs.lemmas.List.{length-map, map-append}
 use borrow.Rule.Slice.PartMut.{put_mid}
 use Rattle.vx_base.specs.Rectangle.{Rectangle}
-use Rattle.vx_base.specs.Image.{ImageValue, IsImage, run, band, within}
+use Rattle.vx_base.specs.Image.{ImageValue, IsImage, run, band, zero_outside}
 use Rattle.vx_base.proofs.TableLaws.{row_across, row_part, part_of_row, band_written, length_part}
 use Rattle.image_core.specs.Rows.{row_of}
 
@@ -34,7 +34,7 @@ row_of_band_written value width start count k first step f out row size below at
 -- a row that crosses an area: zeros, the samples of the area's columns, zeros
 pub row_in_three : {T : Type 0} (value : T → ℤ) (r : Rectangle) (f : ℕ → ℕ → ℤ) (n x0 x1 y a b c : ℕ) (v w : ℤ) (front inside back : List T) → v ≡ pos 0 → w ≡ pos 0 → a ≡ x0 → b ≡ x1 - x0 → c ≡ n - x1
     → map value front ≡ replicate a v → map value inside ≡ run x0 b (λ x. f x y) → map value back ≡ replicate c w
-    → r.x0 ≡ x0 → r.x1 ≡ x1 → x0 ≤ x1 → x1 ≤ n → r.y0 ≤ y → y < r.y1 → map value (front ++ (inside ++ back)) ≡ run 0 n (λ x. within r f x y)
+    → r.x0 ≡ x0 → r.x1 ≡ x1 → x0 ≤ x1 → x1 ≤ n → r.y0 ≤ y → y < r.y1 → map value (front ++ (inside ++ back)) ≡ run 0 n (λ x. zero_outside r f x y)
 row_in_three value r f n x0 x1 y a b c v w front inside back none nothing first second third left middle right from to ordered room above below =
     rw (map-append value front (inside ++ back), map-append value inside back, left, middle, right, first, second, third, none, nothing)
     (sym (row_across r f n x0 x1 y from to ordered room above below))

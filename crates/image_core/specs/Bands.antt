@@ -2,7 +2,7 @@
 use Rattle.std.specs.Prelude.{ℕ, ℤ, pos, Bool, ◌+◌, ◌-◌, ◌*◌, ◌≤◌, ◌&&◌, nat_le, nat_lt, List, ◌++◌, replicate}
 use Rattle.vx_base.specs.Rectangle.{Rectangle}
 use Rattle.vx_base.specs.Description.{Description}
-use Rattle.vx_base.specs.Image.{ImageValue, description_of, image_over, band, at}
+use Rattle.vx_base.specs.Image.{ImageValue, description_of, image_over, band, pixel_at}
 use Rattle.image_core.specs.declared.band.Band.{Band}
 
 -- all rows of an image of this height
@@ -27,10 +27,10 @@ image_over_rows d valid rows samples =
     image_over d valid (zero_rows d.width rows.start ++ (samples ++ zero_rows d.width (d.height - (rows.start + rows.count))))
 
 -- the image with the samples outside the band's rows set to 0
-abbrev pub held_in : Band → ImageValue → ImageValue
-held_in rows image = image_over_rows (description_of image) image.valid rows (band image.width rows.start rows.count (at image))
+abbrev pub zero_outside_rows : Band → ImageValue → ImageValue
+zero_outside_rows rows image = image_over_rows (description_of image) image.valid rows (band image.width rows.start rows.count (pixel_at image))
 
 -- the image with the list of its samples cut to the band's rows
 abbrev pub rows_in : Band → ImageValue → ImageValue
 rows_in rows image =
-    record { width = image.width; height = image.height; format = image.format; valid = image.valid; samples = band image.width rows.start rows.count (at image) }
+    record { width = image.width; height = image.height; format = image.format; valid = image.valid; samples = band image.width rows.start rows.count (pixel_at image) }

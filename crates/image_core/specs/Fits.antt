@@ -7,7 +7,7 @@ use Rattle.vx_base.specs.Formats.{takes_formats}
 use Rattle.vx_base.specs.Image.{ImageValue, description_of}
 use Rattle.vx_base.specs.Object.{ObjectValue, ImageObject, object_format}
 use Rattle.image_core.specs.declared.image_mut.ImageMut.{ImageMut}
-use Rattle.image_core.specs.Target.{written, IsTarget}
+use Rattle.image_core.specs.Target.{target_image, IsTarget}
 
 -- the images have the same width and height
 abbrev pub HaveSameSize : ImageValue → ImageValue → Type 0
@@ -21,6 +21,6 @@ SecondHasSize a other = ⊤
 -- the function takes the operands' formats, and the output and a second input image have the first input's size
 pub record Fits (function : Function) (a : ImageValue) (second : Option ObjectValue) (out : ImageMut) : Type 0 where
   pub target : IsTarget out
-  pub size : HaveSameSize (written out) a
+  pub size : HaveSameSize (target_image out) a
   pub second_size : SecondHasSize a second
-  pub formats : IsTrue (takes_formats function a.format (option_and_then object_format second) (Some (written out).format))
+  pub formats : IsTrue (takes_formats function a.format (option_and_then object_format second) (Some (target_image out).format))

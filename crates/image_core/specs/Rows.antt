@@ -1,10 +1,10 @@
 -- Samples in row-major order.
 use Rattle.std.specs.Prelude.{ℕ, ℤ, pos, ◌+◌, ◌-◌, ◌*◌, List, slice_index_or}
-use Rattle.vx_base.specs.Image.{ImageValue, run, at}
+use Rattle.vx_base.specs.Image.{ImageValue, run, pixel_at}
 
 -- the samples of a row
 abbrev pub row_of : ImageValue → ℕ → List ℤ
-row_of image y = run 0 image.width (λ x. at image x y)
+row_of image y = run 0 image.width (λ x. pixel_at image x y)
 
 -- the sample in column x of row y, for rows of this width
 abbrev pub sample_at : ℕ → List ℤ → ℕ → ℕ → ℤ

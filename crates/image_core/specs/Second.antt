@@ -1,11 +1,11 @@
 -- A node's second operand.
 use Rattle.std.specs.Prelude.{Option, Some, None}
 use Rattle.vx_base.specs.Object.{ObjectValue, ImageObject, LutObject, ThresholdObject, ConvolutionObject}
-use Rattle.image_core.specs.declared.second.Second.{Second}
-use Rattle.image_core.specs.declared.second.Second.TheVariants.{Nothing, Image, Lut, Threshold, Convolution}
+use Rattle.image_core.specs.declared.second.SecondInput.{SecondInput}
+use Rattle.image_core.specs.declared.second.SecondInput.TheVariants.{Nothing, Image, Lut, Threshold, Convolution}
 
 -- the second operand as an object, if there is one
-abbrev pub second_object : Second → Option ObjectValue
+abbrev pub second_object : SecondInput → Option ObjectValue
 second_object Nothing = None
 second_object (Image image) = Some (ImageObject image)
 second_object (Lut lut) = Some (LutObject lut.now)

@@ -6,12 +6,12 @@ use Rattle.image_core.specs.Slices.{slice_of}
 use Rattle.image_core.specs.Bands.{IsInRows, rows_in}
 
 -- the output as an image value; its samples are those of its band alone
-abbrev pub written : ImageMut → ImageValue
-written image = image_over image.desc image.valid (slice_of image.desc.format image.bytes.now image.shorts.now image.words.now)
+abbrev pub target_image : ImageMut → ImageValue
+target_image image = image_over image.desc image.valid (slice_of image.desc.format image.bytes.now image.shorts.now image.words.now)
 
 -- an output with one sample for each pixel of its band
 pub record IsTarget (image : ImageMut) : Type 0 where
-  pub size : length (written image).samples ≡ image.rows.count * image.desc.width
+  pub size : length (target_image image).samples ≡ image.rows.count * image.desc.width
   pub rows : IsInRows image.desc.height image.rows
 
 -- the output is over the same band and the same slices as before
@@ -23,6 +23,6 @@ pub record SameSlices (old new : ImageMut) : Type 0 where
 
 -- the output becomes this image, cut to the output's band; the band and the slices are as before
 pub record Writes (image : ImageValue) (old new : ImageMut) : Type 0 where
-  pub value : written new ≡ rows_in old.rows image
+  pub value : target_image new ≡ rows_in old.rows image
   pub target : IsTarget new
   pub slices : SameSlices old new

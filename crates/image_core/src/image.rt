@@ -1,6 +1,6 @@
 //! Input images.
 ghost use Rattle.std.specs.Prelude.{◌≡◌, ◌+◌, ◌*◌, ◌<◌, ◌≤◌, map, length};
-ghost use Rattle.vx_base.specs.Image.{IsImage, image_over, description_of, run, at};
+ghost use Rattle.vx_base.specs.Image.{IsImage, image_over, description_of, run, pixel_at};
 ghost use Rattle.image_core.specs.Bands.{IsInRows, image_over_rows};
 ghost use Rattle.image_core.specs.Rows.{row_of};
 
@@ -107,7 +107,7 @@ impl<'a> Image<'a> {
         requires format { self.now.format ≡ T.format }
         requires below { y < self.now.height }
         requires room { x + count ≤ self.now.width }
-        ensures value { map T.value result.now ≡ run x count (λ k. at self.now k y) }
+        ensures value { map T.value result.now ≡ run x count (λ k. pixel_at self.now k y) }
         ensures len { length result.now ≡ count }
     {
         let row = self.row::<T>(y);

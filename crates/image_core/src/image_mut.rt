@@ -1,9 +1,9 @@
 //! Output images.
 ghost use Rattle.std.specs.Prelude.{◌≡◌, ◌*◌, ◌≤◌, pos, map, length};
 ghost use Rattle.vx_base.specs.declared.format.Format.TheVariants.{U8, U32};
-ghost use Rattle.vx_base.specs.Rectangle.{empty, IsWithin};
+ghost use Rattle.vx_base.specs.Rectangle.{empty_rectangle, IsWithin};
 ghost use Rattle.vx_base.specs.Description.{sample_count};
-ghost use Rattle.vx_base.specs.Image.{made, image_over};
+ghost use Rattle.vx_base.specs.Image.{image_from, image_over};
 ghost use Rattle.image_core.specs.Bands.{IsInRows, all_rows};
 ghost use Rattle.image_core.specs.Rows.{sample_from};
 
@@ -30,7 +30,7 @@ pub struct ImageMut<'a> {
 }
 
 impl<'a> ImageMut<'a> {
-    ghost use Rattle.image_core.specs.Target.{written, IsTarget, SameSlices, Writes};
+    ghost use Rattle.image_core.specs.Target.{target_image, IsTarget, SameSlices, Writes};
 
     /// Returns an output over these samples, one for each pixel, with an empty valid rectangle.
     /// `same_slice` ties the output's slice to the caller's, so the caller learns the samples when
@@ -39,7 +39,7 @@ impl<'a> ImageMut<'a> {
         requires format { desc.format ≡ T.format }
         requires size { length samples.old ≡ sample_count desc }
         ensures target { IsTarget result }
-        ensures value { written result ≡ image_over desc empty (map T.value samples.old) }
+        ensures value { target_image result ≡ image_over desc empty_rectangle (map T.value samples.old) }
         ensures same_slice { T.slice_name result ≡ samples.entry.ghost_name }
         ensures rows { result.rows ≡ all_rows desc.height }
     {
@@ -53,7 +53,7 @@ impl<'a> ImageMut<'a> {
         requires rows { IsInRows desc.height rows }
         requires size { length samples.old ≡ rows.count * desc.width }
         ensures target { IsTarget result }
-        ensures value { written result ≡ image_over desc empty (map T.value samples.old) }
+        ensures value { target_image result ≡ image_over desc empty_rectangle (map T.value samples.old) }
         ensures same_slice { T.slice_name result ≡ samples.entry.ghost_name }
         ensures rows { result.rows ≡ rows }
     {
@@ -84,9 +84,9 @@ impl<'a> ImageMut<'a> {
     /// Sets the valid rectangle; the samples stay as they are.
     pub fn set_valid(&mut self, valid: Rect)
         requires target { IsTarget self.old }
-        requires room { IsWithin valid (written self.old).width (written self.old).height }
-        ensures value { written self.new
-            ≡ image_over self.old.desc valid (written self.old).samples }
+        requires room { IsWithin valid (target_image self.old).width (target_image self.old).height }
+        ensures value { target_image self.new
+            ≡ image_over self.old.desc valid (target_image self.old).samples }
         ensures target { IsTarget self.new }
         ensures slices { SameSlices self.old self.new }
     {
@@ -96,11 +96,11 @@ impl<'a> ImageMut<'a> {
     /// Sets each sample outside the valid rectangle to 0; those inside stay as they are.
     pub fn clear_outside(&mut self)
         requires target { IsTarget self.old }
-        requires room { IsWithin (written self.old).valid (written self.old).width
-            (written self.old).height }
-        ensures { Writes (made (written self.old).width (written self.old).height
-            (written self.old).format (written self.old).valid
-            (sample_from self.old.desc.width self.old.rows.start (written self.old).samples))
+        requires room { IsWithin (target_image self.old).valid (target_image self.old).width
+            (target_image self.old).height }
+        ensures { Writes (image_from (target_image self.old).width (target_image self.old).height
+            (target_image self.old).format (target_image self.old).valid
+            (sample_from self.old.desc.width self.old.rows.start (target_image self.old).samples))
             self.old self.new }
     {
         let _limits = self.desc.height();
@@ -116,12 +116,12 @@ impl<'a> ImageMut<'a> {
     /// becomes the valid rectangle.
     pub fn update<T: Sample, U: RowUpdate<T>>(&mut self, update: &U)
         requires target { IsTarget self.old }
-        requires format { (written self.old).format ≡ T.format }
-        requires room { IsWithin (U.area update.now) (written self.old).width
-            (written self.old).height }
-        ensures { Writes (made (written self.old).width (written self.old).height T.format
+        requires format { (target_image self.old).format ≡ T.format }
+        requires room { IsWithin (U.area update.now) (target_image self.old).width
+            (target_image self.old).height }
+        ensures { Writes (image_from (target_image self.old).width (target_image self.old).height T.format
             (U.area update.now) (λ x y. U.next update.now x y
-            (sample_from self.old.desc.width self.old.rows.start (written self.old).samples x y)))
+            (sample_from self.old.desc.width self.old.rows.start (target_image self.old).samples x y)))
             self.old self.new }
     {
         self.valid = update.area();
@@ -132,10 +132,10 @@ impl<'a> ImageMut<'a> {
     /// valid rectangle.
     pub fn write<T: Sample, F: Formula<T>>(&mut self, formula: &F)
         requires target { IsTarget self.old }
-        requires format { (written self.old).format ≡ T.format }
-        requires room { IsWithin (F.area formula.now) (written self.old).width
-            (written self.old).height }
-        ensures { Writes (made (written self.old).width (written self.old).height T.format
+        requires format { (target_image self.old).format ≡ T.format }
+        requires room { IsWithin (F.area formula.now) (target_image self.old).width
+            (target_image self.old).height }
+        ensures { Writes (image_from (target_image self.old).width (target_image self.old).height T.format
             (F.area formula.now) (F.at formula.now)) self.old self.new }
     {
         self.write_by_rows::<T, u8, _>(&Unaided { formula }, &mut []);
@@ -149,11 +149,11 @@ impl<'a> ImageMut<'a> {
         scratch: &mut [S],
     )
         requires target { IsTarget self.old }
-        requires format { (written self.old).format ≡ T.format }
-        requires room { IsWithin (F.area formula.now) (written self.old).width
-            (written self.old).height }
+        requires format { (target_image self.old).format ≡ T.format }
+        requires room { IsWithin (F.area formula.now) (target_image self.old).width
+            (target_image self.old).height }
         requires scratch { F.room formula.now ≤ length scratch.old }
-        ensures { Writes (made (written self.old).width (written self.old).height T.format
+        ensures { Writes (image_from (target_image self.old).width (target_image self.old).height T.format
             (F.area formula.now) (F.at formula.now)) self.old self.new }
     {
         self.valid = formula.area();
@@ -163,10 +163,10 @@ impl<'a> ImageMut<'a> {
     /// Writes a whole U32 image, row after row. The area becomes the valid rectangle.
     pub fn write_whole<W: Whole>(&mut self, whole: &W)
         requires target { IsTarget self.old }
-        requires format { (written self.old).format ≡ U32 }
-        requires width { (written self.old).width ≡ W.width whole.now }
-        requires height { (written self.old).height ≡ W.height whole.now }
-        ensures { Writes (made (W.width whole.now) (W.height whole.now) U32 (W.area whole.now)
+        requires format { (target_image self.old).format ≡ U32 }
+        requires width { (target_image self.old).width ≡ W.width whole.now }
+        requires height { (target_image self.old).height ≡ W.height whole.now }
+        ensures { Writes (image_from (W.width whole.now) (W.height whole.now) U32 (W.area whole.now)
             (W.at whole.now)) self.old self.new }
     {
         self.valid = whole.area();

@@ -12,7 +12,7 @@
 //!   them, with 0 outside the valid rectangle.
 //! - A `RowUpdate` gives each sample's new value from its old one; `ImageMut::update` applies it in
 //!   place.
-//! - A `Second` is a kernel's second operand.
+//! - A `SecondInput` is a kernel's second operand.
 #![tactic(auto)]
 
 mod band;
@@ -39,6 +39,6 @@ pub use row_formula::RowFormula;
 pub use row_update::RowUpdate;
 pub use rows::{clear_rows, set_all};
 pub use sample::Sample;
-pub use second::Second;
+pub use second::SecondInput;
 pub use slice::Slice;
 pub use whole::Whole;

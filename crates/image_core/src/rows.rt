@@ -1,6 +1,6 @@
 //! Samples that are changed and cleared row by row.
 ghost use Rattle.std.specs.Prelude.{◌≡◌, ◌*◌, ◌+◌, ◌^◌, ◌<◌, ◌≤◌, ℕ, ℤ, length, map, replicate};
-ghost use Rattle.vx_base.specs.Image.{run, band, within};
+ghost use Rattle.vx_base.specs.Image.{run, band, zero_outside};
 ghost use Rattle.image_core.specs.Rows.{sample_from};
 
 use crate::band::Band;
@@ -35,7 +35,7 @@ fn change_across<T: Number, S, C: RowChange<T, S>>(
     requires room { x1 ≤ length row.old }
     ensures { (before : ℕ → ℤ) → map T.value row.old ≡ run 0 (length row.old) before →
         map T.value row.new ≡ run 0 (length row.old)
-        (λ k. within (C.area change.now) (λ x y. C.next change.now x y (before x)) k y) }
+        (λ k. zero_outside (C.area change.now) (λ x y. C.next change.now x y (before x)) k y) }
 {
     let (head, others) = row.split_at_mut(usize::from(x0));
     let (middle, tail) = others.split_at_mut(usize::from(x1 - x0));
@@ -55,7 +55,7 @@ fn change_row<T: Number, S, C: RowChange<T, S>>(
     requires room { (C.area change.now).x1 ≤ length row.old }
     ensures { (before : ℕ → ℤ) → map T.value row.old ≡ run 0 (length row.old) before →
         map T.value row.new ≡ run 0 (length row.old)
-        (λ k. within (C.area change.now) (λ x y. C.next change.now x y (before x)) k y) }
+        (λ k. zero_outside (C.area change.now) (λ x y. C.next change.now x y (before x)) k y) }
 {
     let area = change.area();
     if y < area.y0() || area.y1() <= y {
@@ -79,7 +79,7 @@ pub fn change_rows<T: Number, S, C: RowChange<T, S>>(
     requires size { length samples.old ≡ rows.count * width }
     requires room { (C.area change.now).x1 ≤ width }
     ensures { map T.value samples.new ≡ band width rows.start rows.count
-        (within (C.area change.now) (λ x y. C.next change.now x y
+        (zero_outside (C.area change.now) (λ x y. C.next change.now x y
         (sample_from width rows.start (map T.value samples.old) x y))) }
 {
     let step = usize::from(width);
@@ -101,7 +101,7 @@ pub fn clear_rows<T: Number>(valid: Rect, width: u16, rows: Band, samples: &mut 
     requires size { length samples.old ≡ rows.count * width }
     requires room { valid.x1 ≤ width }
     ensures { map T.value samples.new ≡ band width rows.start rows.count
-        (within valid (sample_from width rows.start (map T.value samples.old))) }
+        (zero_outside valid (sample_from width rows.start (map T.value samples.old))) }
 {
     let kept = Kept { area: valid };
     change_rows(&Updated { update: &kept }, width, rows, &mut [], samples);

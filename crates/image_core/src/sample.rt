@@ -3,8 +3,8 @@ ghost use Rattle.std.specs.Prelude.{◌≡◌, ◌*◌, ◌≤◌, ℕ, pos, map
 ghost use Rattle.vx_base.specs.declared.desc.TheConstants.{GREATEST_SIDE};
 ghost use Rattle.vx_base.specs.declared.format.Format.{Format};
 ghost use Rattle.vx_base.specs.declared.format.Format.TheVariants.{U8, S16, U32};
-ghost use Rattle.vx_base.specs.Rectangle.{empty};
-ghost use Rattle.vx_base.specs.Image.{image_over, band, within};
+ghost use Rattle.vx_base.specs.Rectangle.{empty_rectangle};
+ghost use Rattle.vx_base.specs.Image.{image_over, band, zero_outside};
 ghost use Rattle.image_core.specs.Bands.{IsInRows};
 ghost use Rattle.image_core.specs.Rows.{sample_from};
 ghost use Rattle.image_core.specs.Slices.{slice_format, slice_values};
@@ -20,7 +20,7 @@ use vx_base::{Desc, GREATEST_SIDE, Rect};
 /// The number type of a format's samples. `Image::row` and `ImageMut::write` are generic over it.
 pub trait Sample: Number {
     ghost use Rattle.image_core.specs.declared.image_mut.ImageMut.{ImageMut};
-    ghost use Rattle.image_core.specs.Target.{written, IsTarget, SameSlices};
+    ghost use Rattle.image_core.specs.Target.{target_image, IsTarget, SameSlices};
 
     /// The format of images with such samples.
     ghost format: { Format };
@@ -50,7 +50,7 @@ pub trait Sample: Number {
         requires size { length samples.old ≡ rows.count * desc.width }
         ensures target { IsTarget result }
         ensures rows { result.rows ≡ rows }
-        ensures value { written result ≡ image_over desc empty (map Self.value samples.old) }
+        ensures value { target_image result ≡ image_over desc empty_rectangle (map Self.value samples.old) }
         ensures same_slice { slice_name result ≡ samples.entry.ghost_name };
 
     /// Changes the samples of an output's band within the change's area, and sets the others to 0.
@@ -60,15 +60,15 @@ pub trait Sample: Number {
         scratch: &mut [S],
     )
         requires target { IsTarget output.old }
-        requires format { (written output.old).format ≡ format }
-        requires room { (C.area change.now).x1 ≤ (written output.old).width }
+        requires format { (target_image output.old).format ≡ format }
+        requires room { (C.area change.now).x1 ≤ (target_image output.old).width }
         requires scratch { C.room change.now ≤ length scratch.old }
-        ensures value { written output.new
+        ensures value { target_image output.new
             ≡ image_over output.old.desc output.old.valid
-            (band (written output.old).width output.old.rows.start output.old.rows.count
-            (within (C.area change.now) (λ x y. C.next change.now x y
+            (band (target_image output.old).width output.old.rows.start output.old.rows.count
+            (zero_outside (C.area change.now) (λ x y. C.next change.now x y
             (sample_from output.old.desc.width output.old.rows.start
-            (written output.old).samples x y)))) }
+            (target_image output.old).samples x y)))) }
         ensures slices { SameSlices output.old output.new };
 }
 

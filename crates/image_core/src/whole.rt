@@ -1,7 +1,7 @@
 //! Images in which each row depends on the rows above it.
 ghost use Rattle.std.specs.Prelude.{◌≡◌, ◌*◌, ℕ, ℤ, pos, length, map};
 ghost use Rattle.vx_base.specs.Rectangle.{Rectangle};
-ghost use Rattle.vx_base.specs.Image.{band, within};
+ghost use Rattle.vx_base.specs.Image.{band, zero_outside};
 ghost use Rattle.image_core.specs.Bands.{IsInRows};
 
 use crate::band::Band;
@@ -28,5 +28,5 @@ pub trait Whole {
         requires rows { IsInRows (height self.now) rows }
         requires size { length out.old ≡ rows.count * width self.now }
         ensures { map pos out.new ≡ band (width self.now) rows.start rows.count
-            (within (area self.now) (at self.now)) };
+            (zero_outside (area self.now) (at self.now)) };
 }

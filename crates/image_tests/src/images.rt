@@ -4,10 +4,10 @@ ghost use Rattle.std.specs.Prelude.{◌≡◌, ◌<◌, ℕ, map, pos, length, g
 ghost use Rattle.vx_base.specs.declared.format.Format.TheVariants.{U8};
 ghost use Rattle.vx_base.specs.Description.{sample_count};
 ghost use Rattle.vx_base.specs.Rectangle.{IsWithin};
-ghost use Rattle.vx_base.specs.Image.{IsImage, made, image_over, description_of};
+ghost use Rattle.vx_base.specs.Image.{IsImage, image_from, image_over, description_of};
 ghost use Rattle.image_core.specs.Bands.{all_rows};
 ghost use Rattle.image_core.specs.Rows.{sample_from};
-ghost use Rattle.image_core.specs.Target.{written, IsTarget, SameSlices};
+ghost use Rattle.image_core.specs.Target.{target_image, IsTarget, SameSlices};
 
 use image_core::{Image, ImageMut};
 use pixel_kernels::{bit_and, bit_xor};
@@ -20,7 +20,7 @@ fn clear(desc: Desc, valid: Rect, samples: &mut [u8])
     requires size { length samples.old ≡ sample_count desc }
     requires room { IsWithin valid desc.width desc.height }
     ensures { image_over desc valid (map pos samples.new)
-        ≡ made desc.width desc.height U8 valid
+        ≡ image_from desc.width desc.height U8 valid
         (sample_from desc.width 0 (map pos samples.old)) }
 {
     let mut image = ImageMut::new(desc, samples);
@@ -32,9 +32,9 @@ fn clear_to(image: &mut ImageMut<'_>, valid: Rect)
     requires target { IsTarget image.old }
     requires rows { image.old.rows ≡ all_rows image.old.desc.height }
     requires room { IsWithin valid image.old.desc.width image.old.desc.height }
-    ensures value { written image.new
-        ≡ made image.old.desc.width image.old.desc.height image.old.desc.format valid
-        (sample_from image.old.desc.width 0 (written image.old).samples) }
+    ensures value { target_image image.new
+        ≡ image_from image.old.desc.width image.old.desc.height image.old.desc.format valid
+        (sample_from image.old.desc.width 0 (target_image image.old).samples) }
     ensures slices { SameSlices image.old image.new }
 {
     image.set_valid(valid);

@@ -2,7 +2,7 @@
 //! whole images of sizes around it under each border.
 ghost use Rattle.std.specs.Prelude.{◌≡◌, ◌<◌, ◌≤◌, length};
 ghost use Rattle.vx_base.specs.declared.format.Format.TheVariants.{U8, S16};
-ghost use Rattle.lane_rows.specs.Windows.{places};
+ghost use Rattle.lane_rows.specs.Windows.{place_count};
 ghost use Rattle.window_kernels.specs.Fits.{WindowFits};
 
 use crate::images::lend;
@@ -120,7 +120,7 @@ fn three_of<'a>(
 /// Returns the first `count` windows of nine rows.
 fn windows(rows: &[[u8; LONGEST]; 9], count: usize) -> Nine<'_>
     requires { count ≤ 65 }
-    ensures { places result ≡ count }
+    ensures { place_count result ≡ count }
 {
     Nine {
         above: three_of(&rows[0], &rows[1], &rows[2], count),
@@ -228,7 +228,7 @@ fn nine_around(case: &Case, x: u16, y: u16) -> [u8; 9] {
 }
 
 /// Writes a function whose results are U8.
-fn write_bytes(function: Function, image: &Image<'_>, output: &mut ImageMut<'_>, border: Border)
+fn write_to_u8(function: Function, image: &Image<'_>, output: &mut ImageMut<'_>, border: Border)
     requires { WindowFits U8 image.now output.old }
 {
     match function {
@@ -241,7 +241,7 @@ fn write_bytes(function: Function, image: &Image<'_>, output: &mut ImageMut<'_>,
 }
 
 /// Writes a function whose results are S16.
-fn write_shorts(function: Function, image: &Image<'_>, output: &mut ImageMut<'_>, border: Border)
+fn write_to_s16(function: Function, image: &Image<'_>, output: &mut ImageMut<'_>, border: Border)
     requires { WindowFits S16 image.now output.old }
 {
     match function {
@@ -266,7 +266,7 @@ fn bytes_of(case: &Case, function: Function, to: &mut [u8]) -> Option<Rect> {
     let mut from = samples();
     let image = lend(desc, valid, from.get_mut(..desc.sample_count())?);
     let mut target = ImageMut::new(desc, to.get_mut(..desc.sample_count())?);
-    write_bytes(function, &image, &mut target, case.border);
+    write_to_u8(function, &image, &mut target, case.border);
     Some(target.valid())
 }
 
@@ -277,7 +277,7 @@ fn shorts_of(case: &Case, function: Function, to: &mut [i16]) -> Option<Rect> {
     let mut from = samples();
     let image = lend(desc, valid, from.get_mut(..desc.sample_count())?);
     let mut target = ImageMut::new(wide, to.get_mut(..desc.sample_count())?);
-    write_shorts(function, &image, &mut target, case.border);
+    write_to_s16(function, &image, &mut target, case.border);
     Some(target.valid())
 }
 

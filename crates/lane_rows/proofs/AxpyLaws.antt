@@ -4,7 +4,7 @@ use Rattle.lane_rows.proofs.Common.{zip2, Each1, ints, to_z-of_z, int_wrap_fits,
 use Rattle.std.specs.Int.{int_wrap}
 use Rattle.std.proofs.lemmas.Int.{wrapping_add_is, unsigned_abs-mul}
 use Rattle.std.proofs.lemmas.Nat.{mul-le}
-use Rattle.lane_rows.specs.Axpy.{HasRoom, with_product}
+use Rattle.lane_rows.specs.Axpy.{FitsProduct, with_product}
 use Rattle.lane_rows.proofs.Lanewise.{Lanewise, one, other, constant, each, both, pairs_are}
 use Rattle.lane_rows.proofs.ShortLaws.{abs_16, wider, times_lane}
 
@@ -48,7 +48,7 @@ sixteen_added k bits row sums is fits p q bytes s_fits =
     ∙ ap (zip2 (λ a s. int_wrap w32 (s +ℤ k *ℤ a)) (map pos row)) (map-id sums)
 
 -- no sum within its bound wraps
-pub none_wraps : (k : ℤ) (row : List ℕ) (sums : List ℤ) → FitsSigned w16 k → Each1 (Fits w8) row → Each1 HasRoom sums
+pub none_wraps : (k : ℤ) (row : List ℕ) (sums : List ℤ) → FitsSigned w16 k → Each1 (Fits w8) row → Each1 FitsProduct sums
     → zip2 (λ a s. int_wrap w32 (s +ℤ k *ℤ a)) (map pos row) sums ≡ zip2 (with_product k) (map pos row) sums
 none_wraps k [] sums fits bytes room = refl
 none_wraps k (a ∷ row) [] fits bytes room = refl

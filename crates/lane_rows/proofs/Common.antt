@@ -1,5 +1,5 @@
 -- Names that several proofs use. Declares nothing.
-pub use Rattle.lane_rows.specs.Quarters.{exchanged}
+pub use Rattle.lane_rows.specs.Quarters.{swap_quarters}
 pub use Rattle.std.proofs.Math.Nat.{div-eq_of_lt, mod-eq_of_lt, pow-le-pow_right}
 pub use Rattle.std.proofs.Math.Seq.{take-add}
 pub use Rattle.std.proofs.lemmas.Bool.{cases_lt}

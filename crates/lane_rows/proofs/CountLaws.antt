@@ -1,6 +1,6 @@
 -- The first items of a list of samples: the number that equal an item, and their least or greatest.
 use Rattle.std.proofs.Common.{◌≡◌, ℕ, ℤ, pos, negsuc, ◌+◌, ◌-◌, ◌*◌, ◌<◌, ◌≤◌, List, [], ◌∷◌, length, map, take, drop, get_or, cond, true, false, eqb, ap, ◌∙◌, sym, refl, arith, rules, inl, inr, to_z, of_z, w16, FitsSigned, count_by, slice_range, eq-eqb, ne_eqb, take_all}
-use Rattle.lane_rows.proofs.Names.{All, All-head, All-tail, IsSample, S16, cases_Bool, cases_eq, fold, int_eq, take-add, ints, to_z-of_z, take-map, drop-map, get_or-map, length-map, sum_by-append, sum_by-cons, sum_by_more, count_by-le-length, chosen, count_of}
+use Rattle.lane_rows.proofs.Names.{All, All-head, All-tail, IsSample, S16, cases_Bool, cases_eq, fold, int_eq, take-add, ints, to_z-of_z, take-map, drop-map, get_or-map, length-map, sum_by-append, sum_by-cons, sum_by_more, count_by-le-length, best_of, count_of}
 use Rattle.std.proofs.lemmas.Bool.Decides.{Decides-int_eq}
 use Rattle.std.proofs.lemmas.List.{take_more}
 use Rattle.std.proofs.lemmas.List.Sums.{sum_by-take-le, fold_push}
@@ -105,13 +105,13 @@ next_chosen value choose row a w next i r below is so_far then =
     ∙ sym (ap (fold choose a) (take_more zs i (pos 0) (omega (arith, length-map row value))) ∙ fold_push choose a (take i zs) (get_or zs i (pos 0)))
 
 -- a choice that begins with the first sample, and meets it again
-chosen_from_first : (choose : ℤ → ℤ → ℤ) → ((z : ℤ) → choose z z ≡ z) → (zs : List ℤ) → 0 < length zs → fold choose (get_or zs 0 (pos 0)) zs ≡ chosen choose zs
+chosen_from_first : (choose : ℤ → ℤ → ℤ) → ((z : ℤ) → choose z z ≡ z) → (zs : List ℤ) → 0 < length zs → fold choose (get_or zs 0 (pos 0)) zs ≡ best_of choose zs
 chosen_from_first choose same [] some = absurd (omega arith)
 chosen_from_first choose same (z ∷ zs) some = ap (λ a. fold choose a zs) (same z)
 
 -- all are chosen from
 pub all_chosen : {T : Type 0} (value : T → ℤ) (choose : ℤ → ℤ → ℤ) → ((z : ℤ) → choose z z ≡ z) → (row : List T) (w : ℤ) (i : ℕ) → 0 < length row → length row ≤ i
-    → w ≡ fold choose (get_or (map value row) 0 (pos 0)) (take i (map value row)) → w ≡ chosen choose (map value row)
+    → w ≡ fold choose (get_or (map value row) 0 (pos 0)) (take i (map value row)) → w ≡ best_of choose (map value row)
 all_chosen value choose same row w i some end is =
     let zs = map value row in
     is ∙ ap (fold choose (get_or zs 0 (pos 0))) (take_all i zs (omega (arith, length-map row value))) ∙ chosen_from_first choose same zs (omega (arith, length-map row value))

@@ -13,6 +13,6 @@ pub use Rattle.std.specs.List.{All, fold, range_with_len, sum}
 pub use Rattle.std.specs.Ordering.{int_eq}
 pub use Rattle.vx_base.proofs.TableLaws.{range-append}
 pub use Rattle.vx_base.specs.Sample.{IsSample}
-pub use Rattle.vx_base.specs.Statistics.{chosen, count_of}
+pub use Rattle.vx_base.specs.Statistics.{best_of, count_of}
 pub use Rattle.vx_base.specs.declared.format.Format.TheVariants.{S16}
 pub use lib.Count.{ones}

@@ -1,6 +1,6 @@
 -- Sums at every second place of a row.
 use Rattle.std.proofs.Common.{map, length, ◌≡◌, ℕ, ℤ, pos, zero, suc, ◌+◌, ◌*◌, ◌≤◌, List, ◌∷◌, ◌++◌, get_or, take, drop, refl, ap, ◌∙◌, sym, arith, add-one, ◌+ℤ◌, w32, to_z, of_z, ◌*ℤ◌}
-use Rattle.lane_rows.proofs.PairNames.{zip2, chunk, Each1, ints, run, run-same, run-append, run_shifted, IsNear, evens_of, odds_of, alternating, pair_at, row_sum, first_of_pair, second_of_pair}
+use Rattle.lane_rows.proofs.PairNames.{zip2, chunk, Each1, ints, run, run-same, run-append, run_shifted, IsNear, evens_of, odds_of, alternation, pair_at, row_sum, first_of_pair, second_of_pair}
 use Rattle.std.proofs.Math.Seq.{drop-cons}
 
 twice : ℕ → ℕ
@@ -15,23 +15,23 @@ drop_two row q room =
 
 -- the sums of two alternating coefficients along a row
 pairs_along : (row : List ℤ) (a b : ℤ) (n k p : ℕ) → p + 2 * k + 2 * n ≤ length row
-    → zip2 ◌+ℤ◌ (zip2 ◌*ℤ◌ (evens_of (take (twice n) (drop (p + 2 * k) row))) (evens_of (alternating n a b))) (zip2 ◌*ℤ◌ (odds_of (take (twice n) (drop (p + 2 * k) row))) (odds_of (alternating n a b))) ≡ run k n (λ i. pair_at row a b (p + 2 * i))
+    → zip2 ◌+ℤ◌ (zip2 ◌*ℤ◌ (evens_of (take (twice n) (drop (p + 2 * k) row))) (evens_of (alternation n a b))) (zip2 ◌*ℤ◌ (odds_of (take (twice n) (drop (p + 2 * k) row))) (odds_of (alternation n a b))) ≡ run k n (λ i. pair_at row a b (p + 2 * i))
 unfolding twice
 pairs_along row a b zero k p room = refl
 pairs_along row a b (suc n) k p room =
     let next : p + 2 * k + 2 ≡ p + 2 * (k + 1) = omega arith in
-    ap (λ l. zip2 ◌+ℤ◌ (zip2 ◌*ℤ◌ (evens_of (take (suc (suc (twice n))) l)) (evens_of (alternating (suc n) a b))) (zip2 ◌*ℤ◌ (odds_of (take (suc (suc (twice n))) l)) (odds_of (alternating (suc n) a b))))
+    ap (λ l. zip2 ◌+ℤ◌ (zip2 ◌*ℤ◌ (evens_of (take (suc (suc (twice n))) l)) (evens_of (alternation (suc n) a b))) (zip2 ◌*ℤ◌ (odds_of (take (suc (suc (twice n))) l)) (odds_of (alternation (suc n) a b))))
     (drop_two row (p + 2 * k) (omega arith) ∙ ap (λ m. get_or row (p + 2 * k) (pos 0) ∷ get_or row (p + 2 * k + 1) (pos 0) ∷ drop m row) next)
     ∙ ap (λ l. pair_at row a b (p + 2 * k) ∷ l) (pairs_along row a b n (k + 1) p (omega arith))
 
 -- at eight places
-pub eight_along : (row coefficients : List ℤ) (a b : ℤ) (p : ℕ) → p + 16 ≤ length row → coefficients ≡ alternating 8 a b
+pub eight_along : (row coefficients : List ℤ) (a b : ℤ) (p : ℕ) → p + 16 ≤ length row → coefficients ≡ alternation 8 a b
     → zip2 ◌+ℤ◌ (zip2 ◌*ℤ◌ (evens_of (chunk p 16 row)) (evens_of coefficients)) (zip2 ◌*ℤ◌ (odds_of (chunk p 16 row)) (odds_of coefficients)) ≡ run 0 8 (λ i. pair_at row a b (p + 2 * i))
 unfolding twice
 eight_along row coefficients a b p room is =
     let begin : p ≡ p + 2 * 0 = omega arith in
     ap (λ l. zip2 ◌+ℤ◌ (zip2 ◌*ℤ◌ (evens_of (chunk p 16 row)) (evens_of l)) (zip2 ◌*ℤ◌ (odds_of (chunk p 16 row)) (odds_of l))) is
-    ∙ ap (λ n. zip2 ◌+ℤ◌ (zip2 ◌*ℤ◌ (evens_of (take 16 (drop n row))) (evens_of (alternating 8 a b))) (zip2 ◌*ℤ◌ (odds_of (take 16 (drop n row))) (odds_of (alternating 8 a b)))) begin
+    ∙ ap (λ n. zip2 ◌+ℤ◌ (zip2 ◌*ℤ◌ (evens_of (take 16 (drop n row))) (evens_of (alternation 8 a b))) (zip2 ◌*ℤ◌ (odds_of (take 16 (drop n row))) (odds_of (alternation 8 a b)))) begin
     ∙ pairs_along row a b 8 0 p (omega arith)
 
 -- ---- runs

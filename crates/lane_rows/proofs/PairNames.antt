@@ -1,6 +1,6 @@
 -- Names that the proofs of pairs and of matrices use. Declares nothing.
 pub use Rattle.lane_rows.specs.MatrixRows.{matrix_sum}
-pub use Rattle.lane_rows.specs.Pairs.{IsNear, IsPairTable, alternating, evens_of, first_of_pair, line_of, odds_of, pair_at, row_sum, second_of_pair, sum_of_rows}
+pub use Rattle.lane_rows.specs.Pairs.{IsNear, IsPairTable, alternation, evens_of, first_of_pair, line_of, odds_of, pair_at, row_sum, second_of_pair, sum_of_rows}
 pub use Rattle.lane_rows.specs.declared.matrix_rows.MatrixRows.{MatrixRows}
 pub use Rattle.std.proofs.lemmas.Int.{fits_signed_from_abs, ints, to_z-of_z}
 pub use Rattle.std.proofs.lemmas.List.{length-map, map-append}

@@ -1,6 +1,6 @@
 -- Numbers of 16 bits in lanes: their products in 32 bits.
 use Rattle.std.proofs.Common.{rules, ◌≡◌, ℕ, ℤ, pos, negsuc, suc, ◌+◌, ◌-◌, ◌*◌, ◌/◌, ◌%◌, ◌^◌, ◌<◌, ◌≤◌, List, [], ◌∷◌, ◌++◌, map, length, replicate, refl, ap, ◌∙◌, sym, subst, arith, w16, w32, FitsSigned, to_z, of_z, ◌*ℤ◌, unsigned_abs}
-use Rattle.lane_rows.proofs.Common.{shr_z, range_with_len, zip2, Each1, pick_l, number_l, digits_l, ints, to_z-of_z, int_wrap_fits, fits_signed_from_abs, length-zip2, length-map, exchanged, Width}
+use Rattle.lane_rows.proofs.Common.{shr_z, range_with_len, zip2, Each1, pick_l, number_l, digits_l, ints, to_z-of_z, int_wrap_fits, fits_signed_from_abs, length-zip2, length-map, swap_quarters, Width}
 use Rattle.std.proofs.lemmas.Int.{of_z-to_z, wrapping_mul_is, unsigned_abs-mul}
 use Rattle.std.proofs.lemmas.Nat.{mul-le, mul-mod}
 use Rattle.std.proofs.Math.Facts.{Fits-of_z}
@@ -34,10 +34,10 @@ weave (x ∷ xs) (y ∷ ys) = x ∷ y ∷ weave xs ys
 abbrev turns : List ℕ
 turns = 0 ∷ 16 ∷ 1 ∷ 17 ∷ 2 ∷ 18 ∷ 3 ∷ 19 ∷ 8 ∷ 24 ∷ 9 ∷ 25 ∷ 10 ∷ 26 ∷ 11 ∷ 27 ∷ 4 ∷ 20 ∷ 5 ∷ 21 ∷ 6 ∷ 22 ∷ 7 ∷ 23 ∷ 12 ∷ 28 ∷ 13 ∷ 29 ∷ 14 ∷ 30 ∷ 15 ∷ 31 ∷ []
 
-woven : (xs ys : List ℕ) → length xs ≡ 16 → length ys ≡ 16 → pick_l 0 (xs ++ ys) turns ≡ weave (exchanged xs) (exchanged ys)
+woven : (xs ys : List ℕ) → length xs ≡ 16 → length ys ≡ 16 → pick_l 0 (xs ++ ys) turns ≡ weave (swap_quarters xs) (swap_quarters ys)
 woven xs ys p q =
-    written_out 0 (λ u. pick_l 0 (u ++ ys) turns ≡ weave (exchanged u) (exchanged ys)) xs p
-    (written_out 0 (λ v. pick_l 0 (pick_l 0 xs (range_with_len 0 16) ++ v) turns ≡ weave (exchanged (pick_l 0 xs (range_with_len 0 16))) (exchanged v)) ys q refl)
+    written_out 0 (λ u. pick_l 0 (u ++ ys) turns ≡ weave (swap_quarters u) (swap_quarters ys)) xs p
+    (written_out 0 (λ v. pick_l 0 (pick_l 0 xs (range_with_len 0 16) ++ v) turns ≡ weave (swap_quarters (pick_l 0 xs (range_with_len 0 16))) (swap_quarters v)) ys q refl)
 
 -- ---- numbers of digits
 
@@ -164,7 +164,7 @@ abbrev in_bytes : List ℕ → List ℕ
 in_bytes xs = digits_l 4294967296 16 (number_l 256 (digits_l 256 64 (number_l 65536 xs)))
 
 pub products_are : (us vs : List ℤ) → length us ≡ 16 → length vs ≡ 16 → Each1 (FitsSigned w16) us → Each1 (FitsSigned w16) vs
-    → map (to_z w32) (in_bytes (pick_l 0 (low_halves (map (of_z w16) us) (map (of_z w16) vs) ++ high_halves 16 (map (of_z w16) us) (map (of_z w16) vs)) turns)) ≡ exchanged (zip2 ◌*ℤ◌ us vs)
+    → map (to_z w32) (in_bytes (pick_l 0 (low_halves (map (of_z w16) us) (map (of_z w16) vs) ++ high_halves 16 (map (of_z w16) us) (map (of_z w16) vs)) turns)) ≡ swap_quarters (zip2 ◌*ℤ◌ us vs)
 products_are us vs p q f g =
     let xs = map (of_z w16) us in
     let ys = map (of_z w16) vs in
@@ -175,14 +175,14 @@ products_are us vs p q f g =
     let zs = zip2 ◌*ℤ◌ us vs in
     let long : length zs ≡ 16 = length-zip2 ◌*ℤ◌ us vs (p ∙ sym q) ∙ p in
     let fits = Each1-exchanged (FitsSigned w32) zs (products_fit us vs f g) in
-    let bits_long : length (map (of_z w32) (exchanged zs)) ≡ 16 = length-map (exchanged zs) (of_z w32) ∙ length-exchanged (pos 0) zs long in
-    let whole : number_l 65536 (weave (exchanged (low_halves xs ys)) (exchanged (high_halves 16 xs ys))) ≡ number_l 4294967296 (map (of_z w32) (exchanged zs)) =
-    joined (exchanged (low_halves xs ys)) (exchanged (high_halves 16 xs ys))
+    let bits_long : length (map (of_z w32) (swap_quarters zs)) ≡ 16 = length-map (swap_quarters zs) (of_z w32) ∙ length-exchanged (pos 0) zs long in
+    let whole : number_l 65536 (weave (swap_quarters (low_halves xs ys)) (swap_quarters (high_halves 16 xs ys))) ≡ number_l 4294967296 (map (of_z w32) (swap_quarters zs)) =
+    joined (swap_quarters (low_halves xs ys)) (swap_quarters (high_halves 16 xs ys))
     ∙ ap (number_l 4294967296)
-    (sym (exchanged-zip2 0 0 (λ x y. x + 65536 * y) (low_halves xs ys) (high_halves 16 xs ys) low_long high_long) ∙ ap exchanged (halves_joined us vs p q f g) ∙ exchanged-map (pos 0) (of_z w32) zs long) in
+    (sym (exchanged-zip2 0 0 (λ x y. x + 65536 * y) (low_halves xs ys) (high_halves 16 xs ys) low_long high_long) ∙ ap swap_quarters (halves_joined us vs p q f g) ∙ exchanged-map (pos 0) (of_z w32) zs long) in
     ap (λ l. map (to_z w32) (in_bytes l)) (woven (low_halves xs ys) (high_halves 16 xs ys) low_long high_long)
-    ∙ ap (map (to_z w32)) (recast 65536 4294967296 64 16 (weave (exchanged (low_halves xs ys)) (exchanged (high_halves 16 xs ys))) (map (of_z w32) (exchanged zs)) whole bits_long (each_below w32 (exchanged zs) fits) refl)
-    ∙ of_bits w32 (exchanged zs) fits
+    ∙ ap (map (to_z w32)) (recast 65536 4294967296 64 16 (weave (swap_quarters (low_halves xs ys)) (swap_quarters (high_halves 16 xs ys))) (map (of_z w32) (swap_quarters zs)) whole bits_long (each_below w32 (swap_quarters zs) fits) refl)
+    ∙ of_bits w32 (swap_quarters zs) fits
 
 -- ---- quarters exchanged
 
@@ -190,8 +190,8 @@ abbrev in_fours : List ℕ → List ℕ
 in_fours xs = digits_l 18446744073709551616 4 (number_l 256 (digits_l 256 32 (number_l 65536 xs)))
 
 pub exchanged_are : (zs : List ℤ) → length zs ≡ 16 → Each1 (FitsSigned w16) zs
-    → map (to_z w16) (digits_l 65536 16 (number_l 256 (digits_l 256 32 (number_l 18446744073709551616 (pick_l 0 (in_fours (map (of_z w16) zs) ++ in_fours (map (of_z w16) zs)) (0 ∷ 2 ∷ 1 ∷ 3 ∷ [])))))) ≡ exchanged zs
+    → map (to_z w16) (digits_l 65536 16 (number_l 256 (digits_l 256 32 (number_l 18446744073709551616 (pick_l 0 (in_fours (map (of_z w16) zs) ++ in_fours (map (of_z w16) zs)) (0 ∷ 2 ∷ 1 ∷ 3 ∷ [])))))) ≡ swap_quarters zs
 exchanged_are zs long fits =
     let xs = map (of_z w16) zs in
     ap (map (to_z w16)) (exchanged_in_lanes xs (length-map zs (of_z w16) ∙ long) (each_below w16 zs fits) ∙ exchanged-map (pos 0) (of_z w16) zs long)
-    ∙ of_bits w16 (exchanged zs) (Each1-exchanged (FitsSigned w16) zs fits)
+    ∙ of_bits w16 (swap_quarters zs) (Each1-exchanged (FitsSigned w16) zs fits)

@@ -2,7 +2,7 @@
 use Rattle.std.proofs.Common.{◌≡◌, inl, inr, ℕ, ℤ, pos, negsuc, suc, ◌+◌, ◌-◌, ◌%◌, ◌^◌, ◌<◌, ◌+ℤ◌, ◌*ℤ◌, List, [], ◌∷◌, length, map, cond, min, ltb, w8, w16, Fits, FitsSigned, to_z, of_z, refl, ap, ◌∙◌, sym, subst, arith, map-id}
 use Rattle.std.specs.Int.{int_div_euclid}
 use Rattle.lane_rows.proofs.Common.{zip2, Each1, length-zip2, sel_l, number_l, digits_l, ints, clamps, cases_lt, to_z-of_z, to_z_pos, S16, Saturate, narrow, top}
-use Rattle.vx_base.specs.Pixelwise.{accumulated, accumulated_square}
+use Rattle.vx_base.specs.Pixelwise.{accumulated_sum, accumulated_square}
 use Rattle.lane_rows.proofs.LaneLaws.{products, product_lane, chosen_w16, smaller_lane}
 use Rattle.lane_rows.proofs.DigitLaws.{recast}
 use Rattle.lane_rows.proofs.NarrowLaws.{nearest_fits}
@@ -54,7 +54,7 @@ left y = (32767 + (65536 - y)) % 65536
 abbrev sum_with : ℕ → ℤ → ℕ
 sum_with a c = plus (of_z w16 c) (min a (left (of_z w16 c)))
 
-sum_is : (a : ℕ) (c : ℤ) → a < 65536 → FitsSigned w16 c → to_z w16 (sum_with a c) ≡ accumulated S16 (pos a) c
+sum_is : (a : ℕ) (c : ℤ) → a < 65536 → FitsSigned w16 c → to_z w16 (sum_with a c) ≡ accumulated_sum S16 (pos a) c
 sum_is a (pos n) small f =
     let e = f.sfits in
     let v : (n + min a ((32767 + (65536 - n)) % 65536)) % 65536 ≡ min (n + a) 32767 = omega (arith, small, e) in
@@ -78,7 +78,7 @@ min_at x y = chosen_w16 (ltb x y) x y ∙ smaller_lane x y
 added_below : (a : ℕ) (c : ℤ) → a < 65536 → cond (top 15 (less a (left (of_z w16 c)))) a (left (of_z w16 c)) < 65536
 added_below a c small = subst (λ n. n < 65536) (sym (min_at a (left (of_z w16 c)))) (let e : min a (left (of_z w16 c)) < 65536 = omega (arith, small) in e)
 
-after_is : (a : ℕ) (c : ℤ) → Fits w16 a → FitsSigned w16 c → to_z w16 (plus (of_z w16 c) (cond (top 15 (less a (left (of_z w16 c)))) a (left (of_z w16 c)))) ≡ accumulated S16 (pos a) c
+after_is : (a : ℕ) (c : ℤ) → Fits w16 a → FitsSigned w16 c → to_z w16 (plus (of_z w16 c) (cond (top 15 (less a (left (of_z w16 c)))) a (left (of_z w16 c)))) ≡ accumulated_sum S16 (pos a) c
 after_is a c p f = ap (λ n. to_z w16 (plus (of_z w16 c) n)) (min_at a (left (of_z w16 c))) ∙ sum_is a c p.fits f
 
 left_below : (y : ℕ) → left y < 65536
@@ -101,24 +101,24 @@ module _ (xs : List ℕ) (cs : List ℤ) (p : (length xs ≡ 16) × Each1 (Fits 
       same_bytes (room.all 16 xs cs) (made_long room)
       (each_is room (Fits w16) (FitsSigned w16) (λ x. x < 65536) 16 xs cs p.0 long p.1 fs (λ a c f g. left_below (of_z w16 c)))
 
-  pub accumulated_are : map (to_z w16) (sums (in_bytes (least (in_bytes (room.all 16 xs cs))))) ≡ zip2 (accumulated S16) (map pos xs) cs
+  pub accumulated_are : map (to_z w16) (sums (in_bytes (least (in_bytes (room.all 16 xs cs))))) ≡ zip2 (accumulated_sum S16) (map pos xs) cs
   accumulated_are =
       ap (λ l. map (to_z w16) (sums (in_bytes (least l)))) room_same
       ∙ ap (λ l. map (to_z w16) (sums l))
       (same_bytes (added.all 16 xs cs) (made_long added) (each_is added (Fits w16) (FitsSigned w16) (λ x. x < 65536) 16 xs cs p.0 long p.1 fs (λ a c f g. added_below a c f.fits)))
-      ∙ pairs_are after (Fits w16) (FitsSigned w16) (to_z w16) pos (λ c. c) (accumulated S16) 16 xs cs p.0 long p.1 fs after_is
-      ∙ ap (zip2 (accumulated S16) (map pos xs)) (map-id cs)
+      ∙ pairs_are after (Fits w16) (FitsSigned w16) (to_z w16) pos (λ c. c) (accumulated_sum S16) 16 xs cs p.0 long p.1 fs after_is
+      ∙ ap (zip2 (accumulated_sum S16) (map pos xs)) (map-id cs)
 
-accumulated_fit : (zs cs : List ℤ) → Each1 (FitsSigned w16) (zip2 (accumulated S16) zs cs)
+accumulated_fit : (zs cs : List ℤ) → Each1 (FitsSigned w16) (zip2 (accumulated_sum S16) zs cs)
 accumulated_fit [] cs = tt
 accumulated_fit (z ∷ zs) [] = tt
 accumulated_fit (z ∷ zs) (c ∷ cs) = (nearest_fits (c +ℤ z), accumulated_fit zs cs)
 
-pub made_fit : (ns : List ℤ) (zs cs : List ℤ) → ns ≡ zip2 (accumulated S16) zs cs → Each1 (FitsSigned w16) ns
+pub made_fit : (ns : List ℤ) (zs cs : List ℤ) → ns ≡ zip2 (accumulated_sum S16) zs cs → Each1 (FitsSigned w16) ns
 made_fit ns zs cs is = subst (Each1 (FitsSigned w16)) (sym is) (accumulated_fit zs cs)
 
 -- of squares
-pub of_squares : (k : ℕ) (zs cs : List ℤ) → zip2 (accumulated S16) (map (λ a. int_div_euclid (a *ℤ a) (pos (2 ^ k))) zs) cs ≡ zip2 (accumulated_square S16 k) zs cs
+pub of_squares : (k : ℕ) (zs cs : List ℤ) → zip2 (accumulated_sum S16) (map (λ a. int_div_euclid (a *ℤ a) (pos (2 ^ k))) zs) cs ≡ zip2 (accumulated_square S16 k) zs cs
 of_squares k [] cs = refl
 of_squares k (z ∷ zs) [] = refl
 of_squares k (z ∷ zs) (c ∷ cs) = ap (λ l. accumulated_square S16 k z c ∷ l) (of_squares k zs cs)

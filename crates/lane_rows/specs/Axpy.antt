@@ -2,8 +2,8 @@
 use Rattle.std.specs.Prelude.{ℤ, ◌≤◌, ◌+ℤ◌, ◌*ℤ◌, unsigned_abs}
 
 -- a sum to which any byte times any S16 number can be added in 32 bits: such a product is at most 8,355,840 from 0
-abbrev pub HasRoom : ℤ → Type 0
-HasRoom sum = unsigned_abs sum ≤ 2139127807
+abbrev pub FitsProduct : ℤ → Type 0
+FitsProduct sum = unsigned_abs sum ≤ 2139127807
 
 -- the sum plus a coefficient times a byte
 abbrev pub with_product : ℤ → ℤ → ℤ → ℤ

@@ -4,5 +4,5 @@ use Rattle.vx_base.specs.declared.threshold.ThresholdKind.{ThresholdKind}
 use Rattle.vx_base.specs.Threshold.{passes}
 
 -- the true value if the number passes, and the false value if not
-abbrev pub chosen : ThresholdKind → ℕ → ℕ → ℤ → ℤ
-chosen kind t f a = if passes kind a then pos t else pos f
+abbrev pub threshold_choice : ThresholdKind → ℕ → ℕ → ℤ → ℤ
+threshold_choice kind t f a = if passes kind a then pos t else pos f

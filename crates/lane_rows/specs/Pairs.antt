@@ -20,9 +20,9 @@ odds_of (x ∷ []) = []
 odds_of (x ∷ y ∷ zs) = y ∷ odds_of zs
 
 -- two numbers in alternation, n times each
-abbrev pub alternating : ℕ → ℤ → ℤ → List ℤ
-alternating zero a b = []
-alternating (suc n) a b = a ∷ b ∷ alternating n a b
+abbrev pub alternation : ℕ → ℤ → ℤ → List ℤ
+alternation zero a b = []
+alternation (suc n) a b = a ∷ b ∷ alternation n a b
 
 -- the sum of g 0 to g (n - 1)
 abbrev pub sum_of_first : ℕ → (ℕ → ℤ) → ℤ
@@ -42,7 +42,7 @@ second_of_pair table j = slice_index_or table (16 * j + 1) (pos 0)
 
 -- the table holds each of n pairs eight times
 abbrev pub IsPairTable : ℕ → List ℤ → Type 0
-IsPairTable n table = (j : ℕ) → j < n → chunk (16 * j) 16 table ≡ alternating 8 (first_of_pair table j) (second_of_pair table j)
+IsPairTable n table = (j : ℕ) → j < n → chunk (16 * j) 16 table ≡ alternation 8 (first_of_pair table j) (second_of_pair table j)
 
 -- the sum of n pairs of coefficients at an index of a row, each pair two samples to the right of the one before
 abbrev pub row_sum : List ℤ → List ℤ → ℕ → ℕ → ℤ

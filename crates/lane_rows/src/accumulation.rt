@@ -5,7 +5,7 @@
 ghost use Rattle.std.specs.Prelude.{◌≡◌, ◌≤◌, ◌*◌, ◌/◌, ◌^◌, pos, map, length};
 ghost use Rattle.std.specs.Simd.Lanes.{zip2};
 ghost use Rattle.vx_base.specs.declared.format.Format.TheVariants.{S16};
-ghost use Rattle.vx_base.specs.Pixelwise.{accumulated, accumulated_square};
+ghost use Rattle.vx_base.specs.Pixelwise.{accumulated_sum, accumulated_square};
 
 use crate::item::Short;
 use crate::kernel::OfSum;
@@ -17,7 +17,7 @@ use std::simd::prelude::*;
 pub struct Accumulated;
 
 impl OfSum<u8, i16> for Accumulated {
-    ghost formula = { λ _. accumulated S16 };
+    ghost formula = { λ _. accumulated_sum S16 };
 
     fn item(&self, a: u8, sum: i16) -> i16 {
         sum.saturating_add(i16::from(a))
@@ -60,7 +60,7 @@ impl OfSum<u8, i16> for Squared {
 /// Adds each item to the sum at its index. A sum above 32,767 becomes 32,767.
 pub fn accumulate(row: &[u8], sums: &mut [i16])
     requires { length row.now ≡ length sums.old }
-    ensures { sums.new ≡ zip2 (accumulated S16) (map pos row.now) sums.old }
+    ensures { sums.new ≡ zip2 (accumulated_sum S16) (map pos row.now) sums.old }
 {
     update_row(&Accumulated, row, sums);
 }

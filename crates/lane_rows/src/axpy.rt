@@ -2,7 +2,7 @@
 ghost use Rattle.std.specs.Prelude.{◌≡◌, ◌+ℤ◌, ◌*ℤ◌, pos, map, length, FitsSigned};
 ghost use Rattle.std.specs.Int.{w16, w32, int_wrap};
 ghost use Rattle.std.specs.Simd.Lanes.{zip2, Each1};
-ghost use Rattle.lane_rows.specs.Axpy.{HasRoom, with_product};
+ghost use Rattle.lane_rows.specs.Axpy.{FitsProduct, with_product};
 
 use crate::kernel::OfSum;
 use crate::rows::update_row;
@@ -33,7 +33,7 @@ impl OfSum<u8, i32> for Axpy {
 /// from 0 before, so that none overflows.
 pub fn axpy_i32(row: &[u8], k: i16, sums: &mut [i32])
     requires len { length row.now ≡ length sums.old }
-    requires limit { Each1 HasRoom sums.old }
+    requires limit { Each1 FitsProduct sums.old }
     ensures { sums.new ≡ zip2 (with_product k) (map pos row.now) sums.old }
 {
     update_row(&Axpy { k }, row, sums);

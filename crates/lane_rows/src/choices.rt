@@ -3,13 +3,13 @@ ghost use Rattle.std.specs.Prelude.{◌≡◌, pos, map, length, FitsSigned};
 ghost use Rattle.std.specs.Int.{w16};
 ghost use Rattle.std.specs.Simd.Lanes.{Each1};
 ghost use Rattle.vx_base.specs.declared.threshold.ThresholdKind.TheVariants.{Binary, Range};
-ghost use Rattle.lane_rows.specs.Chosen.{chosen};
+ghost use Rattle.lane_rows.specs.Chosen.{threshold_choice};
 
 use std::simd::prelude::*;
 
 /// Returns `true_value` where a byte is above the limit, and `false_value` elsewhere.
 pub fn bytes_above(row: u8x32, limit: u8, true_value: u8, false_value: u8) -> u8x32
-    ensures { map pos result ≡ map (chosen (Binary (pos limit)) true_value false_value)
+    ensures { map pos result ≡ map (threshold_choice (Binary (pos limit)) true_value false_value)
         (map pos row) }
 {
     row.simd_gt(u8x32::splat(limit))
@@ -19,7 +19,7 @@ pub fn bytes_above(row: u8x32, limit: u8, true_value: u8, false_value: u8) -> u8
 /// Returns `true_value` where a byte is between the limits or equal to one, and `false_value`
 /// elsewhere.
 pub fn bytes_between(row: u8x32, lower: u8, upper: u8, true_value: u8, false_value: u8) -> u8x32
-    ensures { map pos result ≡ map (chosen (Range (pos lower) (pos upper)) true_value false_value)
+    ensures { map pos result ≡ map (threshold_choice (Range (pos lower) (pos upper)) true_value false_value)
         (map pos row) }
 {
     let up_to = row
@@ -33,7 +33,7 @@ pub fn bytes_between(row: u8x32, lower: u8, upper: u8, true_value: u8, false_val
 pub fn shorts_above(row: i16x32, limit: i16, true_value: u8, false_value: u8) -> u8x32
     requires len { length row ≡ 32 }
     requires fits { Each1 (FitsSigned w16) row }
-    ensures { map pos result ≡ map (chosen (Binary limit) true_value false_value) row }
+    ensures { map pos result ≡ map (threshold_choice (Binary limit) true_value false_value) row }
 {
     row.simd_gt(i16x32::splat(limit))
         .cast::<i8>()
@@ -45,7 +45,7 @@ pub fn shorts_above(row: i16x32, limit: i16, true_value: u8, false_value: u8) ->
 pub fn shorts_between(row: i16x32, lower: i16, upper: i16, true_value: u8, false_value: u8) -> u8x32
     requires len { length row ≡ 32 }
     requires fits { Each1 (FitsSigned w16) row }
-    ensures { map pos result ≡ map (chosen (Range lower upper) true_value false_value) row }
+    ensures { map pos result ≡ map (threshold_choice (Range lower upper) true_value false_value) row }
 {
     let up_to = row
         .simd_gt(i16x32::splat(upper))

@@ -3,7 +3,7 @@ ghost use Rattle.std.specs.Prelude.{◌≡◌, ◌≤◌, ◌^◌, ◌*ℤ◌, p
 ghost use Rattle.std.specs.Int.{w16};
 ghost use Rattle.std.specs.Simd.Lanes.{Each1};
 ghost use Rattle.vx_base.specs.declared.format.Format.TheVariants.{U8};
-ghost use Rattle.vx_base.specs.Pixelwise.{converted};
+ghost use Rattle.vx_base.specs.Pixelwise.{depth_conversion};
 
 use std::simd::prelude::*;
 use vx_base::Policy;
@@ -22,7 +22,7 @@ pub fn shifted_down(row: i16x32, amount: u8, policy: Policy) -> u8x32
     requires amount { amount ≤ 7 }
     requires len { length row ≡ 32 }
     requires fits { Each1 (FitsSigned w16) row }
-    ensures { map pos result ≡ map (converted U8 policy amount) row }
+    ensures { map pos result ≡ map (depth_conversion U8 policy amount) row }
 {
     let numbers = row >> i16::from(amount);
     match policy {

@@ -3,7 +3,7 @@
 
 ghost use Rattle.std.specs.Prelude.{◌≡◌, ◌≤◌, ◌^◌, ◌*ℤ◌, pos, map, length};
 ghost use Rattle.vx_base.specs.declared.format.Format.TheVariants.{U8};
-ghost use Rattle.vx_base.specs.Pixelwise.{converted};
+ghost use Rattle.vx_base.specs.Pixelwise.{depth_conversion};
 
 use crate::depth_lanes::{shifted_down, shifted_up};
 use crate::item::shorts_of;
@@ -45,7 +45,7 @@ pub struct Narrowed<P> {
 }
 
 impl<P: Overflow> OfItem<i16, u8> for Narrowed<P> {
-    ghost formula = { λ s. converted U8 (P.policy s.overflow) s.amount };
+    ghost formula = { λ s. depth_conversion U8 (P.policy s.overflow) s.amount };
 
     fn item(&self, a: i16) -> u8 {
         match self.overflow.policy() {
@@ -83,7 +83,7 @@ pub fn shift_up(row: &[u8], amount: u8, out: &mut [i16])
 pub fn narrow(row: &[i16], amount: u8, policy: Policy, out: &mut [u8])
     requires len { length row.now ≡ length out.old }
     requires amount { amount ≤ 7 }
-    ensures { map pos out.new ≡ map (converted U8 policy amount) row.now }
+    ensures { map pos out.new ≡ map (depth_conversion U8 policy amount) row.now }
 {
     with_overflow!(policy, overflow => {
         map_row(&Narrowed { overflow, amount }, row, out)

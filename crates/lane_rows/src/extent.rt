@@ -2,7 +2,7 @@
 //! computes them in lanes.
 ghost use Rattle.std.specs.Prelude.{◌≡◌, ◌<◌, ◌^◌, pos, map, length};
 ghost use Rattle.std.specs.Int.{int_min, int_max};
-ghost use Rattle.vx_base.specs.Statistics.{chosen, count_of};
+ghost use Rattle.vx_base.specs.Statistics.{best_of, count_of};
 
 use crate::compared::Compared;
 use crate::occurrences::count_of;
@@ -10,7 +10,7 @@ use crate::occurrences::count_of;
 /// Returns the least item of a row, which isn't empty.
 pub fn least_of<T: Compared>(row: &[T]) -> T
     requires { 0 < length row.now }
-    ensures { T.value result ≡ chosen int_min (map T.value row.now) }
+    ensures { T.value result ≡ best_of int_min (map T.value row.now) }
 {
     let mut least = row[0];
     for item in row {
@@ -22,7 +22,7 @@ pub fn least_of<T: Compared>(row: &[T]) -> T
 /// Returns the greatest item of a row, which isn't empty.
 pub fn greatest_of<T: Compared>(row: &[T]) -> T
     requires { 0 < length row.now }
-    ensures { T.value result ≡ chosen int_max (map T.value row.now) }
+    ensures { T.value result ≡ best_of int_max (map T.value row.now) }
 {
     let mut greatest = row[0];
     for item in row {
@@ -43,8 +43,8 @@ pub struct RowExtremes<T: Copy> {
 fn extremes_of<T: Compared>(row: &[T]) -> RowExtremes<T>
     requires some { 0 < length row.now }
     requires room { length row.now < 2 ^ 32 }
-    ensures least { T.value result.least ≡ chosen int_min (map T.value row.now) }
-    ensures greatest { T.value result.greatest ≡ chosen int_max (map T.value row.now) }
+    ensures least { T.value result.least ≡ best_of int_min (map T.value row.now) }
+    ensures greatest { T.value result.greatest ≡ best_of int_max (map T.value row.now) }
     ensures least_count { result.least_count
         ≡ count_of (T.value result.least) (map T.value row.now) }
     ensures greatest_count { result.greatest_count
@@ -64,8 +64,8 @@ fn extremes_of<T: Compared>(row: &[T]) -> RowExtremes<T>
 pub fn extremes_u8(row: &[u8]) -> RowExtremes<u8>
     requires some { 0 < length row.now }
     requires room { length row.now < 2 ^ 32 }
-    ensures least { pos result.least ≡ chosen int_min (map pos row.now) }
-    ensures greatest { pos result.greatest ≡ chosen int_max (map pos row.now) }
+    ensures least { pos result.least ≡ best_of int_min (map pos row.now) }
+    ensures greatest { pos result.greatest ≡ best_of int_max (map pos row.now) }
     ensures least_count { result.least_count ≡ count_of (pos result.least) (map pos row.now) }
     ensures greatest_count { result.greatest_count ≡ count_of (pos result.greatest) (map pos row.now) }
 {
@@ -77,8 +77,8 @@ pub fn extremes_u8(row: &[u8]) -> RowExtremes<u8>
 pub fn extremes_s16(row: &[i16]) -> RowExtremes<i16>
     requires some { 0 < length row.now }
     requires room { length row.now < 2 ^ 32 }
-    ensures least { result.least ≡ chosen int_min row.now }
-    ensures greatest { result.greatest ≡ chosen int_max row.now }
+    ensures least { result.least ≡ best_of int_min row.now }
+    ensures greatest { result.greatest ≡ best_of int_max row.now }
     ensures least_count { result.least_count ≡ count_of result.least row.now }
     ensures greatest_count { result.greatest_count ≡ count_of result.greatest row.now }
 {

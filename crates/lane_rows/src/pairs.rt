@@ -8,7 +8,7 @@ ghost use Rattle.std.specs.Prelude.{FitsSigned};
 ghost use Rattle.std.specs.Int.{w16};
 ghost use Rattle.std.specs.Simd.Lanes.{zip2, chunk, Each1};
 ghost use Rattle.vx_base.specs.Image.{run};
-ghost use Rattle.lane_rows.specs.Pairs.{IsNear, IsPairTable, evens_of, odds_of, alternating};
+ghost use Rattle.lane_rows.specs.Pairs.{IsNear, IsPairTable, evens_of, odds_of, alternation};
 ghost use Rattle.lane_rows.specs.Pairs.{pair_at, row_sum};
 
 use std::simd::prelude::*;
@@ -42,7 +42,7 @@ fn eight_places(row: &[i16], place: usize, table: &[i16], at: usize) -> i32x8
     requires limit { Each1 (IsNear 255) row.now }
     requires table_room { at + 16 ≤ length table.now }
     requires fits { Each1 (FitsSigned w16) table.now }
-    ensures value { (a b : ℤ) → chunk at 16 table.now ≡ alternating 8 a b →
+    ensures value { (a b : ℤ) → chunk at 16 table.now ≡ alternation 8 a b →
         result ≡ run 0 8 (λ i. pair_at row.now a b (place + 2 * i)) }
     ensures len { length result ≡ 8 }
     ensures limit { Each1 (IsNear 16711680) result }
@@ -61,7 +61,7 @@ fn sixteen_places(row: &[i16], place: usize, table: &[i16], at: usize) -> i32x16
     requires limit { Each1 (IsNear 255) row.now }
     requires table_room { at + 16 ≤ length table.now }
     requires fits { Each1 (FitsSigned w16) table.now }
-    ensures value { (a b : ℤ) → chunk at 16 table.now ≡ alternating 8 a b →
+    ensures value { (a b : ℤ) → chunk at 16 table.now ≡ alternation 8 a b →
         result ≡ run 0 16 (λ i. pair_at row.now a b (place + 2 * i)) }
     ensures len { length result ≡ 16 }
     ensures limit { Each1 (IsNear 16711680) result }

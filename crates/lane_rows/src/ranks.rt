@@ -5,7 +5,7 @@ ghost use Rattle.std.specs.Int.{int_min, int_max};
 ghost use Rattle.std.specs.Simd.Lanes.{zip2};
 ghost use Rattle.vx_base.specs.Image.{run};
 ghost use Rattle.vx_base.specs.Window.{least_of, greatest_of, median};
-ghost use Rattle.lane_rows.specs.Windows.{nine_at, places};
+ghost use Rattle.lane_rows.specs.Windows.{nine_at, place_count};
 ghost use Rattle.lane_rows.specs.Ranks.{chosen_of_nine, middle_of_three, middle_of_nine};
 ghost use Rattle.lane_rows.specs.RankLaws.{least_is_least, greatest_is_greatest};
 ghost use Rattle.lane_rows.specs.RankLaws.{lesser_number, greater_number};
@@ -249,7 +249,7 @@ fn medians(above: ThreeLanes, here: ThreeLanes, below: ThreeLanes) -> u8x32
 
 /// Writes the least sample of each window.
 pub fn min9(nine: &Nine<'_>, out: &mut [u8])
-    requires { places nine.now ≡ length out.old }
+    requires { place_count nine.now ≡ length out.old }
     ensures { map pos out.new ≡ run 0 (length out.old) (λ i. least_of (nine_at nine.now i)) }
 {
     write_nine(&Least, nine, out);
@@ -257,7 +257,7 @@ pub fn min9(nine: &Nine<'_>, out: &mut [u8])
 
 /// Writes the greatest sample of each window.
 pub fn max9(nine: &Nine<'_>, out: &mut [u8])
-    requires { places nine.now ≡ length out.old }
+    requires { place_count nine.now ≡ length out.old }
     ensures { map pos out.new ≡ run 0 (length out.old) (λ i. greatest_of (nine_at nine.now i)) }
 {
     write_nine(&Greatest, nine, out);
@@ -266,7 +266,7 @@ pub fn max9(nine: &Nine<'_>, out: &mut [u8])
 /// Writes the median of each window: a sample with at most four smaller and at most four greater
 /// ones.
 pub fn median9(nine: &Nine<'_>, out: &mut [u8])
-    requires { places nine.now ≡ length out.old }
+    requires { place_count nine.now ≡ length out.old }
     ensures { map pos out.new ≡ run 0 (length out.old) (λ i. median (nine_at nine.now i)) }
 {
     write_nine(&Median, nine, out);

@@ -8,8 +8,8 @@ ghost use Rattle.std.specs.Simd.Lanes.{zip2, Each1};
 ghost use Rattle.vx_base.specs.declared.format.Format.TheVariants.{S16};
 ghost use Rattle.vx_base.specs.declared.policy.Policy.TheVariants.{Wrap, Saturate};
 ghost use Rattle.vx_base.specs.Sample.{narrow, distance};
-ghost use Rattle.vx_base.specs.Pixelwise.{product, smaller, greater, accumulated};
-ghost use Rattle.lane_rows.specs.Quarters.{exchanged};
+ghost use Rattle.vx_base.specs.Pixelwise.{product, smaller, greater, accumulated_sum};
+ghost use Rattle.lane_rows.specs.Quarters.{swap_quarters};
 
 use crate::scales::scaled_lanes;
 use std::simd::prelude::*;
@@ -80,7 +80,7 @@ fn products(a: i16x16, b: i16x16) -> i32x16
     requires b_len { length b ≡ 16 }
     requires a_fits { Each1 (FitsSigned w16) a }
     requires b_fits { Each1 (FitsSigned w16) b }
-    ensures { result ≡ exchanged (zip2 ◌*ℤ◌ a b) }
+    ensures { result ≡ swap_quarters (zip2 ◌*ℤ◌ a b) }
 {
     let low = a * b;
     let high = ((a.cast::<i32>() * b.cast::<i32>()) >> 16).cast::<i16>();
@@ -136,7 +136,7 @@ pub fn narrowed(numbers: i32x16, policy: Policy) -> i16x16
 fn quarters_exchanged(numbers: i16x16) -> i16x16
     requires len { length numbers ≡ 16 }
     requires fits { Each1 (FitsSigned w16) numbers }
-    ensures { result ≡ exchanged numbers }
+    ensures { result ≡ swap_quarters numbers }
 {
     let quarters = u64x4::from_le_bytes(numbers.to_le_bytes());
     i16x16::from_le_bytes(quarters.swizzle([0, 2, 1, 3]).to_le_bytes())
@@ -168,7 +168,7 @@ pub fn scaled_squares(row: u8x16, amount: u8) -> u16x16
 pub fn accumulated_shorts(numbers: u16x16, sums: i16x16) -> i16x16
     requires len { length sums ≡ 16 }
     requires fits { Each1 (FitsSigned w16) sums }
-    ensures value { result ≡ zip2 (accumulated S16) (map pos numbers) sums }
+    ensures value { result ≡ zip2 (accumulated_sum S16) (map pos numbers) sums }
     ensures result_fits { Each1 (FitsSigned w16) result }
 {
     let room = u16x16::from_le_bytes((i16x16::splat(32767) - sums).to_le_bytes());

@@ -6,8 +6,8 @@ ghost use Rattle.vx_base.specs.declared.format.Format.{Format};
 ghost use Rattle.vx_base.specs.declared.format.Format.TheVariants.{U8, S16};
 ghost use Rattle.vx_base.specs.declared.threshold.ThresholdKind.TheVariants.{Binary, Range};
 ghost use Rattle.vx_base.specs.Threshold.{is_sample};
-ghost use Rattle.vx_base.specs.Pixelwise.{thresholded};
-ghost use Rattle.lane_rows.specs.Chosen.{chosen};
+ghost use Rattle.vx_base.specs.Pixelwise.{threshold_result};
+ghost use Rattle.lane_rows.specs.Chosen.{threshold_choice};
 
 use crate::choices::{bytes_above, bytes_between, shorts_above, shorts_between};
 use crate::item::{Item, shorts_of};
@@ -38,7 +38,7 @@ pub trait Tested: Item {
     /// Returns `true_value` where an item of 32 is above the limit, and `false_value` elsewhere.
     fn above(row: &[Self], limit: Self, true_value: u8, false_value: u8) -> u8x32
         requires { length row.now ≡ 32 }
-        ensures { map pos result ≡ map (chosen (Binary (Self.value limit)) true_value false_value)
+        ensures { map pos result ≡ map (threshold_choice (Binary (Self.value limit)) true_value false_value)
             (map Self.value row.now) };
 
     /// Returns `true_value` where an item of 32 is between the limits or equal to one, and
@@ -46,7 +46,7 @@ pub trait Tested: Item {
     fn between(row: &[Self], lower: Self, upper: Self, true_value: u8, false_value: u8) -> u8x32
         requires { length row.now ≡ 32 }
         ensures { map pos result ≡ map
-            (chosen (Range (Self.value lower) (Self.value upper)) true_value false_value)
+            (threshold_choice (Range (Self.value lower) (Self.value upper)) true_value false_value)
             (map Self.value row.now) };
 }
 
@@ -113,7 +113,7 @@ pub struct Above<A> {
 }
 
 impl<A: Tested> OfItem<A, u8> for Above<A> {
-    ghost formula = { λ s. thresholded (record {
+    ghost formula = { λ s. threshold_result (record {
       format = A.format;
       kind = Binary
           (A.value s.limit);
@@ -147,7 +147,7 @@ pub struct Between<A> {
 }
 
 impl<A: Tested> OfItem<A, u8> for Between<A> {
-    ghost formula = { λ s. thresholded (record {
+    ghost formula = { λ s. threshold_result (record {
       format = A.format;
       kind = Range (A.value s.lower)
           (A.value s.upper);
@@ -181,7 +181,7 @@ impl<A: Tested> LanesOfItem<A, u8> for Between<A> {
 fn write_tested<A: Tested>(row: &[A], rule: ThresholdRule, out: &mut [u8])
     requires len { length row.now ≡ length out.old }
     requires format { rule.format ≡ A.format }
-    ensures { map pos out.new ≡ map (thresholded rule) (map A.value row.now) }
+    ensures { map pos out.new ≡ map (threshold_result rule) (map A.value row.now) }
 {
     let (true_value, false_value) = (rule.true_value(), rule.false_value());
     match rule.kind() {
@@ -210,7 +210,7 @@ fn write_tested<A: Tested>(row: &[A], rule: ThresholdRule, out: &mut [u8])
 pub fn threshold_u8(row: &[u8], rule: ThresholdRule, out: &mut [u8])
     requires len { length row.now ≡ length out.old }
     requires format { rule.format ≡ U8 }
-    ensures { map pos out.new ≡ map (thresholded rule) (map pos row.now) }
+    ensures { map pos out.new ≡ map (threshold_result rule) (map pos row.now) }
 {
     write_tested(row, rule, out);
 }
@@ -220,7 +220,7 @@ pub fn threshold_u8(row: &[u8], rule: ThresholdRule, out: &mut [u8])
 pub fn threshold_s16(row: &[i16], rule: ThresholdRule, out: &mut [u8])
     requires len { length row.now ≡ length out.old }
     requires format { rule.format ≡ S16 }
-    ensures { map pos out.new ≡ map (thresholded rule) row.now }
+    ensures { map pos out.new ≡ map (threshold_result rule) row.now }
 {
     write_tested(row, rule, out);
 }

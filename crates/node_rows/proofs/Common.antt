@@ -1,5 +1,5 @@
 -- The names that several proofs cite, passed on from one place. Declares nothing.
-pub use Rattle.node_rows.specs.Reach.{matrix_in, reach}
+pub use Rattle.node_rows.specs.Radius.{matrix_in, window_radius}
 pub use Rattle.node_rows.specs.Rows.{AgreeInRows}
 pub use Rattle.std.proofs.lemmas.Bool.{cases_Bool}
 pub use Rattle.std.proofs.lemmas.Bool.Decides.{nat_tests}
@@ -8,13 +8,13 @@ pub use Rattle.vx_base.proofs.ImageLaws.{at-made, at-made_outside, column_inside
 pub use Rattle.vx_base.proofs.RectangleLaws.{both_inside}
 pub use Rattle.vx_base.specs.Convolution.{ConvolutionValue}
 pub use Rattle.vx_base.specs.Description.{Description}
-pub use Rattle.vx_base.specs.Image.{ImageValue, IsImage, at, made}
+pub use Rattle.vx_base.specs.Image.{ImageValue, IsImage, pixel_at, image_from}
 pub use Rattle.vx_base.specs.Object.{ConvolutionObject, ImageObject, IsObject, LutObject, ObjectValue, ThresholdObject}
 pub use Rattle.vx_base.specs.Outputs.{image_of_one, node_image}
-pub use Rattle.vx_base.specs.Pixelwise.{formula_of_one, formula_of_two, from_one, from_two, looked_up, thresholded}
-pub use Rattle.vx_base.specs.Rectangle.{Rectangle, inside, meet_of}
+pub use Rattle.vx_base.specs.Pixelwise.{formula_of_one, formula_of_two, from_one, from_two, lookup_result, threshold_result}
+pub use Rattle.vx_base.specs.Rectangle.{Rectangle, has_pixel, meet_of}
 pub use Rattle.vx_base.specs.Sample.{clamp}
-pub use Rattle.vx_base.specs.Window.{convolved, formula_of_nine, from_matrix, from_nine, holds, look, matrix_product, nearest, nine_around, row_product, window_valid}
+pub use Rattle.vx_base.specs.Window.{convolution_result, formula_of_nine, from_matrix, from_nine, holds, sample_or_border, matrix_product, clamp_coordinate, nine_around, row_product, window_valid}
 pub use Rattle.vx_base.specs.declared.border.Border.{Border}
 pub use Rattle.vx_base.specs.declared.border.Border.TheVariants.{Constant, Replicate, Undefined}
 pub use Rattle.vx_base.specs.declared.format.Format.{Format}

@@ -1,6 +1,6 @@
 -- What windows read in rows near a pixel.
 use Rattle.std.proofs.Common.{◌≡◌, ℕ, ℤ, pos, ◌+◌, ◌-◌, ◌/◌, ◌<◌, ◌≤◌, ◌+ℤ◌, ◌-ℤ◌, ◌*ℤ◌, ◌≤ℤ◌, true, cond, map, refl, sym, ◌∙◌, ap, arith, zero, suc, unsigned_abs}
-use Rattle.node_rows.proofs.Common.{ints, cases_Bool, nat_tests, Border, Undefined, Constant, Replicate, Rectangle, inside, ImageValue, IsImage, at, ConvolutionValue, holds, nearest, look, nine_around, row_product, matrix_product, window_valid, AgreeInRows}
+use Rattle.node_rows.proofs.Common.{ints, cases_Bool, nat_tests, Border, Undefined, Constant, Replicate, Rectangle, has_pixel, ImageValue, IsImage, pixel_at, ConvolutionValue, holds, clamp_coordinate, sample_or_border, nine_around, row_product, matrix_product, window_valid, AgreeInRows}
 use Rattle.std.specs.List.{range_with_len}
 use Rattle.vx_base.specs.Convolution.{coefficient}
 use Rattle.vx_base.specs.Window.{total}
@@ -10,12 +10,12 @@ use Rattle.vx_base.specs.Window.{total}
 abbrev pub beside_of : Rectangle → (ℕ → ℕ → ℤ) → Border → ℤ → ℤ → ℤ
 beside_of r f Undefined x y = pos 0
 beside_of r f (Constant value) x y = pos value
-beside_of r f Replicate x y = f (nearest r.x0 r.x1 x) (nearest r.y0 r.y1 y)
+beside_of r f Replicate x y = f (clamp_coordinate r.x0 r.x1 x) (clamp_coordinate r.y0 r.y1 y)
 
 abbrev pub look_of : Rectangle → (ℕ → ℕ → ℤ) → Border → ℤ → ℤ → ℤ
 look_of r f border x y = cond (holds r x y) (f (unsigned_abs x) (unsigned_abs y)) (beside_of r f border x y)
 
-pub look-of : (image : ImageValue) (border : Border) (x y : ℤ) → look image border x y ≡ look_of image.valid (at image) border x y
+pub look-of : (image : ImageValue) (border : Border) (x y : ℤ) → sample_or_border image border x y ≡ look_of image.valid (pixel_at image) border x y
 look-of image border x y = grind arith
 
 -- a row at most `rows` rows above or below row y
@@ -41,13 +41,13 @@ held_below : (r : Rectangle) (x v : ℤ) (rows y : ℕ) → holds r x v ≡ true
 held_below r x v rows y h near = grind (arith, ints)
 
 -- the nearest valid column, and row
-nearest_within : (low high : ℕ) (v : ℤ) → low < high → nearest low high v < high
+nearest_within : (low high : ℕ) (v : ℤ) → low < high → clamp_coordinate low high v < high
 nearest_within low high v h = grind (arith, ints)
 
-nearest_above : (low high y rows : ℕ) (v : ℤ) → low ≤ y → y < high → pos y ≤ℤ (v +ℤ pos rows) → y ≤ nearest low high v + rows
+nearest_above : (low high y rows : ℕ) (v : ℤ) → low ≤ y → y < high → pos y ≤ℤ (v +ℤ pos rows) → y ≤ clamp_coordinate low high v + rows
 nearest_above low high y rows v a b near = grind (arith, ints)
 
-nearest_below : (low high y rows : ℕ) (v : ℤ) → low ≤ y → y < high → v ≤ℤ (pos y +ℤ pos rows) → nearest low high v ≤ y + rows
+nearest_below : (low high y rows : ℕ) (v : ℤ) → low ≤ y → y < high → v ≤ℤ (pos y +ℤ pos rows) → clamp_coordinate low high v ≤ y + rows
 nearest_below low high y rows v a b near = grind (arith, ints)
 
 -- a row in which something is valid
@@ -61,7 +61,7 @@ module _ (r : Rectangle) (f g : ℕ → ℕ → ℤ) (border : Border) (rows y :
   beside_near Undefined x v near = refl
   beside_near (Constant value) x v near = refl
   beside_near Replicate x v near =
-      agree (nearest r.x0 r.x1 x) (nearest r.y0 r.y1 v) (nearest_within r.x0 r.x1 x row.columns) (nearest_within r.y0 r.y1 v (omega (arith, row.from, row.to)))
+      agree (clamp_coordinate r.x0 r.x1 x) (clamp_coordinate r.y0 r.y1 v) (nearest_within r.x0 r.x1 x row.columns) (nearest_within r.y0 r.y1 v (omega (arith, row.from, row.to)))
       (nearest_above r.y0 r.y1 y rows v row.from row.to near.above) (nearest_below r.y0 r.y1 y rows v row.from row.to near.below)
 
   look_of_near : (x v : ℤ) → IsNear rows y v → look_of r f border x v ≡ look_of r g border x v
@@ -116,14 +116,14 @@ matrix_near c f g x y same =
 -- ---- images that agree near a row
 
 -- a row with an output pixel of a window function has a valid pixel in the input
-pub valid_row : (border : Border) (rx ry : ℕ) (r : Rectangle) (x y : ℕ) → inside (window_valid border rx ry r) x y ≡ true → HasRow r y
+pub valid_row : (border : Border) (rx ry : ℕ) (r : Rectangle) (x y : ℕ) → has_pixel (window_valid border rx ry r) x y ≡ true → HasRow r y
 valid_row border rx ry r x y h = grind (arith, nat_tests)
 
 -- windows read the same in rows near that of a pixel
-pub look_near : (a b : ImageValue) (border : Border) (rx ry rows x y : ℕ) → IsImage a → inside (window_valid border rx ry a.valid) x y ≡ true → AgreeInRows (y - rows) (y + rows) a b → (u v : ℤ) → IsNear rows y v → look a border u v ≡ look b border u v
+pub look_near : (a b : ImageValue) (border : Border) (rx ry rows x y : ℕ) → IsImage a → has_pixel (window_valid border rx ry a.valid) x y ≡ true → AgreeInRows (y - rows) (y + rows) a b → (u v : ℤ) → IsNear rows y v → sample_or_border a border u v ≡ sample_or_border b border u v
 look_near a b border rx ry rows x y image h agree u v near =
     look-of a border u v
-    ∙ look_of_near a.valid (at a) (at b) border rows y (valid_row border rx ry a.valid x y h)
+    ∙ look_of_near a.valid (pixel_at a) (pixel_at b) border rows y (valid_row border rx ry a.valid x y h)
     (λ i j left high above below. agree.samples i j (omega (arith, image.room.columns)) (omega (arith, image.room.rows)) (omega arith) below) u v near
-    ∙ ap (λ r. look_of r (at b) border u v) agree.alike.valid
+    ∙ ap (λ r. look_of r (pixel_at b) border u v) agree.alike.valid
     ∙ sym (look-of b border u v)

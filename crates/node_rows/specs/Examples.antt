@@ -7,16 +7,16 @@ use Rattle.vx_base.specs.declared.border.Border.TheVariants.{Replicate}
 use Rattle.vx_base.specs.declared.function.Function.{Function}
 use Rattle.vx_base.specs.declared.node.Node.{Node}
 use Rattle.vx_base.specs.declared.output.Output.TheVariants.{First}
-use Rattle.vx_base.specs.Cell.{cell_of}
+use Rattle.vx_base.specs.Reference.{reference_to}
 use Rattle.vx_base.specs.Convolution.{ConvolutionValue}
 use Rattle.vx_base.specs.Image.{ImageValue}
 use Rattle.vx_base.specs.Object.{ObjectValue}
 use Rattle.vx_base.specs.Outputs.{node_image}
-use Rattle.vx_base.specs.Rectangle.{whole}
+use Rattle.vx_base.specs.Rectangle.{whole_rectangle}
 
 -- an image of one column with these samples, from top to bottom
 abbrev pub column : ℕ → ℕ → ℕ → ℕ → ImageValue
-column a b c d = record { width = 1; height = 4; format = U8; valid = whole 1 4; samples = pos a ∷ pos b ∷ pos c ∷ pos d ∷ [] }
+column a b c d = record { width = 1; height = 4; format = U8; valid = whole_rectangle 1 4; samples = pos a ∷ pos b ∷ pos c ∷ pos d ∷ [] }
 
 -- a 3x5 matrix whose only non-zero coefficient is in its top row; convolution turns the matrix, so each output sample is the one two
 -- rows below
@@ -31,19 +31,19 @@ upper_row =
     }
 
 -- a node of the function with one input and a replicated border
-abbrev pub node_of : Function → Node
-node_of function =
+abbrev pub example_node : Function → Node
+example_node function =
     record {
       function = function;
       border = Replicate;
       policy = Wrap;
       amount = 0;
-      in1 = cell_of 1;
+      in1 = reference_to 1;
       in2 = None;
-      out1 = Some (cell_of 2);
+      out1 = Some (reference_to 2);
       out2 = None;
     }
 
 -- the output samples of a node of the function, from an image and its second operand
-abbrev pub made_by : Function → Format → ImageValue → Option ObjectValue → List ℤ
-made_by function format image second = (node_image (node_of function) First format image second).samples
+abbrev pub node_samples : Function → Format → ImageValue → Option ObjectValue → List ℤ
+node_samples function format image second = (node_image (example_node function) First format image second).samples

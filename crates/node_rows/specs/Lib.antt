@@ -1,3 +1,3 @@
-pub mod Reach
+pub mod Radius
 pub mod Rows
 pub mod Examples

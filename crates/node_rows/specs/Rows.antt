@@ -1,6 +1,6 @@
 -- Images that agree in some of their rows.
 use Rattle.std.specs.Prelude.{ℕ, ◌<◌, ◌≤◌, ◌≡◌, Option, Some}
-use Rattle.vx_base.specs.Image.{ImageValue, at, description_of}
+use Rattle.vx_base.specs.Image.{ImageValue, pixel_at, description_of}
 use Rattle.vx_base.specs.Object.{ObjectValue, ImageObject}
 
 -- images of the same size, format and valid rectangle
@@ -11,9 +11,9 @@ pub record AreAlike (a b : ImageValue) : Type 0 where
 -- such images that also have the same samples in rows first to last, as far as these exist
 pub record AgreeInRows (first last : ℕ) (a b : ImageValue) : Type 0 where
   pub alike : AreAlike a b
-  pub samples : (x y : ℕ) → x < a.width → y < a.height → first ≤ y → y ≤ last → at a x y ≡ at b x y
+  pub samples : (x y : ℕ) → x < a.width → y < a.height → first ≤ y → y ≤ last → pixel_at a x y ≡ pixel_at b x y
 
 -- second operands that agree: images that do so in these rows, or equal objects
-abbrev pub AgreeBeside : ℕ → ℕ → Option ObjectValue → Option ObjectValue → Type 0
-AgreeBeside first last (Some (ImageObject a)) (Some (ImageObject b)) = AgreeInRows first last a b
-AgreeBeside first last second other = second ≡ other
+abbrev pub SecondsAgree : ℕ → ℕ → Option ObjectValue → Option ObjectValue → Type 0
+SecondsAgree first last (Some (ImageObject a)) (Some (ImageObject b)) = AgreeInRows first last a b
+SecondsAgree first last second other = second ≡ other

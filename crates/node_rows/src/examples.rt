@@ -4,50 +4,50 @@ ghost use Rattle.vx_base.specs.declared.format.Format.TheVariants.{U8, S16, U32}
 ghost use Rattle.vx_base.specs.declared.function.Function.TheVariants.{NotBits, Box, Convolve};
 ghost use Rattle.vx_base.specs.declared.function.Function.TheVariants.{Integral, Accumulate};
 ghost use Rattle.vx_base.specs.Object.{ImageObject, ConvolutionObject};
-ghost use Rattle.node_rows.specs.Reach.{reach};
-ghost use Rattle.node_rows.specs.Examples.{column, upper_row, made_by};
+ghost use Rattle.node_rows.specs.Radius.{window_radius};
+ghost use Rattle.node_rows.specs.Examples.{column, upper_row, node_samples};
 
 /// Bitwise Not: if row 2 differs, row 2 of the output does.
 pub fn not_of_a_column()
-    ensures reach { reach NotBits None ≡ Some 0 }
-    ensures first { made_by NotBits U8 (column 10 20 30 40) None
+    ensures window_radius { window_radius NotBits None ≡ Some 0 }
+    ensures first { node_samples NotBits U8 (column 10 20 30 40) None
         ≡ pos 245 ∷ pos 235 ∷ pos 225 ∷ pos 215 ∷ [] }
-    ensures other { made_by NotBits U8 (column 10 20 90 40) None
+    ensures other { node_samples NotBits U8 (column 10 20 90 40) None
         ≡ pos 245 ∷ pos 235 ∷ pos 165 ∷ pos 215 ∷ [] }
 {}
 
 /// Box filter: if row 2 differs, rows 1 to 3 of the output do, and row 0 doesn't.
 pub fn box_of_a_column()
-    ensures reach { reach Box None ≡ Some 1 }
-    ensures first { made_by Box U8 (column 10 20 30 40) None
+    ensures window_radius { window_radius Box None ≡ Some 1 }
+    ensures first { node_samples Box U8 (column 10 20 30 40) None
         ≡ pos 13 ∷ pos 20 ∷ pos 30 ∷ pos 36 ∷ [] }
-    ensures other { made_by Box U8 (column 10 20 90 40) None
+    ensures other { node_samples Box U8 (column 10 20 90 40) None
         ≡ pos 13 ∷ pos 40 ∷ pos 50 ∷ pos 56 ∷ [] }
 {}
 
 /// Convolution with five rows: if row 2 differs, row 0 of the output does, two rows above it.
 pub fn convolved_column()
-    ensures reach { reach Convolve (Some upper_row) ≡ Some 2 }
-    ensures first { made_by Convolve U8 (column 10 20 30 40) (Some (ConvolutionObject upper_row))
+    ensures window_radius { window_radius Convolve (Some upper_row) ≡ Some 2 }
+    ensures first { node_samples Convolve U8 (column 10 20 30 40) (Some (ConvolutionObject upper_row))
         ≡ pos 30 ∷ pos 40 ∷ pos 40 ∷ pos 40 ∷ [] }
-    ensures other { made_by Convolve U8 (column 10 20 90 40) (Some (ConvolutionObject upper_row))
+    ensures other { node_samples Convolve U8 (column 10 20 90 40) (Some (ConvolutionObject upper_row))
         ≡ pos 90 ∷ pos 40 ∷ pos 40 ∷ pos 40 ∷ [] }
 {}
 
 /// Accumulation: if row 2 of the accumulator differs, row 2 of the output does.
 pub fn accumulated_column()
-    ensures reach { reach Accumulate None ≡ Some 0 }
-    ensures first { made_by Accumulate S16 (column 10 20 30 40) (Some (ImageObject
+    ensures window_radius { window_radius Accumulate None ≡ Some 0 }
+    ensures first { node_samples Accumulate S16 (column 10 20 30 40) (Some (ImageObject
         (record (column 1 2 3 4) { format = S16 }))) ≡ pos 11 ∷ pos 22 ∷ pos 33 ∷ pos 44 ∷ [] }
-    ensures other { made_by Accumulate S16 (column 10 20 30 40) (Some (ImageObject
+    ensures other { node_samples Accumulate S16 (column 10 20 30 40) (Some (ImageObject
         (record (column 1 2 5 4) { format = S16 }))) ≡ pos 11 ∷ pos 22 ∷ pos 35 ∷ pos 44 ∷ [] }
 {}
 
 /// Integral image: if row 0 differs, all rows of the output do.
 pub fn integral_of_a_column()
-    ensures reach { reach Integral None ≡ None }
-    ensures first { made_by Integral U32 (column 10 20 30 40) None
+    ensures window_radius { window_radius Integral None ≡ None }
+    ensures first { node_samples Integral U32 (column 10 20 30 40) None
         ≡ pos 10 ∷ pos 30 ∷ pos 60 ∷ pos 100 ∷ [] }
-    ensures other { made_by Integral U32 (column 11 20 30 40) None
+    ensures other { node_samples Integral U32 (column 11 20 30 40) None
         ≡ pos 11 ∷ pos 31 ∷ pos 61 ∷ pos 101 ∷ [] }
 {}

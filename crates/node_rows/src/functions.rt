@@ -1,7 +1,7 @@
 //! The vertical radius of each function.
 ghost use Rattle.std.specs.Prelude.{◌≡◌};
 ghost use Rattle.std.specs.Option.{option_copied};
-ghost use Rattle.node_rows.specs.Reach.{reach};
+ghost use Rattle.node_rows.specs.Radius.{window_radius};
 
 use vx_base::{Convolution, Function};
 
@@ -10,8 +10,8 @@ use vx_base::{Convolution, Function};
 /// one, 1 for a 3x3 window, and 0 for a pixel-wise function. Of a second image or an accumulator
 /// only the output row is read. `None` if the function reads all rows, as for an integral image, or
 /// writes no image.
-pub fn reach(function: Function, matrix: Option<&Convolution>) -> Option<u16>
-    ensures { result ≡ reach function (option_copied matrix.entry) }
+pub fn window_radius(function: Function, matrix: Option<&Convolution>) -> Option<u16>
+    ensures { result ≡ window_radius function (option_copied matrix.entry) }
 {
     match (matrix, function) {
         (Some(matrix), _) => Some(u16::from(matrix.rows() / 2)),

@@ -4,11 +4,11 @@ ghost use Rattle.std.specs.Prelude.{◌≡◌, ◌<◌, ◌≤◌, ◌+◌, ◌-
 ghost use Rattle.vx_base.specs.declared.format.Format.{Format};
 ghost use Rattle.vx_base.specs.declared.node.Node.{Node};
 ghost use Rattle.vx_base.specs.declared.output.Output.{Output};
-ghost use Rattle.vx_base.specs.Image.{ImageValue, IsImage, at, description_of};
+ghost use Rattle.vx_base.specs.Image.{ImageValue, IsImage, pixel_at, description_of};
 ghost use Rattle.vx_base.specs.Object.{ObjectValue, IsObject};
 ghost use Rattle.vx_base.specs.Outputs.{node_image};
-ghost use Rattle.node_rows.specs.Reach.{matrix_in, reach};
-ghost use Rattle.node_rows.specs.Rows.{AreAlike, AgreeInRows, AgreeBeside};
+ghost use Rattle.node_rows.specs.Radius.{matrix_in, window_radius};
+ghost use Rattle.node_rows.specs.Rows.{AreAlike, AgreeInRows, SecondsAgree};
 
 /// Images that agree in some rows agree in any subset of them. Two images that agree in all rows
 /// are equal.
@@ -27,30 +27,30 @@ pub fn results_are_alike()
         ≡ record { width = a.width; height = a.height; format = format } }
     ensures alike { (n : Node) (output : Output) (format : Format) (a b : ImageValue)
         (second other : Option ObjectValue) (first last : ℕ) → AreAlike a b →
-        AgreeBeside first last second other →
+        SecondsAgree first last second other →
         AreAlike (node_image n output format a second) (node_image n output format b other) }
 {}
 
 /// An output row is decided by the rows of the first input within the vertical radius, whatever the
 /// border and the valid rectangles are. Of a second image, or of the accumulator, the same row
 /// alone counts.
-pub fn rows_in_reach_decide()
+pub fn rows_in_radius_decide()
     ensures { (n : Node) (output : Output) (format : Format) (a b : ImageValue)
         (second other : Option ObjectValue) (rows x y : ℕ) → IsImage a → IfSome second IsObject →
-        reach n.function (matrix_in second) ≡ Some rows →
-        AgreeInRows (y - rows) (y + rows) a b → AgreeBeside y y second other →
+        window_radius n.function (matrix_in second) ≡ Some rows →
+        AgreeInRows (y - rows) (y + rows) a b → SecondsAgree y y second other →
         x < a.width → y < a.height →
-        at (node_image n output format a second) x y ≡ at (node_image n output format b other) x y }
+        pixel_at (node_image n output format a second) x y ≡ pixel_at (node_image n output format b other) x y }
 {}
 
 /// Therefore a band of the inputs with its halo decides the same band of the output. The halo is
 /// the vertical radius, in rows, above and below the band.
-pub fn bands_in_reach_decide()
+pub fn bands_in_radius_decide()
     ensures { (n : Node) (output : Output) (format : Format) (a b : ImageValue)
         (second other : Option ObjectValue) (rows first last : ℕ) → IsImage a →
         IfSome second IsObject →
-        reach n.function (matrix_in second) ≡ Some rows →
-        AgreeInRows (first - rows) (last + rows) a b → AgreeBeside first last second other →
+        window_radius n.function (matrix_in second) ≡ Some rows →
+        AgreeInRows (first - rows) (last + rows) a b → SecondsAgree first last second other →
         AgreeInRows first last (node_image n output format a second)
         (node_image n output format b other) }
 {}

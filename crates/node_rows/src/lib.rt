@@ -1,7 +1,7 @@
 //! The rows of its inputs that a node reads for a row of its output.
 //!
 //! If only a band of an image is available, the output can be computed for the band without its
-//! outer rows: as many at each end as the vertical radius, `reach`. A function that reads all rows
+//! outer rows: as many at each end as the vertical radius, `window_radius`. A function that reads all rows
 //! has none.
 //!
 //! - `functions`: the vertical radius of each function
@@ -15,4 +15,4 @@ pub mod laws;
 #[cfg(test)]
 mod tests;
 
-pub use functions::reach;
+pub use functions::window_radius;

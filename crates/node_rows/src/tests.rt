@@ -1,5 +1,5 @@
 //! The vertical radii of some functions.
-use crate::reach;
+use crate::window_radius;
 use std::test::Fail;
 use vx_base::{Convolution, Function};
 
@@ -14,7 +14,7 @@ fn pixels_and_windows(rt: HostRuntime) {
         (Function::Integral, None),
         (Function::Histogram, None),
     ] {
-        assert!(rt; reach(function, None) == rows, "{function:?}");
+        assert!(rt; window_radius(function, None) == rows, "{function:?}");
     }
 }
 
@@ -22,7 +22,7 @@ fn pixels_and_windows(rt: HostRuntime) {
 fn matrices(rt: HostRuntime) -> Result<(), Fail> {
     let wide = Convolution::new(9, 3, 0, &[1; 27]).ok_or("a matrix")?;
     let high = Convolution::new(3, 9, 0, &[1; 27]).ok_or("a matrix")?;
-    assert!(rt; reach(Function::Convolve, Some(&wide)) == Some(1));
-    assert!(rt; reach(Function::Convolve, Some(&high)) == Some(4));
+    assert!(rt; window_radius(Function::Convolve, Some(&wide)) == Some(1));
+    assert!(rt; window_radius(Function::Convolve, Some(&high)) == Some(4));
     Ok(())
 }

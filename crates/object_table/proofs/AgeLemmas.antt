@@ -1,6 +1,6 @@
 -- Delays that age with graphs.
 use Rattle.std.proofs.Common.{◌≡◌, ◌≢◌, ℕ, ◌+◌, ◌<◌, Bool, true, false, List, [], ◌∷◌, ◌++◌, length, map, take, get_or, Some, None, refl, sym, ap, ◌∙◌, arith, ◌==◌, if◌then◌else◌, is_some, map-id, eqb-true, ne_eqb, All, filter, length-take, get_or-take}
-use Rattle.object_table.proofs.Common.{list_any, AllPairs, keys_of, lookup, set_value, is_at, option_map, nat_cmp, eqb-false, All-nil, All-cons, All-filter, sorted_tail, Kind, with_delays, ObjectValue, GraphObject, object_kind, Entry, is_there, aged_under, Context, with_objects, Named, object_held, aged_object, graph_value, IsUnder, graph_under, named, nodes_in}
+use Rattle.object_table.proofs.Common.{list_any, AllPairs, keys_of, lookup, set_value, is_at, option_map, nat_cmp, eqb-false, All-nil, All-cons, All-filter, sorted_tail, Kind, with_delays, ObjectValue, GraphObject, object_kind, Entry, is_there, aged_under, Context, with_objects, NamedObject, object_held, aged_object, graph_value, IsUnder, graph_under, entry_object, nodes_in}
 use Rattle.std.proofs.lemmas.List.Kept.{AllPairs-filter}
 use Rattle.std.proofs.lemmas.List.{get_or_default}
 use Rattle.std.proofs.lemmas.List.Folds.{list_any_more, list_any_none}
@@ -11,17 +11,17 @@ use Rattle.object_table.proofs.EntryLemmas.{InOrder, same_name, past_head, held_
 
 -- ---- one name
 
-none_aged : (entries : List (ℕ × Entry)) (name : ℕ) → lookup (is_at (nat_cmp name)) entries ≡ None → aged_under (name ∷ []) (map named entries) ≡ map named entries
+none_aged : (entries : List (ℕ × Entry)) (name : ℕ) → lookup (is_at (nat_cmp name)) entries ≡ None → aged_under (name ∷ []) (map entry_object entries) ≡ map entry_object entries
 none_aged [] name none = refl
 none_aged (e ∷ entries) name none = grind (arith, none_aged entries name, same_name name e.0)
 
 pub aged_written : (entries : List (ℕ × Entry)) (name : ℕ) (old new : Entry) → InOrder entries → lookup (is_at (nat_cmp name)) entries ≡ Some old → new.live ≡ old.live → new.object ≡ aged_object old.object
-    → map named (set_value (is_at (nat_cmp name)) entries new) ≡ aged_under (name ∷ []) (map named entries)
+    → map entry_object (set_value (is_at (nat_cmp name)) entries new) ≡ aged_under (name ∷ []) (map entry_object entries)
 aged_written [] name old new order found live is = cc
 aged_written (e ∷ entries) name old new order found live is =
     grind (arith, aged_written entries name old new (sorted_tail nat_cmp e.0 (keys_of entries) order), none_aged entries name, past_head e entries name order, same_name name e.0)
 
-module _ (t : Context) (next : ℕ) (entries : List (ℕ × Entry)) (view : ◌≡◌ {A = Context} (record { next = next; objects = map named entries }) t) (name : ℕ) where
+module _ (t : Context) (next : ℕ) (entries : List (ℕ × Entry)) (view : ◌≡◌ {A = Context} (record { next = next; objects = map entry_object entries }) t) (name : ℕ) where
   -- whether something is held under the name
   pub there_is : is_some (lookup (is_at (nat_cmp name)) entries) ≡ is_there t.objects name
   there_is = grind (arith, held_is entries name, objects_are t next entries view)
@@ -32,16 +32,16 @@ module _ (t : Context) (next : ℕ) (entries : List (ℕ × Entry)) (view : ◌�
 
   -- what ages shows
   pub shown_aged : (old new : Entry) (after : List (ℕ × Entry)) → lookup (is_at (nat_cmp name)) entries ≡ Some old → InOrder entries → new.live ≡ old.live → new.object ≡ aged_object old.object
-      → after ≡ set_value (is_at (nat_cmp name)) entries new → ◌≡◌ {A = Context} (record { next = next; objects = map named after }) (with_objects t (aged_under (name ∷ []) t.objects))
+      → after ≡ set_value (is_at (nat_cmp name)) entries new → ◌≡◌ {A = Context} (record { next = next; objects = map entry_object after }) (with_objects t (aged_under (name ∷ []) t.objects))
   shown_aged old new after found order live is after_is = grind (arith, aged_written entries name old new order found live is, objects_are t next entries view)
 
 -- ---- several names, one after the other
 
 -- one more name, which does not occur among those before
-pub aged_more : (names : List ℕ) (k d : ℕ) (objects : List Named) → AllPairs (λ a b. a ≢ b) names → k < length names → aged_under (get_or names k d ∷ []) (aged_under (take k names) objects) ≡ aged_under (take (k + 1) names) objects
+pub aged_more : (names : List ℕ) (k d : ℕ) (objects : List NamedObject) → AllPairs (λ a b. a ≢ b) names → k < length names → aged_under (get_or names k d ∷ []) (aged_under (take k names) objects) ≡ aged_under (take (k + 1) names) objects
 aged_more names k d [] apart there = refl
 aged_more names k d (o ∷ objects) apart there =
-    ap (λ (p : Named). p ∷ aged_under (get_or names k d ∷ []) (aged_under (take k names) objects)) (one (get_or names k d == o.name) refl)
+    ap (λ (p : NamedObject). p ∷ aged_under (get_or names k d ∷ []) (aged_under (take k names) objects)) (one (get_or names k d == o.name) refl)
     ∙ ap (λ l. aged_if (take (k + 1) names) o ∷ l) (aged_more names k d objects apart there)
   where
     is_it : ℕ → Bool
@@ -59,12 +59,12 @@ aged_more names k d (o ∷ objects) apart there =
     one false other = grind (arith, list_any_more is_it names k d there, other)
 
 -- no name
-pub aged_none : (objects : List Named) → aged_under [] objects ≡ objects
+pub aged_none : (objects : List NamedObject) → aged_under [] objects ≡ objects
 aged_none objects = map-id objects
 
 -- ---- the objects held after aging
 
-pub held_aged : (names : List ℕ) (objects : List Named) (name : ℕ)
+pub held_aged : (names : List ℕ) (objects : List NamedObject) (name : ℕ)
     → object_held (aged_under names objects) name ≡ option_map (λ object. if list_any (λ n. n == name) names then aged_object object else object) (object_held objects name)
 held_aged names [] name = refl
 held_aged names (o ∷ objects) name = grind (arith, held_aged names objects name, eqb-true o.name name)
@@ -75,10 +75,10 @@ aged_kind object = grind arith
 aged_graph : (object : ObjectValue) → graph_value (aged_object object) ≡ graph_value object
 aged_graph object = grind arith
 
-pub kind_aged : (names : List ℕ) (objects : List Named) (wanted : Kind) (name : ℕ) → IsUnder objects wanted name → IsUnder (aged_under names objects) wanted name
+pub kind_aged : (names : List ℕ) (objects : List NamedObject) (wanted : Kind) (name : ℕ) → IsUnder objects wanted name → IsUnder (aged_under names objects) wanted name
 kind_aged names objects wanted name h = grind (arith, held_aged names objects name, aged_kind)
 
-pub graph_aged : (names : List ℕ) (objects : List Named) (name : ℕ) → graph_under (aged_under names objects) name ≡ graph_under objects name
+pub graph_aged : (names : List ℕ) (objects : List NamedObject) (name : ℕ) → graph_under (aged_under names objects) name ≡ graph_under objects name
 graph_aged names objects name = grind (arith, held_aged names objects name, aged_graph)
 
 -- ---- one more delay

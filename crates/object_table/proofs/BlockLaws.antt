@@ -1,6 +1,6 @@
 -- The skeletons of objects determine how many blocks they occupy.
 use Rattle.std.proofs.Common.{◌≡◌, ℕ, ◌+◌, List, [], ◌∷◌, ◌++◌, map, refl, sym, ap, ◌∙◌, sum}
-use Rattle.object_table.proofs.Common.{sum_by_push, Format, ImageValue, ObjectValue, DelayObject, image_blocks, object_blocks, blocks_in, Named, image_skeleton, skeleton, sum_map}
+use Rattle.object_table.proofs.Common.{sum_by_push, Format, ImageValue, ObjectValue, DelayObject, image_blocks, object_blocks, blocks_in, NamedObject, image_skeleton, skeleton, sum_map}
 use Rattle.std.proofs.lemmas.List.Sums.{sum-map}
 use Rattle.object_table.specs.Blocks.{KeepsBlocks}
 use Rattle.object_table.proofs.SkeletonLaws.{map-told}
@@ -19,15 +19,15 @@ same_blocks one other format same =
 -- ---- of several
 
 -- so have objects under names whose skeletons are the same
-pub keeps_blocks : (new old : List Named) → map (λ o. skeleton o.object) new ≡ map (λ o. skeleton o.object) old → KeepsBlocks old new
+pub keeps_blocks : (new old : List NamedObject) → map (λ o. skeleton o.object) new ≡ map (λ o. skeleton o.object) old → KeepsBlocks old new
 keeps_blocks new old same format =
-    let of_named : Named → ℕ = λ o. object_blocks o.object format in
+    let of_named : NamedObject → ℕ = λ o. object_blocks o.object format in
     let of_object : ObjectValue → ℕ = λ object. object_blocks object format in
     sym (sum-map of_named new)
-    ∙ ap sum (map-told (λ (o : Named). skeleton o.object) of_named of_object (λ o. blocks_of_skeleton o.object format) new old same)
+    ∙ ap sum (map-told (λ (o : NamedObject). skeleton o.object) of_named of_object (λ o. blocks_of_skeleton o.object format) new old same)
     ∙ sum-map of_named old
 
 -- ---- when an object is added
 
-pub blocks-with_new : (objects : List Named) (o : Named) (format : Format) → blocks_in (objects ++ o ∷ []) format ≡ blocks_in objects format + object_blocks o.object format
-blocks-with_new objects o format = sum_by_push (λ (p : Named). object_blocks p.object format) objects o
+pub blocks-with_new : (objects : List NamedObject) (o : NamedObject) (format : Format) → blocks_in (objects ++ o ∷ []) format ≡ blocks_in objects format + object_blocks o.object format
+blocks-with_new objects o format = sum_by_push (λ (p : NamedObject). object_blocks p.object format) objects o

@@ -5,12 +5,12 @@ pub use Rattle.object_table.specs.Ageing.{aged_under, is_there}
 pub use Rattle.object_table.specs.Blocks.{Balances, LendsAtLeast, blocks_in, delay_blocks, image_blocks, object_blocks}
 pub use Rattle.object_table.specs.Context.{Context, charge_of, object_named, with_objects}
 pub use Rattle.object_table.specs.Delay.{HasImage, in_slot, new_delay, object_in, with_slot}
-pub use Rattle.object_table.specs.Holds.{still_held, unnamed}
-pub use Rattle.object_table.specs.Named.{Named, object_held, with_object}
+pub use Rattle.object_table.specs.Holds.{still_held, without_name}
+pub use Rattle.object_table.specs.NamedObject.{NamedObject, object_held, with_object}
 pub use Rattle.object_table.specs.Object.{aged_object, graph_value, image_value, with_samples}
 pub use Rattle.object_table.specs.Skeleton.{image_skeleton, skeleton}
-pub use Rattle.object_table.specs.Table.{IsTable, IsUnder, ended, graph_under, is_kept, kept, named, nodes_at, used_less, used_more}
-pub use Rattle.object_table.specs.Uses.{names_used, names_used_by, nodes_in, times, used_names}
+pub use Rattle.object_table.specs.Table.{IsTable, IsUnder, entries_without_name, graph_under, is_kept, kept_entries, entry_object, nodes_at, used_less, used_more}
+pub use Rattle.object_table.specs.Uses.{names_used, names_used_by, nodes_in, name_count, used_names}
 pub use Rattle.object_table.specs.declared.table.Entry.{Entry}
 pub use Rattle.pixel_pool.specs.Pool.{lent_of}
 pub use Rattle.std.proofs.lemmas.Bool.{and_parts, cases_Bool, cases_lt, eqb-false}
@@ -33,11 +33,11 @@ pub use Rattle.std.specs.Option.{option_map}
 pub use Rattle.std.specs.Ordering.{nat_cmp}
 pub use Rattle.std.specs.Vec.Iter.{into_iter_items}
 pub use Rattle.vx_base.proofs.ImageLaws.{new_image_is}
-pub use Rattle.vx_base.specs.Cell.{Cell}
+pub use Rattle.vx_base.specs.Reference.{Reference}
 pub use Rattle.vx_base.specs.Description.{Description}
 pub use Rattle.vx_base.specs.Graph.{GraphValue, can_add, with_delays, with_node, without_node}
-pub use Rattle.vx_base.specs.Image.{ImageValue, IsImage, band, description_of, image_over, new_image, with_valid, within}
-pub use Rattle.vx_base.specs.Node.{given}
+pub use Rattle.vx_base.specs.Image.{ImageValue, IsImage, band, description_of, image_over, new_image, with_valid, zero_outside}
+pub use Rattle.vx_base.specs.Node.{optional_cells}
 pub use Rattle.vx_base.specs.Object.{DelayObject, GraphObject, ImageObject, IsDelay, IsObject, ObjectValue, image_bytes, object_bytes, object_kind}
 pub use Rattle.vx_base.specs.Picture.{values}
 pub use Rattle.vx_base.specs.declared.desc.TheConstants.{GREATEST_BYTES}

@@ -1,6 +1,6 @@
 -- In how many blocks of a pool the entries of a map have their samples.
 use Rattle.std.proofs.Common.{◌≡◌, ℕ, ◌+◌, List, [], ◌∷◌, map, Some, refl, sym, ap, ◌∙◌, arith, rules, sum_by}
-use Rattle.object_table.proofs.Common.{lookup, set_value, remove_entry, is_at, nat_cmp, sum_by-cons, Format, Entry, GraphValue, ObjectValue, GraphObject, object_kind, object_blocks, blocks_in, LendsAtLeast, Balances, Named, named}
+use Rattle.object_table.proofs.Common.{lookup, set_value, remove_entry, is_at, nat_cmp, sum_by-cons, Format, Entry, GraphValue, ObjectValue, GraphObject, object_kind, object_blocks, blocks_in, LendsAtLeast, Balances, NamedObject, entry_object}
 use Rattle.vx_base.specs.declared.kind.Kind.TheVariants as kind
 use Rattle.pixel_pool.specs.declared.pool.Pool.{Pool}
 use Rattle.object_table.specs.Blocks.{LendsLess}
@@ -8,11 +8,11 @@ use Rattle.object_table.proofs.EntryLemmas.{sum-written, sum-removed}
 
 -- in how many blocks of a format they have theirs
 abbrev pub entry_blocks : List (ℕ × Entry) → Format → ℕ
-entry_blocks entries format = blocks_in (map named entries) format
+entry_blocks entries format = blocks_in (map entry_object entries) format
 
 -- those of the first, and of the rest
 pub blocks-cons : (e : ℕ × Entry) (entries : List (ℕ × Entry)) (format : Format) → entry_blocks (e ∷ entries) format ≡ object_blocks e.1.object format + entry_blocks entries format
-blocks-cons e entries format = sum_by-cons (λ (o : Named). object_blocks o.object format) (named e) (map named entries)
+blocks-cons e entries format = sum_by-cons (λ (o : NamedObject). object_blocks o.object format) (entry_object e) (map entry_object entries)
 
 -- they are the sum over the entries
 blocks_is : (entries : List (ℕ × Entry)) (format : Format) → entry_blocks entries format ≡ sum_by (λ e. object_blocks e.1.object format) entries
@@ -34,11 +34,11 @@ blocks-removed entries name old found format =
 -- ---- what is lent as the entries change
 
 -- the objects that are left occupy no more blocks than are lent
-pub owns_after : (pool changed : Pool) (before after : List Named) → LendsAtLeast pool (blocks_in before) → Balances pool changed before after → LendsAtLeast changed (blocks_in after)
+pub owns_after : (pool changed : Pool) (before after : List NamedObject) → LendsAtLeast pool (blocks_in before) → Balances pool changed before after → LendsAtLeast changed (blocks_in after)
 owns_after pool changed before after owns balances format = omega (arith, owns format, balances format)
 
 -- two changes, one after the other
-pub Balances-trans : (pool middle changed : Pool) (first second third : List Named) → Balances pool middle first second → Balances middle changed second third → Balances pool changed first third
+pub Balances-trans : (pool middle changed : Pool) (first second third : List NamedObject) → Balances pool middle first second → Balances middle changed second third → Balances pool changed first third
 Balances-trans pool middle changed first second third one other format = omega (arith, one format, other format)
 
 -- an entry that is written with an object of as many blocks
@@ -46,29 +46,29 @@ module _ (entries : List (ℕ × Entry)) (name : ℕ) (old new : Entry) (found :
   as_many : (format : Format) → entry_blocks written format ≡ entry_blocks entries format
   as_many format = ap (λ l. entry_blocks l format) is ∙ blocks-written entries name old new format found (same format)
 
-  pub owns-written : (pool : Pool) → LendsAtLeast pool (blocks_in (map named entries)) → LendsAtLeast pool (blocks_in (map named written))
+  pub owns-written : (pool : Pool) → LendsAtLeast pool (blocks_in (map entry_object entries)) → LendsAtLeast pool (blocks_in (map entry_object written))
   owns-written pool owns format = omega (arith, as_many format, owns format)
 
-  pub Balances-written : (pool : Pool) → Balances pool pool (map named entries) (map named written)
+  pub Balances-written : (pool : Pool) → Balances pool pool (map entry_object entries) (map entry_object written)
   Balances-written pool format = omega (arith, as_many format)
 
   -- and a change after it
-  pub Balances-written_then : (pool changed : Pool) (after : List (ℕ × Entry)) → Balances pool changed (map named written) (map named after) → Balances pool changed (map named entries) (map named after)
+  pub Balances-written_then : (pool changed : Pool) (after : List (ℕ × Entry)) → Balances pool changed (map entry_object written) (map entry_object after) → Balances pool changed (map entry_object entries) (map entry_object after)
   Balances-written_then pool changed after balances format = omega (arith, as_many format, balances format)
 
 -- entries that end, each in its turn: the first of those that are left
-pub owns_first : (pool changed : Pool) (before : List Named) (entries : List (ℕ × Entry)) (e : ℕ × Entry) (rest : List (ℕ × Entry)) → entries ≡ e ∷ rest → LendsAtLeast pool (blocks_in before)
-    → Balances pool changed before (map named entries) → LendsAtLeast changed (object_blocks e.1.object)
+pub owns_first : (pool changed : Pool) (before : List NamedObject) (entries : List (ℕ × Entry)) (e : ℕ × Entry) (rest : List (ℕ × Entry)) → entries ≡ e ∷ rest → LendsAtLeast pool (blocks_in before)
+    → Balances pool changed before (map entry_object entries) → LendsAtLeast changed (object_blocks e.1.object)
 owns_first pool changed before entries e rest first owns balances format =
     omega (arith, owns format, balances format, blocks-cons e rest format, ap (λ l. entry_blocks l format) first)
 
-pub Balances-first : (pool changed next : Pool) (before : List Named) (entries : List (ℕ × Entry)) (e : ℕ × Entry) (rest : List (ℕ × Entry)) → entries ≡ e ∷ rest
-    → Balances pool changed before (map named entries) → LendsLess changed next (object_blocks e.1.object) → Balances pool next before (map named rest)
+pub Balances-first : (pool changed next : Pool) (before : List NamedObject) (entries : List (ℕ × Entry)) (e : ℕ × Entry) (rest : List (ℕ × Entry)) → entries ≡ e ∷ rest
+    → Balances pool changed before (map entry_object entries) → LendsLess changed next (object_blocks e.1.object) → Balances pool next before (map entry_object rest)
 Balances-first pool changed next before entries e rest first balances less format =
     omega (arith, balances format, less format, blocks-cons e rest format, ap (λ l. entry_blocks l format) first)
 
 -- once none is left
-pub Balances-all : (pool changed : Pool) (before : List Named) (entries : List (ℕ × Entry)) → entries ≡ [] → Balances pool changed before (map named entries) → LendsLess pool changed (blocks_in before)
+pub Balances-all : (pool changed : Pool) (before : List NamedObject) (entries : List (ℕ × Entry)) → entries ≡ [] → Balances pool changed before (map entry_object entries) → LendsLess pool changed (blocks_in before)
 Balances-all pool changed before entries none balances format = omega (arith, balances format, ap (λ l. entry_blocks l format) none)
 
 -- ---- graphs

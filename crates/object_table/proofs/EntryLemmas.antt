@@ -1,6 +1,6 @@
 -- Entries of a map by name, and what they show.
 use Rattle.std.proofs.Common.{◌≡◌, ℕ, ◌+◌, ◌<◌, ◌≤◌, true, cond, List, [], ◌∷◌, ◌++◌, ◌*◌, length, map, Option, Some, None, refl, sym, ap, subst, ◌∙◌, arith, rules, ◌==◌, nat_lt, ◌||◌, sum_by, unwrap_or, length-append, All, IsTrue}
-use Rattle.object_table.proofs.Common.{nat_cmp, keys_of, lookup, set_value, remove_entry, is_at, option_map, IsStrictlyIncreasing, cases_lt, and_parts, length-map, All-cons, All-head, All-tail, All-weaker, sum_by-cons, sum_by-le, sum_by_push, keys-set_value, length-set_value, All-lookup, sorted_tail, Kind, Cell, ImageValue, new_image, ObjectValue, ImageObject, object_bytes, object_kind, Entry, Context, object_named, charge_of, with_objects, object_in, with_slot, HasImage, object_held, with_object, image_value, aged_object, IsUnder, named, is_kept, IsTable, nodes_in, names_used_by, names_used, times, GREATEST_SLOTS, GREATEST_BYTES}
+use Rattle.object_table.proofs.Common.{nat_cmp, keys_of, lookup, set_value, remove_entry, is_at, option_map, IsStrictlyIncreasing, cases_lt, and_parts, length-map, All-cons, All-head, All-tail, All-weaker, sum_by-cons, sum_by-le, sum_by_push, keys-set_value, length-set_value, All-lookup, sorted_tail, Kind, Reference, ImageValue, new_image, ObjectValue, ImageObject, object_bytes, object_kind, Entry, Context, object_named, charge_of, with_objects, object_in, with_slot, HasImage, object_held, with_object, image_value, aged_object, IsUnder, entry_object, is_kept, IsTable, nodes_in, names_used_by, names_used, name_count, GREATEST_SLOTS, GREATEST_BYTES}
 use Rattle.vx_base.specs.declared.format.Format.TheVariants.{U8}
 use Rattle.std.specs.BTreeMap.{insert_entry}
 use Rattle.std.specs.List.Sorted.{IsStrictlySortedBy}
@@ -10,7 +10,7 @@ use Rattle.std.proofs.lemmas.Map.{lookup-none}
 use Rattle.std.proofs.lemmas.Map.Entries.{none_past_head}
 use Rattle.std.proofs.lemmas.Map.Keys.{sorted_from_strictly_increasing, IsDistinct-from_sorted}
 use Rattle.vx_base.specs.declared.kind.Kind.TheVariants as kind
-use Rattle.vx_base.specs.Cell.{cell_of}
+use Rattle.vx_base.specs.Reference.{reference_to}
 use Rattle.object_table.specs.Context.{can_insert}
 use Rattle.object_table.specs.Table.{object_under, cell_object, image_held, HoldsImage}
 
@@ -35,11 +35,11 @@ past_head e entries name order here =
 -- ---- what is found under a name
 
 -- whether that is live or not
-pub held_is : (entries : List (ℕ × Entry)) (name : ℕ) → object_held (map named entries) name ≡ option_map (λ e. e.object) (lookup (is_at (nat_cmp name)) entries)
+pub held_is : (entries : List (ℕ × Entry)) (name : ℕ) → object_held (map entry_object entries) name ≡ option_map (λ e. e.object) (lookup (is_at (nat_cmp name)) entries)
 held_is [] name = refl
 held_is (e ∷ entries) name = grind (arith, held_is entries name, same_name name e.0)
 
-pub none_named : (entries : List (ℕ × Entry)) (name : ℕ) → lookup (is_at (nat_cmp name)) entries ≡ None → object_named (map named entries) name ≡ None
+pub none_named : (entries : List (ℕ × Entry)) (name : ℕ) → lookup (is_at (nat_cmp name)) entries ≡ None → object_named (map entry_object entries) name ≡ None
 none_named [] name none = refl
 none_named (e ∷ entries) name none = grind (arith, none_named entries name, same_name name e.0)
 
@@ -47,18 +47,18 @@ none_named (e ∷ entries) name none = grind (arith, none_named entries name, sa
 abbrev pub if_live : Entry → Option ObjectValue
 if_live e = cond e.live (Some e.object) None
 
-pub named_is : (entries : List (ℕ × Entry)) (name : ℕ) (e : Entry) → InOrder entries → lookup (is_at (nat_cmp name)) entries ≡ Some e → object_named (map named entries) name ≡ if_live e
+pub named_is : (entries : List (ℕ × Entry)) (name : ℕ) (e : Entry) → InOrder entries → lookup (is_at (nat_cmp name)) entries ≡ Some e → object_named (map entry_object entries) name ≡ if_live e
 named_is [] name e order found = cc
 named_is (d ∷ entries) name e order found = grind (arith, named_is entries name e (sorted_tail nat_cmp d.0 (keys_of entries) order), same_name, sorted_tail, none_named, past_head)
 
 -- ---- an entry that is written
 
-none_written : (entries : List (ℕ × Entry)) (cell : Cell) (object : ObjectValue) → lookup (is_at (nat_cmp cell.name)) entries ≡ None → with_object (map named entries) cell object ≡ map named entries
+none_written : (entries : List (ℕ × Entry)) (cell : Reference) (object : ObjectValue) → lookup (is_at (nat_cmp cell.name)) entries ≡ None → with_object (map entry_object entries) cell object ≡ map entry_object entries
 none_written [] cell object none = refl
 none_written (e ∷ entries) cell object none = grind (arith, none_written entries cell object, same_name cell.name e.0)
 
-pub written : (entries : List (ℕ × Entry)) (cell : Cell) (old new : Entry) (object : ObjectValue) → InOrder entries → lookup (is_at (nat_cmp cell.name)) entries ≡ Some old
-    → new.live ≡ old.live → new.object ≡ with_slot cell.slot object old.object → map named (set_value (is_at (nat_cmp cell.name)) entries new) ≡ with_object (map named entries) cell object
+pub written : (entries : List (ℕ × Entry)) (cell : Reference) (old new : Entry) (object : ObjectValue) → InOrder entries → lookup (is_at (nat_cmp cell.name)) entries ≡ Some old
+    → new.live ≡ old.live → new.object ≡ with_slot cell.slot object old.object → map entry_object (set_value (is_at (nat_cmp cell.name)) entries new) ≡ with_object (map entry_object entries) cell object
 written [] cell old new object order found live is = cc
 written (e ∷ entries) cell old new object order found live is = grind (arith, written entries cell old new object (sorted_tail nat_cmp e.0 (keys_of entries) order), none_written entries cell object, past_head e entries cell.name order, same_name cell.name e.0)
 
@@ -80,13 +80,13 @@ sum-removed f [] name old found = cc
 sum-removed f (e ∷ entries) name old found = grind (arith, sum-removed f entries name old, same_name, sum_by-cons)
 
 -- what a context is charged is the sum over the entries
-pub charge_is : (entries : List (ℕ × Entry)) → charge_of (map named entries) ≡ sum_by (λ e. object_bytes e.1.object) entries
+pub charge_is : (entries : List (ℕ × Entry)) → charge_of (map entry_object entries) ≡ sum_by (λ e. object_bytes e.1.object) entries
 charge_is [] = refl
 charge_is (e ∷ entries) = search (rules, charge_is entries, sum_by-cons)
 
 -- names that the written object's nodes use as the old one's did
 used-written : (entries : List (ℕ × Entry)) (name : ℕ) (old new : Entry) → lookup (is_at (nat_cmp name)) entries ≡ Some old → new.live ≡ old.live → nodes_in new.object ≡ nodes_in old.object
-    → names_used (map named (set_value (is_at (nat_cmp name)) entries new)) ≡ names_used (map named entries)
+    → names_used (map entry_object (set_value (is_at (nat_cmp name)) entries new)) ≡ names_used (map entry_object entries)
 used-written [] name old new found live nodes = cc
 used-written (e ∷ entries) name old new found live nodes = grind (arith, used-written entries name old new)
 
@@ -96,7 +96,7 @@ insert_last [] name new h = refl
 insert_last (e ∷ entries) name new h = grind (arith, insert_last entries name new (All-tail (λ e. e.0 < name) e entries h), All-tail, All-head)
 
 -- a name does not occur among smaller ones
-pub times_none : (name : ℕ) (names : List ℕ) → All (λ other. other < name) names → 0 ≡ times name names
+pub times_none : (name : ℕ) (names : List ℕ) → All (λ other. other < name) names → 0 ≡ name_count name names
 times_none name [] h = refl
 times_none name (other ∷ names) h = grind (arith, times_none name names (All-tail (λ other. other < name) other names h), All-tail, sum_by-cons, All-head)
 
@@ -114,7 +114,7 @@ module _ (next charge : ℕ) (entries : List (ℕ × Entry)) (t : IsTable next c
   pub IsTable-exchanged : (charged : ℕ) (new : Entry) → new.live ≡ old.live → new.uses ≡ old.uses → nodes_in new.object ≡ nodes_in old.object
       → object_bytes new.object ≤ GREATEST_SLOTS * GREATEST_BYTES → charged + object_bytes old.object ≡ charge + object_bytes new.object → IsTable next charged (set_value (is_at (nat_cmp name)) entries new)
   IsTable-exchanged charged new live uses nodes limit balance =
-      grind (arith, used-written entries name old new found live nodes, sum-written (λ e. object_bytes e.1.object) entries name old new found, All-written (λ e. e.0 < next) entries name old new found (λ k h. h) t.below, All-written (λ e. object_bytes e.1.object ≤ GREATEST_SLOTS * GREATEST_BYTES) entries name old new found (λ k h. limit) t.each, All-written (λ e. length (nodes_in e.1.object) ≤ 256) entries name old new found (λ k h. subst (λ l. length l ≤ 256) (sym nodes) h) t.nodes, charge_is entries, All-written (λ e. e.1.uses ≡ times e.0 (names_used (map named entries))) entries name old new found (λ k h. uses ∙ h) t.uses, All-written (λ e. IsTrue (is_kept e)) entries name old new found (λ k h. ap (λ b. b || nat_lt 0 new.uses) live ∙ ap (λ n. old.live || nat_lt 0 n) uses ∙ h) t.held, used-written, sum-written, keys-set_value, All-written, length-set_value, charge_is)
+      grind (arith, used-written entries name old new found live nodes, sum-written (λ e. object_bytes e.1.object) entries name old new found, All-written (λ e. e.0 < next) entries name old new found (λ k h. h) t.below, All-written (λ e. object_bytes e.1.object ≤ GREATEST_SLOTS * GREATEST_BYTES) entries name old new found (λ k h. limit) t.each, All-written (λ e. length (nodes_in e.1.object) ≤ 256) entries name old new found (λ k h. subst (λ l. length l ≤ 256) (sym nodes) h) t.nodes, charge_is entries, All-written (λ e. e.1.uses ≡ name_count e.0 (names_used (map entry_object entries))) entries name old new found (λ k h. uses ∙ h) t.uses, All-written (λ e. IsTrue (is_kept e)) entries name old new found (λ k h. ap (λ b. b || nat_lt 0 new.uses) live ∙ ap (λ n. old.live || nat_lt 0 n) uses ∙ h) t.held, used-written, sum-written, keys-set_value, All-written, length-set_value, charge_is)
 
 -- an object of as many bytes
 pub IsTable-written : (next charge : ℕ) (entries : List (ℕ × Entry)) (name : ℕ) (old new : Entry) (after : List (ℕ × Entry)) → IsTable next charge entries → lookup (is_at (nat_cmp name)) entries ≡ Some old
@@ -130,7 +130,7 @@ pub IsTable-inserted : (next charge : ℕ) (entries : List (ℕ × Entry)) (new 
     → IsTable (next + 1) (charge + object_bytes new.object) (entries ++ (next, new) ∷ [])
 IsTable-inserted next charge entries new t left room live uses nodes limit increasing =
     let one : List (ℕ × Entry) = (next, new) ∷ [] in
-    let used : names_used (map named (entries ++ one)) ≡ names_used (map named entries) = map_used entries in
+    let used : names_used (map entry_object (entries ++ one)) ≡ names_used (map entry_object entries) = map_used entries in
     record {
       names = increasing;
       below = All-push (λ e. e.0 < next + 1) entries (next, new) (All-weaker (λ e. e.0 < next) (λ e. e.0 < next + 1) (λ e h. omega (arith, h)) entries t.below) (omega arith);
@@ -139,24 +139,24 @@ IsTable-inserted next charge entries new t left room live uses nodes limit incre
       each = All-push (λ e. object_bytes e.1.object ≤ GREATEST_SLOTS * GREATEST_BYTES) entries (next, new) t.each limit;
       nodes = All-push (λ e. length (nodes_in e.1.object) ≤ 256) entries (next, new) t.nodes (subst (λ l. length l ≤ 256) (sym nodes) (omega arith));
       charged = omega (arith, t.charged, charge_is entries, charge_is (entries ++ one), sum_by_push (λ e. object_bytes e.1.object) entries (next, new));
-      uses = subst (λ l. All (λ e. e.1.uses ≡ times e.0 l) (entries ++ one)) (sym used) (All-push (λ e. e.1.uses ≡ times e.0 (names_used (map named entries))) entries (next, new) t.uses (uses ∙ times_none next (names_used (map named entries)) t.given));
+      uses = subst (λ l. All (λ e. e.1.uses ≡ name_count e.0 l) (entries ++ one)) (sym used) (All-push (λ e. e.1.uses ≡ name_count e.0 (names_used (map entry_object entries))) entries (next, new) t.uses (uses ∙ times_none next (names_used (map entry_object entries)) t.given));
       held = All-push (λ e. IsTrue (is_kept e)) entries (next, new) t.held (ap (λ b. b || nat_lt 0 new.uses) live);
-      given = subst (All (λ n. n < next + 1)) (sym used) (All-weaker (λ n. n < next) (λ n. n < next + 1) (λ n h. omega (arith, h)) (names_used (map named entries)) t.given);
+      given = subst (All (λ n. n < next + 1)) (sym used) (All-weaker (λ n. n < next) (λ n. n < next + 1) (λ n h. omega (arith, h)) (names_used (map entry_object entries)) t.given);
     }
   where
-    map_used : (l : List (ℕ × Entry)) → names_used (map named (l ++ (next, new) ∷ [])) ≡ names_used (map named l)
+    map_used : (l : List (ℕ × Entry)) → names_used (map entry_object (l ++ (next, new) ∷ [])) ≡ names_used (map entry_object l)
     map_used [] = grind (arith, nodes)
-    map_used (e ∷ l) = ap (λ names. names_used_by (named e) ++ names) (map_used l)
+    map_used (e ∷ l) = ap (λ names. names_used_by (entry_object e) ++ names) (map_used l)
 
 -- ---- a table that shows a context
 
-module _ (t : Context) (next : ℕ) (entries : List (ℕ × Entry)) (view : ◌≡◌ {A = Context} (record { next = next; objects = map named entries }) t) where
-  pub objects_are : map named entries ≡ t.objects
+module _ (t : Context) (next : ℕ) (entries : List (ℕ × Entry)) (view : ◌≡◌ {A = Context} (record { next = next; objects = map entry_object entries }) t) where
+  pub objects_are : map entry_object entries ≡ t.objects
   objects_are = ap (λ (c : Context). c.objects) view
 
   -- where one more object can be held
   pub room_left : can_insert t ≡ true → (next < 4294967296) × (length entries < 1024)
-  room_left h = grind (arith, and_parts (nat_lt t.next 4294967296) (nat_lt (length t.objects) 1024) h, length-map entries named)
+  room_left h = grind (arith, and_parts (nat_lt t.next 4294967296) (nat_lt (length t.objects) 1024) h, length-map entries entry_object)
 
   -- nothing is held under a name that isn't found
   pub none_held : (name : ℕ) → lookup (is_at (nat_cmp name)) entries ≡ None → object_held t.objects name ≡ None
@@ -171,11 +171,11 @@ module _ (t : Context) (next : ℕ) (entries : List (ℕ × Entry)) (view : ◌�
 
     -- what a change of the object shows
     pub shown_name : (f : ObjectValue → ObjectValue) (new : Entry) (after : List (ℕ × Entry)) → InOrder entries → new.live ≡ old.live → new.object ≡ f old.object
-        → after ≡ set_value (is_at (nat_cmp name)) entries new → ◌≡◌ {A = Context} (record { next = next; objects = map named after }) (with_objects t (with_object t.objects (cell_of name) (f (object_under t.objects name))))
-    shown_name f new after order live is then = grind (arith, written entries (cell_of name) old new (f old.object) order found live is, written, under_is)
+        → after ≡ set_value (is_at (nat_cmp name)) entries new → ◌≡◌ {A = Context} (record { next = next; objects = map entry_object after }) (with_objects t (with_object t.objects (reference_to name) (f (object_under t.objects name))))
+    shown_name f new after order live is then = grind (arith, written entries (reference_to name) old new (f old.object) order found live is, written, under_is)
 
   -- what a cell holds, of which the name and the slot were read
-  module _ (cell : Cell) (name : ℕ) (slot : Option ℕ) (at : name ≡ cell.name) (in_it : slot ≡ cell.slot) (old : Entry) (found : lookup (is_at (nat_cmp name)) entries ≡ Some old) where
+  module _ (cell : Reference) (name : ℕ) (slot : Option ℕ) (at : name ≡ cell.name) (in_it : slot ≡ cell.slot) (old : Entry) (found : lookup (is_at (nat_cmp name)) entries ≡ Some old) where
     pub found_under : object_under t.objects cell.name ≡ old.object
     found_under = ap (object_under t.objects) (sym at) ∙ under_is name old found
 
@@ -189,7 +189,7 @@ module _ (t : Context) (next : ℕ) (entries : List (ℕ × Entry)) (view : ◌�
     image_there h = grind (arith, held_under name old found)
 
     pub shown_cell : (f : ObjectValue → ObjectValue) (new : Entry) (after : List (ℕ × Entry)) → InOrder entries → new.live ≡ old.live → new.object ≡ with_slot slot (f (object_in slot old.object)) old.object
-        → after ≡ set_value (is_at (nat_cmp name)) entries new → ◌≡◌ {A = Context} (record { next = next; objects = map named after }) (with_objects t (with_object t.objects cell (f (cell_object t.objects cell))))
+        → after ≡ set_value (is_at (nat_cmp name)) entries new → ◌≡◌ {A = Context} (record { next = next; objects = map entry_object after }) (with_objects t (with_object t.objects cell (f (cell_object t.objects cell))))
     shown_cell f new after order live is then =
         let here : lookup (is_at (nat_cmp cell.name)) entries ≡ Some old = ap (λ k. lookup (is_at (nat_cmp k)) entries) (sym at) ∙ found in
         grind (arith, written entries cell old new (f (object_in slot old.object)) order here live, cell_is)
@@ -209,12 +209,12 @@ plain object h = grind arith
 pub none_of_kind : (wanted : Kind) (object new : ObjectValue) → object_kind object ≡ wanted → object_kind new ≡ wanted → (wanted ≡ kind.Graph → ⊥) → nodes_in new ≡ nodes_in object
 none_of_kind wanted object new is same other = grind (arith, plain object, plain new)
 
-module _ (t : Context) (next : ℕ) (entries : List (ℕ × Entry)) (view : ◌≡◌ {A = Context} (record { next = next; objects = map named entries }) t) where
+module _ (t : Context) (next : ℕ) (entries : List (ℕ × Entry)) (view : ◌≡◌ {A = Context} (record { next = next; objects = map entry_object entries }) t) where
   -- an object of a kind that is held under a name is found
   pub nothing_under : (wanted : Kind) (name : ℕ) → lookup (is_at (nat_cmp name)) entries ≡ None → IsUnder t.objects wanted name → ⊥
   nothing_under wanted name none h = grind (arith, none_held t next entries view name none)
 
-  pub nothing_held : (cell : Cell) (name : ℕ) → name ≡ cell.name → lookup (is_at (nat_cmp name)) entries ≡ None → HoldsImage t.objects cell → ⊥
+  pub nothing_held : (cell : Reference) (name : ℕ) → name ≡ cell.name → lookup (is_at (nat_cmp name)) entries ≡ None → HoldsImage t.objects cell → ⊥
   nothing_held cell name at none h = grind (arith, none_held t next entries view name none)
 
   pub kind_under : (wanted : Kind) (name : ℕ) (old : Entry) → lookup (is_at (nat_cmp name)) entries ≡ Some old → IsUnder t.objects wanted name → object_kind old.object ≡ wanted

@@ -1,6 +1,6 @@
 -- Nodes that are added and removed, the names that they use, and the objects held after that.
 use Rattle.std.proofs.Common.{inl, inr, ◌≡◌, ℕ, ◌+◌, ◌-◌, ◌*◌, ◌<◌, ◌≤◌, zero, suc, Bool, true, false, cond, List, [], ◌∷◌, ◌++◌, Some, None, length, map, get_or, IsTrue, refl, sym, ap, subst, ◌∙◌, arith, rules, ◌==◌, ◌||◌, nat_lt, find, sum_by, is_some, eqb-true, ne_eqb, length-append, All, ◌&&◌, not, filter, ltb-true, take_at, drop_at}
-use Rattle.object_table.proofs.Common.{map-map, keys_of, lookup, set_value, list_any, flat_map, AllPairs, IsStrictlyIncreasing, is_at, nat_cmp, cases_Bool, and_parts, map-append, length-map, All-nil, All-cons, All-head, All-tail, All-map, All-weaker, All-filter, filter_passes, AllPairs-from_increasing, sum_by-cons, sum_by-le, count_by-le-length, keys-set_value, length-set_value, Kind, Node, Numbered, Cell, GraphValue, can_add, with_node, without_node, given, ObjectValue, GraphObject, object_bytes, object_kind, Entry, Context, charge_of, object_named, still_held, unnamed, Named, object_held, graph_value, named, used_more, used_less, is_kept, kept, IsTable, used_names, nodes_in, names_used_by, names_used, times, GREATEST_SLOTS, GREATEST_BYTES, nat_tests}
+use Rattle.object_table.proofs.Common.{map-map, keys_of, lookup, set_value, list_any, flat_map, AllPairs, IsStrictlyIncreasing, is_at, nat_cmp, cases_Bool, and_parts, map-append, length-map, All-nil, All-cons, All-head, All-tail, All-map, All-weaker, All-filter, filter_passes, AllPairs-from_increasing, sum_by-cons, sum_by-le, count_by-le-length, keys-set_value, length-set_value, Kind, Node, Numbered, Reference, GraphValue, can_add, with_node, without_node, optional_cells, ObjectValue, GraphObject, object_bytes, object_kind, Entry, Context, charge_of, object_named, still_held, without_name, NamedObject, object_held, graph_value, entry_object, used_more, used_less, is_kept, kept_entries, IsTable, used_names, nodes_in, names_used_by, names_used, name_count, GREATEST_SLOTS, GREATEST_BYTES, nat_tests}
 use Rattle.std.proofs.lemmas.Bool.{false≢true}
 use Rattle.std.proofs.lemmas.Grind.{flat_map-append}
 use Rattle.std.proofs.lemmas.List.Concat.{length-flat_map}
@@ -22,11 +22,11 @@ use Rattle.object_table.proofs.EntryLemmas.{none_named, InOrder, in_order, named
 
 -- ---- how often a name occurs in a list
 
-times-cons : (name other : ℕ) (names : List ℕ) → times name (other ∷ names) ≡ cond (name == other) 1 0 + times name names
+times-cons : (name other : ℕ) (names : List ℕ) → name_count name (other ∷ names) ≡ cond (name == other) 1 0 + name_count name names
 times-cons name other names = sum_by-cons (λ other. cond (name == other) 1 0) other names
 
 -- whether a name occurs in a list
-any_times : (name : ℕ) (names : List ℕ) → nat_lt 0 (times name names) ≡ list_any (λ other. name == other) names
+any_times : (name : ℕ) (names : List ℕ) → nat_lt 0 (name_count name names) ≡ list_any (λ other. name == other) names
 any_times name [] = refl
 any_times name (other ∷ names) = grind (arith, any_times name names, times-cons name other names)
 
@@ -37,9 +37,9 @@ All-flat_map f P [] h = All-nil P
 All-flat_map f P (x ∷ xs) h = All-append P (f x) (flat_map f xs) (All-head (λ y. All P (f y)) x xs h) (All-flat_map f P xs (All-tail (λ y. All P (f y)) x xs h))
 
 module _ {X : Type 0} (f : X → List ℕ) where
-  times-flat_map : (name : ℕ) (xs : List X) → times name (flat_map f xs) ≡ sum_by (λ x. times name (f x)) xs
+  times-flat_map : (name : ℕ) (xs : List X) → name_count name (flat_map f xs) ≡ sum_by (λ x. name_count name (f x)) xs
   times-flat_map name [] = refl
-  times-flat_map name (x ∷ xs) = grind (arith, times-flat_map name xs, times-append name (f x) (flat_map f xs), sum_by-cons (λ x. times name (f x)) x xs)
+  times-flat_map name (x ∷ xs) = grind (arith, times-flat_map name xs, times-append name (f x) (flat_map f xs), sum_by-cons (λ x. name_count name (f x)) x xs)
 
   All-parts : (P : ℕ → Type 0) (xs : List X) → All P (flat_map f xs) → All (λ x. All P (f x)) xs
   All-parts P [] h = All-nil (λ x. All P (f x))
@@ -62,12 +62,12 @@ any_alike p q (x ∷ xs) h = ap (λ b. b || list_any p xs) (All-head (λ x. p x 
 -- ---- the names of a node's operands
 
 -- they are the cells that it reads and writes
-names_of_operands : (n : Node) → map (λ (operand : Cell × Kind). operand.0.name) (operands n) ≡ used_names n
-names_of_operands n = grind (arith, given)
+names_of_operands : (n : Node) → map (λ (operand : Reference × Kind). operand.0.name) (operands n) ≡ used_names n
+names_of_operands n = grind (arith, optional_cells)
 
 -- a node has at most four
 four_names : (n : Node) → length (used_names n) ≤ 4
-four_names n = grind (arith, given)
+four_names n = grind (arith, optional_cells)
 
 -- the names of an object's nodes
 abbrev pub names_in : ObjectValue → List ℕ
@@ -75,7 +75,7 @@ names_in object = flat_map used_names (nodes_in object)
 
 -- ---- a graph with one node more, or less
 
-times-with_node : (g : GraphValue) (n : Node) (name : ℕ) → times name (names_in (GraphObject (with_node g n))) ≡ times name (names_in (GraphObject g)) + times name (used_names n)
+times-with_node : (g : GraphValue) (n : Node) (name : ℕ) → name_count name (names_in (GraphObject (with_node g n))) ≡ name_count name (names_in (GraphObject g)) + name_count name (used_names n)
 times-with_node g n name = simp (map-append, flat_map-append, times-append) (omega arith)
 
 All-with_node : (P : ℕ → Type 0) (g : GraphValue) (n : Node) → All P (names_in (GraphObject g)) → All P (used_names n) → All P (names_in (GraphObject (with_node g n)))
@@ -84,10 +84,10 @@ All-with_node P g n h new =
 
 -- without the node of a number
 times_left : (number : ℕ) (nodes : List Numbered) (node : Node) (name : ℕ) → AllPairs (λ a b. a.number < b.number) nodes → find (λ n. n.number == number) nodes ≡ Some (record { number = number; node = node })
-    → sum_by (λ n. times name (used_names n.node)) (filter (λ n. not (n.number == number)) nodes) + times name (used_names node) ≡ sum_by (λ n. times name (used_names n.node)) nodes
+    → sum_by (λ n. name_count name (used_names n.node)) (filter (λ n. not (n.number == number)) nodes) + name_count name (used_names node) ≡ sum_by (λ n. name_count name (used_names n.node)) nodes
 times_left number [] node name increase found = cc
 times_left number (n ∷ nodes) node name increase found =
-    let weight : Numbered → ℕ = λ m. times name (used_names m.node) in
+    let weight : Numbered → ℕ = λ m. name_count name (used_names m.node) in
     grind (arith, times_left number nodes node name later, all_stay nodes above, eqb-true n.number number, sum_by-cons weight n nodes, sum_by-cons weight n (filter (λ m. not (m.number == number)) nodes), cases_Bool (n.number == number))
   where
     later : AllPairs (λ a b. a.number < b.number) nodes
@@ -102,9 +102,9 @@ times_left number (n ∷ nodes) node name increase found =
     above k d below = increase zero (suc k) d (omega arith) (omega (arith, below))
 
 times-without_node : (g : GraphValue) (number : ℕ) (node : Node) (name : ℕ) → IsGraph g → find (λ n. n.number == number) g.nodes ≡ Some (record { number = number; node = node })
-    → times name (names_in (GraphObject (without_node g number))) + times name (used_names node) ≡ times name (names_in (GraphObject g))
+    → name_count name (names_in (GraphObject (without_node g number))) + name_count name (used_names node) ≡ name_count name (names_in (GraphObject g))
 times-without_node g number node name h found =
-    let sum = λ (nodes : List Numbered). ap (times name) (flat_map-map used_names (λ (n : Numbered). n.node) nodes) ∙ times-flat_map (λ (n : Numbered). used_names n.node) name nodes in
+    let sum = λ (nodes : List Numbered). ap (name_count name) (flat_map-map used_names (λ (n : Numbered). n.node) nodes) ∙ times-flat_map (λ (n : Numbered). used_names n.node) name nodes in
     omega (arith, sum (filter (λ n. not (n.number == number)) g.nodes), sum g.nodes, times_left number g.nodes node name h.numbers found)
 
 All-without_node : (P : ℕ → Type 0) (g : GraphValue) (number : ℕ) → All P (names_in (GraphObject g)) → All P (names_in (GraphObject (without_node g number)))
@@ -126,11 +126,11 @@ named_by name n = grind (arith, names_of_operands, any_map, any_alike, eqb-sym)
 used_in : (name : ℕ) (object : ObjectValue) → list_any (λ other. name == other) (flat_map used_names (nodes_in object)) ≡ uses object name
 used_in name object = grind (arith, any-flat_map, any_map, any_alike, named_by)
 
-used_live : (name : ℕ) (o : Named) → list_any (λ other. name == other) (names_used_by o) ≡ (o.live && uses o.object name)
+used_live : (name : ℕ) (o : NamedObject) → list_any (λ other. name == other) (names_used_by o) ≡ (o.live && uses o.object name)
 used_live name o = grind (arith, used_in)
 
 -- by those of all unreleased graphs
-pub is_used_there : (objects : List Named) (name : ℕ) → nat_lt 0 (times name (names_used objects)) ≡ is_used objects name
+pub is_used_there : (objects : List NamedObject) (name : ℕ) → nat_lt 0 (name_count name (names_used objects)) ≡ is_used objects name
 is_used_there objects name =
     grind (
       arith,
@@ -144,10 +144,10 @@ is_used_there objects name =
 
 -- the names that an entry's nodes use
 abbrev pub used_by : ℕ × Entry → List ℕ
-used_by e = names_used_by (named e)
+used_by e = names_used_by (entry_object e)
 
-used_is : (entries : List (ℕ × Entry)) → names_used (map named entries) ≡ flat_map used_by entries
-used_is entries = flat_map-map names_used_by named entries
+used_is : (entries : List (ℕ × Entry)) → names_used (map entry_object entries) ≡ flat_map used_by entries
+used_is entries = flat_map-map names_used_by entry_object entries
 
 used_when_live : (k : ℕ) (e : Entry) → e.live ≡ true → used_by (k, e) ≡ names_in e.object
 used_when_live k e live = ap (λ b. cond b (names_in e.object) []) live
@@ -165,12 +165,12 @@ pub record AreEntries (next : ℕ) (entries : List (ℕ × Entry)) : Type 0 wher
 entries_of : (next charge : ℕ) (entries : List (ℕ × Entry)) → IsTable next charge entries → AreEntries next entries
 entries_of next charge entries t = grind (arith, All-parts used_by (λ name. name < next) entries (subst (All (λ name. name < next)) (used_is entries) t.given), used_is entries)
 
-table_of : (next charge : ℕ) (entries : List (ℕ × Entry)) → AreEntries next entries → charge ≡ charge_of (map named entries) → All (λ e. e.1.uses ≡ times e.0 (names_used (map named entries))) entries
+table_of : (next charge : ℕ) (entries : List (ℕ × Entry)) → AreEntries next entries → charge ≡ charge_of (map entry_object entries) → All (λ e. e.1.uses ≡ name_count e.0 (names_used (map entry_object entries))) entries
     → All (λ e. IsTrue (is_kept e)) entries → IsTable next charge entries
 table_of next charge entries h charged uses held = grind (arith, used_is entries, All-flat_map used_by (λ name. name < next) entries h.given)
 
 -- all names that are used are few enough
-used_limit : (entries : List (ℕ × Entry)) → length entries ≤ 1024 → All (λ e. length (nodes_in e.1.object) ≤ 256) entries → length (names_used (map named entries)) ≤ 1024 * 1024
+used_limit : (entries : List (ℕ × Entry)) → length entries ≤ 1024 → All (λ e. length (nodes_in e.1.object) ≤ 256) entries → length (names_used (map entry_object entries)) ≤ 1024 * 1024
 used_limit entries count nodes =
     let each : sum_by (λ e. length (used_by e)) entries ≤ length entries * 1024 = sum_by-le (λ e. length (used_by e)) 1024 entries (All-weaker (λ e. length (nodes_in e.1.object) ≤ 256) (λ e. length (used_by e) ≤ 1024) one entries nodes) in
     omega (arith, each, count, ap length (used_is entries), length-flat_map used_by entries)
@@ -182,7 +182,7 @@ used_limit entries count nodes =
         elim (cases_Bool e.1.live) [ inl k ↦ rw k (omega (arith, each, few, length-flat_map used_names (nodes_in e.1.object))) | inr k ↦ rw k (omega arith) ]
 
 -- a name that is held is below the next
-pub held_below : (next : ℕ) (entries : List (ℕ × Entry)) (name : ℕ) → All (λ e. e.0 < next) entries → IsTrue (is_some (object_held (map named entries) name)) → name < next
+pub held_below : (next : ℕ) (entries : List (ℕ × Entry)) (name : ℕ) → All (λ e. e.0 < next) entries → IsTrue (is_some (object_held (map entry_object entries) name)) → name < next
 held_below next [] name h there = absurd (false≢true there)
 held_below next (e ∷ entries) name h there = grind (arith, held_below next entries name (All-tail (λ e. e.0 < next) e entries h), All-tail, All-head)
 
@@ -190,19 +190,19 @@ held_below next (e ∷ entries) name h there = grind (arith, held_below next ent
 
 -- one that isn't live from now on
 pub named-unlive : (entries : List (ℕ × Entry)) (name : ℕ) (old : Entry) → InOrder entries → lookup (is_at (nat_cmp name)) entries ≡ Some old
-    → map named (set_value (is_at (nat_cmp name)) entries (record old { live = false })) ≡ unnamed (map named entries) name
-named-unlive entries name old order found = ap (map named) (ended-one entries name old order found) ∙ shown-ended name entries
+    → map entry_object (set_value (is_at (nat_cmp name)) entries (record old { live = false })) ≡ without_name (map entry_object entries) name
+named-unlive entries name old order found = ap (map entry_object) (ended-one entries name old order found) ∙ shown-ended name entries
 
 module _ (next charge : ℕ) (entries : List (ℕ × Entry)) (h : IsTable next charge entries) (name : ℕ) (old new : Entry) (found : lookup (is_at (nat_cmp name)) entries ≡ Some old) (same : new.uses ≡ old.uses) where
   abbrev pub after : List (ℕ × Entry)
   after = set_value (is_at (nat_cmp name)) entries new
 
-  pub charged-after : object_bytes new.object ≡ object_bytes old.object → charge ≡ charge_of (map named after)
+  pub charged-after : object_bytes new.object ≡ object_bytes old.object → charge ≡ charge_of (map entry_object after)
   charged-after bytes = omega (arith, h.charged, charge_is entries, charge_is after, sum-written (λ e. object_bytes e.1.object) entries name old new found, bytes)
 
   -- each is used as often as before
-  uses-after : All (λ e. e.1.uses ≡ times e.0 (names_used (map named entries))) after
-  uses-after = All-written (λ e. e.1.uses ≡ times e.0 (names_used (map named entries))) entries name old new found (λ k h. same ∙ h) h.uses
+  uses-after : All (λ e. e.1.uses ≡ name_count e.0 (names_used (map entry_object entries))) after
+  uses-after = All-written (λ e. e.1.uses ≡ name_count e.0 (names_used (map entry_object entries))) entries name old new found (λ k h. same ∙ h) h.uses
 
   pub few-uses : All (λ e. e.1.uses ≤ 1024 * 1024) after
   few-uses = grind (arith, All-weaker, count_by-le-length, used_limit, uses-after)
@@ -212,12 +212,12 @@ module _ (next charge : ℕ) (entries : List (ℕ × Entry)) (h : IsTable next c
   held-after still = All-written (λ e. IsTrue (is_kept e)) entries name old new found (λ k h. ap (λ b. b || nat_lt 0 new.uses) still ∙ ap (λ n. old.live || nat_lt 0 n) same ∙ h) h.held
 
   -- but other names are used
-  times-after : (n : ℕ) → times n (names_used (map named after)) + times n (used_by (name, old)) ≡ times n (names_used (map named entries)) + times n (used_by (name, new))
+  times-after : (n : ℕ) → name_count n (names_used (map entry_object after)) + name_count n (used_by (name, old)) ≡ name_count n (names_used (map entry_object entries)) + name_count n (used_by (name, new))
   times-after n =
-      grind (arith, sum-written (λ e. times n (used_by e)) entries name old new found, used_is after, times-flat_map used_by n after, used_is entries, times-flat_map used_by n entries)
+      grind (arith, sum-written (λ e. name_count n (used_by e)) entries name old new found, used_is after, times-flat_map used_by n after, used_is entries, times-flat_map used_by n entries)
 
   entries-after : (length (nodes_in old.object) ≤ 256 → length (nodes_in new.object) ≤ 256) → object_bytes new.object ≡ object_bytes old.object → ((k : ℕ) → All (λ n. n < next) (used_by (k, old)) → All (λ n. n < next) (used_by (k, new))) → AreEntries next after
-  entries-after few bytes given =
+  entries-after few bytes optional_cells =
       let t = entries_of next charge entries h in
       let test = is_at (nat_cmp name) in
       record {
@@ -227,7 +227,7 @@ module _ (next charge : ℕ) (entries : List (ℕ × Entry)) (h : IsTable next c
         count = omega (arith, t.count, length-set_value test entries new);
         each = All-written (λ e. object_bytes e.1.object ≤ GREATEST_SLOTS * GREATEST_BYTES) entries name old new found (λ k h. omega (arith, h, bytes)) t.each;
         nodes = All-written (λ e. length (nodes_in e.1.object) ≤ 256) entries name old new found (λ k h. few h) t.nodes;
-        given = All-written (λ e. All (λ n. n < next) (used_by e)) entries name old new found given t.given;
+        given = All-written (λ e. All (λ n. n < next) (used_by e)) entries name old new found optional_cells t.given;
       }
 
 -- ---- entries whose uses are counted anew
@@ -237,8 +237,8 @@ module _ (f : ℕ → ℕ → ℕ) where
   recounted entries = map {A = ℕ × Entry} {B = ℕ × Entry} (λ e. let n : Entry = e.1 in (e.0, record n { uses = f e.0 n.uses })) entries
 
   -- nothing that is shown changes
-  pub named-recounted : (entries : List (ℕ × Entry)) → map named (recounted entries) ≡ map named entries
-  named-recounted entries = map-map named _ entries
+  pub named-recounted : (entries : List (ℕ × Entry)) → map entry_object (recounted entries) ≡ map entry_object entries
+  named-recounted entries = map-map entry_object _ entries
 
   keys-recounted : (entries : List (ℕ × Entry)) → map (λ (e : ℕ × Entry). e.0) (recounted entries) ≡ map (λ (e : ℕ × Entry). e.0) entries
   keys-recounted entries = map-map (λ (e : ℕ × Entry). e.0) _ entries
@@ -257,15 +257,15 @@ module _ (f : ℕ → ℕ → ℕ) where
       }
 
   -- they are used so often
-  uses-recounted : (entries : List (ℕ × Entry)) → All (λ e. f e.0 e.1.uses ≡ times e.0 (names_used (map named entries))) entries
-      → All (λ e. e.1.uses ≡ times e.0 (names_used (map named (recounted entries)))) (recounted entries)
+  uses-recounted : (entries : List (ℕ × Entry)) → All (λ e. f e.0 e.1.uses ≡ name_count e.0 (names_used (map entry_object entries))) entries
+      → All (λ e. e.1.uses ≡ name_count e.0 (names_used (map entry_object (recounted entries)))) (recounted entries)
   uses-recounted entries h = search (rules, named-recounted, All-map)
 
 -- entries that are held stay held with more uses
 held-more : (names : List ℕ) (entries : List (ℕ × Entry)) → All (λ e. IsTrue (is_kept e)) entries → All (λ e. IsTrue (is_kept e)) (used_more names entries)
 held-more names entries h =
-    All-map {X = ℕ × Entry} (λ e. IsTrue (is_kept e)) {Y = ℕ × Entry} (λ e. let n : Entry = e.1 in (e.0, record n { uses = n.uses + times e.0 names })) entries
-    (All-weaker (λ e. IsTrue (is_kept e)) (λ e. (e.1.live || nat_lt 0 (e.1.uses + times e.0 names)) ≡ true) (λ e is. grind (arith, nat_tests, cases_Bool e.1.live)) entries h)
+    All-map {X = ℕ × Entry} (λ e. IsTrue (is_kept e)) {Y = ℕ × Entry} (λ e. let n : Entry = e.1 in (e.0, record n { uses = n.uses + name_count e.0 names })) entries
+    (All-weaker (λ e. IsTrue (is_kept e)) (λ e. (e.1.live || nat_lt 0 (e.1.uses + name_count e.0 names)) ≡ true) (λ e is. grind (arith, nat_tests, cases_Bool e.1.live)) entries h)
 
 -- ---- the objects that are still held
 
@@ -281,23 +281,23 @@ increasing-kept p (e ∷ entries) h =
     elim (cases_Bool (p e)) [ inl k ↦ rw k all | inr k ↦ rw k rest ]
 
 -- an entry that is dropped isn't live, and so uses nothing
-used-kept : (entries : List (ℕ × Entry)) → flat_map used_by (kept entries) ≡ flat_map used_by entries
+used-kept : (entries : List (ℕ × Entry)) → flat_map used_by (kept_entries entries) ≡ flat_map used_by entries
 used-kept [] = refl
 used-kept (e ∷ entries) = grind (arith, used-kept entries)
 
-named-kept : (p : Named → Bool) (entries : List (ℕ × Entry)) → All (λ e. is_kept e ≡ p (named e)) entries → map named (kept entries) ≡ filter p (map named entries)
+named-kept : (p : NamedObject → Bool) (entries : List (ℕ × Entry)) → All (λ e. is_kept e ≡ p (entry_object e)) entries → map entry_object (kept_entries entries) ≡ filter p (map entry_object entries)
 named-kept p [] h = refl
-named-kept p (e ∷ entries) h = grind (arith, named-kept p entries (All-tail (λ e. is_kept e ≡ p (named e)) e entries h), All-tail, All-head)
+named-kept p (e ∷ entries) h = grind (arith, named-kept p entries (All-tail (λ e. is_kept e ≡ p (entry_object e)) e entries h), All-tail, All-head)
 
 -- the view of the entries that are kept is the objects that are still held
-shown-kept : (entries : List (ℕ × Entry)) → All (λ e. e.1.uses ≡ times e.0 (names_used (map named entries))) entries → map named (kept entries) ≡ still_held (map named entries)
+shown-kept : (entries : List (ℕ × Entry)) → All (λ e. e.1.uses ≡ name_count e.0 (names_used (map entry_object entries))) entries → map entry_object (kept_entries entries) ≡ still_held (map entry_object entries)
 shown-kept entries uses = grind (arith, named-kept, All-weaker, is_used_there)
 
-IsTable-kept : (next : ℕ) (entries : List (ℕ × Entry)) → AreEntries next entries → All (λ e. e.1.uses ≡ times e.0 (names_used (map named entries))) entries
-    → IsTable next (charge_of (map named (kept entries))) (kept entries)
+IsTable-kept : (next : ℕ) (entries : List (ℕ × Entry)) → AreEntries next entries → All (λ e. e.1.uses ≡ name_count e.0 (names_used (map entry_object entries))) entries
+    → IsTable next (charge_of (map entry_object (kept_entries entries))) (kept_entries entries)
 IsTable-kept next entries h uses =
-    let used : names_used (map named entries) ≡ names_used (map named (kept entries)) = used_is entries ∙ sym (used-kept entries) ∙ sym (used_is (kept entries)) in
-    table_of next (charge_of (map named (kept entries))) (kept entries)
+    let used : names_used (map entry_object entries) ≡ names_used (map entry_object (kept_entries entries)) = used_is entries ∙ sym (used-kept entries) ∙ sym (used_is (kept_entries entries)) in
+    table_of next (charge_of (map entry_object (kept_entries entries))) (kept_entries entries)
     (record {
       names = increasing-kept is_kept entries h.names;
       below = All-filter is_kept (λ e. e.0 < next) entries h.below;
@@ -307,7 +307,7 @@ IsTable-kept next entries h uses =
       nodes = All-filter is_kept (λ e. length (nodes_in e.1.object) ≤ 256) entries h.nodes;
       given = All-filter is_kept (λ e. All (λ name. name < next) (used_by e)) entries h.given;
     }) refl
-    (subst (λ (l : List ℕ). All (λ e. e.1.uses ≡ times e.0 l) (kept entries)) used (All-filter is_kept (λ e. e.1.uses ≡ times e.0 (names_used (map named entries))) entries uses))
+    (subst (λ (l : List ℕ). All (λ e. e.1.uses ≡ name_count e.0 l) (kept_entries entries)) used (All-filter is_kept (λ e. e.1.uses ≡ name_count e.0 (names_used (map entry_object entries))) entries uses))
     (filter_passes is_kept entries)
 
 -- ---- one node more
@@ -327,7 +327,7 @@ module _ (next charge : ℕ) (entries : List (ℕ × Entry)) (h : IsTable next c
       let g = graph_value old.object in
       let added : Numbered = record { number = g.next; node = node } in
       let then : List (ℕ × Entry) = set_value (is_at (nat_cmp name)) entries new in
-      let f : ℕ → ℕ → ℕ = λ k u. u + times k (used_names node) in
+      let f : ℕ → ℕ → ℕ = λ k u. u + name_count k (used_names node) in
       let few : length (nodes_in new.object) ≤ 256 =
       omega (
         arith,
@@ -337,12 +337,12 @@ module _ (next charge : ℕ) (entries : List (ℕ × Entry)) (h : IsTable next c
         length-append g.nodes (added ∷ []),
       ) in
       let are = entries-after next charge entries h name old new found same (λ _. few) bytes
-      (λ k given. subst (All (λ n. n < next)) (sym (now_is k (with_node g node) is)) (All-with_node (λ n. n < next) g node (subst (All (λ n. n < next)) (before_is k) given) below)) in
-      let more : (n : ℕ) → times n (names_used (map named then)) ≡ times n (names_used (map named entries)) + times n (used_names node) = λ n.
-      omega (arith, times-after next charge entries h name old new found same n, ap (times n) (before_is name), ap (times n) (now_is name (with_node g node) is), times-with_node g node n) in
+      (λ k optional_cells. subst (All (λ n. n < next)) (sym (now_is k (with_node g node) is)) (All-with_node (λ n. n < next) g node (subst (All (λ n. n < next)) (before_is k) optional_cells) below)) in
+      let more : (n : ℕ) → name_count n (names_used (map entry_object then)) ≡ name_count n (names_used (map entry_object entries)) + name_count n (used_names node) = λ n.
+      omega (arith, times-after next charge entries h name old new found same n, ap (name_count n) (before_is name), ap (name_count n) (now_is name (with_node g node) is), times-with_node g node n) in
       table_of next charge (recounted f then) (entries-recounted f next then are) (charged-after next charge entries h name old new found same bytes ∙ ap charge_of (sym (named-recounted f then)))
       (uses-recounted f then
-      (All-weaker (λ e. e.1.uses ≡ times e.0 (names_used (map named entries))) (λ e. e.1.uses + times e.0 (used_names node) ≡ times e.0 (names_used (map named then)))
+      (All-weaker (λ e. e.1.uses ≡ name_count e.0 (names_used (map entry_object entries))) (λ e. e.1.uses + name_count e.0 (used_names node) ≡ name_count e.0 (names_used (map entry_object then)))
       (λ e uses. omega (arith, uses, more e.0)) then (uses-after next charge entries h name old new found same)))
       (held-more (used_names node) then (held-after next charge entries h name old new found same still))
 
@@ -350,7 +350,7 @@ module _ (next charge : ℕ) (entries : List (ℕ × Entry)) (h : IsTable next c
 
   module _ (number : ℕ) (graph_holds : IsGraph (graph_value old.object)) (there : find (λ n. n.number == number) (graph_value old.object).nodes ≡ Some (record { number = number; node = node }))
       (is : new.object ≡ GraphObject (without_node (graph_value old.object) number)) where
-    fewer-removed : (n : ℕ) → times n (names_used (map named entries)) ≡ times n (names_used (map named (set_value (is_at (nat_cmp name)) entries new))) + times n (used_names node)
+    fewer-removed : (n : ℕ) → name_count n (names_used (map entry_object entries)) ≡ name_count n (names_used (map entry_object (set_value (is_at (nat_cmp name)) entries new))) + name_count n (used_names node)
     fewer-removed n = grind (arith, times-after next charge entries h name old new found same n, before_is name, times-after, before_is, now_is, times-without_node)
 
     entries-removed : AreEntries next (set_value (is_at (nat_cmp name)) entries new)
@@ -360,48 +360,48 @@ module _ (next charge : ℕ) (entries : List (ℕ × Entry)) (h : IsTable next c
         let few : length (nodes_in new.object) ≤ 256 =
         omega (arith, graph_holds.count, ap (λ o. length (nodes_in o)) is, length-map (filter test g.nodes) (λ (n : Numbered). n.node), length-filter test g.nodes, count_by-le-length test g.nodes) in
         entries-after next charge entries h name old new found same (λ _. few) bytes
-        (λ k given. subst (All (λ n. n < next)) (sym (now_is k (without_node g number) is)) (All-without_node (λ n. n < next) g number (subst (All (λ n. n < next)) (before_is k) given)))
+        (λ k optional_cells. subst (All (λ n. n < next)) (sym (now_is k (without_node g number) is)) (All-without_node (λ n. n < next) g number (subst (All (λ n. n < next)) (before_is k) optional_cells)))
 
 -- ---- a name that ends
 
 module _ (next charge : ℕ) (entries : List (ℕ × Entry)) (h : IsTable next charge entries) (name : ℕ) (old : Entry) (found : lookup (is_at (nat_cmp name)) entries ≡ Some old) (live : old.live ≡ true) where
-  fewer-released : (n : ℕ) → times n (names_used (map named entries)) ≡ times n (names_used (map named (set_value (is_at (nat_cmp name)) entries (record old { live = false })))) + times n (names_in old.object)
+  fewer-released : (n : ℕ) → name_count n (names_used (map entry_object entries)) ≡ name_count n (names_used (map entry_object (set_value (is_at (nat_cmp name)) entries (record old { live = false })))) + name_count n (names_in old.object)
   fewer-released n =
       omega (
         arith,
         times-after next charge entries h name old (record old { live = false }) found refl n,
-        ap (times n) (used_when_live name old live),
+        ap (name_count n) (used_when_live name old live),
       )
 
   entries-released : AreEntries next (set_value (is_at (nat_cmp name)) entries (record old { live = false }))
-  entries-released = entries-after next charge entries h name old (record old { live = false }) found refl (λ few. few) refl (λ k given. All-nil (λ n. n < next))
+  entries-released = entries-after next charge entries h name old (record old { live = false }) found refl (λ few. few) refl (λ k optional_cells. All-nil (λ n. n < next))
 
 -- ---- the objects that are held after uses end
 
 -- entries with new use counts, and those that are left when entries no longer held are dropped
 pub record AreLeft (next : ℕ) (changed less : List (ℕ × Entry)) : Type 0 where
-  pub table : IsTable next (charge_of (map named (kept less))) (kept less)
-  pub shown : map named (kept less) ≡ still_held (map named changed)
+  pub table : IsTable next (charge_of (map entry_object (kept_entries less))) (kept_entries less)
+  pub shown : map entry_object (kept_entries less) ≡ still_held (map entry_object changed)
 
 module _ (next charge : ℕ) (entries : List (ℕ × Entry)) (h : IsTable next charge entries) (name : ℕ) (old new : Entry) (found : lookup (is_at (nat_cmp name)) entries ≡ Some old) (same : new.uses ≡ old.uses) (gone : List ℕ)
-    (fewer : (n : ℕ) → times n (names_used (map named entries)) ≡ times n (names_used (map named (set_value (is_at (nat_cmp name)) entries new))) + times n gone)
+    (fewer : (n : ℕ) → name_count n (names_used (map entry_object entries)) ≡ name_count n (names_used (map entry_object (set_value (is_at (nat_cmp name)) entries new))) + name_count n gone)
     (are : AreEntries next (set_value (is_at (nat_cmp name)) entries new)) (less : List (ℕ × Entry)) (is : less ≡ used_less gone (set_value (is_at (nat_cmp name)) entries new)) where
   abbrev then : List (ℕ × Entry)
   then = set_value (is_at (nat_cmp name)) entries new
 
   abbrev anew : ℕ → ℕ → ℕ
-  anew k u = u - times k gone
+  anew k u = u - name_count k gone
 
-  named-less : map named less ≡ map named then
-  named-less = ap (map named) is ∙ named-recounted anew then
+  named-less : map entry_object less ≡ map entry_object then
+  named-less = ap (map entry_object) is ∙ named-recounted anew then
 
   entries-less : AreEntries next less
   entries-less = subst (AreEntries next) (sym is) (entries-recounted anew next then are)
 
-  uses-less : All (λ e. e.1.uses ≡ times e.0 (names_used (map named less))) less
+  uses-less : All (λ e. e.1.uses ≡ name_count e.0 (names_used (map entry_object less))) less
   uses-less =
       rw is (uses-recounted anew then
-      (All-weaker (λ e. e.1.uses ≡ times e.0 (names_used (map named entries))) (λ e. e.1.uses - times e.0 gone ≡ times e.0 (names_used (map named then)))
+      (All-weaker (λ e. e.1.uses ≡ name_count e.0 (names_used (map entry_object entries))) (λ e. e.1.uses - name_count e.0 gone ≡ name_count e.0 (names_used (map entry_object then)))
       (λ e uses. omega (arith, uses, fewer e.0)) then (uses-after next charge entries h name old new found same)))
 
   -- the entries that are left
@@ -430,11 +430,11 @@ IsTable-same next more charge sum entries others n c e t = grind arith
 -- ---- a table that shows a context
 
 -- an entry that is as it was
-pub unchanged : (t : Context) (next : ℕ) (entries : List (ℕ × Entry)) → ◌≡◌ {A = Context} (record { next = next; objects = map named entries }) t → (name : ℕ) (old : Entry) → lookup (is_at (nat_cmp name)) entries ≡ Some old
-    → (object : ObjectValue) (after : List (ℕ × Entry)) → object ≡ old.object → after ≡ set_value (is_at (nat_cmp name)) entries (record old { object = object }) → ◌≡◌ {A = Context} (record { next = next; objects = map named after }) t
+pub unchanged : (t : Context) (next : ℕ) (entries : List (ℕ × Entry)) → ◌≡◌ {A = Context} (record { next = next; objects = map entry_object entries }) t → (name : ℕ) (old : Entry) → lookup (is_at (nat_cmp name)) entries ≡ Some old
+    → (object : ObjectValue) (after : List (ℕ × Entry)) → object ≡ old.object → after ≡ set_value (is_at (nat_cmp name)) entries (record old { object = object }) → ◌≡◌ {A = Context} (record { next = next; objects = map entry_object after }) t
 unchanged t next entries view name old found object after is then = grind (arith, set_value_same (is_at (nat_cmp name)) entries old found)
 
-module _ (t : Context) (next charge : ℕ) (entries : List (ℕ × Entry)) (view : ◌≡◌ {A = Context} (record { next = next; objects = map named entries }) t) (h : IsTable next charge entries) where
+module _ (t : Context) (next charge : ℕ) (entries : List (ℕ × Entry)) (view : ◌≡◌ {A = Context} (record { next = next; objects = map entry_object entries }) t) (h : IsTable next charge entries) where
   -- nothing has a name that isn't found
   pub none_there : (name : ℕ) → lookup (is_at (nat_cmp name)) entries ≡ None → object_named t.objects name ≡ None
   none_there name none = ap (λ (c : Context). object_named c.objects name) (sym view) ∙ none_named entries name none

@@ -1,14 +1,14 @@
 -- Objects under their names: the one of a name, and the objects when one is written.
 use Rattle.std.proofs.Common.{◌≡◌, ℕ, ◌+◌, ◌<◌, List, [], ◌∷◌, map, zero, suc, refl, subst, arith, Some, IfSome, rules, eqb-true, All, eq-eqb}
-use Rattle.object_table.proofs.Common.{IsStrictlyIncreasing, AllPairs, option_map, eqb-false, length-map, All-nil, All-cons, All-head, All-tail, All-weaker, AllPairs-from_increasing, Cell, ObjectValue, IsObject, with_slot, Named, object_held, with_object}
+use Rattle.object_table.proofs.Common.{IsStrictlyIncreasing, AllPairs, option_map, eqb-false, length-map, All-nil, All-cons, All-head, All-tail, All-weaker, AllPairs-from_increasing, Reference, ObjectValue, IsObject, with_slot, NamedObject, object_held, with_object}
 use Rattle.std.proofs.Math.ListN.{get_or-map as get_or-map_default}
 use Rattle.std.proofs.lemmas.Option.{IfSome_then}
 use Rattle.object_table.proofs.SlotLemmas.{IsObject-in_slot}
-use Rattle.object_table.specs.Named.{held}
+use Rattle.object_table.specs.NamedObject.{object_at}
 
 -- ---- names that increase
 
-abbrev pub names_of : List Named → List ℕ
+abbrev pub names_of : List NamedObject → List ℕ
 names_of objects = map (λ o. o.name) objects
 
 -- numbers that increase, each below all later ones
@@ -30,14 +30,14 @@ All-from_map P f xs h k d below = subst P (get_or-map_default f xs k d) (h k (f 
 -- ---- the object of a name
 
 -- the later objects have higher names than the first
-pub above_first : (o : Named) (objects : List Named) → IsStrictlyIncreasing (names_of (o ∷ objects)) → All (λ p. o.name < p.name) objects
-above_first o objects h = All-from_map (λ other. o.name < other) (λ (p : Named). p.name) objects (increasing_head o.name (names_of objects) h)
+pub above_first : (o : NamedObject) (objects : List NamedObject) → IsStrictlyIncreasing (names_of (o ∷ objects)) → All (λ p. o.name < p.name) objects
+above_first o objects h = All-from_map (λ other. o.name < other) (λ (p : NamedObject). p.name) objects (increasing_head o.name (names_of objects) h)
 
-pub later_increase : (o : Named) (objects : List Named) → IsStrictlyIncreasing (names_of (o ∷ objects)) → IsStrictlyIncreasing (names_of objects)
+pub later_increase : (o : NamedObject) (objects : List NamedObject) → IsStrictlyIncreasing (names_of (o ∷ objects)) → IsStrictlyIncreasing (names_of objects)
 later_increase o objects h = increasing_tail o.name (names_of objects) h
 
 -- what holds of each object under its name holds of the one of this name
-pub named_has : (P : ℕ → ObjectValue → Type 0) (objects : List Named) (name : ℕ) → All (λ o. P o.name o.object) objects → IfSome (object_held objects name) (P name)
+pub named_has : (P : ℕ → ObjectValue → Type 0) (objects : List NamedObject) (name : ℕ) → All (λ o. P o.name o.object) objects → IfSome (object_held objects name) (P name)
 named_has P [] name h = tt
 named_has P (o ∷ objects) name h =
     grind (
@@ -49,52 +49,52 @@ named_has P (o ∷ objects) name h =
     )
 
 -- what holds of each object holds of the one of this name
-pub object_held_has : (P : ObjectValue → Type 0) (objects : List Named) (name : ℕ) → All (λ o. P o.object) objects → IfSome (object_held objects name) P
+pub object_held_has : (P : ObjectValue → Type 0) (objects : List NamedObject) (name : ℕ) → All (λ o. P o.object) objects → IfSome (object_held objects name) P
 object_held_has P objects name h = named_has (λ _. P) objects name h
 
 -- each object of this name is this one
-abbrev pub HasObject : ℕ → ObjectValue → Named → Type 0
+abbrev pub HasObject : ℕ → ObjectValue → NamedObject → Type 0
 HasObject name is o = o.name ≡ name → o.object ≡ is
 
 -- where names increase, the object of a name is the only one
-pub held_alone : (objects : List Named) (name : ℕ) → IsStrictlyIncreasing (names_of objects) → IfSome (object_held objects name) (λ object. All (HasObject name object) objects)
+pub held_alone : (objects : List NamedObject) (name : ℕ) → IsStrictlyIncreasing (names_of objects) → IfSome (object_held objects name) (λ object. All (HasObject name object) objects)
 held_alone [] name h = tt
 held_alone (o ∷ objects) name h = search (rules, held_alone objects name (later_increase o objects h), later_increase, eqb-true, All-cons, All-weaker, above_first, IfSome_then, eqb-false)
 
 -- and each object is that of its name
-pub held_by_name : (objects : List Named) → IsStrictlyIncreasing (names_of objects) → All (λ o. object_held objects o.name ≡ Some o.object) objects
+pub held_by_name : (objects : List NamedObject) → IsStrictlyIncreasing (names_of objects) → All (λ o. object_held objects o.name ≡ Some o.object) objects
 held_by_name [] h = All-nil (λ o. object_held [] o.name ≡ Some o.object)
 held_by_name (o ∷ objects) h = grind (arith, held_by_name objects (later_increase o objects h), above_first o objects h, later_increase o objects h, eq-eqb o.name o.name refl)
 
 -- of objects that are changed under their names, the one of a name is so changed
-pub object_held-map : (f : Named → Named) (change : ObjectValue → ObjectValue) (objects : List Named) (name : ℕ) → ((o : Named) → (f o).name ≡ o.name)
-    → ((o : Named) → o.name ≡ name → (f o).object ≡ change o.object) → object_held (map f objects) name ≡ option_map change (object_held objects name)
+pub object_held-map : (f : NamedObject → NamedObject) (change : ObjectValue → ObjectValue) (objects : List NamedObject) (name : ℕ) → ((o : NamedObject) → (f o).name ≡ o.name)
+    → ((o : NamedObject) → o.name ≡ name → (f o).object ≡ change o.object) → object_held (map f objects) name ≡ option_map change (object_held objects name)
 object_held-map f change [] name same changed = refl
 object_held-map f change (o ∷ objects) name same changed = grind (arith, object_held-map f change objects name same changed)
 
 -- ---- what a cell holds
 
 -- what a cell holds is an object
-pub held_is : (objects : List Named) (cell : Cell) → All (λ o. IsObject o.object) objects → IfSome (held objects cell) IsObject
+pub held_is : (objects : List NamedObject) (cell : Reference) → All (λ o. IsObject o.object) objects → IfSome (object_at objects cell) IsObject
 held_is objects cell h = grind (arith, object_held_has IsObject objects cell.name h, object_held_has, IsObject-in_slot)
 
 -- ---- one object is written
 
 -- what holds of each object holds after a write that keeps it
-pub All-with_object : (P Q : Named → Type 0) (objects : List Named) (cell : Cell) (object : ObjectValue)
-    → ((o : Named) → Q o → P o → o.name ≡ cell.name → P (record o { object = with_slot cell.slot object o.object })) → All Q objects → All P objects → All P (with_object objects cell object)
+pub All-with_object : (P Q : NamedObject → Type 0) (objects : List NamedObject) (cell : Reference) (object : ObjectValue)
+    → ((o : NamedObject) → Q o → P o → o.name ≡ cell.name → P (record o { object = with_slot cell.slot object o.object })) → All Q objects → All P objects → All P (with_object objects cell object)
 All-with_object P Q [] cell object keeps also h = All-nil P
 All-with_object P Q (o ∷ objects) cell object keeps also h =
     grind (arith, All-with_object P Q objects cell object keeps (All-tail Q o objects also) (All-tail P o objects h), All-head P o objects h, All-head Q o objects also, All-tail Q o objects also, All-tail P o objects h)
 
 -- what is the same of each object that is written is the same of all
-pub map-with_object : {X : Type 0} (f : Named → X) (objects : List Named) (cell : Cell) (object : ObjectValue)
+pub map-with_object : {X : Type 0} (f : NamedObject → X) (objects : List NamedObject) (cell : Reference) (object : ObjectValue)
     → All (λ o. o.name ≡ cell.name → f (record o { object = with_slot cell.slot object o.object }) ≡ f o) objects → map f (with_object objects cell object) ≡ map f objects
 map-with_object f [] cell object same = refl
 map-with_object f (o ∷ objects) cell object same =
-    let Same : Named → Type 0 = λ p. p.name ≡ cell.name → f (record p { object = with_slot cell.slot object p.object }) ≡ f p in
+    let Same : NamedObject → Type 0 = λ p. p.name ≡ cell.name → f (record p { object = with_slot cell.slot object p.object }) ≡ f p in
     grind (arith, map-with_object f objects cell object (All-tail Same o objects same), All-head Same o objects same, eqb-true o.name cell.name)
 
 -- a write keeps the names
-pub names-with_object : (objects : List Named) (cell : Cell) (object : ObjectValue) → names_of (with_object objects cell object) ≡ names_of objects
+pub names-with_object : (objects : List NamedObject) (cell : Reference) (object : ObjectValue) → names_of (with_object objects cell object) ≡ names_of objects
 names-with_object objects cell object = map-with_object (λ o. o.name) objects cell object (λ k d below e. refl)

@@ -1,6 +1,6 @@
 -- Entries that are held, and those that are left when uses and names end.
 use Rattle.std.proofs.Common.{◌≡◌, ℕ, ◌+◌, ◌-◌, true, false, cond, List, [], ◌∷◌, ◌++◌, length, map, IsTrue, Option, Some, None, refl, sym, ap, ◌∙◌, arith, ◌==◌, nat_lt, ◌||◌, unwrap_or, All}
-use Rattle.object_table.proofs.Common.{keys_of, lookup, set_value, remove_entry, is_at, nat_cmp, option_map, cases_Bool, length-map, All-head, All-tail, filter_passes, sorted_tail, Numbered, object_bytes, object_kind, Entry, charge_of, unnamed, named, is_kept, kept, nodes_at, used_less, ended, nodes_in, times, nat_tests}
+use Rattle.object_table.proofs.Common.{keys_of, lookup, set_value, remove_entry, is_at, nat_cmp, option_map, cases_Bool, length-map, All-head, All-tail, filter_passes, sorted_tail, Numbered, object_bytes, object_kind, Entry, charge_of, without_name, entry_object, is_kept, kept_entries, nodes_at, used_less, entries_without_name, nodes_in, name_count, nat_tests}
 use Rattle.std.proofs.lemmas.Bool.{or_left}
 use Rattle.std.proofs.lemmas.Bool.{or_parts}
 use Rattle.object_table.proofs.EntryLemmas.{InOrder, same_name, past_head, charge_is, All-written, sum-written, sum-removed}
@@ -8,18 +8,18 @@ use Rattle.object_table.proofs.UseLemmas.{with_uses, less, less_is, used-append,
 
 -- ---- the entries that are kept
 
-pub all_kept : (entries : List (ℕ × Entry)) → All (λ e. IsTrue (is_kept e)) entries → kept entries ≡ entries
+pub all_kept : (entries : List (ℕ × Entry)) → All (λ e. IsTrue (is_kept e)) entries → kept_entries entries ≡ entries
 all_kept [] h = refl
 all_kept (e ∷ entries) h = grind (arith, all_kept entries (All-tail (λ e. IsTrue (is_kept e)) e entries h), All-head (λ e. IsTrue (is_kept e)) e entries h)
 
 -- a change by which nothing is held that wasn't: what was dropped before it would be dropped after it
-kept-map : (f : ℕ × Entry → ℕ × Entry) → ((e : ℕ × Entry) → is_kept e ≡ false → is_kept (f e) ≡ false) → (entries : List (ℕ × Entry)) → kept (map f (kept entries)) ≡ kept (map f entries)
+kept-map : (f : ℕ × Entry → ℕ × Entry) → ((e : ℕ × Entry) → is_kept e ≡ false → is_kept (f e) ≡ false) → (entries : List (ℕ × Entry)) → kept_entries (map f (kept_entries entries)) ≡ kept_entries (map f entries)
 kept-map f still [] = refl
 kept-map f still (e ∷ entries) = grind (arith, kept-map f still entries, still e, cases_Bool (is_kept e))
 
 -- what is live is found as before
 kept-live : (entries : List (ℕ × Entry)) (name : ℕ) → option_map (λ (e : Entry). e.live) (lookup (is_at (nat_cmp name)) entries) ≡ Some true
-    → lookup (is_at (nat_cmp name)) (kept entries) ≡ lookup (is_at (nat_cmp name)) entries
+    → lookup (is_at (nat_cmp name)) (kept_entries entries) ≡ lookup (is_at (nat_cmp name)) entries
 kept-live [] name live = refl
 kept-live (e ∷ entries) name live = grind (arith, kept-live entries name, or_left e.1.live (nat_lt 0 e.1.uses))
 
@@ -27,13 +27,13 @@ kept-live (e ∷ entries) name live = grind (arith, kept-live entries name, or_l
 
 -- each is held still
 pub held-written : (entries : List (ℕ × Entry)) (name : ℕ) (old new : Entry) → lookup (is_at (nat_cmp name)) entries ≡ Some old → All (λ e. IsTrue (is_kept e)) entries
-    → (new.live || nat_lt 0 new.uses) ≡ true → set_value (is_at (nat_cmp name)) entries new ≡ kept (set_value (is_at (nat_cmp name)) entries new)
+    → (new.live || nat_lt 0 new.uses) ≡ true → set_value (is_at (nat_cmp name)) entries new ≡ kept_entries (set_value (is_at (nat_cmp name)) entries new)
 held-written entries name old new found held is =
     sym (all_kept (set_value (is_at (nat_cmp name)) entries new) (All-written (λ e. IsTrue (is_kept e)) entries name old new found (λ k h. is) held))
 
 -- all but the written one are
 pub dropped : (entries : List (ℕ × Entry)) (name : ℕ) (old new : Entry) → lookup (is_at (nat_cmp name)) entries ≡ Some old → All (λ e. IsTrue (is_kept e)) entries
-    → (new.live || nat_lt 0 new.uses) ≡ false → remove_entry (is_at (nat_cmp name)) (set_value (is_at (nat_cmp name)) entries new) ≡ kept (set_value (is_at (nat_cmp name)) entries new)
+    → (new.live || nat_lt 0 new.uses) ≡ false → remove_entry (is_at (nat_cmp name)) (set_value (is_at (nat_cmp name)) entries new) ≡ kept_entries (set_value (is_at (nat_cmp name)) entries new)
 dropped [] name old new found held none = cc
 dropped (e ∷ entries) name old new found held none =
     let others = All-tail (λ e. IsTrue (is_kept e)) e entries held in
@@ -41,13 +41,13 @@ dropped (e ∷ entries) name old new found held none =
 
 -- an object of as many bytes leaves the charge
 pub charge-written : (entries : List (ℕ × Entry)) (name : ℕ) (old new : Entry) → lookup (is_at (nat_cmp name)) entries ≡ Some old → new.object ≡ old.object
-    → charge_of (map named entries) ≡ charge_of (map named (set_value (is_at (nat_cmp name)) entries new))
+    → charge_of (map entry_object entries) ≡ charge_of (map entry_object (set_value (is_at (nat_cmp name)) entries new))
 charge-written entries name old new found same =
     omega (arith, charge_is entries, charge_is (set_value (is_at (nat_cmp name)) entries new), sum-written (λ e. object_bytes e.1.object) entries name old new found, ap object_bytes same)
 
 -- what is dropped isn't charged
 pub charge-removed : (entries : List (ℕ × Entry)) (name : ℕ) (old : Entry) → lookup (is_at (nat_cmp name)) entries ≡ Some old
-    → charge_of (map named (remove_entry (is_at (nat_cmp name)) entries)) + object_bytes old.object ≡ charge_of (map named entries)
+    → charge_of (map entry_object (remove_entry (is_at (nat_cmp name)) entries)) + object_bytes old.object ≡ charge_of (map entry_object entries)
 charge-removed entries name old found =
     omega (arith, charge_is entries, charge_is (remove_entry (is_at (nat_cmp name)) entries), sum-removed (λ e. object_bytes e.1.object) entries name old found)
 
@@ -55,22 +55,22 @@ charge-removed entries name old found =
 
 -- the entries after one use of each of these names ends
 abbrev pub left_of : List ℕ → List (ℕ × Entry) → List (ℕ × Entry)
-left_of names entries = kept (used_less names entries)
+left_of names entries = kept_entries (used_less names entries)
 
 -- they are all held
 pub held-left : (names : List ℕ) (entries others : List (ℕ × Entry)) → others ≡ left_of names entries → All (λ e. IsTrue (is_kept e)) others
 held-left names entries others is = rw is (filter_passes is_kept (used_less names entries))
 
 pub left-nil : (entries : List (ℕ × Entry)) → All (λ e. IsTrue (is_kept e)) entries → entries ≡ left_of [] entries
-left-nil entries held = sym (all_kept entries held) ∙ ap kept (sym (used-nil less less_is entries))
+left-nil entries held = sym (all_kept entries held) ∙ ap kept_entries (sym (used-nil less less_is entries))
 
-left-kept : (names : List ℕ) (entries : List (ℕ × Entry)) → left_of names (kept entries) ≡ left_of names entries
+left-kept : (names : List ℕ) (entries : List (ℕ × Entry)) → left_of names (kept_entries entries) ≡ left_of names entries
 left-kept names entries =
-    kept-map (λ e. (e.0, with_uses e.1 (e.1.uses - times e.0 names)))
+    kept-map (λ e. (e.0, with_uses e.1 (e.1.uses - name_count e.0 names)))
     (λ e is. grind (arith, nat_tests, or_parts e.1.live (nat_lt 0 e.1.uses) is)) entries
 
 pub left-append : (first second : List ℕ) (entries : List (ℕ × Entry)) → left_of second (left_of first entries) ≡ left_of (first ++ second) entries
-left-append first second entries = left-kept second (used_less first entries) ∙ ap kept (used-append less less_is first second entries)
+left-append first second entries = left-kept second (used_less first entries) ∙ ap kept_entries (used-append less less_is first second entries)
 
 -- the graph under a live name stays, whose nodes end their uses
 module _ (graph : ℕ) (names : List ℕ) (old now : List (ℕ × Entry)) (then : now ≡ left_of names old) (live : option_map (λ (e : Entry). e.live) (lookup (is_at (nat_cmp graph)) old) ≡ Some true) where
@@ -98,33 +98,33 @@ module _ (graph : ℕ) (names : List ℕ) (old now : List (ℕ × Entry)) (then 
 -- ---- a name that ends
 
 -- a name that isn't there
-pub ended-none : (entries : List (ℕ × Entry)) (name : ℕ) → lookup (is_at (nat_cmp name)) entries ≡ None → entries ≡ ended name entries
+pub ended-none : (entries : List (ℕ × Entry)) (name : ℕ) → lookup (is_at (nat_cmp name)) entries ≡ None → entries ≡ entries_without_name name entries
 ended-none [] name none = refl
 ended-none (e ∷ entries) name none = grind (arith, ended-none entries name, same_name name e.0)
 
 -- a name that is there
 pub ended-one : (entries : List (ℕ × Entry)) (name : ℕ) (old : Entry) → InOrder entries → lookup (is_at (nat_cmp name)) entries ≡ Some old
-    → set_value (is_at (nat_cmp name)) entries (record old { live = false }) ≡ ended name entries
+    → set_value (is_at (nat_cmp name)) entries (record old { live = false }) ≡ entries_without_name name entries
 ended-one [] name old order found = cc
 ended-one (e ∷ entries) name old order found = grind (arith, ended-one entries name old (sorted_tail nat_cmp e.0 (keys_of entries) order), ended-none entries name, past_head e entries name order, same_name name e.0)
 
 -- it isn't shown as live then
-pub shown-ended : (name : ℕ) (entries : List (ℕ × Entry)) → map named (ended name entries) ≡ unnamed (map named entries) name
+pub shown-ended : (name : ℕ) (entries : List (ℕ × Entry)) → map entry_object (entries_without_name name entries) ≡ without_name (map entry_object entries) name
 shown-ended name [] = refl
 shown-ended name (e ∷ entries) = grind (arith, shown-ended name entries, cases_Bool (e.0 == name))
 
-kept-ended : (name : ℕ) (entries : List (ℕ × Entry)) → kept (ended name (kept entries)) ≡ kept (ended name entries)
+kept-ended : (name : ℕ) (entries : List (ℕ × Entry)) → kept_entries (entries_without_name name (kept_entries entries)) ≡ kept_entries (entries_without_name name entries)
 kept-ended name entries =
     kept-map (λ e. let n : Entry = e.1 in cond (e.0 == name) (e.0, record n { live = false }) e)
     (λ e is. grind (arith, cases_Bool e.1.live)) entries
 
-ended-less : (name : ℕ) (names : List ℕ) (entries : List (ℕ × Entry)) → ended name (used_less names entries) ≡ used_less names (ended name entries)
+ended-less : (name : ℕ) (names : List ℕ) (entries : List (ℕ × Entry)) → entries_without_name name (used_less names entries) ≡ used_less names (entries_without_name name entries)
 ended-less name names [] = refl
 ended-less name names (e ∷ entries) = grind (arith, ended-less name names entries, cases_Bool (e.0 == name))
 
 -- ending uses and then a name gives the same as ending both together
 pub left-ended : (entries now next : List (ℕ × Entry)) (names : List ℕ) (name : ℕ) (old : Entry) → InOrder entries → lookup (is_at (nat_cmp name)) entries ≡ Some old
-    → now ≡ left_of names entries → next ≡ kept (ended name now) → next ≡ left_of names (set_value (is_at (nat_cmp name)) entries (record old { live = false }))
+    → now ≡ left_of names entries → next ≡ kept_entries (entries_without_name name now) → next ≡ left_of names (set_value (is_at (nat_cmp name)) entries (record old { live = false }))
 left-ended entries now next names name old order found so_far then =
-    then ∙ ap (λ l. kept (ended name l)) so_far ∙ kept-ended name (used_less names entries) ∙ ap kept (ended-less name names entries)
+    then ∙ ap (λ l. kept_entries (entries_without_name name l)) so_far ∙ kept-ended name (used_less names entries) ∙ ap kept_entries (ended-less name names entries)
     ∙ ap (left_of names) (sym (ended-one entries name old order found))

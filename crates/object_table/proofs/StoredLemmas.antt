@@ -1,8 +1,8 @@
 -- Images that are stored.
 use Rattle.std.proofs.Common.{◌≡◌, ℕ, ℤ, List, pos, replicate, arith}
-use Rattle.object_table.proofs.Common.{Description, IsImage, new_image, image_over, band, within, with_valid, values, sample_from}
+use Rattle.object_table.proofs.Common.{Description, IsImage, new_image, image_over, band, zero_outside, with_valid, values, sample_from}
 use Rattle.vx_base.specs.declared.samples.Samples.{Samples}
-use Rattle.vx_base.specs.Rectangle.{Rectangle, whole}
+use Rattle.vx_base.specs.Rectangle.{Rectangle, whole_rectangle}
 use Rattle.vx_base.specs.Description.{sample_count}
 use Rattle.vx_base.specs.Picture.{PictureValue, IsPicture}
 use Rattle.image_core.specs.declared.band.Band.{Band}
@@ -11,16 +11,16 @@ use Rattle.vx_base.proofs.PictureLaws.{pictured_image}
 use Rattle.vx_base.proofs.ZeroLaws.{samples-new_image}
 
 -- samples that are all 0 make a new image
-pub zeros_are_new : (d : Description) (area : Rectangle) (samples : Samples) (count : ℕ) → area ≡ whole d.width d.height → count ≡ sample_count d → values samples ≡ replicate count (pos 0)
+pub zeros_are_new : (d : Description) (area : Rectangle) (samples : Samples) (count : ℕ) → area ≡ whole_rectangle d.width d.height → count ≡ sample_count d → values samples ≡ replicate count (pos 0)
     → image_over d area (values samples) ≡ new_image d.width d.height d.format
 zeros_are_new d area samples count all long zero = grind (arith, samples-new_image d.width d.height d.format)
 
 -- samples that are cleared outside a rectangle make the image with that valid rectangle
 pub cleared_is : (d : Description) (valid old : Rectangle) (samples out : List ℤ) (width : ℕ) (rows : Band) → width ≡ d.width → rows ≡ all_rows d.height
-    → out ≡ band width rows.start rows.count (within valid (sample_from width rows.start samples)) → image_over d valid out ≡ with_valid valid (image_over d old samples)
+    → out ≡ band width rows.start rows.count (zero_outside valid (sample_from width rows.start samples)) → image_over d valid out ≡ with_valid valid (image_over d old samples)
 cleared_is d valid old samples out width rows wide all is = grind arith
 
 -- the samples of a picture make an image, which is wholly valid
-pub picture_is_image : (d : Description) (area : Rectangle) (samples : Samples) (p : PictureValue) → p.description ≡ d → area ≡ whole d.width d.height → values samples ≡ p.samples → IsPicture p
+pub picture_is_image : (d : Description) (area : Rectangle) (samples : Samples) (p : PictureValue) → p.description ≡ d → area ≡ whole_rectangle d.width d.height → values samples ≡ p.samples → IsPicture p
     → IsImage (image_over d area (values samples))
 picture_is_image d area samples p described all is picture = rw (all, is, ← described) (pictured_image p picture)

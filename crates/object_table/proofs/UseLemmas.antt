@@ -1,11 +1,11 @@
 -- How often nodes use each object.
 use Rattle.std.proofs.Common.{◌≡◌, ℕ, ◌+◌, ◌-◌, ◌<◌, ◌≤◌, Bool, cond, List, [], ◌∷◌, ◌++◌, length, map, get_or, take, Option, Some, None, refl, sym, ap, ◌∙◌, arith, ◌==◌, All}
-use Rattle.object_table.proofs.Common.{nat_cmp, keys_of, lookup, set_value, is_at, flat_map, option_map, map-append, length-map, get_or-map, All-map, sum_by-append, count_by-le-length, sorted_tail, Node, Numbered, Cell, given, ObjectValue, Entry, used_more, used_names, times}
+use Rattle.object_table.proofs.Common.{nat_cmp, keys_of, lookup, set_value, is_at, flat_map, option_map, map-append, length-map, get_or-map, All-map, sum_by-append, count_by-le-length, sorted_tail, Node, Numbered, Reference, optional_cells, ObjectValue, Entry, used_more, used_names, name_count}
 use Rattle.std.proofs.lemmas.List.{take_more, flat_map_more}
 use Rattle.object_table.proofs.EntryLemmas.{InOrder, same_name, past_head}
 
 -- how often a name occurs in two lists
-pub times-append : (name : ℕ) (first second : List ℕ) → times name (first ++ second) ≡ times name first + times name second
+pub times-append : (name : ℕ) (first second : List ℕ) → name_count name (first ++ second) ≡ name_count name first + name_count name second
 times-append name first second = sum_by-append (λ other. cond (name == other) 1 0) first second
 
 -- ---- entries with use counts raised, or lowered, by how often each name occurs in a list
@@ -16,7 +16,7 @@ with_uses n uses = record n { uses = uses }
 
 -- `used_more` or `used_less`, as the operation says
 abbrev pub used : (ℕ → ℕ → ℕ) → List ℕ → List (ℕ × Entry) → List (ℕ × Entry)
-used op names entries = map {A = ℕ × Entry} {B = ℕ × Entry} (λ e. (e.0, with_uses e.1 (op e.1.uses (times e.0 names)))) entries
+used op names entries = map {A = ℕ × Entry} {B = ℕ × Entry} (λ e. (e.0, with_uses e.1 (op e.1.uses (name_count e.0 names)))) entries
 
 -- what it takes to use twice
 pub record IsUse (op : ℕ → ℕ → ℕ) : Type 0 where
@@ -69,9 +69,9 @@ module _ (after : List ℕ → List (ℕ × Entry) → List (ℕ × Entry)) (twi
   -- the operands of a node, one after the other
   pub node_uses : (node : Node) (old first second third last : List (ℕ × Entry))
       → first ≡ after (node.in1.name ∷ []) old
-      → second ≡ after (map (λ cell. cell.name) (given node.in2)) first
-      → third ≡ after (map (λ cell. cell.name) (given node.out1)) second
-      → last ≡ after (map (λ cell. cell.name) (given node.out2)) third
+      → second ≡ after (map (λ cell. cell.name) (optional_cells node.in2)) first
+      → third ≡ after (map (λ cell. cell.name) (optional_cells node.out1)) second
+      → last ≡ after (map (λ cell. cell.name) (optional_cells node.out2)) third
       → last ≡ after (used_names node) old
   node_uses node old first second third last at_first at_second at_third at_last = grind (arith, twice, map-append)
 
@@ -88,26 +88,26 @@ module _ (after : List ℕ → List (ℕ × Entry) → List (ℕ × Entry)) (twi
       then ∙ ap (after (used_names node)) so_far ∙ twice (flat_map used_names (take k nodes)) (used_names node) old ∙ ap (λ l. after l old) names
 
 -- an operand that there is
-pub operand_uses : (after : List ℕ → List (ℕ × Entry) → List (ℕ × Entry)) (operand : Option Cell) (cell : Cell) (name : ℕ) (entries : List (ℕ × Entry)) → operand ≡ Some cell → name ≡ cell.name
-    → after (name ∷ []) entries ≡ after (map (λ cell. cell.name) (given operand)) entries
+pub operand_uses : (after : List ℕ → List (ℕ × Entry) → List (ℕ × Entry)) (operand : Option Reference) (cell : Reference) (name : ℕ) (entries : List (ℕ × Entry)) → operand ≡ Some cell → name ≡ cell.name
+    → after (name ∷ []) entries ≡ after (map (λ cell. cell.name) (optional_cells operand)) entries
 operand_uses after operand cell name entries some same = grind arith
 
 -- an operand that there isn't
-pub no_operand_uses : (after : List ℕ → List (ℕ × Entry) → List (ℕ × Entry)) (operand : Option Cell) (entries : List (ℕ × Entry)) → operand ≡ None
-    → after [] entries ≡ after (map (λ cell. cell.name) (given operand)) entries
+pub no_operand_uses : (after : List ℕ → List (ℕ × Entry) → List (ℕ × Entry)) (operand : Option Reference) (entries : List (ℕ × Entry)) → operand ≡ None
+    → after [] entries ≡ after (map (λ cell. cell.name) (optional_cells operand)) entries
 no_operand_uses after operand entries none = grind arith
 
 -- more uses are no more than there are names
 pub uses_within : (limit : ℕ) (names : List ℕ) (entries : List (ℕ × Entry)) → All (λ e. e.1.uses ≤ limit) entries → All (λ e. e.1.uses ≤ limit + length names) (used_more names entries)
 uses_within limit names entries h =
-    grind (arith, All-map {X = ℕ × Entry} (λ e. e.1.uses ≤ limit + length names) {Y = ℕ × Entry} (λ e. (e.0, with_uses e.1 (e.1.uses + times e.0 names))) entries (λ k d below. omega (arith, h k d below, count_by-le-length (λ other. (get_or entries k d).0 == other) names)))
+    grind (arith, All-map {X = ℕ × Entry} (λ e. e.1.uses ≤ limit + length names) {Y = ℕ × Entry} (λ e. (e.0, with_uses e.1 (e.1.uses + name_count e.0 names))) entries (λ k d below. omega (arith, h k d below, count_by-le-length (λ other. (get_or entries k d).0 == other) names)))
 
-one_operand : (operand : Option Cell) → length (map (λ cell. cell.name) (given operand)) ≤ 1
+one_operand : (operand : Option Reference) → length (map (λ cell. cell.name) (optional_cells operand)) ≤ 1
 one_operand operand = grind arith
 
 -- one operand is one use more at most
-pub uses_after : (limit : ℕ) (operand : Option Cell) (entries after : List (ℕ × Entry)) → All (λ e. e.1.uses ≤ limit) entries → after ≡ used_more (map (λ cell. cell.name) (given operand)) entries
+pub uses_after : (limit : ℕ) (operand : Option Reference) (entries after : List (ℕ × Entry)) → All (λ e. e.1.uses ≤ limit) entries → after ≡ used_more (map (λ cell. cell.name) (optional_cells operand)) entries
     → All (λ e. e.1.uses ≤ limit + 1) after
 uses_after limit operand entries after h then =
-    let within = uses_within limit (map (λ cell. cell.name) (given operand)) entries h in
+    let within = uses_within limit (map (λ cell. cell.name) (optional_cells operand)) entries h in
     rw then (λ k d below. omega (arith, within k d below, one_operand operand))

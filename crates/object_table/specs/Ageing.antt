@@ -3,25 +3,25 @@ use Rattle.std.specs.Prelude.{ℕ, Bool, ◌==◌, is_some, if◌then◌else◌,
 use Rattle.std.specs.List.{list_any}
 use Rattle.vx_base.specs.Graph.{GraphValue, is_registered, with_delays}
 use Rattle.object_table.specs.Context.{with_graph}
-use Rattle.object_table.specs.Named.{Named, object_held}
+use Rattle.object_table.specs.NamedObject.{NamedObject, object_held}
 use Rattle.object_table.specs.Object.{aged_object}
 
 -- whether an object is held under a name
-abbrev pub is_there : List Named → ℕ → Bool
+abbrev pub is_there : List NamedObject → ℕ → Bool
 is_there objects name = is_some (object_held objects name)
 
 -- the graph with one more delay that ages with it; delays that are no longer held are left out
-abbrev pub one_more : List Named → GraphValue → ℕ → GraphValue
+abbrev pub one_more : List NamedObject → GraphValue → ℕ → GraphValue
 one_more objects graph delay = with_delays graph (filter (is_there objects) graph.delays ++ delay ∷ [])
 
 -- the objects after a delay is registered with the graph of this name; nothing changes if it is registered already
-abbrev pub registered : List Named → ℕ → GraphValue → ℕ → List Named
-registered objects name graph delay = if is_registered graph delay then objects else with_graph objects name (one_more objects graph delay)
+abbrev pub with_registration : List NamedObject → ℕ → GraphValue → ℕ → List NamedObject
+with_registration objects name graph delay = if is_registered graph delay then objects else with_graph objects name (one_more objects graph delay)
 
 -- the object of a name, aged if its name is in the list; only delays age
-abbrev pub aged_if : List ℕ → Named → Named
+abbrev pub aged_if : List ℕ → NamedObject → NamedObject
 aged_if names o = if list_any (λ name. name == o.name) names then record o { object = aged_object o.object } else o
 
 -- the objects after each delay of these names is aged
-abbrev pub aged_under : List ℕ → List Named → List Named
+abbrev pub aged_under : List ℕ → List NamedObject → List NamedObject
 aged_under names objects = map (aged_if names) objects

@@ -5,7 +5,7 @@ use Rattle.vx_base.specs.Image.{ImageValue}
 use Rattle.vx_base.specs.Object.{ObjectValue, ImageObject, DelayObject}
 use Rattle.pixel_pool.specs.declared.pool.Pool.{Pool}
 use Rattle.pixel_pool.specs.Pool.{lent_of, one_of}
-use Rattle.object_table.specs.Named.{Named}
+use Rattle.object_table.specs.NamedObject.{NamedObject}
 
 -- the number of blocks of a format that an image occupies: 1 of its own format
 abbrev pub image_blocks : ImageValue → Format → ℕ
@@ -26,7 +26,7 @@ abbrev pub blocks_of_all : List ObjectValue → Format → ℕ
 blocks_of_all objects format = sum_by (λ object. object_blocks object format) objects
 
 -- the number of blocks of a format that a client's objects occupy
-abbrev pub blocks_in : List Named → Format → ℕ
+abbrev pub blocks_in : List NamedObject → Format → ℕ
 blocks_in objects format = sum_by (λ o. object_blocks o.object format) objects
 
 -- at least `blocks format` blocks of each format are lent
@@ -42,10 +42,10 @@ abbrev pub LendsLess : Pool → Pool → (Format → ℕ) → Type 0
 LendsLess old new blocks = (format : Format) → lent_of new format + blocks format ≡ lent_of old format
 
 -- the number of lent blocks has changed by as much as the number that the objects occupy
-abbrev pub Balances : Pool → Pool → List Named → List Named → Type 0
+abbrev pub Balances : Pool → Pool → List NamedObject → List NamedObject → Type 0
 Balances pool changed before after =
     (format : Format) → lent_of changed format + blocks_in before format ≡ lent_of pool format + blocks_in after format
 
 -- the objects occupy as many blocks of each format as before
-abbrev pub KeepsBlocks : List Named → List Named → Type 0
+abbrev pub KeepsBlocks : List NamedObject → List NamedObject → Type 0
 KeepsBlocks before after = (format : Format) → blocks_in after format ≡ blocks_in before format

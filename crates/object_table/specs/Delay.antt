@@ -13,8 +13,8 @@ abbrev pub new_delay : Description → ℕ → List ImageValue
 new_delay d slots = replicate slots (new_image d.width d.height d.format)
 
 -- the images after one step: each moves to the next slot, the last to the first. OpenVX 1.3, vxAgeDelay
-abbrev pub aged : List ImageValue → List ImageValue
-aged images = drop (length images - 1) images ++ take (length images - 1) images
+abbrev pub aged_images : List ImageValue → List ImageValue
+aged_images images = drop (length images - 1) images ++ take (length images - 1) images
 
 -- the image in a slot that exists
 abbrev pub image_in : List ImageValue → ℕ → ImageValue

@@ -4,7 +4,7 @@ use Rattle.std.specs.List.{list_any}
 use Rattle.vx_base.specs.declared.numbered.Numbered.{Numbered}
 use Rattle.vx_base.specs.Node.{operands}
 use Rattle.vx_base.specs.Object.{ObjectValue, GraphObject}
-use Rattle.object_table.specs.Named.{Named}
+use Rattle.object_table.specs.NamedObject.{NamedObject}
 
 -- whether an operand of a node has this name
 abbrev pub names_it : ℕ → Numbered → Bool
@@ -16,17 +16,17 @@ uses (GraphObject g) name = list_any (names_it name) g.nodes
 uses other name = false
 
 -- whether a node of an unreleased graph uses this name
-abbrev pub is_used : List Named → ℕ → Bool
+abbrev pub is_used : List NamedObject → ℕ → Bool
 is_used objects name = list_any (λ o. o.live && uses o.object name) objects
 
 -- whether an object is held: its name is live, or a node of an unreleased graph uses it
-abbrev pub is_held : List Named → Named → Bool
+abbrev pub is_held : List NamedObject → NamedObject → Bool
 is_held objects o = o.live || is_used objects o.name
 
 -- the objects that are still held
-abbrev pub still_held : List Named → List Named
+abbrev pub still_held : List NamedObject → List NamedObject
 still_held objects = filter (is_held objects) objects
 
 -- the objects after a name is no longer live
-abbrev pub unnamed : List Named → ℕ → List Named
-unnamed objects name = map {A = Named} {B = Named} (λ o. if o.name == name then record o { live = false } else o) objects
+abbrev pub without_name : List NamedObject → ℕ → List NamedObject
+without_name objects name = map {A = NamedObject} {B = NamedObject} (λ o. if o.name == name then record o { live = false } else o) objects

@@ -1,7 +1,7 @@
 pub mod Delay
 pub mod Object
 pub mod Skeleton
-pub mod Named
+pub mod NamedObject
 pub mod Context
 pub mod Holds
 pub mod Uses

@@ -6,7 +6,7 @@ use Rattle.vx_base.specs.Image.{ImageValue, new_image, image_over, description_o
 use Rattle.vx_base.specs.Object.{ObjectValue, DistributionValue, ImageObject, LutObject, ThresholdObject, DelayObject, ConvolutionObject, DistributionObject, ExtremesObject, GraphObject, VirtualObject, new_distribution}
 use Rattle.vx_base.specs.Rectangle.{Rectangle}
 use Rattle.object_table.specs.declared.object.Content.{Content}
-use Rattle.object_table.specs.Delay.{aged}
+use Rattle.object_table.specs.Delay.{aged_images}
 use Rattle.object_table.specs.declared.object.Content.TheVariants.{Image, Lut, Threshold, Delay, Convolution, Distribution, Extremes, Graph, Virtual}
 
 -- the object as a value
@@ -38,7 +38,7 @@ graph_value other = new_graph
 
 -- the object after one step, if it is a delay; other objects don't change
 abbrev pub aged_object : ObjectValue → ObjectValue
-aged_object (DelayObject images) = DelayObject (aged images)
+aged_object (DelayObject images) = DelayObject (aged_images images)
 aged_object other = other
 
 -- an image of the same description, with these samples

@@ -4,11 +4,11 @@ use Rattle.std.specs.Prelude.{[], map}
 use Rattle.vx_base.specs.Graph.{new_graph}
 use Rattle.vx_base.specs.Image.{ImageValue, image_over, description_of}
 use Rattle.vx_base.specs.Object.{ObjectValue, ImageObject, DelayObject, DistributionObject, ExtremesObject, GraphObject, no_extremes}
-use Rattle.vx_base.specs.Rectangle.{empty}
+use Rattle.vx_base.specs.Rectangle.{empty_rectangle}
 
 -- an image's size and format
 abbrev pub image_skeleton : ImageValue → ImageValue
-image_skeleton image = image_over (description_of image) empty []
+image_skeleton image = image_over (description_of image) empty_rectangle []
 
 -- the size and format of an image, of each image for a delay; the bins of a distribution; only the kind of extremes and of a graph;
 -- the whole of every other object

@@ -9,15 +9,15 @@ use Rattle.vx_base.specs.declared.format.Format.TheVariants.{U8}
 use Rattle.vx_base.specs.declared.kind.Kind.{Kind}
 use Rattle.vx_base.specs.declared.kind.Kind.TheVariants as kind
 use Rattle.vx_base.specs.declared.node.Node.{Node}
-use Rattle.vx_base.specs.Cell.{Cell}
+use Rattle.vx_base.specs.Reference.{Reference}
 use Rattle.vx_base.specs.Graph.{GraphValue}
 use Rattle.vx_base.specs.Image.{ImageValue, new_image}
 use Rattle.vx_base.specs.Object.{ObjectValue, ImageObject, object_bytes, object_kind}
 use Rattle.object_table.specs.declared.table.Entry.{Entry}
 use Rattle.object_table.specs.Context.{charge_of}
-use Rattle.object_table.specs.Named.{Named, object_held, held}
+use Rattle.object_table.specs.NamedObject.{NamedObject, object_held, object_at}
 use Rattle.object_table.specs.Object.{image_value, graph_value}
-use Rattle.object_table.specs.Uses.{nodes_in, names_used, times}
+use Rattle.object_table.specs.Uses.{nodes_in, names_used, name_count}
 use Rattle.vx_base.specs.declared.desc.TheConstants.{GREATEST_BYTES}
 use Rattle.vx_base.specs.declared.slots.TheConstants.{GREATEST_SLOTS}
 use Rattle.object_table.specs.declared.table.TheConstants.{GREATEST_OBJECTS}
@@ -26,34 +26,34 @@ use Rattle.vx_base.specs.declared.node.TheConstants.{GREATEST_NODES}
 -- ---- the objects of names and references
 
 -- the object that is held under a name that has one
-abbrev pub object_under : List Named → ℕ → ObjectValue
+abbrev pub object_under : List NamedObject → ℕ → ObjectValue
 object_under objects name = unwrap_or (object_held objects name) (ImageObject (new_image 0 0 U8))
 
 -- an object of this kind is held under the name
-abbrev pub IsUnder : List Named → Kind → ℕ → Type 0
+abbrev pub IsUnder : List NamedObject → Kind → ℕ → Type 0
 IsUnder objects wanted name = option_map object_kind (object_held objects name) ≡ Some wanted
 
 -- the graph that is held under a name
-abbrev pub graph_under : List Named → ℕ → GraphValue
+abbrev pub graph_under : List NamedObject → ℕ → GraphValue
 graph_under objects name = graph_value (object_under objects name)
 
 -- the object that a reference names, if it names one
-abbrev pub cell_object : List Named → Cell → ObjectValue
-cell_object objects cell = unwrap_or (held objects cell) (ImageObject (new_image 0 0 U8))
+abbrev pub cell_object : List NamedObject → Reference → ObjectValue
+cell_object objects cell = unwrap_or (object_at objects cell) (ImageObject (new_image 0 0 U8))
 
 -- the image that a reference names
-abbrev pub image_held : List Named → Cell → ImageValue
+abbrev pub image_held : List NamedObject → Reference → ImageValue
 image_held objects cell = image_value (cell_object objects cell)
 
 -- a reference names an image
-abbrev pub HoldsImage : List Named → Cell → Type 0
-HoldsImage objects cell = option_map object_kind (held objects cell) ≡ Some kind.Image
+abbrev pub HoldsImage : List NamedObject → Reference → Type 0
+HoldsImage objects cell = option_map object_kind (object_at objects cell) ≡ Some kind.Image
 
 -- ---- entries
 
 -- the view of an entry of the map
-abbrev pub named : ℕ × Entry → Named
-named e = record { name = e.0; live = e.1.live; object = e.1.object }
+abbrev pub entry_object : ℕ × Entry → NamedObject
+entry_object e = record { name = e.0; live = e.1.live; object = e.1.object }
 
 -- the nodes of the graph under a name
 abbrev pub nodes_at : ℕ → List (ℕ × Entry) → List Node
@@ -61,22 +61,22 @@ nodes_at name entries = unwrap_or (option_map (λ e. nodes_in e.object) (lookup 
 
 -- the entries with use counts raised, or lowered, by how often each name occurs in a list
 abbrev pub used_more : List ℕ → List (ℕ × Entry) → List (ℕ × Entry)
-used_more names entries = map {A = ℕ × Entry} {B = ℕ × Entry} (λ e. let n : Entry = e.1 in (e.0, record n { uses = n.uses + times e.0 names })) entries
+used_more names entries = map {A = ℕ × Entry} {B = ℕ × Entry} (λ e. let n : Entry = e.1 in (e.0, record n { uses = n.uses + name_count e.0 names })) entries
 
 abbrev pub used_less : List ℕ → List (ℕ × Entry) → List (ℕ × Entry)
-used_less names entries = map {A = ℕ × Entry} {B = ℕ × Entry} (λ e. let n : Entry = e.1 in (e.0, record n { uses = n.uses - times e.0 names })) entries
+used_less names entries = map {A = ℕ × Entry} {B = ℕ × Entry} (λ e. let n : Entry = e.1 in (e.0, record n { uses = n.uses - name_count e.0 names })) entries
 
 -- the entries after a name is no longer live
-abbrev pub ended : ℕ → List (ℕ × Entry) → List (ℕ × Entry)
-ended name entries = map {A = ℕ × Entry} {B = ℕ × Entry} (λ e. let n : Entry = e.1 in if e.0 == name then (e.0, record n { live = false }) else e) entries
+abbrev pub entries_without_name : ℕ → List (ℕ × Entry) → List (ℕ × Entry)
+entries_without_name name entries = map {A = ℕ × Entry} {B = ℕ × Entry} (λ e. let n : Entry = e.1 in if e.0 == name then (e.0, record n { live = false }) else e) entries
 
 -- whether an entry is held: its name is live, or a node uses it
 abbrev pub is_kept : ℕ × Entry → Bool
 is_kept e = e.1.live || nat_lt 0 e.1.uses
 
 -- the entries that are still held
-abbrev pub kept : List (ℕ × Entry) → List (ℕ × Entry)
-kept entries = filter is_kept entries
+abbrev pub kept_entries : List (ℕ × Entry) → List (ℕ × Entry)
+kept_entries entries = filter is_kept entries
 
 -- ---- the invariant of a table
 
@@ -89,7 +89,7 @@ pub record IsTable (next charge : ℕ) (entries : List (ℕ × Entry)) : Type 0 
   pub count : length entries ≤ GREATEST_OBJECTS
   pub each : All (λ e. object_bytes e.1.object ≤ GREATEST_SLOTS * GREATEST_BYTES) entries
   pub nodes : All (λ e. length (nodes_in e.1.object) ≤ GREATEST_NODES) entries
-  pub charged : charge ≡ charge_of (map named entries)
-  pub uses : All (λ e. e.1.uses ≡ times e.0 (names_used (map named entries))) entries
+  pub charged : charge ≡ charge_of (map entry_object entries)
+  pub uses : All (λ e. e.1.uses ≡ name_count e.0 (names_used (map entry_object entries))) entries
   pub held : All (λ e. IsTrue (is_kept e)) entries
-  pub given : All (λ name. name < next) (names_used (map named entries))
+  pub given : All (λ name. name < next) (names_used (map entry_object entries))

@@ -5,7 +5,7 @@ use Rattle.vx_base.specs.declared.node.Node.{Node}
 use Rattle.vx_base.specs.Graph.{nodes_of}
 use Rattle.vx_base.specs.Node.{inputs, outputs}
 use Rattle.vx_base.specs.Object.{ObjectValue, GraphObject}
-use Rattle.object_table.specs.Named.{Named}
+use Rattle.object_table.specs.NamedObject.{NamedObject}
 
 -- the names of a node's operands, one for each operand
 abbrev pub used_names : Node → List ℕ
@@ -17,13 +17,13 @@ nodes_in (GraphObject graph) = nodes_of graph
 nodes_in other = []
 
 -- the names that the nodes of an unreleased graph use, each as often as it is used
-abbrev pub names_used_by : Named → List ℕ
+abbrev pub names_used_by : NamedObject → List ℕ
 names_used_by o = if o.live then flat_map used_names (nodes_in o.object) else []
 
 -- the names that the nodes of all unreleased graphs use
-abbrev pub names_used : List Named → List ℕ
+abbrev pub names_used : List NamedObject → List ℕ
 names_used objects = flat_map names_used_by objects
 
 -- how often a name occurs in a list
-abbrev pub times : ℕ → List ℕ → ℕ
-times name names = count_by (λ other. name == other) names
+abbrev pub name_count : ℕ → List ℕ → ℕ
+name_count name names = count_by (λ other. name == other) names

@@ -6,11 +6,11 @@ ghost use Rattle.vx_base.specs.Rectangle.{IsWithin};
 ghost use Rattle.vx_base.specs.Image.{ImageValue, IsImage, new_image, image_over, description_of};
 ghost use Rattle.vx_base.specs.Image.{with_valid};
 ghost use Rattle.vx_base.specs.Object.{IsDelay, image_bytes};
-ghost use Rattle.vx_base.specs.Picture.{values, samples_format, pictured};
+ghost use Rattle.vx_base.specs.Picture.{values, samples_format, picture_image};
 ghost use Rattle.object_table.specs.declared.fault.TableFault.TheVariants.{InvalidValue};
 ghost use Rattle.pixel_pool.specs.Pool.{KeepsLent};
 ghost use Rattle.object_table.specs.Blocks.{delay_blocks, LendsAtLeast, LendsMore, LendsLess};
-ghost use Rattle.object_table.specs.Delay.{new_delay, aged, image_in};
+ghost use Rattle.object_table.specs.Delay.{new_delay, aged_images, image_in};
 ghost use Rattle.vx_base.specs.declared.desc.TheConstants.{GREATEST_BYTES};
 ghost use Rattle.vx_base.specs.declared.slots.TheConstants.{GREATEST_SLOTS};
 
@@ -90,7 +90,7 @@ impl Delay {
 
     /// Moves each image to the next slot, and the last one to slot 0. It allocates nothing.
     pub fn age(&mut self)
-        ensures value { self.new ≡ aged self.old }
+        ensures value { self.new ≡ aged_images self.old }
         ensures bytes { sum_by image_bytes self.new ≡ sum_by image_bytes self.old }
     {
         self.images.rotate_right(1);
@@ -101,9 +101,9 @@ impl Delay {
         requires within { k < length self.old }
         requires image { IsImage (image_in self.old k) }
         requires same { description_of (image_in self.old k) ≡ picture.now.description }
-        ensures value { self.new ≡ slice_set self.old k (pictured picture.now) }
+        ensures value { self.new ≡ slice_set self.old k (picture_image picture.now) }
         ensures bytes { sum_by image_bytes self.new ≡ sum_by image_bytes self.old }
-        ensures image { IsImage (pictured picture.now) }
+        ensures image { IsImage (picture_image picture.now) }
     {
         let image = &mut self.images[usize::from(k)];
         image.write(picture);

@@ -11,7 +11,7 @@ ghost use Rattle.vx_base.specs.Graph.{IsGraph, can_add, with_node, has_node, wit
 ghost use Rattle.vx_base.specs.Graph.{with_delays};
 ghost use Rattle.vx_base.specs.Object.{ImageObject, DelayObject, ExtremesObject, GraphObject};
 ghost use Rattle.vx_base.specs.Object.{IsObject, object_bytes, object_kind};
-ghost use Rattle.vx_base.specs.Picture.{values, samples_format, pictured};
+ghost use Rattle.vx_base.specs.Picture.{values, samples_format, picture_image};
 ghost use Rattle.object_table.specs.Blocks.{object_blocks, LendsAtLeast, LendsLess};
 ghost use Rattle.object_table.specs.Delay.{in_slot, object_in, slot_kind, with_slot, HasImage};
 ghost use Rattle.object_table.specs.Object.{value_of, image_value, distribution_value, graph_value};
@@ -160,9 +160,9 @@ impl Object {
         requires object { IsObject self.old }
         requires same { description_of (image_value (object_in slot self.old))
             ≡ picture.now.description }
-        ensures value { self.new ≡ with_slot slot (ImageObject (pictured picture.now)) self.old }
+        ensures value { self.new ≡ with_slot slot (ImageObject (picture_image picture.now)) self.old }
         ensures bytes { object_bytes self.new ≡ object_bytes self.old }
-        ensures image { IsImage (pictured picture.now) }
+        ensures image { IsImage (picture_image picture.now) }
     {
         match (slot, &mut self.content) {
             (None, Content::Image(image)) => image.write(picture),

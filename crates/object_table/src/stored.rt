@@ -1,10 +1,10 @@
 //! Images that a context holds.
 ghost use Rattle.std.specs.Prelude.{◌≡◌, ◌+◌, ◌*◌, ◌<◌, ◌≤◌, ◌^◌, [], length, IfOk, OnErr};
-ghost use Rattle.vx_base.specs.Rectangle.{IsWithin, whole};
+ghost use Rattle.vx_base.specs.Rectangle.{IsWithin, whole_rectangle};
 ghost use Rattle.vx_base.specs.Image.{IsImage, new_image, image_over, description_of, with_valid};
-ghost use Rattle.vx_base.specs.Image.{band, within};
+ghost use Rattle.vx_base.specs.Image.{band, zero_outside};
 ghost use Rattle.image_core.specs.Rows.{sample_from};
-ghost use Rattle.vx_base.specs.Picture.{values, samples_format, picture_of, pictured};
+ghost use Rattle.vx_base.specs.Picture.{values, samples_format, picture_of, picture_image};
 ghost use Rattle.object_table.specs.Blocks.{image_blocks, LendsAtLeast, LendsMore, LendsLess};
 
 use image_core::{Band, Image, clear_rows};
@@ -107,7 +107,7 @@ impl Stored {
     pub fn write(&mut self, picture: &Picture)
         requires image { IsImage self.old }
         requires same { description_of self.old ≡ picture.now.description }
-        ensures value { self.new ≡ pictured picture.now }
+        ensures value { self.new ≡ picture_image picture.now }
         ensures image { IsImage self.new }
     {
         self.valid = self.desc.whole();
@@ -158,7 +158,7 @@ fn clear_outside(samples: &mut Samples, valid: Rect, width: u16, rows: Band)
     requires room { valid.x1 ≤ width }
     ensures format { samples_format samples.new ≡ samples_format samples.old }
     ensures value { values samples.new ≡ band width rows.start rows.count
-        (within valid (sample_from width rows.start (values samples.old))) }
+        (zero_outside valid (sample_from width rows.start (values samples.old))) }
 {
     match samples {
         Samples::U8(samples) => clear_rows(valid, width, rows, samples),

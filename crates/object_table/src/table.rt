@@ -6,14 +6,14 @@ ghost use Rattle.vx_base.specs.declared.kind.Kind.TheVariants as kind;
 ghost use Rattle.vx_base.specs.Rectangle.{IsWithin};
 ghost use Rattle.vx_base.specs.Image.{IsImage, description_of, with_valid};
 ghost use Rattle.vx_base.specs.Object.{ImageObject, ExtremesObject, IsObject};
-ghost use Rattle.vx_base.specs.Picture.{values, samples_format, pictured};
+ghost use Rattle.vx_base.specs.Picture.{values, samples_format, picture_image};
 ghost use Rattle.object_table.specs.declared.fault.TableFault.TheVariants.{InvalidReference};
 ghost use Rattle.object_table.specs.declared.fault.TableFault.TheVariants.{NoMemory, NoResources};
-ghost use Rattle.vx_base.specs.Cell.{cell_of};
+ghost use Rattle.vx_base.specs.Reference.{reference_to};
 ghost use Rattle.object_table.specs.Blocks.{blocks_in, LendsAtLeast, LendsLess};
 ghost use Rattle.object_table.specs.Context.{new_context, object_named, charge_of, can_insert};
 ghost use Rattle.object_table.specs.Context.{with_new, with_objects};
-ghost use Rattle.object_table.specs.Named.{object_held, with_object};
+ghost use Rattle.object_table.specs.NamedObject.{object_held, with_object};
 ghost use Rattle.object_table.specs.Object.{distribution_value, aged_object, with_samples};
 ghost use Rattle.object_table.specs.Object.{with_counts};
 ghost use Rattle.object_table.specs.Table.{object_under, IsUnder, cell_object, image_held};
@@ -60,11 +60,11 @@ pub struct Table {
 impl Model for Table {
     ghost use Rattle.std.specs.Prelude.{map};
     ghost use Rattle.object_table.specs.Context.{Context};
-    ghost use Rattle.object_table.specs.Table.{named, IsTable};
+    ghost use Rattle.object_table.specs.Table.{entry_object, IsTable};
 
     ghost Value = { Context };
 
-    ghost view = { λ t. record { next = t.next; objects = map named t.entries.entries } };
+    ghost view = { λ t. record { next = t.next; objects = map entry_object t.entries.entries } };
 
     ghost invariant = { λ t. IsTable t.next t.charge t.entries.entries };
 }
@@ -201,8 +201,8 @@ impl Table {
         requires same { description_of (image_held self.old.objects cell)
             ≡ picture.now.description }
         ensures value { self.new ≡ with_objects self.old
-            (with_object self.old.objects cell (ImageObject (pictured picture.now))) }
-        ensures image { IsImage (pictured picture.now) }
+            (with_object self.old.objects cell (ImageObject (picture_image picture.now))) }
+        ensures image { IsImage (picture_image picture.now) }
     {
         let Some(entry) = self.entries.get_mut(&cell.name()) else {
             unreachable!()
@@ -263,7 +263,7 @@ impl Table {
     pub fn age(&mut self, name: u32)
         requires { IsUnder self.old.objects kind.Delay name }
         ensures { self.new ≡ with_objects self.old
-            (with_object self.old.objects (cell_of name)
+            (with_object self.old.objects (reference_to name)
             (aged_object (object_under self.old.objects name))) }
     {
         let Some(entry) = self.entries.get_mut(&name) else {
@@ -278,7 +278,7 @@ impl Table {
         requires size { length counts.now
             ≡ (distribution_value (object_under self.old.objects name)).bins.bins }
         ensures { self.new ≡ with_objects self.old
-            (with_object self.old.objects (cell_of name)
+            (with_object self.old.objects (reference_to name)
             (with_counts (object_under self.old.objects name) counts.now)) }
     {
         let Some(entry) = self.entries.get_mut(&name) else {
@@ -291,7 +291,7 @@ impl Table {
     pub fn set_extremes(&mut self, name: u32, extremes: Extremes)
         requires { IsUnder self.old.objects kind.Extremes name }
         ensures { self.new ≡ with_objects self.old
-            (with_object self.old.objects (cell_of name) (ExtremesObject extremes)) }
+            (with_object self.old.objects (reference_to name) (ExtremesObject extremes)) }
     {
         let Some(entry) = self.entries.get_mut(&name) else {
             unreachable!()

@@ -1,6 +1,6 @@
 -- Blocks of a text, of which it was found out where numbers begin.
 use Rattle.std.proofs.Common.{◌≡◌, ℕ, zero, suc, ◌+◌, ◌-◌, ◌/◌, ◌%◌, ◌^◌, ◌<◌, ◌≤◌, ◌⊎◌, inl, inr, Bool, true, false, not, cond, nat_lt, eqb, if◌then◌else◌, List, [], ◌∷◌, map, length, drop, replicate, Some, refl, ap, sym, ◌∙◌, arith, w8, w64, bit_and, slice_index, get_or-set_same, get_or-set_other, drop-drop, length-drop, lt-ltb, le-ltb}
-use Rattle.pgm_images.proofs.Common.{nat_tests, set, cases_eq, cases_lt, count_trailing_zeros, begins_digit, take_next, Kept, Tells, AreTold}
+use Rattle.pgm_images.proofs.Common.{nat_tests, set, cases_eq, cases_lt, count_trailing_zeros, begins_digit, take_next, TakesNumber, Tells, AreTold}
 use Rattle.std.specs.Int.{bit_at}
 use Rattle.std.proofs.lemmas.Simd.{bitmask_splat, bit_mask_l}
 use Rattle.std.proofs.lemmas.List.{get_or-map}
@@ -127,7 +127,7 @@ module _ (maxval : ℕ) (numbers bytes text : List ℕ) (told : AreTold maxval 6
   -- the lowest bit is where the next number begins
   pub record Next (left end place : ℕ) : Type 0 where
     pub some : 0 < slice_index bytes place
-    pub kept : Kept (take_next (at end)) (slice_index numbers place) (at (place + slice_index bytes place))
+    pub kept : TakesNumber (take_next (at end)) (slice_index numbers place) (at (place + slice_index bytes place))
     pub low : slice_index numbers place ≤ maxval
     pub fits : place + slice_index bytes place ≤ length text
     pub walk : Walks bytes text (bit_and left (left - 1)) (place + slice_index bytes place)

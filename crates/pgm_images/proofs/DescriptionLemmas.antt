@@ -1,6 +1,6 @@
 -- The description that a text's header gives for the picture that the text encodes.
 use Rattle.std.proofs.Common.{◌≡◌, ℕ, ℤ, true, List, Some, None, Result, Ok, Err, refl, ap, IfOk}
-use Rattle.pgm_images.proofs.Common.{Description, sample_count, PictureValue, PgmFault, BeginsWith, HeaderValue, take_header, header_description, numbers_in, samples_up_to, picture_with, picture_under, picture_after, reading, description_in, is_headed}
+use Rattle.pgm_images.proofs.Common.{Description, sample_count, PictureValue, PgmFault, BeginsWith, HeaderValue, take_header, header_description, numbers_in, samples_up_to, picture_with, picture_under, picture_after, read_result, description_in, is_headed}
 use Rattle.pgm_images.specs.Reading.{description_after}
 
 -- ---- a picture that is read has the description of the header
@@ -17,7 +17,7 @@ after_told : (t : BeginsWith HeaderValue) (p : PictureValue) → picture_after t
 after_told None p e = cc
 after_told (Some taken) p e = under_told taken.0 (header_description taken.0.width taken.0.height taken.0.maxval) taken.1 p e
 
-pub read_description : (text : List ℕ) (r : Result Description PgmFault) → r ≡ description_in text → IfOk r (λ d. (p : PictureValue) → reading text ≡ Ok p → p.description ≡ d)
+pub read_description : (text : List ℕ) (r : Result Description PgmFault) → r ≡ description_in text → IfOk r (λ d. (p : PictureValue) → read_result text ≡ Ok p → p.description ≡ d)
 read_description text (Ok d) told = λ p e. cc (after_told (take_header text) p e, told)
 read_description text (Err fault) told = tt
 

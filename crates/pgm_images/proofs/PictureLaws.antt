@@ -1,6 +1,6 @@
 -- What a text encodes is a valid picture.
 use Rattle.std.proofs.Common.{◌≡◌, ℕ, ℤ, pos, ◌≤◌, Bool, true, false, if◌then◌else◌, nat_lt, List, [], ◌∷◌, length, map, Ok, refl, sym, subst, ◌∙◌, arith, All, nat_le, leb-true, ltb-true}
-use Rattle.pgm_images.proofs.Common.{ints, and_parts, length-map, All-nil, All-cons, U8, IsSample, sample_count, PictureValue, IsPicture, format_up_to, all_up_to, reading, Stands}
+use Rattle.pgm_images.proofs.Common.{ints, and_parts, length-map, All-nil, All-cons, U8, IsSample, sample_count, PictureValue, IsPicture, format_up_to, all_up_to, read_result, Stands}
 use Rattle.vx_base.specs.declared.format.Format.{Format}
 use Rattle.vx_base.specs.declared.format.Format.TheVariants.{S16}
 use Rattle.pgm_images.proofs.StandsLemmas.{stands_read}
@@ -26,5 +26,5 @@ stands_picture text p s =
     }
 
 -- what is read from a text is a valid picture
-pub read_picture : (text : List ℕ) (p : PictureValue) → reading text ≡ Ok p → IsPicture p
+pub read_picture : (text : List ℕ) (p : PictureValue) → read_result text ≡ Ok p → IsPicture p
 read_picture text p e = stands_picture text p (stands_read text p e)

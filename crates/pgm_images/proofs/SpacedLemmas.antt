@@ -1,6 +1,6 @@
 -- Numbers behind gaps: what the definition takes is what the grammar says.
 use Rattle.std.proofs.Common.{◌≡◌, ℕ, zero, suc, ◌+◌, ◌-◌, ◌*◌, ◌<◌, inl, inr, Bool, true, false, if◌then◌else◌, List, [], ◌∷◌, ◌++◌, length, Option, Some, None, refl, ap, sym, subst, ◌∙◌, arith, append_assoc, append-nil}
-use Rattle.pgm_images.proofs.Common.{cases_Bool, is_ascii_digit, option_map, all_ascii_digits, then_take, begins_digit, begins_gap, past_blanks, digits_after, take_next, ends, so_many, IsBlanks, IsSpaced, AreSpaced, digits_value}
+use Rattle.pgm_images.proofs.Common.{cases_Bool, is_ascii_digit, option_map, all_ascii_digits, then_take, begins_digit, begins_gap, past_blanks, digits_after, take_next, ends, take_count, IsBlanks, IsSpaced, AreSpaced, digits_value}
 use Rattle.std.specs.Option.{option_and_then}
 use Rattle.pgm_images.specs.Marks.{take_number}
 use Rattle.pgm_images.proofs.ReadingLemmas.{same_pair, then_some, map_some, if_some}
@@ -126,23 +126,23 @@ ends_blanks end are =
     let nothing : past_blanks false end ≡ Some [] = ap (past_blanks false) (sym (append-nil end)) ∙ skip_blanks end [] are in
     rw nothing refl
 
-pub many_spaced : (numbers body end : List ℕ) → AreSpaced body numbers → IsBlanks end → so_many take_next ends (length numbers) (body ++ end) ≡ Some numbers
+pub many_spaced : (numbers body end : List ℕ) → AreSpaced body numbers → IsBlanks end → take_count take_next ends (length numbers) (body ++ end) ≡ Some numbers
 many_spaced [] body end are blanks = ap (λ l. if ends (l ++ end) then Some [] else None) are ∙ ap (λ b. if b then Some [] else None) (ends_blanks end blanks)
 many_spaced (n ∷ numbers) body end (first, more, is, are, spelled) blanks =
     let none : begins_digit (more ++ end) ≡ false =
     spaced_no_digit numbers more end are (ap begins_digit (sym (append-nil end)) ∙ blanks_no_digit end [] blanks refl) in
     let taken : take_next (body ++ end) ≡ Some (pair n (more ++ end)) =
     ap (λ l. take_next (l ++ end)) spelled ∙ ap take_next (append_assoc first more end) ∙ spaced_next first (more ++ end) n is none in
-    ap (λ t. then_take t (λ number rest. option_map (λ others. number ∷ others) (so_many take_next ends (length numbers) rest))) taken
+    ap (λ t. then_take t (λ number rest. option_map (λ others. number ∷ others) (take_count take_next ends (length numbers) rest))) taken
     ∙ ap (option_map (λ others. n ∷ others)) (many_spaced numbers more end are blanks)
 
-pub spaced_many : (count : ℕ) (text numbers : List ℕ) → so_many take_next ends count text ≡ Some numbers → (body end : List ℕ) × AreSpaced body numbers × IsBlanks end × (text ≡ body ++ end)
+pub spaced_many : (count : ℕ) (text numbers : List ℕ) → take_count take_next ends count text ≡ Some numbers → (body end : List ℕ) × AreSpaced body numbers × IsBlanks end × (text ≡ body ++ end)
 spaced_many zero text numbers e =
     let (end, none) = if_some (ends text) [] numbers e in
     ([], text, subst (AreSpaced []) none refl, ends_of text end, refl)
 spaced_many (suc count) text numbers e =
-    let (n, rest, taken, e1) = then_some (take_next text) (λ number rest. option_map (λ others. number ∷ others) (so_many take_next ends count rest)) numbers e in
-    let (others, many, same) = map_some (λ others. n ∷ others) (so_many take_next ends count rest) numbers e1 in
+    let (n, rest, taken, e1) = then_some (take_next text) (λ number rest. option_map (λ others. number ∷ others) (take_count take_next ends count rest)) numbers e in
+    let (others, many, same) = map_some (λ others. n ∷ others) (take_count take_next ends count rest) numbers e1 in
     let (first, is, spelled) = spaced_of text n rest taken in
     let (body, end, are, blanks, behind) = spaced_many count rest others many in
     (first ++ body, end, subst (AreSpaced (first ++ body)) same (first, body, is, are, refl), blanks, spelled ∙ ap (λ l. first ++ l) behind ∙ sym {a = (first ++ body) ++ end} (append_assoc first body end))

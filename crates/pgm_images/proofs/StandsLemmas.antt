@@ -1,6 +1,6 @@
 -- A text is read as a picture exactly if it encodes it.
 use Rattle.std.proofs.Common.{arith, ◌≡◌, ℕ, ℤ, pos, zero, suc, ◌+◌, ◌*◌, ◌⊎◌, inl, inr, Bool, true, false, ◌&&◌, ◌≢◌, if◌then◌else◌, nat_lt, List, [], ◌∷◌, ◌++◌, length, map, Option, Some, None, Result, Ok, Err, IsTrue, refl, ap, sym, subst, ◌∙◌, append_assoc, append-nil, lt-ltb, le-ltb}
-use Rattle.pgm_images.proofs.Common.{option_map, and_parts, cases_eq, cases_lt, nat_tests, Description, is_side, sample_count, PictureValue, PgmFault, Encoding, Plain, Raw, BeginsWith, then_take, is_space, begins_digit, take_next, HeaderValue, take_header, is_maxval, format_up_to, header_description, so_many, take_short_sample, take_long_sample, take_raw, nothing_left, numbers_in, samples_up_to, all_up_to, picture_with, picture_under, picture_after, reading, fault_of, fault, AreSpaced, Stands, IsHeader}
+use Rattle.pgm_images.proofs.Common.{option_map, and_parts, cases_eq, cases_lt, nat_tests, Description, is_side, sample_count, PictureValue, PgmFault, Encoding, Plain, Raw, BeginsWith, then_take, is_space, begins_digit, take_next, HeaderValue, take_header, is_maxval, format_up_to, header_description, take_count, take_short_sample, take_long_sample, take_raw, nothing_left, numbers_in, samples_up_to, all_up_to, picture_with, picture_under, picture_after, read_result, fault_of, fault, AreSpaced, Stands, IsHeader}
 use Rattle.pgm_images.specs.Header.{past_header, take_magic, take_numbers}
 use Rattle.vx_base.specs.Description.{IsDescription}
 use Rattle.pgm_images.specs.declared.fault.PgmFault.TheVariants.{NoMemory}
@@ -12,40 +12,40 @@ use Rattle.pgm_images.proofs.SpacedLemmas.{spaced_of, spaced_end, spaced_next, s
 
 -- ---- rasters
 
-bytes_of : (count : ℕ) (bytes numbers : List ℕ) → so_many take_short_sample nothing_left count bytes ≡ Some numbers → bytes ≡ numbers
+bytes_of : (count : ℕ) (bytes numbers : List ℕ) → take_count take_short_sample nothing_left count bytes ≡ Some numbers → bytes ≡ numbers
 bytes_of count bytes numbers e = elim (cases_eq (length bytes) count) [
   | inl same ↦ cc (bytes-many count bytes same)
   | inr other ↦ cc (bytes-other count bytes other)
 ]
 
-pairs_of : (count : ℕ) (bytes numbers : List ℕ) → so_many take_long_sample nothing_left count bytes ≡ Some numbers → ArePairs bytes numbers
+pairs_of : (count : ℕ) (bytes numbers : List ℕ) → take_count take_long_sample nothing_left count bytes ≡ Some numbers → ArePairs bytes numbers
 pairs_of zero [] numbers e = let none : [] ≡ numbers = cc in subst (ArePairs []) none refl
 pairs_of zero (b ∷ bytes) numbers e = cc
 pairs_of (suc count) [] numbers e = cc
 pairs_of (suc count) (a ∷ []) numbers e = cc
 pairs_of (suc count) (a ∷ b ∷ bytes) numbers e =
-    let (others, many, same) = map_some (λ others. (256 * a + b) ∷ others) (so_many take_long_sample nothing_left count bytes) numbers e in
+    let (others, many, same) = map_some (λ others. (256 * a + b) ∷ others) (take_count take_long_sample nothing_left count bytes) numbers e in
     subst (ArePairs (a ∷ b ∷ bytes)) same (a, b, bytes, refl, refl, pairs_of count bytes others many)
 
-pairs-many : (numbers bytes : List ℕ) → ArePairs bytes numbers → so_many take_long_sample nothing_left (length numbers) bytes ≡ Some numbers
+pairs-many : (numbers bytes : List ℕ) → ArePairs bytes numbers → take_count take_long_sample nothing_left (length numbers) bytes ≡ Some numbers
 pairs-many [] bytes are = ap (λ l. if nothing_left l then Some [] else None) are
 pairs-many (n ∷ numbers) bytes (a, b, rest, spelled, is, are) =
-    ap (so_many take_long_sample nothing_left (suc (length numbers))) spelled
+    ap (take_count take_long_sample nothing_left (suc (length numbers))) spelled
     ∙ ap (option_map (λ others. (256 * a + b) ∷ others)) (pairs-many numbers rest are) ∙ ap (λ m. Some (m ∷ numbers)) (sym is)
 
 raw_many : (maxval count : ℕ) (bytes : List ℕ) (narrow : Bool) → nat_lt maxval 256 ≡ narrow
-    → so_many (take_raw maxval) nothing_left count bytes ≡ so_many (λ text. if narrow then take_short_sample text else take_long_sample text) nothing_left count bytes
-raw_many maxval count bytes narrow e = ap (λ b. so_many (λ text. if b then take_short_sample text else take_long_sample text) nothing_left count bytes) e
+    → take_count (take_raw maxval) nothing_left count bytes ≡ take_count (λ text. if narrow then take_short_sample text else take_long_sample text) nothing_left count bytes
+raw_many maxval count bytes narrow e = ap (λ b. take_count (λ text. if b then take_short_sample text else take_long_sample text) nothing_left count bytes) e
 
-pub raster_of : (maxval count : ℕ) (bytes numbers : List ℕ) → so_many (take_raw maxval) nothing_left count bytes ≡ Some numbers → IsRaster maxval bytes numbers
+pub raster_of : (maxval count : ℕ) (bytes numbers : List ℕ) → take_count (take_raw maxval) nothing_left count bytes ≡ Some numbers → IsRaster maxval bytes numbers
 raster_of maxval count bytes numbers e = elim (cases_lt maxval 256) [
   | inl low ↦ inl (low, bytes_of count bytes numbers (sym (raw_many maxval count bytes true (lt-ltb maxval 256 low)) ∙ e))
   | inr high ↦ inr (high, pairs_of count bytes numbers (sym (raw_many maxval count bytes false (le-ltb maxval 256 high)) ∙ e))
 ]
 
-pub raster_many : (maxval : ℕ) (bytes numbers : List ℕ) → IsRaster maxval bytes numbers → so_many (take_raw maxval) nothing_left (length numbers) bytes ≡ Some numbers
+pub raster_many : (maxval : ℕ) (bytes numbers : List ℕ) → IsRaster maxval bytes numbers → take_count (take_raw maxval) nothing_left (length numbers) bytes ≡ Some numbers
 raster_many maxval bytes numbers (inl (low, same)) =
-    raw_many maxval (length numbers) bytes true (lt-ltb maxval 256 low) ∙ ap (so_many take_short_sample nothing_left (length numbers)) same ∙ bytes-many (length numbers) numbers refl
+    raw_many maxval (length numbers) bytes true (lt-ltb maxval 256 low) ∙ ap (take_count take_short_sample nothing_left (length numbers)) same ∙ bytes-many (length numbers) numbers refl
 raster_many maxval bytes numbers (inr (high, are)) =
     raw_many maxval (length numbers) bytes false (le-ltb maxval 256 high) ∙ pairs-many numbers bytes are
 
@@ -184,7 +184,7 @@ encoded_of Raw w h m count text rest numbers is e =
       spelled = is.spelled ∙ ap (λ l. 80 ∷ 53 ∷ (is.body ++ l)) same;
     })
 
-pub stands_read : (text : List ℕ) (p : PictureValue) → reading text ≡ Ok p → Stands text p
+pub stands_read : (text : List ℕ) (p : PictureValue) → read_result text ≡ Ok p → Stands text p
 stands_read text p e =
     let (value, rest, is_header, e1) = headed (take_header text) p e in
     let (d, is_described, e2) = pictured value (header_description value.width value.height value.maxval) rest p e1 in
@@ -215,7 +215,7 @@ samples_back maxval o numbers samples is below are = ap (samples_up_to maxval) i
 
 -- a text whose header was taken, and whose numbers are in what follows
 read_from : (text : List ℕ) (p : PictureValue) (s : Stands text p) (encoding : Encoding) (rest : List ℕ) → take_header text ≡ Some (header encoding p.description.width p.description.height s.maxval, rest)
-    → numbers_in encoding s.maxval (length s.numbers) rest ≡ Some s.numbers → reading text ≡ Ok p
+    → numbers_in encoding s.maxval (length s.numbers) rest ≡ Some s.numbers → read_result text ≡ Ok p
 read_from text p s encoding rest is_header is_numbers =
     let d = p.description in
     let value = header encoding d.width d.height s.maxval in
@@ -224,14 +224,14 @@ read_from text p s encoding rest is_header is_numbers =
     ∙ ap (λ r. picture_under value r rest) (described_back d s.maxval s.sides s.allowed s.format)
     ∙ ap (picture_with d) (samples_back s.maxval (numbers_in encoding s.maxval (sample_count d) rest) s.numbers p.samples found s.below s.samples)
 
-plain_read : (text : List ℕ) (p : PictureValue) (s : Stands text p) → IsPlainText text p.description.width p.description.height s.maxval s.numbers → reading text ≡ Ok p
+plain_read : (text : List ℕ) (p : PictureValue) (s : Stands text p) → IsPlainText text p.description.width p.description.height s.maxval s.numbers → read_result text ≡ Ok p
 plain_read text p s is =
     let d = p.description in
     let none : begins_digit is.end ≡ false = ap begins_digit (sym (append-nil is.end)) ∙ blanks_no_digit is.end [] is.blanks refl in
     let (more, are, taken) = numbers_back Plain d.width d.height s.maxval s.numbers is.body is.end is.numbers none in
     read_from text p s Plain (more ++ is.end) (ap take_header is.spelled ∙ taken) (many_spaced s.numbers more is.end are is.blanks)
 
-raw_read : (text : List ℕ) (p : PictureValue) (s : Stands text p) → IsRawText text p.description.width p.description.height s.maxval s.numbers → reading text ≡ Ok p
+raw_read : (text : List ℕ) (p : PictureValue) (s : Stands text p) → IsRawText text p.description.width p.description.height s.maxval s.numbers → read_result text ≡ Ok p
 raw_read text p s is =
     let d = p.description in
     let begins : IsHeader text (header Raw d.width d.height s.maxval) is.raster =
@@ -239,7 +239,7 @@ raw_read text p s is =
     read_from text p s Raw is.raster (taken Raw d.width d.height s.maxval text is.raster begins)
     (raster_many s.maxval is.raster s.numbers is.bytes)
 
-pub read_stands : (text : List ℕ) (p : PictureValue) → Stands text p → reading text ≡ Ok p
+pub read_stands : (text : List ℕ) (p : PictureValue) → Stands text p → read_result text ≡ Ok p
 read_stands text p s = elim s.encoded [ inl is ↦ plain_read text p s is | inr is ↦ raw_read text p s is ]
 
 -- ---- faults
@@ -249,9 +249,9 @@ one_picture text p q s t =
     cc (read_stands text p s, read_stands text q t)
 
 pub no_fault : (text : List ℕ) → fault text ≡ None → (p : PictureValue) × Stands text p
-no_fault text e = known (reading text) refl e
+no_fault text e = known (read_result text) refl e
   where
-    known : (r : Result PictureValue PgmFault) → reading text ≡ r → fault_of r ≡ None → (p : PictureValue) × Stands text p
+    known : (r : Result PictureValue PgmFault) → read_result text ≡ r → fault_of r ≡ None → (p : PictureValue) × Stands text p
     known (Ok p) is e = (p, stands_read text p is)
     known (Err f) is e = cc
 
@@ -272,4 +272,4 @@ fault_is (Ok p) e is = cc
 fault_is (Err fault) e is = let same : fault ≡ e = cc in ap Err same
 
 pub memory_faultless : (text : List ℕ) → fault text ≢ Some NoMemory
-memory_faultless text e = after_faults (take_header text) (fault_is (reading text) NoMemory e)
+memory_faultless text e = after_faults (take_header text) (fault_is (read_result text) NoMemory e)

@@ -1,6 +1,6 @@
 -- A text that was written is read back.
 use Rattle.std.proofs.Common.{◌≡◌, ℕ, ℤ, pos, negsuc, ◌<◌, ◌^◌, true, nat_le, List, [], ◌∷◌, ◌++◌, length, map, unsigned_abs, Ok, inl, inr, IsTrue, refl, ap, sym, ◌∙◌, arith, decimal, append_assoc, All, le-leb}
-use Rattle.pgm_images.proofs.Common.{ints, nat_tests, length-map, All-cons, All-head, All-nil, All-tail, U8, IsSample, is_side, IsPicture, PictureValue, is_space, all_up_to, reading, pgm_text, IsSpaced, IsBlank, all_ascii_digits, digits_value}
+use Rattle.pgm_images.proofs.Common.{ints, nat_tests, length-map, All-cons, All-head, All-nil, All-tail, U8, IsSample, is_side, IsPicture, PictureValue, is_space, all_up_to, read_result, pgm_text, IsSpaced, IsBlank, all_ascii_digits, digits_value}
 use Rattle.std.proofs.lemmas.Fmt.{digits_decimal, digits_value-decimal, decimal_nonempty}
 use Rattle.pgm_images.proofs.DigitLemmas.{digits_model}
 use Rattle.pgm_images.proofs.SpacedLemmas.{value_is}
@@ -42,7 +42,7 @@ samples_bytes (negsuc n ∷ samples) is =
     absurd (omega (arith, ints, first.at_least))
 
 -- a picture that was written
-pub read_back : (p : PictureValue) → IsPicture p → p.description.format ≡ U8 → reading (pgm_text p) ≡ Ok p
+pub read_back : (p : PictureValue) → IsPicture p → p.description.format ≡ U8 → read_result (pgm_text p) ≡ Ok p
 read_back p is same =
     let w = p.description.width in
     let h = p.description.height in

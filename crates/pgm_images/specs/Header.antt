@@ -57,7 +57,7 @@ header_description width height maxval =
     else Err InvalidDimension
 
 -- The code read this header, and `rest` is the text after it. It keeps each number as `Kept` says.
-pub record KeptHeader (taken : BeginsWith HeaderValue) (header : Header) (rest : List ℕ) : Type 0 where
+pub record TakesHeader (taken : BeginsWith HeaderValue) (header : Header) (rest : List ℕ) : Type 0 where
   pub value : HeaderValue
   pub is : taken ≡ Some (value, rest)
   pub encoding : header.encoding ≡ value.encoding

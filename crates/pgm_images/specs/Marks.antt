@@ -69,7 +69,7 @@ ends text = nothing (past_blanks false text)
 
 -- The code read a number from the front, and `rest` is the text after it. It keeps a number above
 -- 65535 as 65535, which is above all limits of a PGM text too.
-pub record Kept (taken : BeginsWith ℕ) (kept : ℕ) (rest : List ℕ) : Type 0 where
+pub record TakesNumber (taken : BeginsWith ℕ) (kept : ℕ) (rest : List ℕ) : Type 0 where
   pub number : ℕ
   pub is : taken ≡ Some (number, rest)
   pub least : kept ≡ min number 65535
@@ -83,7 +83,7 @@ begins_space (b ∷ text) = is_space b
 -- text begins with one whitespace byte and a number up to the maxval, of `bytes` bytes in all.
 pub record Tells (maxval number bytes : ℕ) (text : List ℕ) : Type 0 where
   pub few : bytes ≤ length text
-  pub is : 0 < bytes → Kept (take_next text) number (drop bytes text)
+  pub is : 0 < bytes → TakesNumber (take_next text) number (drop bytes text)
   pub low : 0 < bytes → number ≤ maxval
   pub space : 0 < bytes → begins_space text ≡ true
   pub digits : (k : ℕ) → 0 < k → k < bytes → begins_digit (drop k text) ≡ true

@@ -24,16 +24,16 @@ nothing_left [] = true
 nothing_left (b ∷ text) = false
 
 -- `count` numbers, each as `take` reads it, and then an end that `is_end` accepts
-abbrev pub so_many : (take : List ℕ → BeginsWith ℕ) (is_end : List ℕ → Bool) → ℕ → List ℕ → Option (List ℕ)
-so_many take is_end zero text = if is_end text then Some [] else None
-so_many take is_end (suc count) text = then_take (take text) (λ number rest. option_map (λ numbers. number ∷ numbers) (so_many take is_end count rest))
+abbrev pub take_count : (take : List ℕ → BeginsWith ℕ) (is_end : List ℕ → Bool) → ℕ → List ℕ → Option (List ℕ)
+take_count take is_end zero text = if is_end text then Some [] else None
+take_count take is_end (suc count) text = then_take (take text) (λ number rest. option_map (λ numbers. number ∷ numbers) (take_count take is_end count rest))
 
 -- The numbers of the text after a header, or none if there are fewer than `count`, or anything
 -- follows them. In a plain text each comes after a gap, and whitespace and comments may follow the
 -- last.
 abbrev pub numbers_in : Encoding → (maxval count : ℕ) → List ℕ → Option (List ℕ)
-numbers_in Plain maxval count text = so_many take_next ends count text
-numbers_in Raw maxval count text = so_many (take_raw maxval) nothing_left count text
+numbers_in Plain maxval count text = take_count take_next ends count text
+numbers_in Raw maxval count text = take_count (take_raw maxval) nothing_left count text
 
 abbrev pub all_up_to : ℕ → List ℕ → Bool
 all_up_to maxval numbers = list_all (λ n. nat_le n maxval) numbers
@@ -50,18 +50,18 @@ pub record Reads {A : Type 0} (told : Result (List ℤ) PgmFault) (samples : Lis
 
 -- The samples are these numbers of a text, unless one is above the maxval. The code reads a number
 -- above 65535 as 65535.
-pub record Filled (maxval : ℕ) (high : Bool) (written : List ℤ) (numbers : List ℕ) : Type 0 where
+pub record HoldsNumbers (maxval : ℕ) (high : Bool) (written : List ℤ) (numbers : List ℕ) : Type 0 where
   pub above : high ≡ not (all_up_to maxval numbers)
   pub samples : high ≡ false → written ≡ map pos numbers
 
 -- these numbers, followed by the others
-abbrev pub after : List ℕ → Option (List ℕ) → Option (List ℕ)
-after done o = option_map (λ others. done ++ others) o
+abbrev pub prepend : List ℕ → Option (List ℕ) → Option (List ℕ)
+prepend done o = option_map (λ others. done ++ others) o
 
 -- `left` numbers of the whole text are still to be written, and `rest` is the text with them
-abbrev pub Filling : (take : List ℕ → BeginsWith ℕ) (is_end : List ℕ → Bool) (maxval : ℕ) (above : Bool) (samples : List ℤ) (left : ℕ) (rest : List ℕ) (whole : Option (List ℕ)) → Type 0
-Filling take is_end maxval above samples left rest whole = (numbers : List ℕ) × Filled maxval above samples numbers × (whole ≡ after numbers (so_many take is_end left rest))
+abbrev pub LeftToFill : (take : List ℕ → BeginsWith ℕ) (is_end : List ℕ → Bool) (maxval : ℕ) (above : Bool) (samples : List ℤ) (left : ℕ) (rest : List ℕ) (whole : Option (List ℕ)) → Type 0
+LeftToFill take is_end maxval above samples left rest whole = (numbers : List ℕ) × HoldsNumbers maxval above samples numbers × (whole ≡ prepend numbers (take_count take is_end left rest))
 
 -- the same for a plain text, whose first `index` numbers are written
 abbrev pub PlainUpTo : {T : Type 0} (value : T → ℤ) (maxval index : ℕ) (above : Bool) (samples : List T) (rest : List ℕ) (whole : Option (List ℕ)) → Type 0
-PlainUpTo value maxval index above samples rest whole = Filling take_next ends maxval above (map value (take index samples)) (length samples - index) rest whole
+PlainUpTo value maxval index above samples rest whole = LeftToFill take_next ends maxval above (map value (take index samples)) (length samples - index) rest whole

@@ -24,8 +24,8 @@ picture_after None = Err InvalidFormat
 picture_after (Some taken) = picture_under taken.0 (header_description taken.0.width taken.0.height taken.0.maxval) taken.1
 
 -- the picture that a text encodes, or its first fault
-abbrev pub reading : List ℕ → Result PictureValue PgmFault
-reading text = picture_after (take_header text)
+abbrev pub read_result : List ℕ → Result PictureValue PgmFault
+read_result text = picture_after (take_header text)
 
 abbrev pub fault_of : Result PictureValue PgmFault → Option PgmFault
 fault_of (Ok p) = None
@@ -33,7 +33,7 @@ fault_of (Err fault) = Some fault
 
 -- the first fault of a text, or none where it encodes a picture
 abbrev pub fault : List ℕ → Option PgmFault
-fault text = fault_of (reading text)
+fault text = fault_of (read_result text)
 
 abbrev pub description_after : BeginsWith HeaderValue → Result Description PgmFault
 description_after None = Err InvalidFormat
@@ -44,7 +44,7 @@ abbrev pub description_in : List ℕ → Result Description PgmFault
 description_in text = description_after (take_header text)
 
 -- The text's header is accepted, and the samples have the format and number that it states.
-pub record HasRoom (text : List ℕ) (samples : Samples) : Type 0 where
+pub record SamplesFitHeader (text : List ℕ) (samples : Samples) : Type 0 where
   pub description : Description
   pub told : description_in text ≡ Ok description
   pub described : Describes description samples

@@ -4,31 +4,31 @@ ghost use Rattle.vx_base.specs.declared.format.Format.TheVariants.{U8, S16};
 ghost use Rattle.pgm_images.specs.declared.fault.PgmFault.TheVariants.{InvalidFormat};
 ghost use Rattle.pgm_images.specs.declared.fault.PgmFault.TheVariants.{InvalidDimension};
 ghost use Rattle.pgm_images.specs.declared.fault.PgmFault.TheVariants.{InvalidValue};
-ghost use Rattle.pgm_images.specs.Reading.{reading};
+ghost use Rattle.pgm_images.specs.Reading.{read_result};
 ghost use Rattle.pgm_images.specs.Writing.{pgm_text};
 
 /// Two samples of one byte each, 10 and 20, after headers with and without comments; and one sample
 /// of two bytes.
 pub fn raw()
-    ensures bytes { reading (codes "P5\n2 1\n255\n" ++ 10 ∷ 20 ∷ [])
+    ensures bytes { read_result (codes "P5\n2 1\n255\n" ++ 10 ∷ 20 ∷ [])
         ≡ Ok (record {
           description = record { width = 2; height = 1; format = U8 };
           samples = pos 10
               ∷ pos 20 ∷ [];
         }) }
-    ensures comment { reading (codes "P5\n# a\n2 1\n255\n" ++ 10 ∷ 20 ∷ [])
+    ensures comment { read_result (codes "P5\n# a\n2 1\n255\n" ++ 10 ∷ 20 ∷ [])
         ≡ Ok (record {
           description = record { width = 2; height = 1; format = U8 };
           samples = pos 10
               ∷ pos 20 ∷ [];
         }) }
-    ensures comment_at_once { reading (codes "P5#\r\n2#a\r1\n255\t" ++ 10 ∷ 20 ∷ [])
+    ensures comment_at_once { read_result (codes "P5#\r\n2#a\r1\n255\t" ++ 10 ∷ 20 ∷ [])
         ≡ Ok (record {
           description = record { width = 2; height = 1; format = U8 };
           samples = pos 10
               ∷ pos 20 ∷ [];
         }) }
-    ensures pair { reading (codes "P5 1 1 300\n" ++ 1 ∷ 44 ∷ [])
+    ensures pair { read_result (codes "P5 1 1 300\n" ++ 1 ∷ 44 ∷ [])
         ≡ Ok (record {
           description = record { width = 1; height = 1; format = S16 };
           samples =
@@ -38,13 +38,13 @@ pub fn raw()
 
 /// A sample of S16, and one with leading zeros before it and a comment after it.
 pub fn plain()
-    ensures short { reading (codes "P2 1 1 300 5")
+    ensures short { read_result (codes "P2 1 1 300 5")
         ≡ Ok (record {
           description = record { width = 1; height = 1; format = S16 };
           samples
               = pos 5 ∷ [];
         }) }
-    ensures zeros { reading (codes "P2 1 1 255 005 # x\n")
+    ensures zeros { read_result (codes "P2 1 1 255 005 # x\n")
         ≡ Ok (record {
           description = record { width = 1; height = 1; format = U8 };
           samples
@@ -56,40 +56,40 @@ pub fn plain()
 /// end, a maxval of P5 without the one whitespace byte after it, and a byte that isn't whitespace
 /// in PGM.
 pub fn headers()
-    ensures empty { reading [] ≡ Err InvalidFormat }
-    ensures magic { reading (codes "P5") ≡ Err InvalidFormat }
-    ensures no_gap { reading (codes "P52 1 255\n" ++ 10 ∷ 20 ∷ []) ≡ Err InvalidFormat }
-    ensures comment { reading (codes "P5 # 1 1 255 ") ≡ Err InvalidFormat }
-    ensures no_end { reading (codes "P5 0 1 255") ≡ Err InvalidFormat }
-    ensures other_end { reading (codes "P5 0 1 255x") ≡ Err InvalidFormat }
-    ensures comment_at_end { reading (codes "P5 1 1 255#x\n" ++ 10 ∷ []) ≡ Err InvalidFormat }
-    ensures vertical_tab { reading (codes "P5 1 1" ++ 11 ∷ codes "255 " ++ 10 ∷ [])
+    ensures empty { read_result [] ≡ Err InvalidFormat }
+    ensures magic { read_result (codes "P5") ≡ Err InvalidFormat }
+    ensures no_gap { read_result (codes "P52 1 255\n" ++ 10 ∷ 20 ∷ []) ≡ Err InvalidFormat }
+    ensures comment { read_result (codes "P5 # 1 1 255 ") ≡ Err InvalidFormat }
+    ensures no_end { read_result (codes "P5 0 1 255") ≡ Err InvalidFormat }
+    ensures other_end { read_result (codes "P5 0 1 255x") ≡ Err InvalidFormat }
+    ensures comment_at_end { read_result (codes "P5 1 1 255#x\n" ++ 10 ∷ []) ≡ Err InvalidFormat }
+    ensures vertical_tab { read_result (codes "P5 1 1" ++ 11 ∷ codes "255 " ++ 10 ∷ [])
         ≡ Err InvalidFormat }
 {}
 
 /// Widths, heights and maxvals out of range. A header of P2 ends with the last digit of its maxval.
 pub fn limits()
-    ensures no_width { reading (codes "P2 0 1 255x") ≡ Err InvalidDimension }
-    ensures no_maxval_either { reading (codes "P5 0 1 0\n") ≡ Err InvalidDimension }
-    ensures too_wide { reading (codes "P5 8193 1 255\n") ≡ Err InvalidDimension }
-    ensures far_too_wide { reading (codes "P5 99999999999999999999 1 255\n")
+    ensures no_width { read_result (codes "P2 0 1 255x") ≡ Err InvalidDimension }
+    ensures no_maxval_either { read_result (codes "P5 0 1 0\n") ≡ Err InvalidDimension }
+    ensures too_wide { read_result (codes "P5 8193 1 255\n") ≡ Err InvalidDimension }
+    ensures far_too_wide { read_result (codes "P5 99999999999999999999 1 255\n")
         ≡ Err InvalidDimension }
-    ensures no_maxval { reading (codes "P5 1 1 0\n" ++ 0 ∷ []) ≡ Err InvalidFormat }
-    ensures too_great { reading (codes "P5 1 1 32768\n" ++ 0 ∷ 0 ∷ []) ≡ Err InvalidFormat }
+    ensures no_maxval { read_result (codes "P5 1 1 0\n" ++ 0 ∷ []) ≡ Err InvalidFormat }
+    ensures too_great { read_result (codes "P5 1 1 32768\n" ++ 0 ∷ 0 ∷ []) ≡ Err InvalidFormat }
 {}
 
 /// Too few or too many samples, or one above the maxval. A sample above the maxval is reported only
 /// if the rest of the text is well formed.
 pub fn samples()
-    ensures too_few { reading (codes "P5 1 1 255\n") ≡ Err InvalidFormat }
-    ensures too_many { reading (codes "P5 1 1 255\n" ++ 10 ∷ 20 ∷ []) ≡ Err InvalidFormat }
-    ensures half { reading (codes "P5 1 1 300\n" ++ 1 ∷ []) ≡ Err InvalidFormat }
-    ensures plain_too_few { reading (codes "P2 2 1 255 1") ≡ Err InvalidFormat }
-    ensures stray_comment { reading (codes "P2 1 1 255 5#") ≡ Err InvalidFormat }
-    ensures above { reading (codes "P5 1 1 100\n" ++ 101 ∷ []) ≡ Err InvalidValue }
-    ensures plain_above { reading (codes "P2 1 1 300 301") ≡ Err InvalidValue }
-    ensures far_above { reading (codes "P2 1 1 255 99999999999999999999") ≡ Err InvalidValue }
-    ensures above_and_stray { reading (codes "P2 1 1 255 256 x") ≡ Err InvalidFormat }
+    ensures too_few { read_result (codes "P5 1 1 255\n") ≡ Err InvalidFormat }
+    ensures too_many { read_result (codes "P5 1 1 255\n" ++ 10 ∷ 20 ∷ []) ≡ Err InvalidFormat }
+    ensures half { read_result (codes "P5 1 1 300\n" ++ 1 ∷ []) ≡ Err InvalidFormat }
+    ensures plain_too_few { read_result (codes "P2 2 1 255 1") ≡ Err InvalidFormat }
+    ensures stray_comment { read_result (codes "P2 1 1 255 5#") ≡ Err InvalidFormat }
+    ensures above { read_result (codes "P5 1 1 100\n" ++ 101 ∷ []) ≡ Err InvalidValue }
+    ensures plain_above { read_result (codes "P2 1 1 300 301") ≡ Err InvalidValue }
+    ensures far_above { read_result (codes "P2 1 1 255 99999999999999999999") ≡ Err InvalidValue }
+    ensures above_and_stray { read_result (codes "P2 1 1 255 256 x") ≡ Err InvalidFormat }
 {}
 
 /// Two samples, 10 and 20, as they are written.

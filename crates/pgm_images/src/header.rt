@@ -1,7 +1,7 @@
 //! The header of a text: its encoding, width, height and maxval.
 ghost use Rattle.std.specs.Prelude.{◌≡◌, IfSome, IfNone, None, Some, Ok, Err, IfOk, IfErr, IsTrue};
 ghost use Rattle.pgm_images.specs.Header.{take_magic, past_header, take_header, is_maxval};
-ghost use Rattle.pgm_images.specs.Header.{format_up_to, header_description, KeptHeader};
+ghost use Rattle.pgm_images.specs.Header.{format_up_to, header_description, TakesHeader};
 
 use crate::fault::PgmFault;
 use crate::marks::{is_space, take_next};
@@ -52,7 +52,7 @@ fn past_header(encoding: Encoding, text: &[u8]) -> Option<&[u8]>
 
 /// Returns the header at the front, and the text after it. `None`: the text has no header.
 pub fn take_header(text: &[u8]) -> Option<(Header, &[u8])>
-    ensures some { IfSome result (λ taken. KeptHeader (take_header text.now) taken.0 taken.1.now) }
+    ensures some { IfSome result (λ taken. TakesHeader (take_header text.now) taken.0 taken.1.now) }
     ensures none { IfNone result (take_header text.now ≡ None) }
 {
     let (encoding, rest) = take_magic(text)?;

@@ -10,14 +10,14 @@ ghost use Rattle.pgm_images.specs.declared.fault.PgmFault.TheVariants.{InvalidVa
 ghost use Rattle.pgm_images.specs.Header.{HeaderValue, take_header, is_maxval};
 ghost use Rattle.pgm_images.specs.Raster.{all_up_to};
 ghost use Rattle.pgm_images.specs.Grammar.{Stands, IsHeader, HasSamples};
-ghost use Rattle.pgm_images.specs.Reading.{reading, fault};
+ghost use Rattle.pgm_images.specs.Reading.{read_result, fault};
 ghost use Rattle.pgm_images.specs.Writing.{pgm_text};
 
-/// `reading` gives a picture exactly where the grammar says that the text encodes it. A text
+/// `read_result` gives a picture exactly where the grammar says that the text encodes it. A text
 /// encodes at most one picture.
 pub fn standing()
-    ensures found { (text : List ℕ) (p : PictureValue) → reading text ≡ Ok p → Stands text p }
-    ensures only { (text : List ℕ) (p : PictureValue) → Stands text p → reading text ≡ Ok p }
+    ensures found { (text : List ℕ) (p : PictureValue) → read_result text ≡ Ok p → Stands text p }
+    ensures only { (text : List ℕ) (p : PictureValue) → Stands text p → read_result text ≡ Ok p }
     ensures one { (text : List ℕ) (p q : PictureValue) → Stands text p → Stands text q → p ≡ q }
 {}
 
@@ -72,5 +72,5 @@ pub fn read_back()
     ensures stands { (p : PictureValue) → IsPicture p → p.description.format ≡ U8 →
         Stands (pgm_text p) p }
     ensures read { (p : PictureValue) → IsPicture p → p.description.format ≡ U8 →
-        reading (pgm_text p) ≡ Ok p }
+        read_result (pgm_text p) ≡ Ok p }
 {}

@@ -3,7 +3,7 @@ ghost use Rattle.std.specs.Prelude.{◌≡◌, ◌∷◌, IfSome, IfNone, None, 
 ghost use Rattle.std.specs.Prelude.{◌+◌, ◌*◌, ◌-◌, ◌%◌, nat_lt, if◌then◌else◌, ℕ, List};
 ghost use Rattle.std.specs.Char.{is_ascii_digit};
 ghost use Rattle.pgm_images.specs.Marks.{ends_line, is_space, begins_gap, past_blanks};
-ghost use Rattle.pgm_images.specs.Marks.{digits_after, take_number, take_next, ends, Kept, Tells};
+ghost use Rattle.pgm_images.specs.Marks.{digits_after, take_number, take_next, ends, TakesNumber, Tells};
 
 /// Returns whether a byte is CR or LF.
 fn ends_line(byte: u8) -> bool
@@ -41,7 +41,7 @@ fn past_blanks(text: &[u8]) -> Option<&[u8]>
 
 /// Returns the number that the digits at the front spell, and the text after them.
 fn digits(text: &[u8]) -> (u16, &[u8])
-    ensures { Kept (Some (digits_after 0 text.now)) result.0 result.1.now }
+    ensures { TakesNumber (Some (digits_after 0 text.now)) result.0 result.1.now }
 {
     let mut rest = text;
     let mut number = 0u16;
@@ -59,7 +59,7 @@ fn digits(text: &[u8]) -> (u16, &[u8])
 
 /// Returns the number at the front, and the text after it. `None`: no digit is at the front.
 fn take_number(text: &[u8]) -> Option<(u16, &[u8])>
-    ensures some { IfSome result (λ taken. Kept (take_number text.now) taken.0 taken.1.now) }
+    ensures some { IfSome result (λ taken. TakesNumber (take_number text.now) taken.0 taken.1.now) }
     ensures none { IfNone result (take_number text.now ≡ None) }
 {
     match text.split_first() {
@@ -132,7 +132,7 @@ pub fn short_number(
 /// Returns the number that comes after a gap at the front, and the text after both. `None`: the
 /// text does not begin with a gap and a number.
 pub fn take_next(text: &[u8]) -> Option<(u16, &[u8])>
-    ensures some { IfSome result (λ taken. Kept (take_next text.now) taken.0 taken.1.now) }
+    ensures some { IfSome result (λ taken. TakesNumber (take_next text.now) taken.0 taken.1.now) }
     ensures none { IfNone result (take_next text.now ≡ None) }
 {
     if begins_gap(text) {

@@ -3,8 +3,8 @@ ghost use Rattle.std.specs.Prelude.{◌≡◌, ℕ, ◌≤◌, nat_le, ◌<◌, 
 ghost use Rattle.std.specs.Prelude.{length, map, pos, ◌||◌, Bool, List, Option};
 ghost use Rattle.vx_base.specs.Picture.{values, samples_format};
 ghost use Rattle.pgm_images.specs.Header.{is_maxval, format_up_to};
-ghost use Rattle.pgm_images.specs.Marks.{Kept, take_next, ends};
-ghost use Rattle.pgm_images.specs.Raster.{Reads, all_up_to, numbers_in, so_many, take_short_sample};
+ghost use Rattle.pgm_images.specs.Marks.{TakesNumber, take_next, ends};
+ghost use Rattle.pgm_images.specs.Raster.{Reads, all_up_to, numbers_in, take_count, take_short_sample};
 ghost use Rattle.pgm_images.specs.Raster.{take_long_sample, nothing_left, samples_up_to, PlainUpTo};
 
 use crate::block::Block;
@@ -55,7 +55,7 @@ fn read_plain<T: TextSample>(maxval: u16, text: &[u8], samples: &mut [T]) -> Res
     requires limit { maxval ≤ T.limit }
     requires maxval { maxval ≤ 32767 }
     ensures { Reads (samples_up_to maxval
-        (so_many take_next ends (length samples.old) text.now)) (map T.value samples.new) result }
+        (take_count take_next ends (length samples.old) text.now)) (map T.value samples.new) result }
 {
     let mut block = Block::new();
     let (mut rest, mut index) = (text, 0);
@@ -99,7 +99,7 @@ fn greatest(bytes: &[u8]) -> u8
 /// Reads one byte for each sample; nothing may follow.
 fn read_bytes(maxval: u16, bytes: &[u8], samples: &mut [u8]) -> Result<(), PgmFault>
     ensures { Reads (samples_up_to maxval
-        (so_many take_short_sample nothing_left (length samples.old) bytes.now))
+        (take_count take_short_sample nothing_left (length samples.old) bytes.now))
         (map pos samples.new) result }
 {
     if bytes.len() != samples.len() {
@@ -118,7 +118,7 @@ fn read_bytes(maxval: u16, bytes: &[u8], samples: &mut [u8]) -> Result<(), PgmFa
 
 /// Returns the number of two bytes at the front, and the bytes after it.
 fn take_pair(bytes: &[u8]) -> Option<(u16, &[u8])>
-    ensures some { IfSome result (λ taken. Kept (take_long_sample bytes.now) taken.0 taken.1.now) }
+    ensures some { IfSome result (λ taken. TakesNumber (take_long_sample bytes.now) taken.0 taken.1.now) }
     ensures none { IfNone result (take_long_sample bytes.now ≡ None) }
 {
     let (high, rest) = bytes.split_first()?;
@@ -131,7 +131,7 @@ fn read_pairs<T: TextSample>(maxval: u16, bytes: &[u8], samples: &mut [T]) -> Re
     requires limit { maxval ≤ T.limit }
     requires maxval { maxval ≤ 32767 }
     ensures { Reads (samples_up_to maxval
-        (so_many take_long_sample nothing_left (length samples.old) bytes.now))
+        (take_count take_long_sample nothing_left (length samples.old) bytes.now))
         (map T.value samples.new) result }
 {
     let mut rest = bytes;

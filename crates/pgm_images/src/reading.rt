@@ -3,7 +3,7 @@ ghost use Rattle.std.specs.Prelude.{◌≡◌, length, Ok, Err, IfOk, OnOk, IfEr
 ghost use Rattle.vx_base.specs.Description.{Description};
 ghost use Rattle.vx_base.specs.Picture.{PictureValue, values, samples_format};
 ghost use Rattle.pgm_images.specs.Grammar.{Stands};
-ghost use Rattle.pgm_images.specs.Reading.{FailsFor, HasRoom, description_in, reading};
+ghost use Rattle.pgm_images.specs.Reading.{FailsFor, SamplesFitHeader, description_in, read_result};
 
 use crate::fault::PgmFault;
 use crate::header::take_header;
@@ -22,8 +22,8 @@ use vx_base::{Desc, Picture, Samples};
 pub fn described(text: &[u8]) -> Result<Desc, PgmFault>
     ensures told { result ≡ description_in text.now }
     ensures ok { IfOk result (λ d. (p : PictureValue) →
-        reading text.now ≡ Ok p → p.description ≡ d) }
-    ensures err { IfErr result (λ fault. reading text.now ≡ Err fault) }
+        read_result text.now ≡ Ok p → p.description ≡ d) }
+    ensures err { IfErr result (λ fault. read_result text.now ≡ Err fault) }
 {
     let Some((header, _)) = take_header(text) else {
         return Err(PgmFault::InvalidFormat);
@@ -38,12 +38,12 @@ pub fn described(text: &[u8]) -> Result<Desc, PgmFault>
 /// exactly the number of samples that it states. `InvalidValue`: otherwise, a sample is above the
 /// maxval.
 pub fn read_into(text: &[u8], samples: &mut Samples) -> Result<(), PgmFault>
-    requires { HasRoom text.now samples.old }
+    requires { SamplesFitHeader text.now samples.old }
     ensures format { samples_format samples.new ≡ samples_format samples.old }
     ensures count { length (values samples.new) ≡ length (values samples.old) }
     ensures ok { OnOk result ((d : Description) → description_in text.now ≡ Ok d →
-        reading text.now ≡ Ok (record { description = d; samples = values samples.new })) }
-    ensures err { IfErr result (λ fault. reading text.now ≡ Err fault) }
+        read_result text.now ≡ Ok (record { description = d; samples = values samples.new })) }
+    ensures err { IfErr result (λ fault. read_result text.now ≡ Err fault) }
 {
     let Some((header, rest)) = take_header(text) else {
         unreachable!()
@@ -66,7 +66,7 @@ pub fn read_into(text: &[u8], samples: &mut Samples) -> Result<(), PgmFault>
 /// only once the header is accepted.
 pub fn read(alloc: Global, text: &[u8]) -> Result<Picture, PgmFault>
     ensures stands { IfOk result (λ picture. Stands text.now picture) }
-    ensures ok { IfOk result (λ picture. reading text.now ≡ Ok picture) }
+    ensures ok { IfOk result (λ picture. read_result text.now ≡ Ok picture) }
     ensures err { IfErr result (FailsFor text.now) }
 {
     let desc = described(text)?;

@@ -4,11 +4,11 @@ ghost use Rattle.vx_base.specs.declared.format.Format.TheVariants.{U8, S16};
 ghost use Rattle.vx_base.specs.declared.function.Function.TheVariants.{Accumulate};
 ghost use Rattle.vx_base.specs.declared.function.Function.TheVariants.{AccumulateSquare};
 ghost use Rattle.vx_base.specs.Rectangle.{IsWithin};
-ghost use Rattle.vx_base.specs.Image.{ImageValue, at};
-ghost use Rattle.vx_base.specs.Pixelwise.{accumulated, accumulated_square, from_two};
+ghost use Rattle.vx_base.specs.Image.{ImageValue, pixel_at};
+ghost use Rattle.vx_base.specs.Pixelwise.{accumulated_sum, accumulated_square, from_two};
 ghost use Rattle.image_core.specs.Bands.{rows_in};
 ghost use Rattle.image_core.specs.Fits.{Fits, HaveSameSize};
-ghost use Rattle.image_core.specs.Target.{written, IsTarget, Writes};
+ghost use Rattle.image_core.specs.Target.{target_image, IsTarget, Writes};
 
 use image_core::{Image, ImageMut, RowUpdate};
 use lane_rows::{Accumulated, OfSum, Squared, update_row};
@@ -26,7 +26,7 @@ struct Added<'a, 'b, K> {
 }
 
 impl<K: OfSum<u8, i16>> RowUpdate<i16> for Added<'_, '_, K> {
-    ghost next = { λ s x y sum. K.formula s.kernel.now (at s.image.now x y) sum };
+    ghost next = { λ s x y sum. K.formula s.kernel.now (pixel_at s.image.now x y) sum };
 
     ghost area = { λ s. s.area };
 
@@ -44,12 +44,12 @@ impl<K: OfSum<u8, i16>> RowUpdate<i16> for Added<'_, '_, K> {
 /// become 0.
 fn add_to_sums<K: OfSum<u8, i16>>(kernel: &K, image: &Image<'_>, sums: &mut ImageMut<'_>)
     requires target { IsTarget sums.old }
-    requires size { HaveSameSize (written sums.old) image.now }
+    requires size { HaveSameSize (target_image sums.old) image.now }
     requires image_format { image.now.format ≡ U8 }
-    requires format { (written sums.old).format ≡ S16 }
-    requires room { IsWithin (written sums.old).valid (written sums.old).width
-        (written sums.old).height }
-    ensures { (old : ImageValue) → rows_in sums.old.rows old ≡ written sums.old →
+    requires format { (target_image sums.old).format ≡ S16 }
+    requires room { IsWithin (target_image sums.old).valid (target_image sums.old).width
+        (target_image sums.old).height }
+    ensures { (old : ImageValue) → rows_in sums.old.rows old ≡ target_image sums.old →
         Writes (from_two S16 (K.formula kernel.now) image.now old) sums.old sums.new }
 {
     let area = image.valid().meet(sums.valid());
@@ -66,10 +66,10 @@ fn add_to_sums<K: OfSum<u8, i16>>(kernel: &K, image: &Image<'_>, sums: &mut Imag
 /// earlier sums in the band's rows.
 pub fn accumulate(image: &Image<'_>, sums: &mut ImageMut<'_>)
     requires fits { Fits Accumulate image.now None sums.old }
-    requires room { IsWithin (written sums.old).valid (written sums.old).width
-        (written sums.old).height }
-    ensures { (old : ImageValue) → rows_in sums.old.rows old ≡ written sums.old →
-        Writes (from_two S16 (accumulated S16) image.now old) sums.old sums.new }
+    requires room { IsWithin (target_image sums.old).valid (target_image sums.old).width
+        (target_image sums.old).height }
+    ensures { (old : ImageValue) → rows_in sums.old.rows old ≡ target_image sums.old →
+        Writes (from_two S16 (accumulated_sum S16) image.now old) sums.old sums.new }
 {
     add_to_sums(&Accumulated, image, sums);
 }
@@ -79,10 +79,10 @@ pub fn accumulate(image: &Image<'_>, sums: &mut ImageMut<'_>)
 /// In the contract `old` is any image that has the earlier sums in the band's rows.
 pub fn accumulate_square(image: &Image<'_>, sums: &mut ImageMut<'_>, amount: u8)
     requires fits { Fits AccumulateSquare image.now None sums.old }
-    requires room { IsWithin (written sums.old).valid (written sums.old).width
-        (written sums.old).height }
+    requires room { IsWithin (target_image sums.old).valid (target_image sums.old).width
+        (target_image sums.old).height }
     requires amount { amount ≤ 15 }
-    ensures { (old : ImageValue) → rows_in sums.old.rows old ≡ written sums.old →
+    ensures { (old : ImageValue) → rows_in sums.old.rows old ≡ target_image sums.old →
         Writes (from_two S16 (accumulated_square S16 amount) image.now old) sums.old sums.new }
 {
     add_to_sums(&Squared { amount }, image, sums);

@@ -4,7 +4,7 @@ ghost use Rattle.vx_base.specs.declared.format.Format.TheVariants.{S16};
 ghost use Rattle.vx_base.specs.Formats.{are_arithmetic};
 ghost use Rattle.vx_base.specs.Pixelwise.{from_two};
 ghost use Rattle.image_core.specs.Fits.{HaveSameSize};
-ghost use Rattle.image_core.specs.Target.{written, IsTarget, Writes};
+ghost use Rattle.image_core.specs.Target.{target_image, IsTarget, Writes};
 
 use crate::two::write_two;
 use image_core::{Image, ImageMut};
@@ -20,32 +20,32 @@ pub fn write_arithmetic<K: Arithmetic>(
     output: &mut ImageMut<'_>,
 )
     requires target { IsTarget output.old }
-    requires size { HaveSameSize (written output.old) first.now }
+    requires size { HaveSameSize (target_image output.old) first.now }
     requires second_size { HaveSameSize second.now first.now }
     requires formats { IsTrue (are_arithmetic first.now.format second.now.format
-        (written output.old).format) }
-    ensures { Writes (from_two (written output.old).format
-        (K.formula kernel.now (written output.old).format) first.now second.now)
+        (target_image output.old).format) }
+    ensures { Writes (from_two (target_image output.old).format
+        (K.formula kernel.now (target_image output.old).format) first.now second.now)
         output.old output.new }
 {
     match output.desc().format() {
         Format::U8 => write_two::<u8, u8, u8, _>(&OfSamples(kernel), first, second, output),
-        _ => write_shorts(&OfSamples(kernel), first, second, output),
+        _ => write_from_shorts(&OfSamples(kernel), first, second, output),
     }
 }
 
 /// Writes the results of a lane kernel for two U8 or S16 images to an S16 image of their size.
-fn write_shorts<K: Arithmetic>(
+fn write_from_shorts<K: Arithmetic>(
     kernel: &OfSamples<'_, K>,
     first: &Image<'_>,
     second: &Image<'_>,
     output: &mut ImageMut<'_>,
 )
     requires target { IsTarget output.old }
-    requires size { HaveSameSize (written output.old) first.now }
+    requires size { HaveSameSize (target_image output.old) first.now }
     requires second_size { HaveSameSize second.now first.now }
     requires formats { IsTrue (are_arithmetic first.now.format second.now.format S16) }
-    requires format { (written output.old).format ≡ S16 }
+    requires format { (target_image output.old).format ≡ S16 }
     ensures { Writes (from_two S16 (K.formula kernel.now.0.now S16) first.now second.now)
         output.old output.new }
 {

@@ -4,7 +4,7 @@ ghost use Rattle.vx_base.specs.declared.function.Function.TheVariants.{AbsoluteD
 ghost use Rattle.vx_base.specs.Object.{ImageObject};
 ghost use Rattle.vx_base.specs.Pixelwise.{absolute_difference, from_two};
 ghost use Rattle.image_core.specs.Fits.{Fits};
-ghost use Rattle.image_core.specs.Target.{written, Writes};
+ghost use Rattle.image_core.specs.Target.{target_image, Writes};
 
 use crate::arithmetic::write_arithmetic;
 use image_core::{Image, ImageMut};
@@ -14,8 +14,8 @@ use lane_rows::Distance;
 /// Difference"); all images are U8, or all S16.
 pub fn absolute_difference(first: &Image<'_>, second: &Image<'_>, output: &mut ImageMut<'_>)
     requires { Fits AbsoluteDifference first.now (Some (ImageObject second.now)) output.old }
-    ensures { Writes (from_two (written output.old).format
-        (absolute_difference (written output.old).format) first.now second.now)
+    ensures { Writes (from_two (target_image output.old).format
+        (absolute_difference (target_image output.old).format) first.now second.now)
         output.old output.new }
 {
     write_arithmetic(&Distance, first, second, output);

@@ -1,10 +1,10 @@
 //! Output images from one input image.
 ghost use Rattle.std.specs.Prelude.{◌≡◌};
 ghost use Rattle.vx_base.specs.Rectangle.{IsWithin};
-ghost use Rattle.vx_base.specs.Image.{at};
+ghost use Rattle.vx_base.specs.Image.{pixel_at};
 ghost use Rattle.vx_base.specs.Pixelwise.{from_one};
 ghost use Rattle.image_core.specs.Fits.{HaveSameSize};
-ghost use Rattle.image_core.specs.Target.{written, IsTarget, Writes};
+ghost use Rattle.image_core.specs.Target.{target_image, IsTarget, Writes};
 
 use crate::pixel::Pixel;
 use image_core::{Formula, Image, ImageMut};
@@ -24,7 +24,7 @@ struct FromOne<'a, 'b, A: Pixel, K> {
 }
 
 impl<A: Pixel, T: Pixel, K: LanesOfItem<A, T>> Formula<T> for FromOne<'_, '_, A, K> {
-    ghost at = { λ s x y. K.formula s.kernel.now (at s.image.now x y) };
+    ghost at = { λ s x y. K.formula s.kernel.now (pixel_at s.image.now x y) };
 
     ghost area = { λ s. s.area };
 
@@ -45,9 +45,9 @@ pub fn write_one<A: Pixel, T: Pixel, K: LanesOfItem<A, T>>(
     output: &mut ImageMut<'_>,
 )
     requires target { IsTarget output.old }
-    requires size { HaveSameSize (written output.old) image.now }
+    requires size { HaveSameSize (target_image output.old) image.now }
     requires input_format { image.now.format ≡ A.format }
-    requires format { (written output.old).format ≡ T.format }
+    requires format { (target_image output.old).format ≡ T.format }
     ensures { Writes (from_one T.format (K.formula kernel.now) image.now) output.old output.new }
 {
     let area = image.valid();

@@ -4,7 +4,7 @@ ghost use Rattle.vx_base.specs.declared.function.Function.TheVariants.{Multiply}
 ghost use Rattle.vx_base.specs.Object.{ImageObject};
 ghost use Rattle.vx_base.specs.Pixelwise.{product, from_two};
 ghost use Rattle.image_core.specs.Fits.{Fits};
-ghost use Rattle.image_core.specs.Target.{written, Writes};
+ghost use Rattle.image_core.specs.Target.{target_image, Writes};
 
 use crate::arithmetic::write_arithmetic;
 use image_core::{Image, ImageMut};
@@ -22,8 +22,8 @@ pub fn multiply(
 )
     requires fits { Fits Multiply first.now (Some (ImageObject second.now)) output.old }
     requires amount { amount ≤ 15 }
-    ensures { Writes (from_two (written output.old).format
-        (product (written output.old).format policy amount) first.now second.now)
+    ensures { Writes (from_two (target_image output.old).format
+        (product (target_image output.old).format policy amount) first.now second.now)
         output.old output.new }
 {
     match policy {

@@ -4,7 +4,7 @@ ghost use Rattle.vx_base.specs.declared.function.Function.TheVariants.{Add, Subt
 ghost use Rattle.vx_base.specs.Object.{ImageObject};
 ghost use Rattle.vx_base.specs.Pixelwise.{sum, difference, from_two};
 ghost use Rattle.image_core.specs.Fits.{Fits};
-ghost use Rattle.image_core.specs.Target.{written, Writes};
+ghost use Rattle.image_core.specs.Target.{target_image, Writes};
 
 use crate::arithmetic::write_arithmetic;
 use image_core::{Image, ImageMut};
@@ -15,7 +15,7 @@ use vx_base::Policy;
 /// and U8 to U8, or U8 or S16 inputs to S16.
 pub fn add(first: &Image<'_>, second: &Image<'_>, output: &mut ImageMut<'_>, policy: Policy)
     requires { Fits Add first.now (Some (ImageObject second.now)) output.old }
-    ensures { Writes (from_two (written output.old).format (sum (written output.old).format policy)
+    ensures { Writes (from_two (target_image output.old).format (sum (target_image output.old).format policy)
         first.now second.now) output.old output.new }
 {
     match policy {
@@ -28,8 +28,8 @@ pub fn add(first: &Image<'_>, second: &Image<'_>, output: &mut ImageMut<'_>, pol
 /// "Arithmetic Subtraction"): U8 and U8 to U8, or U8 or S16 inputs to S16.
 pub fn subtract(first: &Image<'_>, second: &Image<'_>, output: &mut ImageMut<'_>, policy: Policy)
     requires { Fits Subtract first.now (Some (ImageObject second.now)) output.old }
-    ensures { Writes (from_two (written output.old).format
-        (difference (written output.old).format policy) first.now second.now)
+    ensures { Writes (from_two (target_image output.old).format
+        (difference (target_image output.old).format policy) first.now second.now)
         output.old output.new }
 {
     match policy {

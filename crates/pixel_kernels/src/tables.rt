@@ -3,9 +3,9 @@ ghost use Rattle.std.specs.Prelude.{◌≡◌, pos, map, length, Some};
 ghost use Rattle.vx_base.specs.declared.format.Format.TheVariants.{U8, S16};
 ghost use Rattle.vx_base.specs.declared.function.Function.TheVariants.{TableLookup};
 ghost use Rattle.vx_base.specs.Object.{LutObject};
-ghost use Rattle.vx_base.specs.Pixelwise.{looked_up, from_one};
+ghost use Rattle.vx_base.specs.Pixelwise.{lookup_result, from_one};
 ghost use Rattle.image_core.specs.Fits.{Fits};
-ghost use Rattle.image_core.specs.Target.{written, Writes};
+ghost use Rattle.image_core.specs.Target.{target_image, Writes};
 
 use crate::one::write_one;
 use image_core::{Image, ImageMut};
@@ -20,7 +20,7 @@ struct ByteTable<'a> {
 }
 
 impl OfItem<u8, u8> for ByteTable<'_> {
-    ghost formula = { λ s. looked_up (record { format = U8; entries = map pos s.entries.now }) };
+    ghost formula = { λ s. lookup_result (record { format = U8; entries = map pos s.entries.now }) };
 
     fn item(&self, a: u8) -> u8 {
         self.entries[usize::from(a)]
@@ -41,7 +41,7 @@ struct ShortTable<'a> {
 }
 
 impl OfItem<i16, i16> for ShortTable<'_> {
-    ghost formula = { λ s. looked_up (record { format = S16; entries = s.entries.now }) };
+    ghost formula = { λ s. lookup_result (record { format = S16; entries = s.entries.now }) };
 
     fn item(&self, a: i16) -> i16 {
         self.entries[(i32::from(a) + 32_768) as usize]
@@ -58,7 +58,7 @@ impl LanesOfItem<i16, i16> for ShortTable<'_> {
 /// table's format, U8 or S16.
 pub fn lookup(image: &Image<'_>, output: &mut ImageMut<'_>, lut: &Lut)
     requires { Fits TableLookup image.now (Some (LutObject lut.now)) output.old }
-    ensures { Writes (from_one (written output.old).format (looked_up lut.now) image.now)
+    ensures { Writes (from_one (target_image output.old).format (lookup_result lut.now) image.now)
         output.old output.new }
 {
     match lut.entries() {

@@ -3,9 +3,9 @@ ghost use Rattle.std.specs.Prelude.{◌≡◌, Some};
 ghost use Rattle.vx_base.specs.declared.format.Format.TheVariants.{U8};
 ghost use Rattle.vx_base.specs.declared.function.Function.TheVariants.{Threshold};
 ghost use Rattle.vx_base.specs.Object.{ThresholdObject};
-ghost use Rattle.vx_base.specs.Pixelwise.{thresholded, from_one};
+ghost use Rattle.vx_base.specs.Pixelwise.{threshold_result, from_one};
 ghost use Rattle.image_core.specs.Fits.{Fits, HaveSameSize};
-ghost use Rattle.image_core.specs.Target.{written, IsTarget, Writes};
+ghost use Rattle.image_core.specs.Target.{target_image, IsTarget, Writes};
 
 use crate::one::write_one;
 use crate::pixel::Pixel;
@@ -14,17 +14,17 @@ use lane_rows::{Above, Between, Tested};
 use vx_base::{Format, ThresholdKind, ThresholdRule};
 
 /// Writes the rule's values for samples of type `A`.
-fn write_tested<A: Pixel + Tested>(
+fn write_threshold<A: Pixel + Tested>(
     image: &Image<'_>,
     output: &mut ImageMut<'_>,
     rule: ThresholdRule,
 )
     requires target { IsTarget output.old }
-    requires size { HaveSameSize (written output.old) image.now }
+    requires size { HaveSameSize (target_image output.old) image.now }
     requires input_format { image.now.format ≡ A.Sample.format }
-    requires format { (written output.old).format ≡ U8 }
+    requires format { (target_image output.old).format ≡ U8 }
     requires tested { rule.format ≡ A.Tested.format }
-    ensures { Writes (from_one U8 (thresholded rule) image.now) output.old output.new }
+    ensures { Writes (from_one U8 (threshold_result rule) image.now) output.old output.new }
 {
     let (true_value, false_value) = (rule.true_value(), rule.false_value());
     match rule.kind() {
@@ -52,10 +52,10 @@ fn write_tested<A: Pixel + Tested>(
 /// "Thresholding"). The input has the rule's format, U8 or S16; the output is U8.
 pub fn threshold(image: &Image<'_>, output: &mut ImageMut<'_>, rule: ThresholdRule)
     requires { Fits Threshold image.now (Some (ThresholdObject rule)) output.old }
-    ensures { Writes (from_one U8 (thresholded rule) image.now) output.old output.new }
+    ensures { Writes (from_one U8 (threshold_result rule) image.now) output.old output.new }
 {
     match image.desc().format() {
-        Format::U8 => write_tested::<u8>(image, output, rule),
-        _ => write_tested::<i16>(image, output, rule),
+        Format::U8 => write_threshold::<u8>(image, output, rule),
+        _ => write_threshold::<i16>(image, output, rule),
     }
 }

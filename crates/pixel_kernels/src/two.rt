@@ -1,10 +1,10 @@
 //! Output images from two input images.
 ghost use Rattle.std.specs.Prelude.{◌≡◌};
 ghost use Rattle.vx_base.specs.Rectangle.{IsWithin, meet_of};
-ghost use Rattle.vx_base.specs.Image.{at};
+ghost use Rattle.vx_base.specs.Image.{pixel_at};
 ghost use Rattle.vx_base.specs.Pixelwise.{from_two};
 ghost use Rattle.image_core.specs.Fits.{HaveSameSize};
-ghost use Rattle.image_core.specs.Target.{written, IsTarget, Writes};
+ghost use Rattle.image_core.specs.Target.{target_image, IsTarget, Writes};
 
 use crate::pixel::Pixel;
 use image_core::{Formula, Image, ImageMut};
@@ -27,7 +27,7 @@ struct FromTwo<'a, 'b, A: Pixel, B: Pixel, K> {
 }
 
 impl<A: Pixel, B: Pixel, T: Pixel, K: OfPair<A, B, T>> Formula<T> for FromTwo<'_, '_, A, B, K> {
-    ghost at = { λ s x y. K.formula s.kernel.now (at s.first.now x y) (at s.second.now x y) };
+    ghost at = { λ s x y. K.formula s.kernel.now (pixel_at s.first.now x y) (pixel_at s.second.now x y) };
 
     ghost area = { λ s. s.area };
 
@@ -50,11 +50,11 @@ pub fn write_two<A: Pixel, B: Pixel, T: Pixel, K: OfPair<A, B, T>>(
     output: &mut ImageMut<'_>,
 )
     requires target { IsTarget output.old }
-    requires size { HaveSameSize (written output.old) first.now }
+    requires size { HaveSameSize (target_image output.old) first.now }
     requires second_size { HaveSameSize second.now first.now }
     requires first_format { first.now.format ≡ A.format }
     requires second_format { second.now.format ≡ B.format }
-    requires format { (written output.old).format ≡ T.format }
+    requires format { (target_image output.old).format ≡ T.format }
     ensures { Writes (from_two T.format (K.formula kernel.now) first.now second.now)
         output.old output.new }
 {

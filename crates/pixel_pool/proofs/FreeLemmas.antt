@@ -4,8 +4,8 @@ use Rattle.std.proofs.lemmas.List.{length-map, map-set, get_or_past, get_or-set_
 use Rattle.std.proofs.Math.Nat.{mul-le-mul}
 use Rattle.std.proofs.Math.ListN.{get_or-map}
 use Rattle.std.proofs.lemmas.List.Sums.{sum_by-cons, get_or-le-sum_by}
-use Rattle.pixel_pool.specs.Classes.{class_room, class_count, FitsIn}
-use Rattle.pixel_pool.specs.Free.{free_count, HasRoom, GetsFree, IsTrim, room_below}
+use Rattle.pixel_pool.specs.Classes.{class_capacity, class_count, FitsIn}
+use Rattle.pixel_pool.specs.Free.{free_count, HasCapacity, GetsFree, IsTrim, capacity_below}
 use Rattle.pixel_pool.proofs.ClassLemmas.{room_mono, room_small, room_steps}
 use Rattle.pixel_pool.specs.Shelf.{lengths, no_stack, stack_at}
 use Rattle.pixel_pool.specs.declared.stacks.Stack.{Stack}
@@ -36,12 +36,12 @@ pub none_free : (free : List ℕ) → ((class : ℕ) → class < length free →
 none_free [] none = refl
 none_free (n ∷ free) none = omega (arith, sum_by-cons (λ m. m) n free, none 0 (omega arith), none_free free (λ class inside. none (suc class) (omega arith)))
 
-pub below_zero : (free : List ℕ) → room_below free 0 ≡ 0
-unfolding room_below
+pub below_zero : (free : List ℕ) → capacity_below free 0 ≡ 0
+unfolding capacity_below
 below_zero free = refl
 
-pub below_more : (free : List ℕ) (class : ℕ) → room_below free (class + 1) ≡ room_below free class + get_or free class 0 * class_room class
-unfolding room_below
+pub below_more : (free : List ℕ) (class : ℕ) → capacity_below free (class + 1) ≡ capacity_below free class + get_or free class 0 * class_capacity class
+unfolding capacity_below
 below_more free class = rw add-one refl
 
 -- the lengths of stacks, for loops over their classes
@@ -64,7 +64,7 @@ no_len : (free : List ℕ) → free_count free ≡ 0 → (class : ℕ) → get_o
 no_len free none class =
     omega (arith, class_within free class, none)
 
-pub no_room : (free : List ℕ) → free_count free ≡ 0 → (class : ℕ) → room_below free class ≡ 0
+pub no_room : (free : List ℕ) → free_count free ≡ 0 → (class : ℕ) → capacity_below free class ≡ 0
 no_room free none zero = below_zero free
 no_room free none (suc class) =
     rw (← add-one) (below_more free class ∙ rw (no_room free none class, no_len free none class) (omega arith))
@@ -74,34 +74,34 @@ pub none_is_trim : (free : List ℕ) → free_count free ≡ 0 → IsTrim free
 none_is_trim free none = record { blocks = omega (arith, none); room = omega (arith, no_room free none class_count) }
 
 -- the total capacity of the free blocks can't overflow
-pub room_bound : (free : List ℕ) (class : ℕ) → class ≤ class_count → room_below free class ≤ class * (free_count free * 2 ^ 31)
+pub room_bound : (free : List ℕ) (class : ℕ) → class ≤ class_count → capacity_below free class ≤ class * (free_count free * 2 ^ 31)
 room_bound free zero within = omega (arith, below_zero free)
 room_bound free (suc class) within =
-    let each : get_or free class 0 * class_room class ≤ free_count free * 2 ^ 31 =
+    let each : get_or free class 0 * class_capacity class ≤ free_count free * 2 ^ 31 =
     mul-le-mul (class_within free class) (omega (arith, room_small class (omega arith))) in
-    let more : room_below free (suc class) ≡ room_below free class + get_or free class 0 * class_room class = rw (← add-one) (below_more free class) in
+    let more : capacity_below free (suc class) ≡ capacity_below free class + get_or free class 0 * class_capacity class = rw (← add-one) (below_more free class) in
     omega (arith, more, each, room_bound free class (omega arith))
 
-room_beside : (free : List ℕ) (class n top : ℕ) → top ≤ class → room_below (set free class n) top ≡ room_below free top
+room_beside : (free : List ℕ) (class n top : ℕ) → top ≤ class → capacity_below (set free class n) top ≡ capacity_below free top
 room_beside free class n zero within = below_zero (set free class n) ∙ sym (below_zero free)
 room_beside free class n (suc top) within =
     let e : get_or (set free class n) top 0 ≡ get_or free top 0 = get_or-set_other free class top n 0 (λ e. absurd (omega (arith, e))) in
-    let more : room_below (set free class n) (top + 1) ≡ room_below (set free class n) top + get_or free top 0 * class_room top = rw e at (below_more (set free class n) top) in
+    let more : capacity_below (set free class n) (top + 1) ≡ capacity_below (set free class n) top + get_or free top 0 * class_capacity top = rw e at (below_more (set free class n) top) in
     rw (← add-one) (omega (arith, more, below_more free top, room_beside free class n top (omega arith)))
 
 -- the total capacity of the free blocks after their number in one class changes
 pub room_set : (free : List ℕ) (class n top : ℕ) → class < length free → class < top
-    → room_below (set free class n) top + get_or free class 0 * class_room class ≡ room_below free top + n * class_room class
+    → capacity_below (set free class n) top + get_or free class 0 * class_capacity class ≡ capacity_below free top + n * class_capacity class
 room_set free class n zero inside below = absurd (omega arith)
 room_set free class n (suc top) inside below =
     elim (same_or_not top class) [
       | inl same ↦
           let e : get_or (set free class n) class 0 ≡ n = get_or-set_same free class n 0 inside in
-          let more : room_below (set free class n) (class + 1) ≡ room_below (set free class n) class + n * class_room class = rw e at (below_more (set free class n) class) in
+          let more : capacity_below (set free class n) (class + 1) ≡ capacity_below (set free class n) class + n * class_capacity class = rw e at (below_more (set free class n) class) in
           rw (← add-one, same) (omega (arith, more, below_more free class, room_beside free class n class (omega arith)))
       | inr other ↦
           let e : get_or (set free class n) top 0 ≡ get_or free top 0 = get_or-set_other free class top n 0 other in
-          let more : room_below (set free class n) (top + 1) ≡ room_below (set free class n) top + get_or free top 0 * class_room top = rw e at (below_more (set free class n) top) in
+          let more : capacity_below (set free class n) (top + 1) ≡ capacity_below (set free class n) top + get_or free top 0 * class_capacity top = rw e at (below_more (set free class n) top) in
           rw (← add-one) (omega (arith, more, below_more free top, room_set free class n top inside (omega arith)))
     ]
 
@@ -112,7 +112,7 @@ none_left None stacks class all long none = none_free (lengths stacks) (λ k ins
 none_left (Some k) stacks class all long none = tt
 
 -- what was given back has room again for as many samples
-pub room_again : (count room : ℕ) (old new : List ℕ) → count ≤ class_room 192 → FitsIn count room → GetsFree room old new → HasRoom new count
+pub room_again : (count room : ℕ) (old new : List ℕ) → count ≤ class_capacity 192 → FitsIn count room → GetsFree room old new → HasCapacity new count
 room_again count room old new small fits gets =
     let x = fits small in
     (gets.class, gets.free, omega (arith, x.2, room_mono x.0 gets.class (gets.is_class.greatest x.0 x.1 x.3)))

@@ -4,9 +4,9 @@ use Rattle.std.proofs.lemmas.List.{length-map, length-replicate, get_or-set_same
 use Rattle.std.proofs.lemmas.List.Sums.{sum_by-set, get_or-le-sum_by}
 use Rattle.std.proofs.lemmas.List.Folds.{sum_by-replicate}
 use Rattle.slab.specs.Slab.{Slab, get, slab_len, Updates}
-use Rattle.pixel_pool.specs.Classes.{class_room, class_count, IsClassOf}
+use Rattle.pixel_pool.specs.Classes.{class_capacity, class_count, IsClassOf}
 use Rattle.pixel_pool.proofs.FreeLemmas.{same_or_not, length_at, lengths_set, free_within, no_room, room_set}
-use Rattle.pixel_pool.specs.Free.{free_count, room_below, HasFree, without_one, GetsFree}
+use Rattle.pixel_pool.specs.Free.{free_count, capacity_below, HasFree, without_one, GetsFree}
 use Rattle.pixel_pool.specs.Shelf.{ShelfValue, block_count, lengths, no_stack, stack_at, IsTopOf, IsStack, IsStacked, AreStacks}
 use Rattle.pixel_pool.specs.declared.shelf.Free.{Free}
 use Rattle.pixel_pool.specs.declared.stacks.Stack.{Stack}
@@ -19,7 +19,7 @@ counted_set stacks class stack inside =
 
 -- the room of free blocks after a stack is changed
 pub room_changed : (stacks : List Stack) (class : ℕ) (stack : Stack) → class < length stacks → length stacks ≡ class_count
-    → room_below (lengths (set stacks class stack)) class_count + (stack_at stacks class).len * class_room class ≡ room_below (lengths stacks) class_count + stack.len * class_room class
+    → capacity_below (lengths (set stacks class stack)) class_count + (stack_at stacks class).len * class_capacity class ≡ capacity_below (lengths stacks) class_count + stack.len * class_capacity class
 room_changed stacks class stack inside all =
     rw (lengths_set stacks class stack, ← length_at stacks class) (room_set (lengths stacks) class stack.len class_count (simp length-map inside) (omega (arith, inside, all)))
 
@@ -41,7 +41,7 @@ empty_lengths (suc n) = ap (λ l. 0 ∷ l) (empty_lengths n)
 pub empty_count : (n : ℕ) → free_count (replicate n 0) ≡ 0
 empty_count n = omega (arith, sum_by-replicate (λ m. m) n 0)
 
-pub empty_room : room_below (lengths (replicate 193 no_stack)) class_count ≡ 0
+pub empty_room : capacity_below (lengths (replicate 193 no_stack)) class_count ≡ 0
 empty_room = no_room (lengths (replicate 193 no_stack)) (ap free_count (empty_lengths 193) ∙ empty_count 193) class_count
 
 module _ {T : Type 0} where
@@ -55,7 +55,7 @@ module _ {T : Type 0} where
       → ◌≡◌ {A = ShelfValue} (record { lent = lent; free = lengths stacks }) was → AreStacks stacks free → HasFree was.free class
       → get free (stack_at stacks class).top ≡ Some block
       → (class < length stacks) × (0 < (stack_at stacks class).len) × IsTopOf class (stack_at stacks class).len block
-      × (class_room class ≤ vec_capacity block.samples) × (block.room ≡ class_room class)
+      × (class_capacity class ≤ vec_capacity block.samples) × (block.room ≡ class_capacity class)
   top_free stacks free lent class was block is are some found =
       let has : HasFree (lengths stacks) class = rw (← is) at some in
       let some_there : 0 < (stack_at stacks class).len = rw (← length_at stacks class) has in
@@ -168,7 +168,7 @@ module _ {T : Type 0} where
       ]
 
   pushed_each : (stacks : List Stack) (old new : Slab (Free T)) (key : ℕ) (block : Free T) (k : ℕ) (b : Free T) → AreStacks stacks old → block.class < length stacks
-      → class_room block.class ≤ vec_capacity block.samples → block.room ≡ class_room block.class → block.under ≡ stack_at stacks block.class → get old key ≡ None
+      → class_capacity block.class ≤ vec_capacity block.samples → block.room ≡ class_capacity block.class → block.under ≡ stack_at stacks block.class → get old key ≡ None
       → Updates old new key (Some block) → get new k ≡ Some b
       → IsStacked (set stacks block.class (record { top = key; len = block.under.len + 1 })) new b
   pushed_each stacks old new key block k b are inside room known under vacant came h =
@@ -240,7 +240,7 @@ module _ {T : Type 0} where
 
   -- the stacks once a block has come
   pub pushed : (stacks : List Stack) (old new : Slab (Free T)) (key : ℕ) (block : Free T) → AreStacks stacks old → block.class < length stacks
-      → class_room block.class ≤ vec_capacity block.samples → block.room ≡ class_room block.class → block.under ≡ stack_at stacks block.class → get old key ≡ None
+      → class_capacity block.class ≤ vec_capacity block.samples → block.room ≡ class_capacity block.class → block.under ≡ stack_at stacks block.class → get old key ≡ None
       → Updates old new key (Some block) → slab_len new ≡ slab_len old + 1
       → AreStacks (set stacks block.class (record { top = key; len = block.under.len + 1 })) new
   pushed stacks old new key block are inside room known under vacant came more =

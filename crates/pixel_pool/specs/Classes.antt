@@ -7,9 +7,9 @@ abbrev pub class_step : ℕ → ℕ
 class_step class = 2 ^ (class / 8 - 1)
 
 -- the capacity of a class: 0, 1, .., 16, 18, .., 32, 36, .., 64, 72, ..
-unfoldable pub class_room : ℕ → ℕ
-class_room zero = 0
-class_room (suc class) = class_room class + class_step class
+unfoldable pub class_capacity : ℕ → ℕ
+class_capacity zero = 0
+class_capacity (suc class) = class_capacity class + class_step class
 
 -- the number of classes; the last has a capacity of 67,108,864 samples
 abbrev pub class_count : ℕ
@@ -18,11 +18,11 @@ class_count = 193
 -- the class of a block with capacity `room`: the greatest whose capacity isn't above it
 pub record IsClassOf (room class : ℕ) : Type 0 where
   pub class_known : class < class_count
-  pub within : class_room class ≤ room
-  pub greatest : (other : ℕ) → other < class_count → class_room other ≤ room → other ≤ class
+  pub within : class_capacity class ≤ room
+  pub greatest : (other : ℕ) → other < class_count → class_capacity other ≤ room → other ≤ class
 
 -- the capacity `room` is at least that of a class that fits `count` samples, if there is such a
 -- class
 abbrev pub FitsIn : ℕ → ℕ → Type 0
 FitsIn count room =
-    count ≤ class_room 192 → (class : ℕ) × (class < class_count) × (count ≤ class_room class) × (class_room class ≤ room)
+    count ≤ class_capacity 192 → (class : ℕ) × (class < class_count) × (count ≤ class_capacity class) × (class_capacity class ≤ room)

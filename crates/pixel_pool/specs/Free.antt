@@ -1,6 +1,6 @@
 -- Free blocks, as numbers of blocks of each class.
 use Rattle.std.specs.Prelude.{◌≡◌, ◌≤◌, ◌<◌, ◌+◌, ◌-◌, ◌*◌, ℕ, zero, suc, List, slice_index, slice_set, sum_by}
-use Rattle.pixel_pool.specs.Classes.{class_room, class_count, IsClassOf}
+use Rattle.pixel_pool.specs.Classes.{class_capacity, class_count, IsClassOf}
 
 -- the number of free blocks
 abbrev pub free_count : List ℕ → ℕ
@@ -11,8 +11,8 @@ abbrev pub HasFree : List ℕ → ℕ → Type 0
 HasFree free class = 0 < slice_index free class
 
 -- there is a free block that fits `count` samples
-abbrev pub HasRoom : List ℕ → ℕ → Type 0
-HasRoom free count = (class : ℕ) × HasFree free class × (count ≤ class_room class)
+abbrev pub HasCapacity : List ℕ → ℕ → Type 0
+HasCapacity free count = (class : ℕ) × HasFree free class × (count ≤ class_capacity class)
 
 -- one free block of the class less
 abbrev pub without_one : List ℕ → ℕ → List ℕ
@@ -26,8 +26,8 @@ with_one free class = slice_set free class (slice_index free class + 1)
 pub record UsesSmallest (count : ℕ) (old new : List ℕ) : Type 0 where
   pub class : ℕ
   pub free : HasFree old class
-  pub fits : count ≤ class_room class
-  pub smallest : (other : ℕ) → HasFree old other → count ≤ class_room other → class ≤ other
+  pub fits : count ≤ class_capacity class
+  pub smallest : (other : ℕ) → HasFree old other → count ≤ class_capacity other → class ≤ other
   pub used : new ≡ without_one old class
 
 -- a block of this capacity became free
@@ -38,14 +38,14 @@ pub record GetsFree (room : ℕ) (old new : List ℕ) : Type 0 where
   pub free : HasFree new class
 
 -- the total capacity of the free blocks of all classes below this one
-unfoldable pub room_below : List ℕ → ℕ → ℕ
-room_below free zero = 0
-room_below free (suc class) = room_below free class + slice_index free class * class_room class
+unfoldable pub capacity_below : List ℕ → ℕ → ℕ
+capacity_below free zero = 0
+capacity_below free (suc class) = capacity_below free class + slice_index free class * class_capacity class
 
 -- the number of free blocks and their total capacity are within the limits
 pub record IsTrim (free : List ℕ) : Type 0 where
   pub blocks : free_count free ≤ 16384
-  pub room : room_below free class_count ≤ 67108864
+  pub room : capacity_below free class_count ≤ 67108864
 
 -- no class has more free blocks than before
 abbrev pub IsFewer : List ℕ → List ℕ → Type 0

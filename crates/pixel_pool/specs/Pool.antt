@@ -9,10 +9,10 @@ use Rattle.pixel_pool.specs.Free.{free_count}
 use Rattle.pixel_pool.specs.declared.pool.Pool.{Pool}
 
 -- the capacity of a block's memory
-abbrev pub room_of : Samples → ℕ
-room_of (samples.U8 items) = vec_capacity items
-room_of (samples.S16 items) = vec_capacity items
-room_of (samples.U32 items) = vec_capacity items
+abbrev pub capacity_of : Samples → ℕ
+capacity_of (samples.U8 items) = vec_capacity items
+capacity_of (samples.S16 items) = vec_capacity items
+capacity_of (samples.U32 items) = vec_capacity items
 
 -- the number of lent blocks of a format
 abbrev pub lent_of : Pool → Format → ℕ

@@ -1,7 +1,7 @@
 -- The view of a `Shelf`, the blocks of one format, and the links between its free blocks.
 use Rattle.std.specs.Prelude.{◌≡◌, ◌≤◌, ◌<◌, ℕ, ◌+◌, List, length, map, Some, IsSomeAnd, slice_index_or, vec_capacity}
 use Rattle.slab.specs.Slab.{Slab, get, slab_len}
-use Rattle.pixel_pool.specs.Classes.{class_room, class_count}
+use Rattle.pixel_pool.specs.Classes.{class_capacity, class_count}
 use Rattle.pixel_pool.specs.Free.{free_count}
 use Rattle.pixel_pool.specs.declared.shelf.Free.{Free}
 use Rattle.pixel_pool.specs.declared.stacks.Stack.{Stack}
@@ -39,8 +39,8 @@ module _ {T : Type 0} where
   -- a block's memory has at least its class's capacity, and the block is linked to the rest of the
   -- stack of its class
   pub record IsStacked (stacks : List Stack) (free : Slab (Free T)) (block : Free T) : Type 0 where
-    pub room : class_room block.class ≤ vec_capacity block.samples
-    pub room_known : block.room ≡ class_room block.class
+    pub room : class_capacity block.class ≤ vec_capacity block.samples
+    pub room_known : block.room ≡ class_capacity block.class
     pub within : block.under.len < (stack_at stacks block.class).len
     pub linked : IsStack free block.class block.under
 

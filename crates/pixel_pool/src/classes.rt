@@ -1,6 +1,6 @@
 //! The size classes of blocks.
 ghost use Rattle.std.specs.Prelude.{◌≡◌, ◌<◌, ◌≤◌, ◌^◌};
-ghost use Rattle.pixel_pool.specs.Classes.{class_count, class_room, class_step, IsClassOf, FitsIn};
+ghost use Rattle.pixel_pool.specs.Classes.{class_count, class_capacity, class_step, IsClassOf, FitsIn};
 
 /// The number of classes. The last has a capacity of 67,108,864 samples, as many as the largest
 /// image has.
@@ -21,7 +21,7 @@ pub fn step(class: usize) -> usize
 #[tactic(auto, using(crate::proofs::ClassLemmas::room_steps))]
 pub fn class_of(room: usize) -> (usize, usize)
     ensures class { IsClassOf room result.0 }
-    ensures room { result.1 ≡ class_room result.0 }
+    ensures room { result.1 ≡ class_capacity result.0 }
 {
     let mut class = 0;
     let mut within = 0;

@@ -1,7 +1,7 @@
 //! Facts that follow from the contracts of the pool's calls together.
 ghost use Rattle.std.specs.Prelude.{◌≡◌, ◌≤◌, ◌+◌, length, IfOk, OnOk};
 ghost use Rattle.vx_base.specs.Picture.{values, samples_format};
-ghost use Rattle.pixel_pool.specs.Free.{HasRoom};
+ghost use Rattle.pixel_pool.specs.Free.{HasCapacity};
 ghost use Rattle.pixel_pool.specs.Pool.{free_of, blocks_of, Lends, KeepsLent};
 
 use crate::block::Block;
@@ -31,7 +31,7 @@ pub fn taken_and_given_back(pool: &mut Pool, format: Format, count: usize) -> Re
     requires { count ≤ 67108864 }
     ensures lent { KeepsLent pool.old pool.new }
     ensures blocks { blocks_of pool.new format ≤ blocks_of pool.old format + 1 }
-    ensures room { OnOk result (HasRoom (free_of pool.new format) count) }
+    ensures room { OnOk result (HasCapacity (free_of pool.new format) count) }
 {
     let block = pool.take(format, count)?;
     pool.give_back(block);

@@ -3,8 +3,8 @@ ghost use Rattle.std.specs.Prelude.{◌≡◌, ◌≤◌, ◌+◌, length, pos, 
 ghost use Rattle.std.specs.Prelude.{IfOk, IsOk, OnErr, OnOk};
 ghost use Rattle.vx_base.specs.Picture.{values, samples_format};
 ghost use Rattle.pixel_pool.specs.Classes.{class_count, FitsIn};
-ghost use Rattle.pixel_pool.specs.Free.{HasRoom, UsesSmallest, IsTrim, IsFewer, GetsFree, free_count};
-ghost use Rattle.pixel_pool.specs.Pool.{lent_of, free_of, blocks_of, room_of, HasLent, Lends};
+ghost use Rattle.pixel_pool.specs.Free.{HasCapacity, UsesSmallest, IsTrim, IsFewer, GetsFree, free_count};
+ghost use Rattle.pixel_pool.specs.Pool.{lent_of, free_of, blocks_of, capacity_of, HasLent, Lends};
 ghost use Rattle.pixel_pool.specs.Pool.{GetsBack, KeepsLent, KeepsBlockCounts, KeepsOtherFree};
 
 use crate::block::Block;
@@ -44,20 +44,20 @@ impl Pool {
     pub fn take(&mut self, format: Format, count: usize) -> Result<Block, AllocError>
         ensures format { IfOk result (λ taken. samples_format taken ≡ format) }
         ensures count { IfOk result (λ taken. length (values taken) ≡ count) }
-        ensures room { IfOk result (λ taken. FitsIn count (room_of taken)) }
+        ensures room { IfOk result (λ taken. FitsIn count (capacity_of taken)) }
         ensures lends { OnOk result (Lends self.old self.new format) }
-        ensures used { OnOk result (HasRoom (free_of self.old format) count →
+        ensures used { OnOk result (HasCapacity (free_of self.old format) count →
             UsesSmallest count (free_of self.old format) (free_of self.new format)) }
-        ensures added { (HasRoom (free_of self.old format) count → ⊥) →
+        ensures added { (HasCapacity (free_of self.old format) count → ⊥) →
             free_of self.new format ≡ free_of self.old format }
         ensures most { blocks_of self.new format ≤ blocks_of self.old format + 1 }
-        ensures none { HasRoom (free_of self.old format) count →
+        ensures none { HasCapacity (free_of self.old format) count →
             blocks_of self.new format ≡ blocks_of self.old format }
         ensures other_free { KeepsOtherFree self.old self.new format }
         ensures err { OnErr result (self.new ≡ self.old) }
 
         // A free block that fits is lent without allocating.
-        ensures fits { HasRoom (free_of self.old format) count → IsOk result }
+        ensures fits { HasCapacity (free_of self.old format) count → IsOk result }
     {
         match format {
             Format::U8 => Ok(Block::new(Samples::U8(self.u8s.take(0, count)?))),
@@ -71,16 +71,16 @@ impl Pool {
         ensures format { IfOk result (λ taken. samples_format taken ≡ format) }
         ensures zero { IfOk result (λ taken. values taken ≡ replicate count (pos 0)) }
         ensures lends { OnOk result (Lends self.old self.new format) }
-        ensures used { OnOk result (HasRoom (free_of self.old format) count →
+        ensures used { OnOk result (HasCapacity (free_of self.old format) count →
             UsesSmallest count (free_of self.old format) (free_of self.new format)) }
-        ensures added { (HasRoom (free_of self.old format) count → ⊥) →
+        ensures added { (HasCapacity (free_of self.old format) count → ⊥) →
             free_of self.new format ≡ free_of self.old format }
         ensures most { blocks_of self.new format ≤ blocks_of self.old format + 1 }
-        ensures none { HasRoom (free_of self.old format) count →
+        ensures none { HasCapacity (free_of self.old format) count →
             blocks_of self.new format ≡ blocks_of self.old format }
         ensures other_free { KeepsOtherFree self.old self.new format }
         ensures err { OnErr result (self.new ≡ self.old) }
-        ensures fits { HasRoom (free_of self.old format) count → IsOk result }
+        ensures fits { HasCapacity (free_of self.old format) count → IsOk result }
     {
         let mut block = self.take(format, count)?;
         let mut samples = block.lift();
@@ -95,7 +95,7 @@ impl Pool {
         requires { HasLent self.old (samples_format block) }
         ensures gets_back { GetsBack self.old self.new (samples_format block) }
         ensures blocks { KeepsBlockCounts self.old self.new }
-        ensures free { GetsFree (room_of block) (free_of self.old (samples_format block))
+        ensures free { GetsFree (capacity_of block) (free_of self.old (samples_format block))
             (free_of self.new (samples_format block)) }
         ensures other_free { KeepsOtherFree self.old self.new (samples_format block) }
     {

@@ -1,8 +1,8 @@
 //! The blocks of one format.
 ghost use Rattle.std.specs.Prelude.{◌≡◌, ℕ, ◌+◌, ◌≤◌, ◌<◌, [], length, replicate, IfOk, OnErr, OnOk};
 ghost use Rattle.std.specs.Prelude.{IsOk, IsTrue, ◌↔◌, IfSome, IfNone, vec_capacity, slice_index};
-ghost use Rattle.pixel_pool.specs.Classes.{class_count, class_room, FitsIn};
-ghost use Rattle.pixel_pool.specs.Free.{HasFree, HasRoom, UsesSmallest, IsTrim, IsFewer, free_count};
+ghost use Rattle.pixel_pool.specs.Classes.{class_count, class_capacity, FitsIn};
+ghost use Rattle.pixel_pool.specs.Free.{HasFree, HasCapacity, UsesSmallest, IsTrim, IsFewer, free_count};
 ghost use Rattle.pixel_pool.specs.Free.{without_one, GetsFree};
 ghost use Rattle.pixel_pool.specs.Shelf.{block_count};
 
@@ -46,7 +46,7 @@ impl<T> Model for Shelf<T> {
     ghost use Rattle.std.specs.Prelude.{◌≡◌, ◌+◌, ◌≤◌};
     ghost use Rattle.slab.specs.Slab.{slab_len};
     ghost use Rattle.pixel_pool.specs.Classes.{class_count};
-    ghost use Rattle.pixel_pool.specs.Free.{room_below};
+    ghost use Rattle.pixel_pool.specs.Free.{capacity_below};
     ghost use Rattle.pixel_pool.specs.Shelf.{ShelfValue, lengths, AreStacks};
 
     ghost Value = { ShelfValue };
@@ -56,7 +56,7 @@ impl<T> Model for Shelf<T> {
     // The slab has a reserved entry for each lent block, so that giving it back allocates nothing.
     ghost invariant = { λ s. (s.lent + slab_len s.free ≤ s.free.capacity)
         × AreStacks s.stacks s.free
-        × (s.room ≡ room_below (lengths s.stacks) class_count) };
+        × (s.room ≡ capacity_below (lengths s.stacks) class_count) };
 }
 
 impl<T: Copy + Drop> Shelf<T> {
@@ -101,12 +101,12 @@ impl<T: Copy + Drop> Shelf<T> {
         ensures count { IfOk result (λ samples. length samples.items ≡ count) }
         ensures room { IfOk result (λ samples. FitsIn count (vec_capacity samples)) }
         ensures lent { OnOk result (self.new.lent ≡ self.old.lent + 1) }
-        ensures used { OnOk result (HasRoom self.old.free count →
+        ensures used { OnOk result (HasCapacity self.old.free count →
             UsesSmallest count self.old.free self.new.free) }
-        ensures added { (HasRoom self.old.free count → ⊥) → self.new.free ≡ self.old.free }
+        ensures added { (HasCapacity self.old.free count → ⊥) → self.new.free ≡ self.old.free }
         ensures most { block_count self.new ≤ block_count self.old + 1 }
-        ensures none { HasRoom self.old.free count → block_count self.new ≡ block_count self.old }
-        ensures fits { HasRoom self.old.free count → IsOk result }
+        ensures none { HasCapacity self.old.free count → block_count self.new ≡ block_count self.old }
+        ensures fits { HasCapacity self.old.free count → IsOk result }
         ensures err { OnErr result (self.new ≡ self.old) }
     {
         match smallest(&self.stacks, count) {
@@ -134,7 +134,7 @@ impl<T: Copy + Drop> Shelf<T> {
     /// Lends the top block of a class's stack.
     fn lend(&mut self, class: usize) -> Vec<T>
         requires { HasFree self.old.free class }
-        ensures room { class_room class ≤ vec_capacity result }
+        ensures room { class_capacity class ≤ vec_capacity result }
         ensures value { self.new ≡ record {
           lent = self.old.lent + 1;
           free = without_one self.old.free class;

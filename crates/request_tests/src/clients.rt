@@ -4,7 +4,8 @@ use client_model::{Limits, Reply, Request};
 use std::alloc::Global;
 use std::test::Fail;
 use vx_base::{
-    Border, Code, Desc, Format, Function, Node, NodeSpec, ObjRef, Outline, Picture, Policy, Samples,
+    Border, Code, Desc, Format, Function, Node, NodeSpec, ObjRef, PartialDesc, Picture, Policy,
+    Samples,
 };
 
 /// Opens a context, and creates images of this description until one is refused. Returns how many
@@ -91,7 +92,7 @@ fn what_is_released_leaves_room(rt: HostRuntime) -> Result<(), Fail> {
 /// 4 of that graph.
 pub fn with_a_graph(alloc: Global, limits: Limits) -> Result<Runtime, Fail> {
     let desc = Desc::new(1, 1, Format::U8).ok_or("within the limits")?;
-    let open = Outline::new(None, None, None).ok_or("nothing is declared")?;
+    let open = PartialDesc::new(None, None, None).ok_or("nothing is declared")?;
     let mut runtime = Runtime::new(alloc, limits);
     succeed(alloc, &mut runtime, &Request::OpenContext)?;
     create(alloc, &mut runtime, &Request::CreateImage(desc))?;

@@ -5,7 +5,7 @@ use client_contexts::Runtime;
 use client_model::{Limits, Reply, Request};
 use std::alloc::Global;
 use std::test::Fail;
-use vx_base::{Desc, Format, Function, ObjRef, Outline, Picture, Samples, SlotCount};
+use vx_base::{Desc, Format, Function, ObjRef, PartialDesc, Picture, Samples, SlotCount};
 
 /// Returns whether these are the numbers of lent blocks and of all blocks, of U8, S16 and U32.
 fn has(runtime: &Runtime, lent: [usize; 3], blocks: [usize; 3]) -> bool {
@@ -175,7 +175,7 @@ fn a_released_context_has_given_all_blocks_back(rt: HostRuntime) -> Result<(), F
 
 /// Adds a chain of six nodes Box to graph 3, from image 1 to image 2 through five virtual images.
 fn add_chain(alloc: Global, runtime: &mut Runtime) -> Result<(), Fail> {
-    let open = Outline::new(None, None, None).ok_or("nothing is declared")?;
+    let open = PartialDesc::new(None, None, None).ok_or("nothing is declared")?;
     for _ in 5..9 {
         create(alloc, runtime, &Request::CreateVirtualImage(3, open))?;
     }

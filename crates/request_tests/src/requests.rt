@@ -5,7 +5,7 @@ use std::alloc::Global;
 use std::fmt::Display;
 use std::test::Fail;
 use vx_base::{
-    Bins, Border, Convolution, Desc, Format, Function, Lut, Node, NodeSpec, ObjRef, Outline,
+    Bins, Border, Convolution, Desc, Format, Function, Lut, Node, NodeSpec, ObjRef, PartialDesc,
     Picture, Policy, Rect, Samples, SlotCount, ThresholdKind, ThresholdRule,
 };
 use vx_requests::{Failed, ParseFault, StreamFault, fits_a_frame, parse, write_request};
@@ -69,11 +69,11 @@ fn request_on_graphs(number: u8) -> Option<Request> {
     match number {
         19 => Some(Request::CreateGraph),
         20 => {
-            let declared = Outline::new(Some(258), None, Some(Format::S16))?;
+            let declared = PartialDesc::new(Some(258), None, Some(Format::S16))?;
             Some(Request::CreateVirtualImage(258, declared))
         }
         21 => {
-            let declared = Outline::new(None, Some(8192), None)?;
+            let declared = PartialDesc::new(None, Some(8192), None)?;
             Some(Request::CreateVirtualImage(3, declared))
         }
         22 => Some(Request::AddNode(65_536, node()?)),

@@ -1,7 +1,7 @@
 -- Rows of an image that equal rows of another one, at different heights.
 use Rattle.std.proofs.Common.{◌≡◌, ◌∙◌, ℕ, ℤ, ◌+◌, ◌-◌, ◌<◌, ◌≤◌, true, false, ◌&&◌, nat_le, nat_lt, [], if◌then◌else◌, inl, inr, ap, sym, subst, arith}
-use Rattle.stat_kernels.proofs.Common.{cases_Bool, nat_tests, ImageValue, Rectangle, at, extremes, places, row_places, Band, band_of, valid_in}
-use Rattle.vx_base.specs.Rectangle.{inside}
+use Rattle.stat_kernels.proofs.Common.{cases_Bool, nat_tests, ImageValue, Rectangle, pixel_at, extremes, rectangle_pixels, row_pixels, Band, band_of, valid_in}
+use Rattle.vx_base.specs.Rectangle.{has_pixel}
 use Rattle.stat_kernels.specs.Located.{added_extremes}
 use Rattle.stat_kernels.specs.Sums.{AreRowsOf}
 use Rattle.stat_kernels.proofs.LocatedLaws.{AreLowered, extremes_joined, lowered_none, lowered_row}
@@ -9,35 +9,35 @@ use Rattle.stat_kernels.proofs.BandLaws.{places_lowered, row_of, rows_at, rows_f
 use Rattle.stat_kernels.proofs.NextRowLaws.{inside_from, inside_parts, same_columns}
 
 -- the places of a row that has a valid place, and of one that has none
-row_some : (r : Rectangle) (y : ℕ) → r.y0 ≤ y → y < r.y1 → row_of r y ≡ row_places r.x0 (r.x1 - r.x0) y
-row_some r y above below = let is : (nat_le r.y0 y && nat_lt y r.y1) ≡ true = grind (arith, nat_tests) in ap (λ b. if b then row_places r.x0 (r.x1 - r.x0) y else []) is
+row_some : (r : Rectangle) (y : ℕ) → r.y0 ≤ y → y < r.y1 → row_of r y ≡ row_pixels r.x0 (r.x1 - r.x0) y
+row_some r y above below = let is : (nat_le r.y0 y && nat_lt y r.y1) ≡ true = grind (arith, nat_tests) in ap (λ b. if b then row_pixels r.x0 (r.x1 - r.x0) y else []) is
 
-row_none : (r : Rectangle) (y : ℕ) → ((x : ℕ) → inside r x y ≡ false) → row_of r y ≡ []
+row_none : (r : Rectangle) (y : ℕ) → ((x : ℕ) → has_pixel r x y ≡ false) → row_of r y ≡ []
 row_none r y not = elim (cases_Bool (nat_le r.y0 y && nat_lt y r.y1)) [
   | inl down ↦
       (let none : r.x1 - r.x0 ≡ 0 = grind (arith, nat_tests, not r.x0, down) in
-      ap (λ b. if b then row_places r.x0 (r.x1 - r.x0) y else []) down ∙ ap (λ n. row_places r.x0 n y) none)
-  | inr out ↦ ap (λ b. if b then row_places r.x0 (r.x1 - r.x0) y else []) out
+      ap (λ b. if b then row_pixels r.x0 (r.x1 - r.x0) y else []) down ∙ ap (λ n. row_pixels r.x0 n y) none)
+  | inr out ↦ ap (λ b. if b then row_pixels r.x0 (r.x1 - r.x0) y else []) out
 ]
 
 -- none is inside where the first isn't
-none_inside : (r : Rectangle) (y : ℕ) → inside r r.x0 y ≡ false → (x : ℕ) → inside r x y ≡ false
-none_inside r y none x = elim (cases_Bool (inside r x y)) [
+none_inside : (r : Rectangle) (y : ℕ) → has_pixel r r.x0 y ≡ false → (x : ℕ) → has_pixel r x y ≡ false
+none_inside r y none x = elim (cases_Bool (has_pixel r x y)) [
   | inl some ↦ (let at_it = inside_parts r x y some in absurd (let is = inside_from r r.x0 y (omega arith) (omega (arith, at_it.left, at_it.right)) at_it.top at_it.bottom in cc))
   | inr not ↦ not
 ]
 
 -- rows with the same valid columns and the same samples there, the second `down` rows lower
-pub row_lowered : (r s : Rectangle) (f g : ℕ → ℕ → ℤ) (y down width : ℕ) → ((x : ℕ) → inside r x y ≡ inside s x (y + down)) → ((x : ℕ) → x < width → f x y ≡ g x (y + down)) → s.x1 ≤ width
+pub row_lowered : (r s : Rectangle) (f g : ℕ → ℕ → ℤ) (y down width : ℕ) → ((x : ℕ) → has_pixel r x y ≡ has_pixel s x (y + down)) → ((x : ℕ) → x < width → f x y ≡ g x (y + down)) → s.x1 ≤ width
     → AreLowered down f g (row_of r y) (row_of s (y + down))
-row_lowered r s f g y down width same samples within = elim (cases_Bool (inside r r.x0 y)) [
+row_lowered r s f g y down width same samples within = elim (cases_Bool (has_pixel r r.x0 y)) [
   | inl some ↦
       (let one = inside_parts r r.x0 y some in
       let columns = same_columns r s y (y + down) same (omega (arith, one.right)) one.top one.bottom in
-      let row_is : row_of r y ≡ row_places s.x0 (s.x1 - s.x0) y =
-      row_some r y one.top one.bottom ∙ ap (λ n. row_places n (r.x1 - n) y) columns.first ∙ ap (λ n. row_places s.x0 (n - s.x0) y) columns.last in
+      let row_is : row_of r y ≡ row_pixels s.x0 (s.x1 - s.x0) y =
+      row_some r y one.top one.bottom ∙ ap (λ n. row_pixels n (r.x1 - n) y) columns.first ∙ ap (λ n. row_pixels s.x0 (n - s.x0) y) columns.last in
       subst (λ ps. AreLowered down f g ps (row_of s (y + down))) (sym row_is)
-      (subst (λ qs. AreLowered down f g (row_places s.x0 (s.x1 - s.x0) y) qs) (sym (row_some s (y + down) columns.top columns.bottom))
+      (subst (λ qs. AreLowered down f g (row_pixels s.x0 (s.x1 - s.x0) y) qs) (sym (row_some s (y + down) columns.top columns.bottom))
       (lowered_row down f g s.x0 (s.x1 - s.x0) y (λ x from to. samples x (omega (arith, from, to, within))))))
   | inr none ↦
       (let nowhere = none_inside r y none in
@@ -47,33 +47,33 @@ row_lowered r s f g y down width same samples within = elim (cases_Bool (inside 
 
 -- the places of a band of such rows, and its samples
 band_lowered : (part whole : ImageValue) (rows : Band) (line down : ℕ) → rows.start + down ≡ line → AreRowsOf part rows whole line
-    → AreLowered down (at part) (at whole) (places (band_of rows part.valid)) (places (band_of (rows_at line rows.count) whole.valid))
+    → AreLowered down (pixel_at part) (pixel_at whole) (rectangle_pixels (band_of rows part.valid)) (rectangle_pixels (band_of (rows_at line rows.count) whole.valid))
 band_lowered part whole rows line down at_line are =
     places_lowered part whole down rows.start line rows.count
     (λ j below.
     let row = are.each j below in
     let there : line + j ≡ rows.start + j + down = omega (arith, at_line) in
-    subst (λ z. AreLowered down (at part) (at whole) (row_of part.valid (rows.start + j)) (row_of whole.valid z)) (sym there)
-    (row_lowered part.valid whole.valid (at part) (at whole) (rows.start + j) down whole.width
-    (λ x. row.valid x ∙ ap (inside whole.valid x) there) (λ x inside_it. row.samples x inside_it ∙ ap (at whole x) there) are.is.room.columns))
+    subst (λ z. AreLowered down (pixel_at part) (pixel_at whole) (row_of part.valid (rows.start + j)) (row_of whole.valid z)) (sym there)
+    (row_lowered part.valid whole.valid (pixel_at part) (pixel_at whole) (rows.start + j) down whole.width
+    (λ x. row.valid x ∙ ap (has_pixel whole.valid x) there) (λ x inside_it. row.samples x inside_it ∙ ap (pixel_at whole x) there) are.is.room.columns))
 
 -- the extremes of two adjacent bands
 pub parts_located : (part whole : ImageValue) (rows : Band) (start first down : ℕ) → rows.start + down ≡ start + first → AreRowsOf part rows whole (start + first)
     → added_extremes down (extremes (valid_in (rows_at start first) whole)) (extremes (valid_in rows part)) ≡ extremes (valid_in (rows_at start (first + rows.count)) whole)
 parts_located part whole rows start first down at_line are =
-    extremes_joined down (at part) (at whole) (places (band_of (rows_at start first) whole.valid)) (places (band_of rows part.valid))
-    (places (band_of (rows_at (start + first) rows.count) whole.valid)) (band_lowered part whole rows (start + first) down at_line are)
+    extremes_joined down (pixel_at part) (pixel_at whole) (rectangle_pixels (band_of (rows_at start first) whole.valid)) (rectangle_pixels (band_of rows part.valid))
+    (rectangle_pixels (band_of (rows_at (start + first) rows.count) whole.valid)) (band_lowered part whole rows (start + first) down at_line are)
     ∙ cc (rows_follow whole.valid start first rows.count)
 
 -- for two bands of one image
 pub bands_joined : (image : ImageValue) (start first second : ℕ)
     → added_extremes 0 (extremes (valid_in (rows_at start first) image)) (extremes (valid_in (rows_at (start + first) second) image)) ≡ extremes (valid_in (rows_at start (first + second)) image)
 bands_joined image start first second =
-    extremes_joined 0 (at image) (at image) (places (band_of (rows_at start first) image.valid)) _ _
+    extremes_joined 0 (pixel_at image) (pixel_at image) (rectangle_pixels (band_of (rows_at start first) image.valid)) _ _
     (places_lowered image image 0 (start + first) (start + first) second
     (λ j below.
     let y = start + first + j in
     let here : y ≡ y + 0 = omega arith in
-    subst (λ z. AreLowered 0 (at image) (at image) (row_of image.valid y) (row_of image.valid z)) (sym here)
-    (row_lowered image.valid image.valid (at image) (at image) y 0 image.valid.x1 (λ x. ap (inside image.valid x) here) (λ x h. ap (at image x) here) (omega arith))))
+    subst (λ z. AreLowered 0 (pixel_at image) (pixel_at image) (row_of image.valid y) (row_of image.valid z)) (sym here)
+    (row_lowered image.valid image.valid (pixel_at image) (pixel_at image) y 0 image.valid.x1 (λ x. ap (has_pixel image.valid x) here) (λ x h. ap (pixel_at image x) here) (omega arith))))
     ∙ cc (rows_follow image.valid start first second)

@@ -1,6 +1,6 @@
 -- The samples of bands of rows, and what is counted of them.
 use Rattle.std.proofs.Common.{Bool, ◌≡◌, set, ℕ, zero, suc, ℤ, ◌+◌, ◌-◌, ◌*◌, ◌<◌, ◌≤◌, List, [], ◌++◌, length, map, slice_index, cond, replicate, inl, inr, refl, ap, sym, ◌∙◌, arith, ◌&&◌, nat_le, nat_lt, if◌then◌else◌, min, max, unsigned_abs, length-append, append-nil, append_assoc, get_or-set_same, get_or-set_other, length-set}
-use Rattle.stat_kernels.proofs.Common.{int_min, int_max, cases_Bool, cases_eq, cases_lt, nat_tests, side, rectangle_ordered, length-map, map-append, get_or_past, length-replicate, get_or-replicate, length-map-range_with_len, get_or-map-range_with_len, fill_by_all, count_by-le-length, sum_by-append, ImageValue, IsImage, at, Rectangle, BinsValue, bin_of, is_bin, histogram, samples_in, tallies, valid_samples, places, row_places, extremes, Band, all_rows, added, band_of, valid_in, extremes_of, found_in}
+use Rattle.stat_kernels.proofs.Common.{int_min, int_max, cases_Bool, cases_eq, cases_lt, nat_tests, side, rectangle_ordered, length-map, map-append, get_or_past, length-replicate, get_or-replicate, length-map-range_with_len, get_or-map-range_with_len, fill_by_all, count_by-le-length, sum_by-append, ImageValue, IsImage, pixel_at, Rectangle, BinsValue, bin_of, is_bin, histogram, samples_in, tallies, valid_samples, rectangle_pixels, row_pixels, extremes, Band, all_rows, bin_sums, band_of, valid_in, extremes_of, found_in}
 use Rattle.std.specs.List.{count_by}
 use Rattle.stat_kernels.proofs.PlaceLaws.{area_fits, length-samples, places_more, places_none}
 use Rattle.vx_base.specs.Object.{no_extremes}
@@ -15,63 +15,63 @@ rows_at start count = record { start = start; count = count }
 
 -- the places of a rectangle in one row
 abbrev pub row_of : Rectangle → ℕ → List (ℕ × ℕ)
-row_of r y = if nat_le r.y0 y && nat_lt y r.y1 then row_places r.x0 (r.x1 - r.x0) y else []
+row_of r y = if nat_le r.y0 y && nat_lt y r.y1 then row_pixels r.x0 (r.x1 - r.x0) y else []
 
 -- no rows have no places
-pub no_places : (r : Rectangle) (start : ℕ) → places (band_of (rows_at start 0) r) ≡ []
+pub no_places : (r : Rectangle) (start : ℕ) → rectangle_pixels (band_of (rows_at start 0) r) ≡ []
 no_places r start =
     let t : Rectangle = record r { y0 = max r.y0 start } in
     let none : max (max r.y0 start) (min r.y1 (start + 0)) ≡ max r.y0 start = grind (arith, nat_tests) in
-    ap (λ n. places (above t n)) none ∙ places_none t
+    ap (λ n. rectangle_pixels (above t n)) none ∙ places_none t
 
 -- one more row
-pub one_row : (r : Rectangle) (start count : ℕ) → places (band_of (rows_at start (count + 1)) r) ≡ places (band_of (rows_at start count) r) ++ row_of r (start + count)
+pub one_row : (r : Rectangle) (start count : ℕ) → rectangle_pixels (band_of (rows_at start (count + 1)) r) ≡ rectangle_pixels (band_of (rows_at start count) r) ++ row_of r (start + count)
 one_row r start count =
     let y = start + count in
     let top = max r.y0 start in
     let t : Rectangle = record r { y0 = top } in
     let upto : ℕ → ℕ = λ n. max top (min r.y1 (start + n)) in
-    let row : Bool → List (ℕ × ℕ) = λ b. if b then row_places r.x0 (r.x1 - r.x0) y else [] in
+    let row : Bool → List (ℕ × ℕ) = λ b. if b then row_pixels r.x0 (r.x1 - r.x0) y else [] in
     elim (cases_Bool (nat_le r.y0 y && nat_lt y r.y1)) [
       | inl inside ↦
           let now : upto (count + 1) ≡ y + 1 = grind (arith, nat_tests) in
           let was : upto count ≡ y = grind (arith, nat_tests) in
-          ap (λ n. places (above t n)) now ∙ places_more t y (grind (arith, nat_tests))
-          ∙ ap (λ n. places (above t n) ++ row_places r.x0 (r.x1 - r.x0) y) (sym was)
-          ∙ ap (λ b. places (band_of (rows_at start count) r) ++ row b) (sym inside)
+          ap (λ n. rectangle_pixels (above t n)) now ∙ places_more t y (grind (arith, nat_tests))
+          ∙ ap (λ n. rectangle_pixels (above t n) ++ row_pixels r.x0 (r.x1 - r.x0) y) (sym was)
+          ∙ ap (λ b. rectangle_pixels (band_of (rows_at start count) r) ++ row b) (sym inside)
       | inr outside ↦
           let same : upto (count + 1) ≡ upto count = grind (arith, nat_tests) in
-          ap (λ n. places (above t n)) same ∙ sym (append-nil (places (band_of (rows_at start count) r)))
-          ∙ ap (λ b. places (band_of (rows_at start count) r) ++ row b) (sym outside)
+          ap (λ n. rectangle_pixels (above t n)) same ∙ sym (append-nil (rectangle_pixels (band_of (rows_at start count) r)))
+          ∙ ap (λ b. rectangle_pixels (band_of (rows_at start count) r) ++ row b) (sym outside)
     ]
 
 -- rows after others
 pub rows_follow : (r : Rectangle) (start first second : ℕ)
-    → places (band_of (rows_at start (first + second)) r) ≡ places (band_of (rows_at start first) r) ++ places (band_of (rows_at (start + first) second) r)
+    → rectangle_pixels (band_of (rows_at start (first + second)) r) ≡ rectangle_pixels (band_of (rows_at start first) r) ++ rectangle_pixels (band_of (rows_at (start + first) second) r)
 rows_follow r start first zero =
     let none : first + 0 ≡ first = omega arith in
-    cc (none, no_places r (start + first), append-nil (places (band_of (rows_at start first) r)))
+    cc (none, no_places r (start + first), append-nil (rectangle_pixels (band_of (rows_at start first) r)))
 rows_follow r start first (suc second) =
     let more : first + suc second ≡ first + second + 1 = omega arith in
     let row : start + (first + second) ≡ start + first + second = omega arith in
     let next : suc second ≡ second + 1 = omega arith in
-    let rows = append_assoc (places (band_of (rows_at start first) r))
-    (places (band_of (rows_at (start + first) second) r)) (row_of r (start + first + second)) in
+    let rows = append_assoc (rectangle_pixels (band_of (rows_at start first) r))
+    (rectangle_pixels (band_of (rows_at (start + first) second) r)) (row_of r (start + first + second)) in
     cc (more, row, next, rows, rows_follow r start first second, one_row r start (first + second), one_row r (start + first) second)
 
 -- ---- samples by rows
 
 -- no rows have no samples
 pub samples_none : (r : Rectangle) (image : ImageValue) (start : ℕ) → samples_in (band_of (rows_at start 0) r) image ≡ []
-samples_none r image start = ap (map (λ p. at image p.0 p.1)) (no_places r start)
+samples_none r image start = ap (map (λ p. pixel_at image p.0 p.1)) (no_places r start)
 
 -- rows after others
 pub samples_after : (r : Rectangle) (image : ImageValue) (start first second : ℕ)
     → samples_in (band_of (rows_at start (first + second)) r) image
     ≡ samples_in (band_of (rows_at start first) r) image ++ samples_in (band_of (rows_at (start + first) second) r) image
 samples_after r image start first second =
-    ap (map (λ p. at image p.0 p.1)) (rows_follow r start first second)
-    ∙ map-append (λ p. at image p.0 p.1) (places (band_of (rows_at start first) r)) (places (band_of (rows_at (start + first) second) r))
+    ap (map (λ p. pixel_at image p.0 p.1)) (rows_follow r start first second)
+    ∙ map-append (λ p. pixel_at image p.0 p.1) (rectangle_pixels (band_of (rows_at start first) r)) (rectangle_pixels (band_of (rows_at (start + first) second) r))
 
 -- all rows of an image are all of it
 pub all_valid : (image : ImageValue) → IsImage image → valid_in (all_rows image.height) image ≡ image
@@ -84,7 +84,7 @@ all_valid image is =
 -- ---- counts of bands
 
 -- samples after others are counted bin by bin
-pub tallies_added : (b : BinsValue) (zs ws : List ℤ) → tallies b (zs ++ ws) ≡ added (tallies b zs) (tallies b ws)
+pub tallies_added : (b : BinsValue) (zs ws : List ℤ) → tallies b (zs ++ ws) ≡ bin_sums (tallies b zs) (tallies b ws)
 tallies_added b zs ws =
     let count : List ℤ → ℕ → ℕ = λ l k. count_by (λ z. is_bin k (bin_of b (unsigned_abs z))) l in
     let size : (l : List ℤ) → length (tallies b l) ≡ b.bins = λ l. length-map-range_with_len (count l) 0 b.bins in
@@ -104,7 +104,7 @@ none_counted b image start =
 -- so are bands of rows
 pub bands_counted : (b : BinsValue) (image : ImageValue) (start first second : ℕ)
     → histogram b (valid_in (rows_at start (first + second)) image)
-    ≡ added (histogram b (valid_in (rows_at start first) image)) (histogram b (valid_in (rows_at (start + first) second) image))
+    ≡ bin_sums (histogram b (valid_in (rows_at start first) image)) (histogram b (valid_in (rows_at (start + first) second) image))
 bands_counted b image start first second =
     ap (tallies b) (samples_after image.valid image start first second)
     ∙ tallies_added b (samples_in (band_of (rows_at start first) image.valid) image) (samples_in (band_of (rows_at (start + first) second) image.valid) image)
@@ -137,7 +137,7 @@ added_next before more now next k below is so_far =
           ∙ grind (arith, nat_tests, cases_eq j k, get_or-set_same now k sum 0 below, get_or-set_other now k j sum 0, so_far.each j);
     }
 
-pub added_all : (before more now : List ℕ) (k : ℕ) → length before ≤ k → AreAdded before more now k → now ≡ added before more
+pub added_all : (before more now : List ℕ) (k : ℕ) → length before ≤ k → AreAdded before more now k → now ≡ bin_sums before more
 added_all before more now k past so_far =
     fill_by_all (λ j. slice_index before j + slice_index more j) now (length before)
     0 so_far.size (λ j below. grind (arith, nat_tests, so_far.each j, past, below))
@@ -174,31 +174,31 @@ few_samples image is rows =
 
 -- bands of two images with the same valid columns and samples in each row, the second `down` rows lower
 pub places_lowered : (a b : ImageValue) (down one other count : ℕ)
-    → ((j : ℕ) → j < count → AreLowered down (at a) (at b) (row_of a.valid (one + j)) (row_of b.valid (other + j)))
-    → AreLowered down (at a) (at b) (places (band_of (rows_at one count) a.valid)) (places (band_of (rows_at other count) b.valid))
-places_lowered a b down one other zero rows = rw (no_places a.valid one, no_places b.valid other) (lowered_none down (at a) (at b))
+    → ((j : ℕ) → j < count → AreLowered down (pixel_at a) (pixel_at b) (row_of a.valid (one + j)) (row_of b.valid (other + j)))
+    → AreLowered down (pixel_at a) (pixel_at b) (rectangle_pixels (band_of (rows_at one count) a.valid)) (rectangle_pixels (band_of (rows_at other count) b.valid))
+places_lowered a b down one other zero rows = rw (no_places a.valid one, no_places b.valid other) (lowered_none down (pixel_at a) (pixel_at b))
 places_lowered a b down one other (suc count) rows =
     let next : suc count ≡ count + 1 = omega arith in
     let first = places_lowered a b down one other count (λ j below. rows j (omega (arith, below))) in
-    rw (next, one_row a.valid one count, one_row b.valid other count) (lowered_more down (at a) (at b) _ _ _ _ first (rows count (omega arith)))
+    rw (next, one_row a.valid one count, one_row b.valid other count) (lowered_more down (pixel_at a) (pixel_at b) _ _ _ _ first (rows count (omega arith)))
 
 -- the extremes of the upper rows of an image, merged with those of a band of another image that equals the rows below them
 pub bands_located : (a b : ImageValue) (down one start count : ℕ)
-    → AreLowered down (at a) (at b) (places (band_of (rows_at one count) a.valid)) (places (band_of (rows_at start count) b.valid))
+    → AreLowered down (pixel_at a) (pixel_at b) (rectangle_pixels (band_of (rows_at one count) a.valid)) (rectangle_pixels (band_of (rows_at start count) b.valid))
     → added_extremes down (extremes (valid_in (rows_at 0 start) b)) (extremes (valid_in (rows_at one count) a)) ≡ extremes (valid_in (rows_at 0 (start + count)) b)
 bands_located a b down one start count are =
     let same : start ≡ 0 + start = omega arith in
-    let above_it = places (band_of (rows_at 0 start) b.valid) in
-    extremes_joined down (at a) (at b) above_it (places (band_of (rows_at one count) a.valid))
-    (places (band_of (rows_at start count) b.valid)) are
+    let above_it = rectangle_pixels (band_of (rows_at 0 start) b.valid) in
+    extremes_joined down (pixel_at a) (pixel_at b) above_it (rectangle_pixels (band_of (rows_at one count) a.valid))
+    (rectangle_pixels (band_of (rows_at start count) b.valid)) are
     ∙ cc (same, rows_follow b.valid 0 start count)
 
 -- nothing is found in no rows
 pub none_located : (image : ImageValue) (start : ℕ) → extremes (valid_in (rows_at start 0) image) ≡ no_extremes
-none_located image start = ap (λ l. extremes_of (found_in (at image) l)) (no_places image.valid start)
+none_located image start = ap (λ l. extremes_of (found_in (pixel_at image) l)) (no_places image.valid start)
 
 -- no more places hold an extreme than are valid
 pub extremes_few : (image : ImageValue) → ((extremes image).min_count ≤ length (valid_samples image)) × ((extremes image).max_count ≤ length (valid_samples image))
 extremes_few image =
-    let long = length-map (places image.valid) (λ p. at image p.0 p.1) in
-    (omega (arith, at_most int_min (at image) (places image.valid), long), omega (arith, at_most int_max (at image) (places image.valid), long))
+    let long = length-map (rectangle_pixels image.valid) (λ p. pixel_at image p.0 p.1) in
+    (omega (arith, at_most int_min (pixel_at image) (rectangle_pixels image.valid), long), omega (arith, at_most int_max (pixel_at image) (rectangle_pixels image.valid), long))

@@ -3,7 +3,7 @@ pub use Rattle.image_core.specs.Bands.{all_rows}
 pub use Rattle.image_core.specs.declared.band.Band.{Band}
 pub use Rattle.lane_rows.specs.Running.{sum_below, sums_below}
 pub use Rattle.lane_rows.specs.Tallies.{count_at, count_in_all}
-pub use Rattle.stat_kernels.specs.Counts.{added}
+pub use Rattle.stat_kernels.specs.Counts.{bin_sums}
 pub use Rattle.stat_kernels.specs.Located.{extremes_of, found_in}
 pub use Rattle.stat_kernels.specs.Part.{IsValidPart, band_of, valid_in}
 pub use Rattle.stat_kernels.specs.Sums.{AreSums, IsRowAbove, last_row, sum_before, sums_row}
@@ -25,6 +25,6 @@ pub use Rattle.vx_base.proofs.RectangleLaws.{rectangle_ordered}
 pub use Rattle.vx_base.proofs.TableLaws.{band-more, get_or-run, length-range, range-append, row_fits, run-same}
 pub use Rattle.vx_base.proofs.ZeroLaws.{map-replicate}
 pub use Rattle.vx_base.specs.Description.{Description}
-pub use Rattle.vx_base.specs.Image.{ImageValue, IsImage, at, band, run, within}
+pub use Rattle.vx_base.specs.Image.{ImageValue, IsImage, pixel_at, band, run, zero_outside}
 pub use Rattle.vx_base.specs.Rectangle.{Rectangle}
-pub use Rattle.vx_base.specs.Statistics.{BinsValue, bin_of, chosen, count_of, extremes, first_of, histogram, is_bin, places, row_places, samples_in, sum_to, tallies, valid_samples}
+pub use Rattle.vx_base.specs.Statistics.{BinsValue, bin_of, best_of, count_of, extremes, first_of, histogram, is_bin, rectangle_pixels, row_pixels, samples_in, sum_to, tallies, valid_samples}

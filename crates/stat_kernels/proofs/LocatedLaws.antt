@@ -1,6 +1,6 @@
 -- Extremes with one more row.
 use Rattle.std.proofs.Common.{zero, suc, ◌⊎◌, inl, inr, ◌≡◌, ℕ, ℤ, pos, ◌+◌, ◌<◌, ◌≤◌, List, [], ◌∷◌, ◌++◌, length, map, cond, Bool, true, false, ap, ◌∙◌, sym, refl, arith, Some, None, ◌-◌, take, get_or, add-one, int_lt, append-nil}
-use Rattle.stat_kernels.proofs.Common.{fold, flat_map, range_with_len, All, Rectangle, int_eq, int_min, int_max, cases_Bool, cases_eq, ints, map-append, length-map, sum_by-append, sum_by-cons, count_by-le-length, All-nil, All-cons, All-head, All-tail, nat_tests, ImageValue, at, run, row_places, places, chosen, count_of, first_of, Part, Found, IsValidPart, get_or-run, take-map-range_with_len, found_in, extremes_of}
+use Rattle.stat_kernels.proofs.Common.{fold, flat_map, range_with_len, All, Rectangle, int_eq, int_min, int_max, cases_Bool, cases_eq, ints, map-append, length-map, sum_by-append, sum_by-cons, count_by-le-length, All-nil, All-cons, All-head, All-tail, nat_tests, ImageValue, pixel_at, run, row_pixels, rectangle_pixels, best_of, count_of, first_of, Part, Found, IsValidPart, get_or-run, take-map-range_with_len, found_in, extremes_of}
 use Rattle.stat_kernels.specs.declared.located.Located.{Located}
 use Rattle.std.specs.List.{find}
 use Rattle.std.specs.Option.{unwrap_or, option_or}
@@ -9,7 +9,7 @@ use Rattle.std.proofs.lemmas.List.Folds.{find-append}
 use Rattle.stat_kernels.proofs.Rows.{above}
 use Rattle.lane_rows.proofs.CountLaws.{eq_from_test, test_same, test_other}
 use Rattle.stat_kernels.proofs.PlaceLaws.{next_places, places_fit, row_samples, row_places-append}
-use Rattle.stat_kernels.specs.Located.{IsDirection, located, joined_found, lowered, lowered_found, joined}
+use Rattle.stat_kernels.specs.Located.{IsDirection, locate, merge_found, shift_down, shift_found, merge}
 
 pub downwards : IsDirection int_min int_lt
 downwards = grind (arith, ints)
@@ -44,7 +44,7 @@ module _ (choose : ℤ → ℤ → ℤ) (beyond : ℤ → ℤ → Bool) (d : IsD
       All-cons (λ w. beyond w (fold choose (choose a z) zs) ≡ false) z zs (fold_kept (choose a z) z zs (choice_above a z)) (fold_above (choose a z) zs)
 
   -- no sample is beyond the one that is chosen
-  pub none_beyond : (zs : List ℤ) → All (λ z. beyond z (chosen choose zs) ≡ false) zs
+  pub none_beyond : (zs : List ℤ) → All (λ z. beyond z (best_of choose zs) ≡ false) zs
   none_beyond [] = All-nil (λ z. beyond z (pos 0) ≡ false)
   none_beyond (a ∷ zs) = All-cons (λ w. beyond w (fold choose a zs) ≡ false) a zs (fold_kept a a zs (d.irreflexive a)) (fold_above a zs)
 
@@ -67,21 +67,21 @@ module _ (choose : ℤ → ℤ → ℤ) (beyond : ℤ → ℤ → Bool) (d : IsD
   fold_joined a z (w ∷ zs) = ap (λ b. fold choose b zs) (d.associative a z w) ∙ fold_joined a (choose z w) zs
 
   -- the choice from two lists is the choice between those from each
-  chosen_joined : (a w : ℤ) (zs ws : List ℤ) → chosen choose ((a ∷ zs) ++ w ∷ ws) ≡ choose (chosen choose (a ∷ zs)) (chosen choose (w ∷ ws))
+  chosen_joined : (a w : ℤ) (zs ws : List ℤ) → best_of choose ((a ∷ zs) ++ w ∷ ws) ≡ choose (best_of choose (a ∷ zs)) (best_of choose (w ∷ ws))
   chosen_joined a w zs ws = fold-append choose a zs (w ∷ ws) ∙ fold_joined (fold choose a zs) w ws
 
-  chosen_beyond : (zs ws : List ℤ) → 0 < count_of (chosen choose ws) ws → beyond (chosen choose ws) (chosen choose zs) ≡ true → chosen choose (zs ++ ws) ≡ chosen choose ws
+  chosen_beyond : (zs ws : List ℤ) → 0 < count_of (best_of choose ws) ws → beyond (best_of choose ws) (best_of choose zs) ≡ true → best_of choose (zs ++ ws) ≡ best_of choose ws
   chosen_beyond [] ws some is = refl
   chosen_beyond (a ∷ zs) [] some is = absurd (omega (arith, some))
-  chosen_beyond (a ∷ zs) (w ∷ ws) some is = chosen_joined a w zs ws ∙ d.takes (chosen choose (a ∷ zs)) (chosen choose (w ∷ ws)) is
+  chosen_beyond (a ∷ zs) (w ∷ ws) some is = chosen_joined a w zs ws ∙ d.takes (best_of choose (a ∷ zs)) (best_of choose (w ∷ ws)) is
 
-  chosen_kept : (zs ws : List ℤ) → 0 < count_of (chosen choose zs) zs → beyond (chosen choose ws) (chosen choose zs) ≡ false → chosen choose (zs ++ ws) ≡ chosen choose zs
+  chosen_kept : (zs ws : List ℤ) → 0 < count_of (best_of choose zs) zs → beyond (best_of choose ws) (best_of choose zs) ≡ false → best_of choose (zs ++ ws) ≡ best_of choose zs
   chosen_kept [] ws some not = absurd (omega (arith, some))
-  chosen_kept (a ∷ zs) [] some not = ap (chosen choose) (append-nil (a ∷ zs))
-  chosen_kept (a ∷ zs) (w ∷ ws) some not = chosen_joined a w zs ws ∙ d.keeps (chosen choose (a ∷ zs)) (chosen choose (w ∷ ws)) not
+  chosen_kept (a ∷ zs) [] some not = ap (best_of choose) (append-nil (a ∷ zs))
+  chosen_kept (a ∷ zs) (w ∷ ws) some not = chosen_joined a w zs ws ∙ d.keeps (best_of choose (a ∷ zs)) (best_of choose (w ∷ ws)) not
 
   -- the one that is chosen is among those that it is chosen from
-  pub chosen_among : (zs : List ℤ) (v : ℤ) → 0 < length zs → v ≡ chosen choose zs → 0 < count_of v zs
+  pub chosen_among : (zs : List ℤ) (v : ℤ) → 0 < length zs → v ≡ best_of choose zs → 0 < count_of v zs
   chosen_among [] v some is = absurd (omega (arith, some))
   chosen_among (a ∷ zs) v some is = omega (arith, fold_counted a zs, ap (λ w. count_of w (a ∷ zs)) is)
 
@@ -105,17 +105,17 @@ found_behind : (f : ℕ → ℕ → ℤ) (v : ℤ) (ps qs : List (ℕ × ℕ)) �
 found_behind f v ps qs none = find-append (holds f v) ps qs ∙ ap (λ o. option_or o (find (holds f v) qs)) (found_none f v ps none)
 
 -- where a row holds it first
-first_in_row : (f : ℕ → ℕ → ℤ) (v : ℤ) (x n y i m : ℕ) → n ≡ i + (m + 1) → count_of v (samples f (row_places x i y)) ≡ 0 → f (x + i) y ≡ v → find (holds f v) (row_places x n y) ≡ Some (x + i, y)
+first_in_row : (f : ℕ → ℕ → ℤ) (v : ℤ) (x n y i m : ℕ) → n ≡ i + (m + 1) → count_of v (samples f (row_pixels x i y)) ≡ 0 → f (x + i) y ≡ v → find (holds f v) (row_pixels x n y) ≡ Some (x + i, y)
 first_in_row f v x n y i m split none is =
-    ap (λ k. find (holds f v) (row_places x k y)) split
+    ap (λ k. find (holds f v) (row_pixels x k y)) split
     ∙ ap (find (holds f v)) (row_places-append x i (m + 1) y)
-    ∙ found_behind f v (row_places x i y) (row_places (x + i) (m + 1) y) none
-    ∙ ap (λ k. find (holds f v) (row_places (x + i) k y)) (add-one m)
-    ∙ ap (λ b. cond b (Some (x + i, y)) (find (holds f v) (row_places (x + i + 1) m y))) (ap (λ w. int_eq w v) is ∙ test_same v)
+    ∙ found_behind f v (row_pixels x i y) (row_pixels (x + i) (m + 1) y) none
+    ∙ ap (λ k. find (holds f v) (row_pixels (x + i) k y)) (add-one m)
+    ∙ ap (λ b. cond b (Some (x + i, y)) (find (holds f v) (row_pixels (x + i + 1) m y))) (ap (λ w. int_eq w v) is ∙ test_same v)
 
 -- no count is above the number of places
-pub at_most : (choose : ℤ → ℤ → ℤ) (f : ℕ → ℕ → ℤ) (ps : List (ℕ × ℕ)) → (located choose f ps).count ≤ length ps
-at_most choose f ps = omega (arith, count_by-le-length (λ s. int_eq s (chosen choose (samples f ps))) (samples f ps), length-map ps (λ p. f p.0 p.1))
+pub at_most : (choose : ℤ → ℤ → ℤ) (f : ℕ → ℕ → ℤ) (ps : List (ℕ × ℕ)) → (locate choose f ps).count ≤ length ps
+at_most choose f ps = omega (arith, count_by-le-length (λ s. int_eq s (best_of choose (samples f ps))) (samples f ps), length-map ps (λ p. f p.0 p.1))
 
 -- ---- the extremes of some pixels and of later ones
 
@@ -123,24 +123,24 @@ abbrev pub parts : ℤ → ℕ → ℕ × ℕ → Located
 parts value count place = record { value = value; count = count; at = place }
 
 module _ (beyond : ℤ → ℤ → Bool) (a b : Located) where
-  joined_none : b.count ≡ 0 → joined beyond a b ≡ a
+  joined_none : b.count ≡ 0 → merge beyond a b ≡ a
   joined_none none = rw none refl
 
-  joined_taken : 0 < b.count → (a.count ≡ 0) ⊎ (beyond b.value a.value ≡ true) → joined beyond a b ≡ b
+  joined_taken : 0 < b.count → (a.count ≡ 0) ⊎ (beyond b.value a.value ≡ true) → merge beyond a b ≡ b
   joined_taken some either = grind (arith, nat_tests)
 
-  joined_equal : 0 < a.count → 0 < b.count → beyond b.value a.value ≡ false → b.value ≡ a.value → joined beyond a b ≡ parts a.value (a.count + b.count) a.at
+  joined_equal : 0 < a.count → 0 < b.count → beyond b.value a.value ≡ false → b.value ≡ a.value → merge beyond a b ≡ parts a.value (a.count + b.count) a.at
   joined_equal some more not same = grind (arith, nat_tests, test_same a.value)
 
-  joined_kept : 0 < a.count → 0 < b.count → beyond b.value a.value ≡ false → (b.value ≡ a.value → ⊥) → joined beyond a b ≡ a
+  joined_kept : 0 < a.count → 0 < b.count → beyond b.value a.value ≡ false → (b.value ≡ a.value → ⊥) → merge beyond a b ≡ a
   joined_kept some more not other = grind (arith, nat_tests, test_other b.value a.value other)
 
 -- an extreme by its parts
-is_located : (choose : ℤ → ℤ → ℤ) (f : ℕ → ℕ → ℤ) (ps : List (ℕ × ℕ)) (v : ℤ) (n : ℕ) (p : ℕ × ℕ) → v ≡ chosen choose (samples f ps) → n ≡ count_of v (samples f ps) → p ≡ first_of f v ps → parts v n p ≡ located choose f ps
+is_located : (choose : ℤ → ℤ → ℤ) (f : ℕ → ℕ → ℤ) (ps : List (ℕ × ℕ)) (v : ℤ) (n : ℕ) (p : ℕ × ℕ) → v ≡ best_of choose (samples f ps) → n ≡ count_of v (samples f ps) → p ≡ first_of f v ps → parts v n p ≡ locate choose f ps
 is_located choose f ps v n p value count place = rw (count, place, value) refl
 
 module _ (choose : ℤ → ℤ → ℤ) (beyond : ℤ → ℤ → Bool) (d : IsDirection choose beyond) (f : ℕ → ℕ → ℤ) where
-  no_places : (ps : List (ℕ × ℕ)) → (located choose f ps).count ≡ 0 → ps ≡ []
+  no_places : (ps : List (ℕ × ℕ)) → (locate choose f ps).count ≡ 0 → ps ≡ []
   no_places [] none = refl
   no_places (p ∷ ps) none = absurd (omega (arith, none, fold_counted choose beyond d (f p.0 p.1) (samples f ps)))
 
@@ -152,10 +152,10 @@ module _ (choose : ℤ → ℤ → ℤ) (beyond : ℤ → ℤ → Bool) (d : IsD
     ws = samples f qs
 
     abbrev a : Located
-    a = located choose f ps
+    a = locate choose f ps
 
     abbrev b : Located
-    b = located choose f qs
+    b = locate choose f qs
 
     both_samples : samples f (ps ++ qs) ≡ zs ++ ws
     both_samples = map-append (λ p. f p.0 p.1) ps qs
@@ -163,22 +163,22 @@ module _ (choose : ℤ → ℤ → ℤ) (beyond : ℤ → ℤ → Bool) (d : IsD
     both_count : (w : ℤ) → count_of w (samples f (ps ++ qs)) ≡ count_of w zs + count_of w ws
     both_count w = ap (count_of w) both_samples ∙ count_append w zs ws
 
-    kept : (m : ℕ) → 0 < a.count → beyond b.value a.value ≡ false → m ≡ a.count + count_of a.value ws → parts a.value m a.at ≡ located choose f (ps ++ qs)
+    kept : (m : ℕ) → 0 < a.count → beyond b.value a.value ≡ false → m ≡ a.count + count_of a.value ws → parts a.value m a.at ≡ locate choose f (ps ++ qs)
     kept m some not count =
-        is_located choose f (ps ++ qs) a.value m a.at (sym (ap (chosen choose) both_samples ∙ chosen_kept choose beyond d zs ws some not))
+        is_located choose f (ps ++ qs) a.value m a.at (sym (ap (best_of choose) both_samples ∙ chosen_kept choose beyond d zs ws some not))
         (omega (arith, both_count a.value, count)) (ap (λ o. unwrap_or o (0, 0)) (sym (found_kept f a.value ps qs some)))
 
-    taken : 0 < b.count → beyond b.value a.value ≡ true → b ≡ located choose f (ps ++ qs)
+    taken : 0 < b.count → beyond b.value a.value ≡ true → b ≡ locate choose f (ps ++ qs)
     taken some is =
         let none : count_of b.value zs ≡ 0 = count_beyond choose beyond d a.value b.value zs is (none_beyond choose beyond d zs) in
-        is_located choose f (ps ++ qs) b.value b.count b.at (sym (ap (chosen choose) both_samples ∙ chosen_beyond choose beyond d zs ws some is))
+        is_located choose f (ps ++ qs) b.value b.count b.at (sym (ap (best_of choose) both_samples ∙ chosen_beyond choose beyond d zs ws some is))
         (omega (arith, both_count b.value, none)) (ap (λ o. unwrap_or o (0, 0)) (sym (found_behind f b.value ps qs none)))
 
-    pub located_joined : joined beyond a b ≡ located choose f (ps ++ qs)
+    pub located_joined : merge beyond a b ≡ locate choose f (ps ++ qs)
     located_joined = elim (cases_eq b.count 0) [
-      | inl none ↦ joined_none beyond a b none ∙ ap (located choose f) (sym (append-nil ps) ∙ ap (λ l. ps ++ l) (sym (no_places qs none)))
+      | inl none ↦ joined_none beyond a b none ∙ ap (locate choose f) (sym (append-nil ps) ∙ ap (λ l. ps ++ l) (sym (no_places qs none)))
       | inr more ↦ elim (cases_eq a.count 0) [
-        | inl none ↦ joined_taken beyond a b (omega (arith, more)) (inl none) ∙ ap (λ l. located choose f (l ++ qs)) (sym (no_places ps none))
+        | inl none ↦ joined_taken beyond a b (omega (arith, more)) (inl none) ∙ ap (λ l. locate choose f (l ++ qs)) (sym (no_places ps none))
         | inr some ↦ elim (cases_Bool (beyond b.value a.value)) [
           | inl is ↦ joined_taken beyond a b (omega (arith, more)) (inr is) ∙ taken (omega (arith, more)) is
           | inr not ↦ elim (cases_Bool (int_eq b.value a.value)) [
@@ -198,72 +198,72 @@ module _ (choose : ℤ → ℤ → ℤ) (beyond : ℤ → ℤ → Bool) (d : IsD
     ]
 
   -- one more row, whose extreme is v, at each way through the code
-  module _ (x n y : ℕ) (ws : List ℤ) (row : ws ≡ run x n (λ k. f k y)) (v : ℤ) (is : v ≡ chosen choose ws) (among : 0 < count_of v ws) (ps : List (ℕ × ℕ)) (old : Located) (same : old ≡ located choose f ps) where
+  module _ (x n y : ℕ) (ws : List ℤ) (row : ws ≡ run x n (λ k. f k y)) (v : ℤ) (is : v ≡ best_of choose ws) (among : 0 < count_of v ws) (ps : List (ℕ × ℕ)) (old : Located) (same : old ≡ locate choose f ps) where
     abbrev its : Located
-    its = parts v (count_of v ws) (first_of f v (row_places x n y))
+    its = parts v (count_of v ws) (first_of f v (row_pixels x n y))
 
-    joins : (new : Located) → new ≡ joined beyond old its → new ≡ located choose f (ps ++ row_places x n y)
+    joins : (new : Located) → new ≡ merge beyond old its → new ≡ locate choose f (ps ++ row_pixels x n y)
     joins new e =
-        let samples_are : ws ≡ samples f (row_places x n y) = row ∙ sym (row_samples f x n y) in
-        let row_is : its ≡ located choose f (row_places x n y) =
-        is_located choose f (row_places x n y) v (count_of v ws) _ (is ∙ ap (chosen choose) samples_are) (ap (count_of v) samples_are) refl in
-        e ∙ ap (joined beyond old) row_is ∙ ap (λ a. joined beyond a (located choose f (row_places x n y))) same
-        ∙ located_joined ps (row_places x n y)
+        let samples_are : ws ≡ samples f (row_pixels x n y) = row ∙ sym (row_samples f x n y) in
+        let row_is : its ≡ locate choose f (row_pixels x n y) =
+        is_located choose f (row_pixels x n y) v (count_of v ws) _ (is ∙ ap (best_of choose) samples_are) (ap (count_of v) samples_are) refl in
+        e ∙ ap (merge beyond old) row_is ∙ ap (λ a. merge beyond a (locate choose f (row_pixels x n y))) same
+        ∙ located_joined ps (row_pixels x n y)
 
-    pub joins_taken : (old.count ≡ 0) ⊎ (beyond v old.value ≡ true) → (m i : ℕ) → m ≡ count_of v ws → i < n → get_or ws i (pos 0) ≡ v → count_of v (take i ws) ≡ 0 → parts v m (x + i, y) ≡ located choose f (ps ++ row_places x n y)
+    pub joins_taken : (old.count ≡ 0) ⊎ (beyond v old.value ≡ true) → (m i : ℕ) → m ≡ count_of v ws → i < n → get_or ws i (pos 0) ≡ v → count_of v (take i ws) ≡ 0 → parts v m (x + i, y) ≡ locate choose f (ps ++ row_pixels x n y)
     joins_taken either m i count below here before =
-        let left : samples f (row_places x i y) ≡ take i ws =
+        let left : samples f (row_pixels x i y) ≡ take i ws =
         row_samples f x i y ∙ sym (ap (take i) row ∙ take-map-range_with_len (λ k. f k y) x n i (omega (arith, below))) in
         let at_place : f (x + i) y ≡ v = sym (ap (λ l. get_or l i (pos 0)) row ∙ get_or-run (λ k. f k y) x n i (pos 0) below) ∙ here in
         let first = first_in_row f v x n y i (n - (i + 1)) (omega (arith, below)) (ap (count_of v) left ∙ before) at_place in
         joins _ (ap (λ k. parts v k (x + i, y)) count ∙ ap (λ o. parts v (count_of v ws) (unwrap_or o (0, 0))) (sym first) ∙ sym (joined_taken beyond old its among either))
 
-    pub joins_equal : (m : ℕ) → 0 < old.count → beyond v old.value ≡ false → v ≡ old.value → m ≡ count_of v ws → parts v (old.count + m) old.at ≡ located choose f (ps ++ row_places x n y)
+    pub joins_equal : (m : ℕ) → 0 < old.count → beyond v old.value ≡ false → v ≡ old.value → m ≡ count_of v ws → parts v (old.count + m) old.at ≡ locate choose f (ps ++ row_pixels x n y)
     joins_equal m some below equal count =
         joins _ (ap (λ k. parts v (old.count + k) old.at) count ∙ ap (λ w. parts w (old.count + count_of v ws) old.at) equal ∙ sym (joined_equal beyond old its some among below equal))
 
-    pub joins_other : 0 < old.count → beyond v old.value ≡ false → (v ≡ old.value → ⊥) → old ≡ located choose f (ps ++ row_places x n y)
+    pub joins_other : 0 < old.count → beyond v old.value ≡ false → (v ≡ old.value → ⊥) → old ≡ locate choose f (ps ++ row_pixels x n y)
     joins_other some below other = joins old (sym (joined_kept beyond old its some among below other))
 
 -- one more row
 pub next_found : (image : ImageValue) (part : Part) → IsValidPart image part → (y : ℕ) (new : Found) → part.top ≤ y
-    → new ≡ found_in (at image) (places (above image.valid y) ++ row_places part.x part.count y) → new ≡ found_in (at image) (places (above image.valid (y + 1)))
-next_found image part is y new below more = more ∙ ap (found_in (at image)) (next_places image part is y below)
+    → new ≡ found_in (pixel_at image) (rectangle_pixels (above image.valid y) ++ row_pixels part.x part.count y) → new ≡ found_in (pixel_at image) (rectangle_pixels (above image.valid (y + 1)))
+next_found image part is y new below more = more ∙ ap (found_in (pixel_at image)) (next_places image part is y below)
 
 -- a row of an image, whose samples are `row`
-pub row_found : (image : ImageValue) (x count y n : ℕ) (row : List ℤ) (old new : Found) → n ≡ count → row ≡ run x count (λ k. at image k y)
-    → ((f : ℕ → ℕ → ℤ) (before : List (ℕ × ℕ)) → old ≡ found_in f before → row ≡ run x n (λ k. f k y) → new ≡ found_in f (before ++ row_places x n y))
-    → (before : List (ℕ × ℕ)) → old ≡ found_in (at image) before → new ≡ found_in (at image) (before ++ row_places x count y)
+pub row_found : (image : ImageValue) (x count y n : ℕ) (row : List ℤ) (old new : Found) → n ≡ count → row ≡ run x count (λ k. pixel_at image k y)
+    → ((f : ℕ → ℕ → ℤ) (before : List (ℕ × ℕ)) → old ≡ found_in f before → row ≡ run x n (λ k. f k y) → new ≡ found_in f (before ++ row_pixels x n y))
+    → (before : List (ℕ × ℕ)) → old ≡ found_in (pixel_at image) before → new ≡ found_in (pixel_at image) (before ++ row_pixels x count y)
 row_found image x count y n row old new wide same more before found =
-    more (at image) before found (same ∙ ap (λ m. run x m (λ k. at image k y)) (sym wide))
-    ∙ ap (λ m. found_in (at image) (before ++ row_places x m y)) wide
+    more (pixel_at image) before found (same ∙ ap (λ m. run x m (λ k. pixel_at image k y)) (sym wide))
+    ∙ ap (λ m. found_in (pixel_at image) (before ++ row_pixels x m y)) wide
 
-pub found_joined : (f : ℕ → ℕ → ℤ) (ps qs : List (ℕ × ℕ)) → joined_found (found_in f ps) (found_in f qs) ≡ found_in f (ps ++ qs)
+pub found_joined : (f : ℕ → ℕ → ℤ) (ps qs : List (ℕ × ℕ)) → merge_found (found_in f ps) (found_in f qs) ≡ found_in f (ps ++ qs)
 found_joined f ps qs = cc (located_joined int_min int_lt downwards f ps qs, located_joined int_max (λ z v. int_lt v z) upwards f ps qs)
 
 -- the counts of the rows above leave room for the pixels of one more row
-pub found_room : (image : ImageValue) (part : Part) → IsValidPart image part → (y : ℕ) (found : Found) → found ≡ found_in (at image) (places (above image.valid y)) → part.top ≤ y → y < part.bottom
+pub found_room : (image : ImageValue) (part : Part) → IsValidPart image part → (y : ℕ) (found : Found) → found ≡ found_in (pixel_at image) (rectangle_pixels (above image.valid y)) → part.top ≤ y → y < part.bottom
     → (found.least.count + part.count < 4294967296) × (found.greatest.count + part.count < 4294967296)
 found_room image part is y found same from below =
     let fit = places_fit image part is y from below in
-    let few = λ (choose : ℤ → ℤ → ℤ). at_most choose (at image) (places (above image.valid y)) in
+    let few = λ (choose : ℤ → ℤ → ℤ). at_most choose (pixel_at image) (rectangle_pixels (above image.valid y)) in
     (omega (arith, ap (λ (f : Found). f.least.count) same, few int_min, fit), omega (arith, ap (λ (f : Found). f.greatest.count) same, few int_max, fit))
 
 -- ---- pixels, and the same pixels some rows lower
 
 -- the first pixel found is not below the last row
-find_row : (t : ℕ × ℕ → Bool) (x n y end : ℕ) → y ≤ end → (unwrap_or (find t (row_places x n y)) (0, 0)).1 ≤ end
+find_row : (t : ℕ × ℕ → Bool) (x n y end : ℕ) → y ≤ end → (unwrap_or (find t (row_pixels x n y)) (0, 0)).1 ≤ end
 find_row t x zero y end below = omega arith
 find_row t x (suc n) y end below = grind (arith, cases_Bool (t (x, y)), find_row t (x + 1) n y end below)
 
-find_rows : (t : ℕ × ℕ → Bool) (x n y m end : ℕ) → y + m ≤ end → (unwrap_or (find t (flat_map (row_places x n) (range_with_len y m))) (0, 0)).1 ≤ end
+find_rows : (t : ℕ × ℕ → Bool) (x n y m end : ℕ) → y + m ≤ end → (unwrap_or (find t (flat_map (row_pixels x n) (range_with_len y m))) (0, 0)).1 ≤ end
 find_rows t x n y zero end below = omega arith
 find_rows t x n y (suc m) end below =
     let first = find_row t x n y end (omega (arith, below)) in
     let rest = find_rows t x n (y + 1) m end (omega (arith, below)) in
-    grind (arith, find-append t (row_places x n y) (flat_map (row_places x n) (range_with_len (y + 1) m)), first, rest)
+    grind (arith, find-append t (row_pixels x n y) (flat_map (row_pixels x n) (range_with_len (y + 1) m)), first, rest)
 
-pub first_within : (f : ℕ → ℕ → ℤ) (v : ℤ) (r : Rectangle) → (first_of f v (places r)).1 ≤ r.y0 + (r.y1 - r.y0)
+pub first_within : (f : ℕ → ℕ → ℤ) (v : ℤ) (r : Rectangle) → (first_of f v (rectangle_pixels r)).1 ≤ r.y0 + (r.y1 - r.y0)
 first_within f v r = find_rows (holds f v) r.x0 (r.x1 - r.x0) r.y0 (r.y1 - r.y0) (r.y0 + (r.y1 - r.y0)) (omega arith)
 
 -- the first pixel found in each of two lists of pixels, the second of which is some rows lower
@@ -283,7 +283,7 @@ module _ (down : ℕ) (f g : ℕ → ℕ → ℤ) where
       record { places_same = cc (map-append (down_by down) ps more); samples_same = cc (map-append (λ p. f p.0 p.1) ps more, map-append (λ p. g p.0 p.1) qs next) }
 
   -- the places of a row
-  pub lowered_row : (x n y : ℕ) → ((k : ℕ) → x ≤ k → k < x + n → f k y ≡ g k (y + down)) → AreLowered (row_places x n y) (row_places x n (y + down))
+  pub lowered_row : (x n y : ℕ) → ((k : ℕ) → x ≤ k → k < x + n → f k y ≡ g k (y + down)) → AreLowered (row_pixels x n y) (row_pixels x n (y + down))
   lowered_row x zero y same = lowered_none
   lowered_row x (suc n) y same =
       let rest = lowered_row (x + 1) n y (λ k from below. same k (omega (arith, from)) (omega (arith, below))) in
@@ -299,23 +299,23 @@ module _ (down : ℕ) (f g : ℕ → ℕ → ℤ) where
 
   -- merging the extreme of one list, moved down, equals merging that of the other
   pub joined_lowered : (choose : ℤ → ℤ → ℤ) (beyond : ℤ → ℤ → Bool) (ps qs : List (ℕ × ℕ)) → AreLowered ps qs → (a : Located)
-      → joined beyond a (lowered down (located choose f ps)) ≡ joined beyond a (located choose g qs)
-  joined_lowered choose beyond ps qs are a = elim (cases_eq (located choose f ps).count 0) [
+      → merge beyond a (shift_down down (locate choose f ps)) ≡ merge beyond a (locate choose g qs)
+  joined_lowered choose beyond ps qs are a = elim (cases_eq (locate choose f ps).count 0) [
     | inl none ↦
-        let none_either = ap (λ l. count_of (chosen choose l) l) (sym are.samples_same) ∙ none in
-        joined_none beyond a (lowered down (located choose f ps)) none ∙ sym (joined_none beyond a (located choose g qs) none_either)
+        let none_either = ap (λ l. count_of (best_of choose l) l) (sym are.samples_same) ∙ none in
+        joined_none beyond a (shift_down down (locate choose f ps)) none ∙ sym (joined_none beyond a (locate choose g qs) none_either)
     | inr some ↦
-        let v = chosen choose (samples f ps) in
+        let v = best_of choose (samples f ps) in
         let first = first_same v ps (are.samples_same ∙ ap (samples g) are.places_same) (omega (arith, some))
         ∙ ap (first_of g v) (sym are.places_same) in
-        let value = ap (chosen choose) are.samples_same in
-        ap (joined beyond a) (is_located choose g qs v (count_of v (samples f ps)) (down_by down (first_of f v ps)) value (ap (count_of v) are.samples_same) first)
+        let value = ap (best_of choose) are.samples_same in
+        ap (merge beyond a) (is_located choose g qs v (count_of v (samples f ps)) (down_by down (first_of f v ps)) value (ap (count_of v) are.samples_same) first)
   ]
 
 -- extremes of rows and of a band below them
 pub extremes_joined : (down : ℕ) (f g : ℕ → ℕ → ℤ) (above ps qs : List (ℕ × ℕ)) → AreLowered down f g ps qs
-    → extremes_of (joined_found (found_in g above) (lowered_found down (found_in f ps))) ≡ extremes_of (found_in g (above ++ qs))
+    → extremes_of (merge_found (found_in g above) (shift_found down (found_in f ps))) ≡ extremes_of (found_in g (above ++ qs))
 extremes_joined down f g above ps qs are =
-    let least = joined_lowered down f g int_min int_lt ps qs are (located int_min g above) in
-    let greatest = joined_lowered down f g int_max (λ z v. int_lt v z) ps qs are (located int_max g above) in
+    let least = joined_lowered down f g int_min int_lt ps qs are (locate int_min g above) in
+    let greatest = joined_lowered down f g int_max (λ z v. int_lt v z) ps qs are (locate int_max g above) in
     cc (least, greatest, found_joined g above qs)

@@ -3,7 +3,7 @@ use Rattle.std.specs.Prelude.{ℕ, ℤ, ◌+◌, ◌==◌, Bool, true, false, �
 use Rattle.std.specs.Ordering.{int_eq}
 use Rattle.std.specs.Int.{int_min, int_max}
 use Rattle.vx_base.specs.declared.extremes.Extremes.{Extremes}
-use Rattle.vx_base.specs.Statistics.{chosen, count_of, first_of}
+use Rattle.vx_base.specs.Statistics.{best_of, count_of, first_of}
 use Rattle.stat_kernels.specs.declared.located.Located.{Located}
 use Rattle.stat_kernels.specs.declared.located.Found.{Found}
 
@@ -17,18 +17,18 @@ pub record IsDirection (choose : ℤ → ℤ → ℤ) (beyond : ℤ → ℤ → 
   pub transitive : (w z v : ℤ) → beyond w z ≡ true → beyond z v ≡ true → beyond w v ≡ true
 
 -- the sample of f that `choose` takes among these pixels, the number of pixels that have it, and the first of them
-abbrev pub located : (ℤ → ℤ → ℤ) → (ℕ → ℕ → ℤ) → List (ℕ × ℕ) → Located
-located choose f ps =
+abbrev pub locate : (ℤ → ℤ → ℤ) → (ℕ → ℕ → ℤ) → List (ℕ × ℕ) → Located
+locate choose f ps =
     let zs = map (λ p. f p.0 p.1) ps in
-    record { value = chosen choose zs; count = count_of (chosen choose zs) zs; at = first_of f (chosen choose zs) ps }
+    record { value = best_of choose zs; count = count_of (best_of choose zs) zs; at = first_of f (best_of choose zs) ps }
 
 -- the least and the greatest of f over these pixels
 abbrev pub found_in : (ℕ → ℕ → ℤ) → List (ℕ × ℕ) → Found
-found_in f ps = record { least = located int_min f ps; greatest = located int_max f ps }
+found_in f ps = record { least = locate int_min f ps; greatest = locate int_max f ps }
 
 -- merges the extreme of some pixels with that of later ones
-abbrev pub joined : (ℤ → ℤ → Bool) → Located → Located → Located
-joined beyond a b =
+abbrev pub merge : (ℤ → ℤ → Bool) → Located → Located → Located
+merge beyond a b =
     if b.count == 0 then a
     else if a.count == 0 then b
     else if beyond b.value a.value then b
@@ -36,8 +36,8 @@ joined beyond a b =
     else a
 
 -- merges the extremes of some pixels with those of later ones
-abbrev pub joined_found : Found → Found → Found
-joined_found a b = record { least = joined int_lt a.least b.least; greatest = joined (λ z v. int_lt v z) a.greatest b.greatest }
+abbrev pub merge_found : Found → Found → Found
+merge_found a b = record { least = merge int_lt a.least b.least; greatest = merge (λ z v. int_lt v z) a.greatest b.greatest }
 
 -- extremes as their two parts
 abbrev pub found_of : Extremes → Found
@@ -60,12 +60,12 @@ extremes_of f =
     }
 
 -- the extreme with its pixel moved down rows lower
-abbrev pub lowered : ℕ → Located → Located
-lowered down l = record l { at = (l.at.0, l.at.1 + down) }
+abbrev pub shift_down : ℕ → Located → Located
+shift_down down l = record l { at = (l.at.0, l.at.1 + down) }
 
-abbrev pub lowered_found : ℕ → Found → Found
-lowered_found down f = record { least = lowered down f.least; greatest = lowered down f.greatest }
+abbrev pub shift_found : ℕ → Found → Found
+shift_found down f = record { least = shift_down down f.least; greatest = shift_down down f.greatest }
 
 -- merges the extremes e of the rows above a band with those of the band, which is `down` rows lower in the whole image
 abbrev pub added_extremes : ℕ → Extremes → Extremes → Extremes
-added_extremes down e band = extremes_of (joined_found (found_of e) (lowered_found down (found_of band)))
+added_extremes down e band = extremes_of (merge_found (found_of e) (shift_found down (found_of band)))

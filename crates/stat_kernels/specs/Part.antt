@@ -19,8 +19,8 @@ pub record IsValidPart (image : ImageValue) (part : Part) : Type 0 where
   pub rows_fit : part.bottom < 2 ^ 16
 
 -- whether the part has pixels in row y
-abbrev pub has_row : Part → ℕ → Bool
-has_row part y = nat_lt 0 part.count && (nat_le part.top y && nat_lt y part.bottom)
+abbrev pub part_has_row : Part → ℕ → Bool
+part_has_row part y = nat_lt 0 part.count && (nat_le part.top y && nat_lt y part.bottom)
 
 -- the rows of a rectangle that are in a band
 abbrev pub band_of : Band → Rectangle → Rectangle

@@ -1,8 +1,8 @@
 -- Sums of the samples to the left and above. OpenVX 1.3, "Integral Image".
 use Rattle.std.specs.Prelude.{ℕ, ℤ, pos, ◌≡◌, ◌+◌, ◌-◌, ◌%◌, ◌^◌, ◌<◌, ◌≤◌, ◌==◌, if◌then◌else◌, max, nat_le, unsigned_abs, Option, Some, None, List, length, map, slice_index, drop}
 use Rattle.std.specs.List.{sum_by}
-use Rattle.vx_base.specs.Rectangle.{Rectangle, inside}
-use Rattle.vx_base.specs.Image.{ImageValue, IsImage, at, run, within}
+use Rattle.vx_base.specs.Rectangle.{Rectangle, has_pixel}
+use Rattle.vx_base.specs.Image.{ImageValue, IsImage, pixel_at, run, zero_outside}
 use Rattle.vx_base.specs.Statistics.{samples_in, sum_to}
 use Rattle.image_core.specs.declared.band.Band.{Band}
 
@@ -26,7 +26,7 @@ last_row width before = if length before == 0 then None else Some (drop (length 
 
 -- row `line` of the integral image of an image
 abbrev pub sums_row : ImageValue → ℕ → List ℤ
-sums_row whole line = run 0 whole.width (λ x. within whole.valid (sum_to whole) x line)
+sums_row whole line = run 0 whole.width (λ x. zero_outside whole.valid (sum_to whole) x line)
 
 -- the row above row `line` of the integral image; None for row 0
 abbrev pub IsRowAbove : ImageValue → ℕ → Option (List ℕ) → Type 0
@@ -36,8 +36,8 @@ IsRowAbove whole line (Some row) = (1 ≤ line) × (map pos row ≡ sums_row who
 -- row y of one image is row `line` of another: the same columns are valid, with the same samples
 pub record IsRowOf (part : ImageValue) (y : ℕ) (whole : ImageValue) (line : ℕ) : Type 0 where
   pub width : part.width ≡ whole.width
-  pub valid : (x : ℕ) → inside part.valid x y ≡ inside whole.valid x line
-  pub samples : (x : ℕ) → x < whole.width → at part x y ≡ at whole x line
+  pub valid : (x : ℕ) → has_pixel part.valid x y ≡ has_pixel whole.valid x line
+  pub samples : (x : ℕ) → x < whole.width → pixel_at part x y ≡ pixel_at whole x line
 
 -- a band's rows are those of another image from row `line` on
 pub record AreRowsOf (part : ImageValue) (rows : Band) (whole : ImageValue) (line : ℕ) : Type 0 where

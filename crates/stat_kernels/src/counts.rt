@@ -5,7 +5,7 @@ ghost use Rattle.vx_base.specs.declared.format.Format.TheVariants.{U8};
 ghost use Rattle.vx_base.specs.Statistics.{valid_samples, histogram};
 ghost use Rattle.image_core.specs.Bands.{IsInRows};
 ghost use Rattle.lane_rows.specs.Tallies.{count_at, count_in_all};
-ghost use Rattle.stat_kernels.specs.Counts.{added};
+ghost use Rattle.stat_kernels.specs.Counts.{bin_sums};
 ghost use Rattle.stat_kernels.specs.Part.{valid_in};
 
 use crate::part::Part;
@@ -82,7 +82,7 @@ pub fn add_histogram(image: &Image<'_>, rows: Band, bins: Bins, counts: &mut [u3
     requires size { length counts.old ≡ bins.bins }
     requires room { (k : ℕ) →
         slice_index counts.old k + length (valid_samples (valid_in rows image.now)) < 2 ^ 32 }
-    ensures { counts.new ≡ added counts.old (histogram bins (valid_in rows image.now)) }
+    ensures { counts.new ≡ bin_sums counts.old (histogram bins (valid_in rows image.now)) }
 {
     let mut room = [0; GREATEST_BINS];
     let more = &mut room[..usize::from(bins.bins())];

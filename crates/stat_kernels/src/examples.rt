@@ -1,11 +1,11 @@
 //! Worked examples: the definitions evaluated on numbers.
 ghost use Rattle.std.specs.Prelude.{◌≡◌, [], ◌∷◌, Some, None, pos, negsuc};
 ghost use Rattle.vx_base.specs.declared.format.Format.TheVariants.{U8, S16, U32};
-ghost use Rattle.vx_base.specs.Statistics.{places, bins_of, histogram, integral, extremes};
+ghost use Rattle.vx_base.specs.Statistics.{rectangle_pixels, bins_of, histogram, integral, extremes};
 
 /// The pixels of a rectangle, in row-major order.
 pub fn places_in_order()
-    ensures { places (record { x0 = 1; y0 = 0; x1 = 3; y1 = 2 })
+    ensures { rectangle_pixels (record { x0 = 1; y0 = 0; x1 = 3; y1 = 2 })
         ≡ (1, 0) ∷ (2, 0) ∷ (1, 1) ∷ (2, 1) ∷ [] }
 {}
 

@@ -1,8 +1,8 @@
 //! The least and the greatest sample.
 ghost use Rattle.std.specs.Prelude.{◌≡◌, ◌≢◌, ◌+◌, ◌<◌, ◌≤◌, ◌^◌, ◌++◌, ℕ, List};
 ghost use Rattle.vx_base.specs.declared.format.Format.TheVariants.{U32};
-ghost use Rattle.vx_base.specs.Image.{at};
-ghost use Rattle.vx_base.specs.Statistics.{places, row_places, extremes};
+ghost use Rattle.vx_base.specs.Image.{pixel_at};
+ghost use Rattle.vx_base.specs.Statistics.{rectangle_pixels, row_pixels, extremes};
 ghost use Rattle.image_core.specs.Bands.{IsInRows};
 ghost use Rattle.stat_kernels.specs.Located.{added_extremes, extremes_of, found_in};
 ghost use Rattle.stat_kernels.specs.Part.{valid_in};
@@ -20,17 +20,17 @@ fn with_row(found: Found, image: &Image<'_>, part: Part, y: u16) -> Found
     requires columns_fit { part.x + part.count < 2 ^ 16 }
     requires least_room { found.least.count + part.count < 2 ^ 32 }
     requires greatest_room { found.greatest.count + part.count < 2 ^ 32 }
-    ensures { (before : List (ℕ × ℕ)) → found ≡ found_in (at image.now) before →
-        result ≡ found_in (at image.now) (before ++ row_places part.x part.count y) }
+    ensures { (before : List (ℕ × ℕ)) → found ≡ found_in (pixel_at image.now) before →
+        result ≡ found_in (pixel_at image.now) (before ++ row_pixels part.x part.count y) }
 {
     match image.desc().format() {
         Format::U8 => {
             let row = image.part_of_row::<u8>(part.x, y, part.count);
-            found.joined(part.x, y, row)
+            found.include_row(part.x, y, row)
         }
         Format::S16 => {
             let row = image.part_of_row::<i16>(part.x, y, part.count);
-            found.joined(part.x, y, row)
+            found.include_row(part.x, y, row)
         }
         Format::U32 => unreachable!(),
     }
@@ -40,7 +40,7 @@ fn with_row(found: Found, image: &Image<'_>, part: Part, y: u16) -> Found
 fn found_in(image: &Image<'_>, rows: Band) -> Found
     requires format { image.now.format ≢ U32 }
     requires rows { IsInRows image.now.height rows }
-    ensures { result ≡ found_in (at image.now) (places (valid_in rows image.now).valid) }
+    ensures { result ≡ found_in (pixel_at image.now) (rectangle_pixels (valid_in rows image.now).valid) }
 {
     let _limits = image.desc().height();
     let part = Part::of(image).in_rows(rows);
@@ -74,8 +74,8 @@ pub fn add_min_max(image: &Image<'_>, rows: Band, down: u16, above: Extremes) ->
     ensures { result ≡ added_extremes down above (extremes (valid_in rows image.now)) }
 {
     let _valid = image.valid();
-    let found = found_in(image, rows).lowered(down);
-    extremes_of(Found::of(above).beside(found))
+    let found = found_in(image, rows).shift_down(down);
+    extremes_of(Found::of(above).merge(found))
 }
 
 /// The two parts as `Extremes`.

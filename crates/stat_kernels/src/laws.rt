@@ -4,7 +4,7 @@ ghost use Rattle.std.specs.List.{All, Contains};
 ghost use Rattle.vx_base.specs.Image.{ImageValue};
 ghost use Rattle.vx_base.specs.Statistics.{BinsValue, extremes, histogram, valid_samples};
 ghost use Rattle.image_core.specs.declared.band.Band.{Band as Rows};
-ghost use Rattle.stat_kernels.specs.Counts.{added};
+ghost use Rattle.stat_kernels.specs.Counts.{bin_sums};
 ghost use Rattle.stat_kernels.specs.Located.{added_extremes};
 ghost use Rattle.stat_kernels.specs.Part.{valid_in};
 ghost use Rattle.stat_kernels.specs.Sums.{AreRowsOf};
@@ -26,7 +26,7 @@ pub fn extremes_bound()
 pub fn bands_are_counted()
     ensures { (bins : BinsValue) (image : ImageValue) (start first second : ℕ) →
         histogram bins (valid_in (record { start = start; count = first + second }) image)
-        ≡ added (histogram bins (valid_in (record { start = start; count = first }) image))
+        ≡ bin_sums (histogram bins (valid_in (record { start = start; count = first }) image))
         (histogram bins (valid_in (record { start = start + first; count = second }) image)) }
 {}
 

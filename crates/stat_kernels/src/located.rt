@@ -1,7 +1,7 @@
 //! The least and the greatest of samples, with their first pixels.
 ghost use Rattle.std.specs.Prelude.{◌≡◌, ◌+◌, ◌<◌, ◌^◌, ◌++◌, [], ℕ, ℤ, Bool, List, map, length};
 ghost use Rattle.vx_base.specs.Image.{run};
-ghost use Rattle.vx_base.specs.Statistics.{row_places, chosen, count_of};
+ghost use Rattle.vx_base.specs.Statistics.{row_pixels, best_of, count_of};
 
 use lane_rows::{Compared, count_of, first_of, greatest_of, least_of};
 use vx_base::Extremes;
@@ -16,21 +16,28 @@ pub struct Located {
 }
 
 impl Located {
-    ghost use Rattle.stat_kernels.specs.Located.{located, IsDirection};
+    ghost use Rattle.stat_kernels.specs.Located.{locate, IsDirection};
 
     /// Merges a row, whose pixels come later, into this extreme. `sample` is the row's own extreme.
     /// `is_beyond` is true if that is beyond this one: below the least, or above the greatest.
-    fn joined<T: Compared>(self, is_beyond: bool, sample: T, x: u16, y: u16, row: &[T]) -> Located
+    fn include_row<T: Compared>(
+        self,
+        is_beyond: bool,
+        sample: T,
+        x: u16,
+        y: u16,
+        row: &[T],
+    ) -> Located
         requires among { 0 < count_of (T.value sample) (map T.value row.now) }
         requires columns { x + length row.now < 2 ^ 16 }
         requires room { self.count + length row.now < 2 ^ 32 }
         ensures { (choose : ℤ → ℤ → ℤ) (beyond : ℤ → ℤ → Bool) (f : ℕ → ℕ → ℤ)
             (before : List (ℕ × ℕ)) →
-            IsDirection choose beyond → self ≡ located choose f before →
+            IsDirection choose beyond → self ≡ locate choose f before →
             is_beyond ≡ beyond (T.value sample) self.value →
-            T.value sample ≡ chosen choose (map T.value row.now) →
+            T.value sample ≡ best_of choose (map T.value row.now) →
             map T.value row.now ≡ run x (length row.now) (λ k. f k y) →
-            result ≡ located choose f (before ++ row_places x (length row.now) y) }
+            result ≡ locate choose f (before ++ row_pixels x (length row.now) y) }
     {
         let value = sample.short();
         if self.count == 0 || is_beyond {
@@ -52,14 +59,14 @@ impl Located {
 }
 
 impl Located {
-    ghost use Rattle.stat_kernels.specs.Located.{joined, lowered};
+    ghost use Rattle.stat_kernels.specs.Located.{merge, shift_down};
 
     /// Merges the extreme of later pixels into this one. `is_beyond` is true if the other is beyond
     /// this one: below the least, or above the greatest.
-    fn beside(self, is_beyond: bool, other: Located) -> Located
+    fn merge(self, is_beyond: bool, other: Located) -> Located
         requires { self.count + other.count < 2 ^ 32 }
         ensures { (beyond : ℤ → ℤ → Bool) → is_beyond ≡ beyond other.value self.value →
-            result ≡ joined beyond self other }
+            result ≡ merge beyond self other }
     {
         if other.count == 0 {
             self
@@ -76,9 +83,9 @@ impl Located {
     }
 
     /// The extreme with its pixel moved `down` rows lower.
-    fn lowered(self, down: u16) -> Located
+    fn shift_down(self, down: u16) -> Located
         requires { self.at.1 + down < 2 ^ 16 }
-        ensures { result ≡ lowered down self }
+        ensures { result ≡ shift_down down self }
     {
         Located {
             at: (self.at.0, self.at.1 + down),
@@ -95,7 +102,7 @@ pub struct Found {
 }
 
 impl Found {
-    ghost use Rattle.stat_kernels.specs.Located.{found_in, found_of, joined_found, lowered_found};
+    ghost use Rattle.stat_kernels.specs.Located.{found_in, found_of, merge_found, shift_found};
 
     /// Returns the extremes of no samples.
     pub fn nowhere() -> Found
@@ -113,13 +120,13 @@ impl Found {
     }
 
     /// Merges a row, whose pixels come later, into these extremes.
-    pub fn joined<T: Compared>(self, x: u16, y: u16, row: &[T]) -> Found
+    pub fn include_row<T: Compared>(self, x: u16, y: u16, row: &[T]) -> Found
         requires columns { x + length row.now < 2 ^ 16 }
         requires least_room { self.least.count + length row.now < 2 ^ 32 }
         requires greatest_room { self.greatest.count + length row.now < 2 ^ 32 }
         ensures { (f : ℕ → ℕ → ℤ) (before : List (ℕ × ℕ)) → self ≡ found_in f before →
             map T.value row.now ≡ run x (length row.now) (λ k. f k y) →
-            result ≡ found_in f (before ++ row_places x (length row.now) y) }
+            result ≡ found_in f (before ++ row_pixels x (length row.now) y) }
     {
         if row.is_empty() {
             return self;
@@ -128,8 +135,8 @@ impl Found {
         let is_below = low.short() < self.least.value;
         let is_above = high.short() > self.greatest.value;
         Found {
-            least: self.least.joined(is_below, low, x, y, row),
-            greatest: self.greatest.joined(is_above, high, x, y, row),
+            least: self.least.include_row(is_below, low, x, y, row),
+            greatest: self.greatest.include_row(is_above, high, x, y, row),
         }
     }
     /// Returns `Extremes` as their two parts.
@@ -151,28 +158,28 @@ impl Found {
     }
 
     /// Merges the extremes of later pixels into these.
-    pub fn beside(self, other: Found) -> Found
+    pub fn merge(self, other: Found) -> Found
         requires least_room { self.least.count + other.least.count < 2 ^ 32 }
         requires greatest_room { self.greatest.count + other.greatest.count < 2 ^ 32 }
-        ensures { result ≡ joined_found self other }
+        ensures { result ≡ merge_found self other }
     {
         let is_below = other.least.value < self.least.value;
         let is_above = other.greatest.value > self.greatest.value;
         Found {
-            least: self.least.beside(is_below, other.least),
-            greatest: self.greatest.beside(is_above, other.greatest),
+            least: self.least.merge(is_below, other.least),
+            greatest: self.greatest.merge(is_above, other.greatest),
         }
     }
 
     /// Returns the extremes with their pixels moved `down` rows lower.
-    pub fn lowered(self, down: u16) -> Found
+    pub fn shift_down(self, down: u16) -> Found
         requires least { self.least.at.1 + down < 2 ^ 16 }
         requires greatest { self.greatest.at.1 + down < 2 ^ 16 }
-        ensures { result ≡ lowered_found down self }
+        ensures { result ≡ shift_found down self }
     {
         Found {
-            least: self.least.lowered(down),
-            greatest: self.greatest.lowered(down),
+            least: self.least.shift_down(down),
+            greatest: self.greatest.shift_down(down),
         }
     }
 }

@@ -16,7 +16,7 @@ pub struct Part {
 }
 
 impl Part {
-    ghost use Rattle.stat_kernels.specs.Part.{IsValidPart, has_row, valid_in};
+    ghost use Rattle.stat_kernels.specs.Part.{IsValidPart, part_has_row, valid_in};
 
     /// Returns the valid rectangle of an image.
     pub fn of(image: &Image<'_>) -> Part
@@ -33,7 +33,7 @@ impl Part {
 
     /// Checks whether the part has pixels in row `y`.
     pub fn has_row(self, y: u16) -> bool
-        ensures { result ≡ has_row self y }
+        ensures { result ≡ part_has_row self y }
     {
         self.count > 0 && self.top <= y && y < self.bottom
     }

@@ -4,11 +4,11 @@ ghost use Rattle.std.specs.Prelude.{length, replicate, unwrap_or, IfSome};
 ghost use Rattle.std.specs.Option.{option_copied, option_map};
 ghost use Rattle.vx_base.specs.declared.desc.TheConstants.{GREATEST_SIDE};
 ghost use Rattle.vx_base.specs.declared.format.Format.TheVariants.{U8, U32};
-ghost use Rattle.vx_base.specs.Image.{ImageValue, IsImage, band, run, within};
+ghost use Rattle.vx_base.specs.Image.{ImageValue, IsImage, band, run, zero_outside};
 ghost use Rattle.vx_base.specs.Statistics.{sum_to, integral};
 ghost use Rattle.image_core.specs.Bands.{IsInRows};
 ghost use Rattle.image_core.specs.Fits.{HaveSameSize};
-ghost use Rattle.image_core.specs.Target.{written, IsTarget, Writes};
+ghost use Rattle.image_core.specs.Target.{target_image, IsTarget, Writes};
 ghost use Rattle.lane_rows.specs.Running.{sums_below};
 ghost use Rattle.stat_kernels.specs.Part.{IsValidPart};
 ghost use Rattle.stat_kernels.specs.Sums.{AreRowsOf, AreSums, IsRowAbove, IsRowOf};
@@ -44,7 +44,7 @@ fn add_lines(image: &Image<'_>, part: Part, y: u16, sums: &mut [u32])
 }
 
 /// Writes row `y` of the integral image by summing all valid rows up to it.
-fn write_from_top(image: &Image<'_>, y: u16, out: &mut [u32])
+fn write_row_from_top(image: &Image<'_>, y: u16, out: &mut [u32])
     requires format { image.now.format ≡ U8 }
     requires row { y < image.now.height }
     requires out_len { length out.old ≡ image.now.width }
@@ -61,7 +61,7 @@ fn write_from_top(image: &Image<'_>, y: u16, out: &mut [u32])
 
 /// Writes the running sums of part of a row, from column `x` on, on top of the sums in the row
 /// above; these are 0 if there is none.
-fn write_part(row: &[u8], above: Option<&[u32]>, x: usize, out: &mut [u32])
+fn write_part_of_row(row: &[u8], above: Option<&[u32]>, x: usize, out: &mut [u32])
     requires above_len { IfSome above (λ sums. x + length row.now ≤ length sums.now) }
     requires out_len { length out.old ≡ length row.now }
     requires room { length row.now ≤ GREATEST_SIDE }
@@ -75,8 +75,14 @@ fn write_part(row: &[u8], above: Option<&[u32]>, x: usize, out: &mut [u32])
     }
 }
 
-/// Writes row `y` of the integral image as `write_row` does; the row has valid pixels.
-fn write_across(image: &Image<'_>, part: Part, y: u16, above: Option<&[u32]>, out: &mut [u32])
+/// Writes row `y` of the integral image as `write_integral_row` does; the row has valid pixels.
+fn write_row_across_part(
+    image: &Image<'_>,
+    part: Part,
+    y: u16,
+    above: Option<&[u32]>,
+    out: &mut [u32],
+)
     requires format { image.now.format ≡ U8 }
     requires part { IsValidPart image.now part }
     requires some { 1 ≤ part.count }
@@ -84,7 +90,7 @@ fn write_across(image: &Image<'_>, part: Part, y: u16, above: Option<&[u32]>, ou
     requires above_len { IfSome above (λ row. length row.now ≡ image.now.width) }
     requires out_len { length out.old ≡ image.now.width }
     ensures sums { map pos out.new ≡ run 0 image.now.width
-        (λ x. within image.now.valid (sum_on image.now y (row_sums (option_copied above.entry))) x y) }
+        (λ x. zero_outside image.now.valid (sum_on image.now y (row_sums (option_copied above.entry))) x y) }
     ensures whole { (whole : ImageValue) (line : ℕ) → IsImage whole →
         IsRowOf image.now y whole line → IsRowAbove whole line (option_copied above.entry) →
         map pos out.new ≡ sums_row whole line }
@@ -95,25 +101,25 @@ fn write_across(image: &Image<'_>, part: Part, y: u16, above: Option<&[u32]>, ou
     let (middle, right) = others.split_at_mut(part.count);
     left.fill(0);
     let row = image.part_of_row::<u8>(part.x, y, part.count);
-    write_part(row, above, x, middle);
+    write_part_of_row(row, above, x, middle);
     right.fill(0);
 }
 
 /// Writes a row of an integral image from the row above it, which is `None` for the first row of an
 /// image. In the contract `whole` is any image whose row `line` is row `y` of this one.
-fn write_row(image: &Image<'_>, part: Part, y: u16, above: Option<&[u32]>, out: &mut [u32])
+fn write_integral_row(image: &Image<'_>, part: Part, y: u16, above: Option<&[u32]>, out: &mut [u32])
     requires format { image.now.format ≡ U8 }
     requires part { IsValidPart image.now part }
     requires above_len { IfSome above (λ row. length row.now ≡ image.now.width) }
     requires out_len { length out.old ≡ image.now.width }
     ensures sums { map pos out.new ≡ run 0 image.now.width
-        (λ x. within image.now.valid (sum_on image.now y (row_sums (option_copied above.entry))) x y) }
+        (λ x. zero_outside image.now.valid (sum_on image.now y (row_sums (option_copied above.entry))) x y) }
     ensures whole { (whole : ImageValue) (line : ℕ) → IsImage whole →
         IsRowOf image.now y whole line → IsRowAbove whole line (option_copied above.entry) →
         map pos out.new ≡ sums_row whole line }
 {
     if part.has_row(y) {
-        write_across(image, part, y, above, out);
+        write_row_across_part(image, part, y, above, out);
     } else {
         out.fill(0);
     }
@@ -140,36 +146,36 @@ pub fn integral_on(image: &Image<'_>, rows: Band, above: Option<&[u32]>, samples
     requires above_len { IfSome above (λ row. length row.now ≡ image.now.width) }
     requires size { length samples.old ≡ rows.count * image.now.width }
     ensures sums { map pos samples.new ≡ band image.now.width rows.start rows.count
-        (within image.now.valid
+        (zero_outside image.now.valid
         (sum_on image.now rows.start (row_sums (option_copied above.entry)))) }
     ensures whole { (whole : ImageValue) (line : ℕ) → AreRowsOf image.now rows whole line →
         IsRowAbove whole line (option_copied above.entry) → map pos samples.new
-        ≡ band image.now.width line rows.count (within whole.valid (sum_to whole)) }
+        ≡ band image.now.width line rows.count (zero_outside whole.valid (sum_to whole)) }
 {
     let width = usize::from(image.desc().width());
     let part = Part::of(image);
     for k in 0..rows.count {
         let (before, others) = samples.split_at_mut(usize::from(k) * width);
         let above = row_above(before, width).or(above);
-        write_row(image, part, rows.start + k, above, &mut others[..width]);
+        write_integral_row(image, part, rows.start + k, above, &mut others[..width]);
     }
 }
 
 /// Writes a band of the integral image: its first row by summing all rows above it, the others each
 /// from the row above.
-fn write_sums(image: &Image<'_>, rows: Band, samples: &mut [u32])
+fn write_integral_rows(image: &Image<'_>, rows: Band, samples: &mut [u32])
     requires format { image.now.format ≡ U8 }
     requires rows { IsInRows image.now.height rows }
     requires size { length samples.old ≡ rows.count * image.now.width }
     ensures { map pos samples.new ≡ band image.now.width rows.start rows.count
-        (within image.now.valid (sum_to image.now)) }
+        (zero_outside image.now.valid (sum_to image.now)) }
 {
     let _valid = image.valid();
     if rows.count == 0 {
         return;
     }
     let (first, others) = samples.split_at_mut(usize::from(image.desc().width()));
-    write_from_top(image, rows.start, first);
+    write_row_from_top(image, rows.start, first);
     let below = Band {
         start: rows.start + 1,
         count: rows.count - 1,
@@ -198,7 +204,7 @@ impl Whole for Sums<'_, '_> {
     }
 
     fn fill(&self, rows: Band, out: &mut [u32]) {
-        write_sums(self.image, rows, out);
+        write_integral_rows(self.image, rows, out);
     }
 }
 
@@ -207,8 +213,8 @@ impl Whole for Sums<'_, '_> {
 pub fn integral(image: &Image<'_>, output: &mut ImageMut<'_>)
     requires format { image.now.format ≡ U8 }
     requires target { IsTarget output.old }
-    requires output_format { (written output.old).format ≡ U32 }
-    requires size { HaveSameSize (written output.old) image.now }
+    requires output_format { (target_image output.old).format ≡ U32 }
+    requires size { HaveSameSize (target_image output.old) image.now }
     ensures { Writes (integral image.now) output.old output.new }
 {
     output.write_whole(&Sums { image });

@@ -1,6 +1,6 @@
 -- Images as functions of places.
 use Rattle.std.proofs.Common.{◌≡◌, ℕ, ℤ, pos, ◌+◌, ◌*◌, ◌/◌, ◌%◌, ◌<◌, ◌≤◌, ◌⊎◌, inl, inr, List, ◌++◌, length, get_or, ap, ◌∙◌, sym, arith, true, false, Bool, IsTrue, zero, suc, add-one, cond, refl, subst, ext_get_or, div-add-mod'}
-use Rattle.vx_base.proofs.Common.{nat_tests, Format, IsSample, Rectangle, inside, whole, IsCanonical, IsWithin, ImageValue, IsImage, run, band, table, within, at, made, new_image}
+use Rattle.vx_base.proofs.Common.{nat_tests, Format, IsSample, Rectangle, has_pixel, whole_rectangle, IsCanonical, IsWithin, ImageValue, IsImage, run, band, table, zero_outside, pixel_at, image_from, new_image}
 use Rattle.std.proofs.lemmas.List.{get_or-append_right}
 use Rattle.std.proofs.Math.ListN.{get_or-append}
 use Rattle.std.proofs.Math.Nat.{div-lt_iff_lt-mul}
@@ -43,10 +43,10 @@ band_of_table width height start count f room =
     band-same width start count (λ x y. get_or (table width height f) (y * width + x) (pos 0)) f
     (λ x y a b c. get_or-table width height x y f a (omega arith))
 
-within_true : (r : Rectangle) (f : ℕ → ℕ → ℤ) (x y : ℕ) → inside r x y ≡ true → within r f x y ≡ f x y
+within_true : (r : Rectangle) (f : ℕ → ℕ → ℤ) (x y : ℕ) → has_pixel r x y ≡ true → zero_outside r f x y ≡ f x y
 within_true r f x y h = ap (λ b. cond b (f x y) (pos 0)) h
 
-within_false : (r : Rectangle) (f : ℕ → ℕ → ℤ) (x y : ℕ) → inside r x y ≡ false → within r f x y ≡ pos 0
+within_false : (r : Rectangle) (f : ℕ → ℕ → ℤ) (x y : ℕ) → has_pixel r x y ≡ false → zero_outside r f x y ≡ pos 0
 within_false r f x y h = ap (λ b. cond b (f x y) (pos 0)) h
 
 true_or_false : (b : Bool) → (b ≡ true) ⊎ (b ≡ false)
@@ -54,23 +54,23 @@ true_or_false true = inl refl
 true_or_false false = inr refl
 
 module _ (width height : ℕ) (format : Format) (valid : Rectangle) (f : ℕ → ℕ → ℤ) where
-  pub at-made : (x y : ℕ) → x < width → y < height → inside valid x y ≡ true → at (made width height format valid f) x y ≡ f x y
-  at-made x y a b h = get_or-table width height x y (within valid f) a b ∙ within_true valid f x y h
+  pub at-made : (x y : ℕ) → x < width → y < height → has_pixel valid x y ≡ true → pixel_at (image_from width height format valid f) x y ≡ f x y
+  at-made x y a b h = get_or-table width height x y (zero_outside valid f) a b ∙ within_true valid f x y h
 
-  pub at-made_outside : (x y : ℕ) → x < width → y < height → inside valid x y ≡ false → at (made width height format valid f) x y ≡ pos 0
-  at-made_outside x y a b h = get_or-table width height x y (within valid f) a b ∙ within_false valid f x y h
+  pub at-made_outside : (x y : ℕ) → x < width → y < height → has_pixel valid x y ≡ false → pixel_at (image_from width height format valid f) x y ≡ pos 0
+  at-made_outside x y a b h = get_or-table width height x y (zero_outside valid f) a b ∙ within_false valid f x y h
 
   -- samples at the valid places, and 0 elsewhere
-  made_sampled : ((x y : ℕ) → inside valid x y ≡ true → IsSample format (f x y)) → (x y : ℕ) → x < width → y < height → IsSample format (at (made width height format valid f) x y)
-  made_sampled sampled x y a b = cases (true_or_false (inside valid x y))
+  made_sampled : ((x y : ℕ) → has_pixel valid x y ≡ true → IsSample format (f x y)) → (x y : ℕ) → x < width → y < height → IsSample format (pixel_at (image_from width height format valid f) x y)
+  made_sampled sampled x y a b = cases (true_or_false (has_pixel valid x y))
     where
-      cases : (inside valid x y ≡ true) ⊎ (inside valid x y ≡ false) → IsSample format (at (made width height format valid f) x y)
+      cases : (has_pixel valid x y ≡ true) ⊎ (has_pixel valid x y ≡ false) → IsSample format (pixel_at (image_from width height format valid f) x y)
       cases (inl e) = let Q : ℤ → Type 0 = λ z. IsSample format z in subst Q (sym (at-made x y a b e)) (sampled x y e)
       cases (inr e) = let Q : ℤ → Type 0 = λ z. IsSample format z in subst Q (sym (at-made_outside x y a b e)) (zero_sample format)
 
-  pub made_image : IsTrue (is_side width) → IsTrue (is_side height) → IsCanonical valid → IsWithin valid width height → ((x y : ℕ) → inside valid x y ≡ true → IsSample format (f x y)) → IsImage (made width height format valid f)
+  pub made_image : IsTrue (is_side width) → IsTrue (is_side height) → IsCanonical valid → IsWithin valid width height → ((x y : ℕ) → has_pixel valid x y ≡ true → IsSample format (f x y)) → IsImage (image_from width height format valid f)
   made_image wide high canonical room sampled =
-      record { sides = record { width = wide; height = high }; size = length-table width height (within valid f); canonical = canonical; room = room; sampled = made_sampled sampled; outside = at-made_outside }
+      record { sides = record { width = wide; height = high }; size = length-table width height (zero_outside valid f); canonical = canonical; room = room; sampled = made_sampled sampled; outside = at-made_outside }
 
 -- every index is the one of a place
 pub index_of_place : (width height k : ℕ) → k < height * width → (x : ℕ) × (y : ℕ) × (x < width) × (y < height) × (y * width + x ≡ k)
@@ -92,7 +92,7 @@ samples_are_band samples width height size =
     f : ℕ → ℕ → ℤ
     f = λ x y. get_or samples (y * width + x) (pos 0)
 
-pub whole_band : (a : ImageValue) → IsImage a → band a.width 0 a.height (at a) ≡ a.samples
+pub whole_band : (a : ImageValue) → IsImage a → band a.width 0 a.height (pixel_at a) ≡ a.samples
 whole_band a h = samples_are_band a.samples a.width a.height h.size
 
 pub same_parts : (a b : ImageValue) → a.width ≡ b.width → a.height ≡ b.height → a.format ≡ b.format → a.valid ≡ b.valid → a.samples ≡ b.samples → a ≡ b
@@ -103,49 +103,49 @@ same_parts a b w h f v s =
     ∙ ap (λ n. let t : ImageValue = record { width = b.width; height = b.height; format = b.format; valid = n; samples = a.samples } in t) v
     ∙ ap (λ n. let t : ImageValue = record { width = b.width; height = b.height; format = b.format; valid = b.valid; samples = n } in t) s
 
-pub places_decide : (a b : ImageValue) → IsImage a → IsImage b → a.width ≡ b.width → a.height ≡ b.height → a.format ≡ b.format → a.valid ≡ b.valid → ((x y : ℕ) → x < a.width → y < a.height → at a x y ≡ at b x y) → a ≡ b
+pub places_decide : (a b : ImageValue) → IsImage a → IsImage b → a.width ≡ b.width → a.height ≡ b.height → a.format ≡ b.format → a.valid ≡ b.valid → ((x y : ℕ) → x < a.width → y < a.height → pixel_at a x y ≡ pixel_at b x y) → a ≡ b
 places_decide a b p q w h f v same =
     same_parts a b w h f v
     (same_samples a.samples b.samples a.width a.height p.size (q.size ∙ ap (λ n. n * b.width) (sym h) ∙ ap (λ n. a.height * n) (sym w))
     (λ x y i j. same x y i j ∙ ap (λ n. get_or b.samples (y * n + x) (pos 0)) (sym w)))
 
 -- a valid place is a place
-pub column_inside : (r : Rectangle) (width height x y : ℕ) → IsWithin r width height → inside r x y ≡ true → x < width
+pub column_inside : (r : Rectangle) (width height x y : ℕ) → IsWithin r width height → has_pixel r x y ≡ true → x < width
 column_inside r width height x y room h = let a : x < r.x1 = grind (arith, nat_tests) in omega arith
 
-pub row_inside : (r : Rectangle) (width height x y : ℕ) → IsWithin r width height → inside r x y ≡ true → y < height
+pub row_inside : (r : Rectangle) (width height x y : ℕ) → IsWithin r width height → has_pixel r x y ≡ true → y < height
 row_inside r width height x y room h = let a : y < r.y1 = grind (arith, nat_tests) in omega arith
 
 -- at a valid place there is a sample
-pub valid_sampled : (a : ImageValue) (x y : ℕ) → IsImage a → inside a.valid x y ≡ true → IsSample a.format (at a x y)
+pub valid_sampled : (a : ImageValue) (x y : ℕ) → IsImage a → has_pixel a.valid x y ≡ true → IsSample a.format (pixel_at a x y)
 valid_sampled a x y h e = h.sampled x y (column_inside a.valid a.width a.height x y h.room e) (row_inside a.valid a.width a.height x y h.room e)
 
-pub made_of_itself : (a : ImageValue) → IsImage a → made a.width a.height a.format a.valid (at a) ≡ a
+pub made_of_itself : (a : ImageValue) → IsImage a → image_from a.width a.height a.format a.valid (pixel_at a) ≡ a
 made_of_itself a h =
-    places_decide (made a.width a.height a.format a.valid (at a)) a (made_image a.width a.height a.format a.valid (at a) h.sides.width h.sides.height h.canonical h.room (λ x y e. valid_sampled a x y h e)) h refl refl refl refl
-    (λ x y i j. cases x y i j (true_or_false (inside a.valid x y)))
+    places_decide (image_from a.width a.height a.format a.valid (pixel_at a)) a (made_image a.width a.height a.format a.valid (pixel_at a) h.sides.width h.sides.height h.canonical h.room (λ x y e. valid_sampled a x y h e)) h refl refl refl refl
+    (λ x y i j. cases x y i j (true_or_false (has_pixel a.valid x y)))
   where
-    cases : (x y : ℕ) → x < a.width → y < a.height → (inside a.valid x y ≡ true) ⊎ (inside a.valid x y ≡ false) → at (made a.width a.height a.format a.valid (at a)) x y ≡ at a x y
-    cases x y i j (inl e) = at-made a.width a.height a.format a.valid (at a) x y i j e
-    cases x y i j (inr e) = at-made_outside a.width a.height a.format a.valid (at a) x y i j e ∙ sym (h.outside x y i j e)
+    cases : (x y : ℕ) → x < a.width → y < a.height → (has_pixel a.valid x y ≡ true) ⊎ (has_pixel a.valid x y ≡ false) → pixel_at (image_from a.width a.height a.format a.valid (pixel_at a)) x y ≡ pixel_at a x y
+    cases x y i j (inl e) = at-made a.width a.height a.format a.valid (pixel_at a) x y i j e
+    cases x y i j (inr e) = at-made_outside a.width a.height a.format a.valid (pixel_at a) x y i j e ∙ sym (h.outside x y i j e)
 
 -- an image with another valid rectangle is one
 pub with_valid_is : (a : ImageValue) (valid : Rectangle) → IsImage a → IsCanonical valid → IsWithin valid a.width a.height → IsImage (with_valid valid a)
 with_valid_is a valid h canonical room =
-    made_image a.width a.height a.format valid (at a) h.sides.width h.sides.height canonical room (λ x y e. h.sampled x y (column_inside valid a.width a.height x y room e) (row_inside valid a.width a.height x y room e))
+    made_image a.width a.height a.format valid (pixel_at a) h.sides.width h.sides.height canonical room (λ x y e. h.sampled x y (column_inside valid a.width a.height x y room e) (row_inside valid a.width a.height x y room e))
 
-pub inside_whole : (width height x y : ℕ) → x < width → y < height → inside (whole width height) x y ≡ true
+pub inside_whole : (width height x y : ℕ) → x < width → y < height → has_pixel (whole_rectangle width height) x y ≡ true
 inside_whole width height x y a b = grind (arith, nat_tests)
 
 -- all places of an image are a rectangle in canonical form
-pub whole_canonical : (width height : ℕ) → IsTrue (is_side width) → IsTrue (is_side height) → IsCanonical (whole width height)
+pub whole_canonical : (width height : ℕ) → IsTrue (is_side width) → IsTrue (is_side height) → IsCanonical (whole_rectangle width height)
 whole_canonical width height wide high = grind (arith, nat_tests)
 
 pub new_image_is : (width height : ℕ) (format : Format) → IsTrue (is_side width) → IsTrue (is_side height) → IsImage (new_image width height format)
 new_image_is width height format wide high =
-    made_image width height format (whole width height) (λ _ _. pos 0) wide high
+    made_image width height format (whole_rectangle width height) (λ _ _. pos 0) wide high
     (whole_canonical width height wide high) (record { columns = omega arith; rows = omega arith })
     (λ x y e. zero_sample format)
 
-pub at-new_image : (width height : ℕ) (format : Format) (x y : ℕ) → x < width → y < height → at (new_image width height format) x y ≡ pos 0
-at-new_image width height format x y a b = at-made width height format (whole width height) (λ _ _. pos 0) x y a b (inside_whole width height x y a b)
+pub at-new_image : (width height : ℕ) (format : Format) (x y : ℕ) → x < width → y < height → pixel_at (new_image width height format) x y ≡ pos 0
+at-new_image width height format x y a b = at-made width height format (whole_rectangle width height) (λ _ _. pos 0) x y a b (inside_whole width height x y a b)

@@ -1,6 +1,6 @@
 -- What a node gives of images, tables and thresholds is an image.
 use Rattle.std.proofs.Common.{◌≡◌, ℕ, ℤ, IsTrue, ◌<◌, ◌≤◌, ◌-ℤ◌, pos, Bool, true, false, if◌then◌else◌, refl, arith, ◌⊎◌, inl, inr, length, List, Option, Some, None, IfSome, All, ◌&&◌, slice_index_or, unsigned_abs}
-use Rattle.vx_base.proofs.Common.{Each1, ints, Format, U8, S16, U32, Function, AndBits, NotBits, Threshold, TableLookup, ConvertDepth, Box, Gaussian, Median, Erode, Dilate, Sobel, Convolve, Histogram, Integral, MinMaxLoc, Accumulate, AccumulateSquare, IsSample, least, parameters, accumulates, takes_formats, has_amount, ImageValue, IsImage, from_nine, from_one, formula_of_one, formula_of_two}
+use Rattle.vx_base.proofs.Common.{Each1, ints, Format, U8, S16, U32, Function, AndBits, NotBits, Threshold, TableLookup, ConvertDepth, Box, Gaussian, Median, Erode, Dilate, Sobel, Convolve, Histogram, Integral, MinMaxLoc, Accumulate, AccumulateSquare, IsSample, min_sample, parameters, accumulates, takes_formats, has_amount, ImageValue, IsImage, from_nine, from_one, formula_of_one, formula_of_two}
 use Rattle.std.specs.Option.{option_and_then}
 use Rattle.std.proofs.lemmas.Bool.{cases_lt}
 use Rattle.std.proofs.lemmas.List.{get_or_past}
@@ -15,7 +15,7 @@ use Rattle.vx_base.specs.declared.output.Output.{Output}
 use Rattle.vx_base.specs.declared.output.Output.TheVariants.{First, Second}
 use Rattle.vx_base.specs.Window.{formula_of_nine}
 use Rattle.vx_base.specs.Outputs.{node_image, image_of_one}
-use Rattle.vx_base.specs.Pixelwise.{looked_up, thresholded}
+use Rattle.vx_base.specs.Pixelwise.{lookup_result, threshold_result}
 use Rattle.vx_base.proofs.ResultLaws.{of_one, of_two, accumulated_is, not_so, zero_sample}
 use Rattle.vx_base.proofs.PixelLaws.{from_one_is, from_two_is}
 use Rattle.vx_base.proofs.SumLaws.{sums_image}
@@ -31,8 +31,8 @@ amount_of n shape = front (has_amount (parameters n.function) n.policy n.amount)
 -- ---- second operands that aren't images
 
 -- no entry, or past them 0, is anything but a sample
-looked_up_sample : (lut : LutValue) (a : ℤ) → All (IsSample lut.format) lut.entries → IsSample lut.format (looked_up lut a)
-looked_up_sample lut a entries = entry_sample lut.format lut.entries (unsigned_abs (a -ℤ least lut.format)) entries
+looked_up_sample : (lut : LutValue) (a : ℤ) → All (IsSample lut.format) lut.entries → IsSample lut.format (lookup_result lut a)
+looked_up_sample lut a entries = entry_sample lut.format lut.entries (unsigned_abs (a -ℤ min_sample lut.format)) entries
   where
     entry_sample : (format : Format) (entries : List ℤ) (k : ℕ) → All (IsSample format) entries → IsSample format (slice_index_or entries k (pos 0))
     entry_sample format entries k all = there_or_past (cases_lt k (length entries))
@@ -41,7 +41,7 @@ looked_up_sample lut a entries = entry_sample lut.format lut.entries (unsigned_a
         there_or_past (inl below) = all k (pos 0) below
         there_or_past (inr past) = rw (get_or_past entries k (pos 0) past) (zero_sample format)
 
-thresholded_sample : (t : ThresholdValue) (a : ℤ) → IsThreshold t → IsSample U8 (thresholded t a)
+thresholded_sample : (t : ThresholdValue) (a : ℤ) → IsThreshold t → IsSample U8 (threshold_result t a)
 thresholded_sample t a h = chosen (passes t.kind a)
   where
     chosen : (b : Bool) → IsSample U8 (if b then pos t.true_value else pos t.false_value)
@@ -153,15 +153,15 @@ takes_no_virtual AndBits h = cc
 takes_no_virtual other h = cc
 
 module _ (n : Node) (format : Format) (a : ImageValue) (is : IsNode n) (image : IsImage a) where
-  of_lut : (lut : LutValue) → IsLut lut → n.function ≡ TableLookup → IsTrue (takes_formats n.function a.format (Some lut.format) (Some format)) → IsImage (from_one format (looked_up lut) a)
+  of_lut : (lut : LutValue) → IsLut lut → n.function ≡ TableLookup → IsTrue (takes_formats n.function a.format (Some lut.format) (Some format)) → IsImage (from_one format (lookup_result lut) a)
   of_lut lut h f t =
       let e : lut.format ≡ format = lookup_format a.format lut.format format (rw f at t) in
-      from_one_is format (looked_up lut) a image (λ z s. rw (← e) (looked_up_sample lut z h.sampled))
+      from_one_is format (lookup_result lut) a image (λ z s. rw (← e) (looked_up_sample lut z h.sampled))
 
-  of_threshold : (t : ThresholdValue) → IsThreshold t → n.function ≡ Threshold → IsTrue (takes_formats n.function a.format (Some t.format) (Some format)) → IsImage (from_one format (thresholded t) a)
+  of_threshold : (t : ThresholdValue) → IsThreshold t → n.function ≡ Threshold → IsTrue (takes_formats n.function a.format (Some t.format) (Some format)) → IsImage (from_one format (threshold_result t) a)
   of_threshold t h f g =
       let e : U8 ≡ format = threshold_format a.format t.format format (rw f at g) in
-      from_one_is format (thresholded t) a image (λ z s. rw (← e) (thresholded_sample t z h))
+      from_one_is format (threshold_result t) a image (λ z s. rw (← e) (thresholded_sample t z h))
 
   -- one of the functions of the nine
   of_nine : (function : Function) (output : Output) → IsTrue (is_window function && takes_formats function a.format None (Some format)) → IsImage (from_nine format (formula_of_nine function output) n.border a)

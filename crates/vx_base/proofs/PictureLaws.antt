@@ -3,13 +3,13 @@ use Rattle.std.proofs.Common.{ℕ, IsTrue, ◌≤◌, pos, ◌+◌, ◌*◌, ◌
 use Rattle.vx_base.proofs.Common.{nat_tests, All-from_get_or, GREATEST_SIDE, IsSample, ImageValue, IsImage}
 use Rattle.std.proofs.lemmas.List.Elements.{All-get_or}
 use Rattle.vx_base.specs.Description.{is_side}
-use Rattle.vx_base.specs.Picture.{PictureValue, IsPicture, picture_of, pictured}
+use Rattle.vx_base.specs.Picture.{PictureValue, IsPicture, picture_of, picture_image}
 use Rattle.vx_base.proofs.ImageLaws.{above, index_of_place, inside_whole, whole_canonical}
 
 pub side : (n : ℕ) → IsTrue (is_side n) → n ≤ GREATEST_SIDE
 side n h = grind (arith, nat_tests)
 
-pub pictured_image : (p : PictureValue) → IsPicture p → IsImage (pictured p)
+pub pictured_image : (p : PictureValue) → IsPicture p → IsImage (picture_image p)
 pictured_image p h =
     record {
       sides = h.description;

@@ -1,6 +1,6 @@
 -- Runs and tables: what a function of places gives along a row, and row by row.
 use Rattle.std.proofs.Common.{◌≡◌, ℕ, ℤ, pos, ◌+◌, ◌-◌, ◌*◌, ◌<◌, ◌≤◌, List, [], ◌∷◌, ◌++◌, length, map, take, drop, get_or, set, zero, suc, refl, ap, ◌∙◌, sym, arith, zero-add, add-zero, add-one, inl, inr, ◌⊎◌, replicate, append-nil, append_assoc, length-append, length-take, length-drop, ext_get_or, get_or-take, get_or-drop, drop_at, take_at}
-use Rattle.vx_base.proofs.Common.{take_more_set, Rectangle, nat_tests, run, band, table, within}
+use Rattle.vx_base.proofs.Common.{take_more_set, Rectangle, nat_tests, run, band, table, zero_outside}
 use Rattle.std.specs.List.{range_with_len, flat_map}
 use Rattle.std.proofs.lemmas.List.{map-append, length-map, take-map, drop-map}
 use Rattle.std.proofs.lemmas.Slice.{take-put_mid}
@@ -83,23 +83,23 @@ row_in_parts g x0 n rest before after =
     ∙ ap (λ l. replicate x0 (pos 0) ++ (run x0 n g ++ l)) (run-same g (λ _. pos 0) (x0 + n) rest (λ k a b. after k (omega arith)) ∙ run-constant (pos 0) (x0 + n) rest)
 
 -- a pixel outside the rectangle
-pub within_beside : (r : Rectangle) (f : ℕ → ℕ → ℤ) (x y : ℕ) → (((x < r.x0) ⊎ (r.x1 ≤ x)) ⊎ ((y < r.y0) ⊎ (r.y1 ≤ y))) → within r f x y ≡ pos 0
+pub within_beside : (r : Rectangle) (f : ℕ → ℕ → ℤ) (x y : ℕ) → (((x < r.x0) ⊎ (r.x1 ≤ x)) ⊎ ((y < r.y0) ⊎ (r.y1 ≤ y))) → zero_outside r f x y ≡ pos 0
 within_beside r f x y h = grind (arith, nat_tests)
 
-pub within_inside : (r : Rectangle) (f : ℕ → ℕ → ℤ) (x y : ℕ) → r.x0 ≤ x → x < r.x1 → r.y0 ≤ y → y < r.y1 → within r f x y ≡ f x y
+pub within_inside : (r : Rectangle) (f : ℕ → ℕ → ℤ) (x y : ℕ) → r.x0 ≤ x → x < r.x1 → r.y0 ≤ y → y < r.y1 → zero_outside r f x y ≡ f x y
 within_inside r f x y a b c d = grind (arith, nat_tests)
 
 -- a row above or below the rectangle
-pub row_outside : (r : Rectangle) (f : ℕ → ℕ → ℤ) (n y : ℕ) → ((y < r.y0) ⊎ (r.y1 ≤ y)) → run 0 n (λ x. within r f x y) ≡ replicate n (pos 0)
-row_outside r f n y h = run-same (λ x. within r f x y) (λ _. pos 0) 0 n (λ k a b. within_beside r f k y (inr h)) ∙ run-constant (pos 0) 0 n
+pub row_outside : (r : Rectangle) (f : ℕ → ℕ → ℤ) (n y : ℕ) → ((y < r.y0) ⊎ (r.y1 ≤ y)) → run 0 n (λ x. zero_outside r f x y) ≡ replicate n (pos 0)
+row_outside r f n y h = run-same (λ x. zero_outside r f x y) (λ _. pos 0) 0 n (λ k a b. within_beside r f k y (inr h)) ∙ run-constant (pos 0) 0 n
 
 -- a row through the rectangle
-pub row_across : (r : Rectangle) (f : ℕ → ℕ → ℤ) (n x0 x1 y : ℕ) → r.x0 ≡ x0 → r.x1 ≡ x1 → x0 ≤ x1 → x1 ≤ n → r.y0 ≤ y → y < r.y1 → run 0 n (λ x. within r f x y) ≡ replicate x0 (pos 0) ++ (run x0 (x1 - x0) (λ x. f x y) ++ replicate (n - x1) (pos 0))
+pub row_across : (r : Rectangle) (f : ℕ → ℕ → ℤ) (n x0 x1 y : ℕ) → r.x0 ≡ x0 → r.x1 ≡ x1 → x0 ≤ x1 → x1 ≤ n → r.y0 ≤ y → y < r.y1 → run 0 n (λ x. zero_outside r f x y) ≡ replicate x0 (pos 0) ++ (run x0 (x1 - x0) (λ x. f x y) ++ replicate (n - x1) (pos 0))
 row_across r f n x0 x1 y from to ordered room above below =
     let parts : n ≡ x0 + ((x1 - x0) + (n - x1)) = omega arith in
-    ap (λ m. run 0 m (λ x. within r f x y)) parts
-    ∙ row_in_parts (λ x. within r f x y) x0 (x1 - x0) (n - x1) (λ k h. within_beside r f k y (inl (inl (omega arith)))) (λ k h. within_beside r f k y (inl (inr (omega arith))))
-    ∙ ap (λ l. replicate x0 (pos 0) ++ (l ++ replicate (n - x1) (pos 0))) (run-same (λ x. within r f x y) (λ x. f x y) x0 (x1 - x0) (λ k a b. within_inside r f k y (omega arith) (omega arith) above below))
+    ap (λ m. run 0 m (λ x. zero_outside r f x y)) parts
+    ∙ row_in_parts (λ x. zero_outside r f x y) x0 (x1 - x0) (n - x1) (λ k h. within_beside r f k y (inl (inl (omega arith)))) (λ k h. within_beside r f k y (inl (inr (omega arith))))
+    ∙ ap (λ l. replicate x0 (pos 0) ++ (l ++ replicate (n - x1) (pos 0))) (run-same (λ x. zero_outside r f x y) (λ x. f x y) x0 (x1 - x0) (λ k a b. within_inside r f k y (omega arith) (omega arith) above below))
 
 -- one more row of a band is written, from place `at` on
 pub band_written : {T : Type 0} (value : T → ℤ) (width start count k at long : ℕ) (f : ℕ → ℕ → ℤ) (out row : List T) → length out ≡ count * width → k < count → at ≡ k * width → length row ≡ width → map value (take at out) ≡ band width start k f → map value row ≡ run 0 width (λ x. f x (start + k)) → map value (take ((k + 1) * width) (put_mid at long out row)) ≡ band width start (k + 1) f

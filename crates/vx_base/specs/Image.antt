@@ -3,7 +3,7 @@ use Rattle.std.specs.Prelude.{ℕ, ℤ, pos, ◌+◌, ◌*◌, ◌<◌, ◌≡�
 use Rattle.std.specs.List.{range_with_len, flat_map}
 use Rattle.vx_base.specs.declared.format.Format.{Format}
 use Rattle.vx_base.specs.Sample.{IsSample}
-use Rattle.vx_base.specs.Rectangle.{Rectangle, inside, whole, IsCanonical, IsWithin}
+use Rattle.vx_base.specs.Rectangle.{Rectangle, has_pixel, whole_rectangle, IsCanonical, IsWithin}
 use Rattle.vx_base.specs.Description.{Description, IsDescription}
 
 -- the n values f x, f (x + 1), ..
@@ -19,8 +19,8 @@ abbrev pub table : ℕ → ℕ → (ℕ → ℕ → ℤ) → List ℤ
 table width height f = band width 0 height f
 
 -- f at the pixels of the rectangle, 0 elsewhere
-abbrev pub within : Rectangle → (ℕ → ℕ → ℤ) → ℕ → ℕ → ℤ
-within r f x y = if inside r x y then f x y else pos 0
+abbrev pub zero_outside : Rectangle → (ℕ → ℕ → ℤ) → ℕ → ℕ → ℤ
+zero_outside r f x y = if has_pixel r x y then f x y else pos 0
 
 -- an image; its samples are in row-major order
 pub record ImageValue : Type 0 where
@@ -38,8 +38,8 @@ abbrev pub image_over : Description → Rectangle → List ℤ → ImageValue
 image_over d valid samples = record { width = d.width; height = d.height; format = d.format; valid = valid; samples = samples }
 
 -- the sample in column x of row y
-abbrev pub at : ImageValue → ℕ → ℕ → ℤ
-at image x y = slice_index_or image.samples (y * image.width + x) (pos 0)
+abbrev pub pixel_at : ImageValue → ℕ → ℕ → ℤ
+pixel_at image x y = slice_index_or image.samples (y * image.width + x) (pos 0)
 
 -- an image of allowed size, whose valid rectangle is canonical and within the image, with a sample of its format for each
 -- pixel; the samples outside the valid rectangle are 0
@@ -48,18 +48,18 @@ pub record IsImage (image : ImageValue) : Type 0 where
   pub size : length image.samples ≡ image.height * image.width
   pub canonical : IsCanonical image.valid
   pub room : IsWithin image.valid image.width image.height
-  pub sampled : (x y : ℕ) → x < image.width → y < image.height → IsSample image.format (at image x y)
-  pub outside : (x y : ℕ) → x < image.width → y < image.height → inside image.valid x y ≡ false → at image x y ≡ pos 0
+  pub sampled : (x y : ℕ) → x < image.width → y < image.height → IsSample image.format (pixel_at image x y)
+  pub outside : (x y : ℕ) → x < image.width → y < image.height → has_pixel image.valid x y ≡ false → pixel_at image x y ≡ pos 0
 
 -- the image whose samples are f in the valid rectangle and 0 elsewhere
-abbrev pub made : ℕ → ℕ → Format → Rectangle → (ℕ → ℕ → ℤ) → ImageValue
-made width height format valid f =
-    record { width = width; height = height; format = format; valid = valid; samples = table width height (within valid f) }
+abbrev pub image_from : ℕ → ℕ → Format → Rectangle → (ℕ → ℕ → ℤ) → ImageValue
+image_from width height format valid f =
+    record { width = width; height = height; format = format; valid = valid; samples = table width height (zero_outside valid f) }
 
 -- a new image: wholly valid, all samples 0
 abbrev pub new_image : ℕ → ℕ → Format → ImageValue
-new_image width height format = made width height format (whole width height) (λ _ _. pos 0)
+new_image width height format = image_from width height format (whole_rectangle width height) (λ _ _. pos 0)
 
 -- the image with another valid rectangle; the samples outside it become 0
 abbrev pub with_valid : Rectangle → ImageValue → ImageValue
-with_valid valid image = made image.width image.height image.format valid (at image)
+with_valid valid image = image_from image.width image.height image.format valid (pixel_at image)

@@ -1,12 +1,12 @@
 pub mod Sample
 pub mod Rectangle
 pub mod Description
-pub mod Outline
+pub mod PartialDescription
 pub mod Image
 pub mod Code
 pub mod Function
 pub mod Formats
-pub mod Cell
+pub mod Reference
 pub mod Node
 pub mod Graph
 pub mod Picture

@@ -2,7 +2,7 @@
 use Rattle.std.specs.Prelude.{ℕ, ℤ, pos, ◌-ℤ◌, ◌==◌, Bool, false, IsTrue, List, length, All, slice_index_or, unsigned_abs}
 use Rattle.vx_base.specs.declared.format.Format.{Format}
 use Rattle.vx_base.specs.declared.format.Format.TheVariants.{U8, S16, U32}
-use Rattle.vx_base.specs.Sample.{least, range_size, IsSample}
+use Rattle.vx_base.specs.Sample.{min_sample, range_size, IsSample}
 
 -- a table; its entries are in the order of the sample values
 pub record LutValue : Type 0 where
@@ -17,7 +17,7 @@ is_full U32 count = false
 
 -- the entry for a sample; the first entry is that of the least sample value
 abbrev pub entry_for : LutValue → ℤ → ℤ
-entry_for lut a = slice_index_or lut.entries (unsigned_abs (a -ℤ least lut.format)) (pos 0)
+entry_for lut a = slice_index_or lut.entries (unsigned_abs (a -ℤ min_sample lut.format)) (pos 0)
 
 -- a full table, whose entries are samples of its format
 pub record IsLut (lut : LutValue) : Type 0 where

@@ -9,14 +9,14 @@ use Rattle.vx_base.specs.declared.policy.Policy.TheVariants.{Wrap, Saturate}
 use Rattle.vx_base.specs.declared.function.Parameters.{Parameters}
 use Rattle.vx_base.specs.declared.node.Node.{Node}
 use Rattle.vx_base.specs.Function.{parameters}
-use Rattle.vx_base.specs.Cell.{Cell, IsCell}
+use Rattle.vx_base.specs.Reference.{Reference, IsReference}
 
 -- whether a reference is name 0 without a slot, which no operand may be
-abbrev pub is_nothing : Cell → Bool
+abbrev pub is_nothing : Reference → Bool
 is_nothing cell = (cell.name == 0) && is_none cell.slot
 
 -- whether an operand, if it is given, names an object
-abbrev pub is_named : Option Cell → Bool
+abbrev pub is_named : Option Reference → Bool
 is_named None = true
 is_named (Some cell) = not (is_nothing cell)
 
@@ -50,29 +50,29 @@ node_spec n = if is_node n then Some n else None
 -- ---- a node's operands
 
 -- a reference as a list, empty if it is not given
-abbrev pub given : Option Cell → List Cell
-given None = []
-given (Some cell) = cell ∷ []
+abbrev pub optional_cells : Option Reference → List Reference
+optional_cells None = []
+optional_cells (Some cell) = cell ∷ []
 
 -- a node's input references
-abbrev pub inputs : Node → List Cell
-inputs n = n.in1 ∷ given n.in2
+abbrev pub inputs : Node → List Reference
+inputs n = n.in1 ∷ optional_cells n.in2
 
 -- a node's output references
-abbrev pub outputs : Node → List Cell
-outputs n = given n.out1 ++ given n.out2
+abbrev pub outputs : Node → List Reference
+outputs n = optional_cells n.out1 ++ optional_cells n.out2
 
 -- the kind of a node's second input; Image, which is never used, if its function has none
 abbrev pub second_kind : Node → Kind
 second_kind n = unwrap_or (parameters n.function).second_input kind.Image
 
 -- a reference with this kind as a list, empty if it is not given
-abbrev pub with_kind : Kind → Option Cell → List (Cell × Kind)
+abbrev pub with_kind : Kind → Option Reference → List (Reference × Kind)
 with_kind k None = []
 with_kind k (Some cell) = (cell, k) ∷ []
 
 -- a node's operands, each with the kind of object that its function expects
-abbrev pub operands : Node → List (Cell × Kind)
+abbrev pub operands : Node → List (Reference × Kind)
 operands n =
     (n.in1, kind.Image) ∷ (with_kind (second_kind n) n.in2
     ++ (with_kind (parameters n.function).output n.out1 ++ with_kind (parameters n.function).output n.out2))
@@ -88,7 +88,7 @@ pub record IsNode (n : Node) : Type 0 where
   pub shape : IsTrue (is_node n)
   pub border : IsBorder n.border
   pub amount : n.amount < 2 ^ 8
-  pub in1 : IsCell n.in1
-  pub in2 : IfSome n.in2 IsCell
-  pub out1 : IfSome n.out1 IsCell
-  pub out2 : IfSome n.out2 IsCell
+  pub in1 : IsReference n.in1
+  pub in2 : IfSome n.in2 IsReference
+  pub out1 : IfSome n.out1 IsReference
+  pub out2 : IfSome n.out2 IsReference

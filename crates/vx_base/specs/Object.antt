@@ -10,7 +10,7 @@ use Rattle.vx_base.specs.declared.kind.Kind.{Kind}
 use Rattle.vx_base.specs.declared.kind.Kind.TheVariants as kind
 use Rattle.vx_base.specs.Description.{byte_count}
 use Rattle.vx_base.specs.Image.{ImageValue, IsImage, description_of}
-use Rattle.vx_base.specs.Outline.{IsOutline}
+use Rattle.vx_base.specs.PartialDescription.{IsPartialDescription}
 use Rattle.vx_base.specs.Graph.{GraphValue, IsGraph}
 use Rattle.vx_base.specs.Lut.{LutValue, IsLut}
 use Rattle.vx_base.specs.Threshold.{ThresholdValue, IsThreshold}
@@ -103,7 +103,7 @@ pub record IsDistribution (d : DistributionValue) : Type 0 where
 -- a virtual image with the name of a graph and a partial description
 pub record IsVirtual (image : VirtualImage) : Type 0 where
   pub graph : image.graph < 2 ^ 32
-  pub declared : IsOutline image.declared
+  pub declared : IsPartialDescription image.declared
 
 -- a well-formed object of any kind
 abbrev pub IsObject : ObjectValue → Type 0

@@ -7,11 +7,11 @@ use Rattle.vx_base.specs.declared.function.Function.TheVariants.{NotBits, Conver
 use Rattle.vx_base.specs.declared.node.Node.{Node}
 use Rattle.vx_base.specs.declared.output.Output.{Output}
 use Rattle.vx_base.specs.declared.output.Output.TheVariants.{First, Second}
-use Rattle.vx_base.specs.Cell.{Cell}
+use Rattle.vx_base.specs.Reference.{Reference}
 use Rattle.vx_base.specs.Function.{accumulates}
 use Rattle.vx_base.specs.Image.{ImageValue}
 use Rattle.vx_base.specs.Object.{ObjectValue, ImageObject, LutObject, ThresholdObject, ConvolutionObject, DistributionObject, ExtremesObject}
-use Rattle.vx_base.specs.Pixelwise.{from_one, from_two, formula_of_one, formula_of_two, looked_up, thresholded}
+use Rattle.vx_base.specs.Pixelwise.{from_one, from_two, formula_of_one, formula_of_two, lookup_result, threshold_result}
 use Rattle.vx_base.specs.Window.{from_nine, from_matrix, formula_of_nine}
 use Rattle.vx_base.specs.Statistics.{histogram, sums_in, extremes}
 
@@ -26,38 +26,38 @@ image_of_one function n output format a = from_nine format (formula_of_nine func
 abbrev pub node_image : Node → Output → Format → ImageValue → Option ObjectValue → ImageValue
 node_image n output format a None = image_of_one n.function n output format a
 node_image n output format a (Some (ImageObject b)) = from_two format (formula_of_two n.function format n.policy n.amount) a b
-node_image n output format a (Some (LutObject lut)) = from_one format (looked_up lut) a
-node_image n output format a (Some (ThresholdObject threshold)) = from_one format (thresholded threshold) a
+node_image n output format a (Some (LutObject lut)) = from_one format (lookup_result lut) a
+node_image n output format a (Some (ThresholdObject threshold)) = from_one format (threshold_result threshold) a
 node_image n output format a (Some (ConvolutionObject convolution)) = from_matrix format convolution n.border a
 node_image n output format a (Some other) = from_one format (λ _. pos 0) a
 
 -- the operand after the first input: the second input, or the output's earlier content if the function accumulates
-abbrev pub beside_first : Node → Option ObjectValue → ObjectValue → Option ObjectValue
-beside_first n second old = if accumulates n.function then Some old else second
+abbrev pub second_or_output : Node → Option ObjectValue → ObjectValue → Option ObjectValue
+second_or_output n second old = if accumulates n.function then Some old else second
 
 -- an output's new value, computed from the inputs and the output's earlier value. An accumulating function reads that value's samples;
 -- the others use only its kind, format and bins.
 abbrev pub node_output : Node → Output → ObjectValue → Option ObjectValue → ObjectValue → ObjectValue
-node_output n output (ImageObject a) second (ImageObject old) = ImageObject (node_image n output old.format a (beside_first n second (ImageObject old)))
+node_output n output (ImageObject a) second (ImageObject old) = ImageObject (node_image n output old.format a (second_or_output n second (ImageObject old)))
 node_output n output (ImageObject a) second (DistributionObject d) = DistributionObject (record { bins = d.bins; counts = histogram d.bins a })
 node_output n output (ImageObject a) second (ExtremesObject e) = ExtremesObject (extremes a)
 node_output n output first second old = old
 
 -- the new value of an output, as a list of one; none if an object is missing
-abbrev pub written_to : Node → Output → Cell → Option ObjectValue → Option ObjectValue → Option ObjectValue → List (Cell × ObjectValue)
+abbrev pub written_to : Node → Output → Reference → Option ObjectValue → Option ObjectValue → Option ObjectValue → List (Reference × ObjectValue)
 written_to n output cell (Some first) second (Some old) = (cell, node_output n output first second old) ∷ []
 written_to n output cell first second old = []
 
 -- the new value of one output, as a list of none or one. `start` gives the objects as they were when the run began, `held` those of
 -- now: the output's earlier value is from `start`, the inputs from `held`.
-abbrev pub written_in : Node → Output → Option Cell → (Cell → Option ObjectValue) → (Cell → Option ObjectValue) → List (Cell × ObjectValue)
+abbrev pub written_in : Node → Output → Option Reference → (Reference → Option ObjectValue) → (Reference → Option ObjectValue) → List (Reference × ObjectValue)
 written_in n output None start held = []
 written_in n output (Some cell) start held = written_to n output cell (held n.in1) (option_and_then held n.in2) (start cell)
 
 -- each output of a node with its new value
-abbrev pub written_from : (Cell → Option ObjectValue) → Node → (Cell → Option ObjectValue) → List (Cell × ObjectValue)
+abbrev pub written_from : (Reference → Option ObjectValue) → Node → (Reference → Option ObjectValue) → List (Reference × ObjectValue)
 written_from start n held = written_in n First n.out1 start held ++ written_in n Second n.out2 start held
 
 -- the same for a node that runs first: all objects are still as they were when the run began
-abbrev pub written_by : Node → (Cell → Option ObjectValue) → List (Cell × ObjectValue)
+abbrev pub written_by : Node → (Reference → Option ObjectValue) → List (Reference × ObjectValue)
 written_by n held = written_from held n held

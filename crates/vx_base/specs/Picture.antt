@@ -5,7 +5,7 @@ use Rattle.vx_base.specs.declared.format.Format.TheVariants.{U8 as FormatU8, S16
 use Rattle.vx_base.specs.declared.samples.Samples.{Samples}
 use Rattle.vx_base.specs.declared.samples.Samples.TheVariants.{U8, S16, U32}
 use Rattle.vx_base.specs.Sample.{IsSample}
-use Rattle.vx_base.specs.Rectangle.{whole}
+use Rattle.vx_base.specs.Rectangle.{whole_rectangle}
 use Rattle.vx_base.specs.Description.{Description, IsDescription, sample_count}
 use Rattle.vx_base.specs.Image.{ImageValue, description_of, image_over}
 
@@ -30,8 +30,8 @@ abbrev pub picture_of : ImageValue → PictureValue
 picture_of image = record { description = description_of image; samples = image.samples }
 
 -- a picture as an image that is wholly valid
-abbrev pub pictured : PictureValue → ImageValue
-pictured p = image_over p.description (whole p.description.width p.description.height) p.samples
+abbrev pub picture_image : PictureValue → ImageValue
+picture_image p = image_over p.description (whole_rectangle p.description.width p.description.height) p.samples
 
 -- a picture with a sample of its format for each pixel
 pub record IsPicture (p : PictureValue) : Type 0 where

@@ -9,7 +9,7 @@ use Rattle.vx_base.specs.declared.function.Function.{Function}
 use Rattle.vx_base.specs.declared.function.Function.TheVariants.{AndBits, OrBits, XorBits, NotBits, Add, Subtract, Multiply, AbsoluteDifference, MinPixel, MaxPixel, ConvertDepth, Accumulate, AccumulateSquare}
 use Rattle.vx_base.specs.Sample.{clamp, narrow, distance}
 use Rattle.vx_base.specs.Rectangle.{meet_of}
-use Rattle.vx_base.specs.Image.{ImageValue, at, made}
+use Rattle.vx_base.specs.Image.{ImageValue, pixel_at, image_from}
 use Rattle.vx_base.specs.Lut.{LutValue, entry_for}
 use Rattle.vx_base.specs.Threshold.{ThresholdValue, passes}
 
@@ -55,22 +55,22 @@ abbrev pub greater : ℤ → ℤ → ℤ
 greater a b = int_max a b
 
 -- "Thresholding": the true value where the sample passes, else the false value
-abbrev pub thresholded : ThresholdValue → ℤ → ℤ
-thresholded threshold a = if passes threshold.kind a then pos threshold.true_value else pos threshold.false_value
+abbrev pub threshold_result : ThresholdValue → ℤ → ℤ
+threshold_result threshold a = if passes threshold.kind a then pos threshold.true_value else pos threshold.false_value
 
 -- "TableLookup": the table's entry for the sample
-abbrev pub looked_up : LutValue → ℤ → ℤ
-looked_up lut a = entry_for lut a
+abbrev pub lookup_result : LutValue → ℤ → ℤ
+lookup_result lut a = entry_for lut a
 
 -- "Convert Bit Depth", shifted by n as this project defines it: to S16 times 2^n; to U8 over 2^n, rounded down and narrowed
-abbrev pub converted : Format → Policy → ℕ → ℤ → ℤ
-converted U8 policy n a = narrow U8 policy (int_div_euclid a (pos (2 ^ n)))
-converted S16 policy n a = a *ℤ pos (2 ^ n)
-converted U32 policy n a = a
+abbrev pub depth_conversion : Format → Policy → ℕ → ℤ → ℤ
+depth_conversion U8 policy n a = narrow U8 policy (int_div_euclid a (pos (2 ^ n)))
+depth_conversion S16 policy n a = a *ℤ pos (2 ^ n)
+depth_conversion U32 policy n a = a
 
 -- "Accumulate": the sample a added to the output's earlier sample c, clamped
-abbrev pub accumulated : Format → ℤ → ℤ → ℤ
-accumulated format a c = clamp format (c +ℤ a)
+abbrev pub accumulated_sum : Format → ℤ → ℤ → ℤ
+accumulated_sum format a c = clamp format (c +ℤ a)
 
 -- "Accumulate Squared": the square of a over 2^n, rounded down, added to the output's earlier sample c, clamped
 abbrev pub accumulated_square : Format → ℕ → ℤ → ℤ → ℤ
@@ -80,18 +80,18 @@ accumulated_square format n a c = clamp format (c +ℤ int_div_euclid (a *ℤ a)
 
 -- the image whose samples are f of the input's, valid where the input is
 abbrev pub from_one : Format → (ℤ → ℤ) → ImageValue → ImageValue
-from_one format f a = made a.width a.height format a.valid (λ x y. f (at a x y))
+from_one format f a = image_from a.width a.height format a.valid (λ x y. f (pixel_at a x y))
 
 -- the image whose samples are f of the samples of two images, valid where both are
 abbrev pub from_two : Format → (ℤ → ℤ → ℤ) → ImageValue → ImageValue → ImageValue
-from_two format f a b = made a.width a.height format (meet_of a.valid b.valid) (λ x y. f (at a x y) (at b x y))
+from_two format f a b = image_from a.width a.height format (meet_of a.valid b.valid) (λ x y. f (pixel_at a x y) (pixel_at b x y))
 
 -- ---- the formula of each function of one input, and of each function of two images, or of one and the output's earlier content
 
 -- the formula of a function of one image; n is the node's amount
 abbrev pub formula_of_one : Function → Format → Policy → ℕ → ℤ → ℤ
 formula_of_one NotBits format policy n a = not_bits a
-formula_of_one ConvertDepth format policy n a = converted format policy n a
+formula_of_one ConvertDepth format policy n a = depth_conversion format policy n a
 formula_of_one other format policy n a = pos 0
 
 -- the formula of a function of two images, or of one and its accumulator
@@ -105,6 +105,6 @@ formula_of_two Multiply format policy n a b = product format policy n a b
 formula_of_two AbsoluteDifference format policy n a b = absolute_difference format a b
 formula_of_two MinPixel format policy n a b = smaller a b
 formula_of_two MaxPixel format policy n a b = greater a b
-formula_of_two Accumulate format policy n a c = accumulated format a c
+formula_of_two Accumulate format policy n a c = accumulated_sum format a c
 formula_of_two AccumulateSquare format policy n a c = accumulated_square format n a c
 formula_of_two other format policy n a b = pos 0

@@ -9,12 +9,12 @@ pub record Rectangle : Type 0 where
   pub y1 : ℕ
 
 -- whether a pixel is in the rectangle
-abbrev pub inside : Rectangle → ℕ → ℕ → Bool
-inside r x y = (nat_le r.x0 x && nat_lt x r.x1) && (nat_le r.y0 y && nat_lt y r.y1)
+abbrev pub has_pixel : Rectangle → ℕ → ℕ → Bool
+has_pixel r x y = (nat_le r.x0 x && nat_lt x r.x1) && (nat_le r.y0 y && nat_lt y r.y1)
 
 -- the rectangle without pixels
-abbrev pub empty : Rectangle
-empty = record { x0 = 0; y0 = 0; x1 = 0; y1 = 0 }
+abbrev pub empty_rectangle : Rectangle
+empty_rectangle = record { x0 = 0; y0 = 0; x1 = 0; y1 = 0 }
 
 -- whether these bounds are in canonical form: all 0, or each start below its end
 abbrev pub is_rectangle : ℕ → ℕ → ℕ → ℕ → Bool
@@ -26,20 +26,20 @@ abbrev pub rectangle : ℕ → ℕ → ℕ → ℕ → Option Rectangle
 rectangle x0 y0 x1 y1 = if is_rectangle x0 y0 x1 y1 then Some (record { x0 = x0; y0 = y0; x1 = x1; y1 = y1 }) else None
 
 -- the rectangle with these bounds, or the empty one if they include no pixel
-abbrev pub bounded : ℕ → ℕ → ℕ → ℕ → Rectangle
-bounded x0 y0 x1 y1 = if nat_lt x0 x1 && nat_lt y0 y1 then record { x0 = x0; y0 = y0; x1 = x1; y1 = y1 } else empty
+abbrev pub rectangle_or_empty : ℕ → ℕ → ℕ → ℕ → Rectangle
+rectangle_or_empty x0 y0 x1 y1 = if nat_lt x0 x1 && nat_lt y0 y1 then record { x0 = x0; y0 = y0; x1 = x1; y1 = y1 } else empty_rectangle
 
 -- all pixels of an image of this width and height
-abbrev pub whole : ℕ → ℕ → Rectangle
-whole width height = record { x0 = 0; y0 = 0; x1 = width; y1 = height }
+abbrev pub whole_rectangle : ℕ → ℕ → Rectangle
+whole_rectangle width height = record { x0 = 0; y0 = 0; x1 = width; y1 = height }
 
 -- the intersection of two rectangles
 abbrev pub meet_of : Rectangle → Rectangle → Rectangle
-meet_of r s = bounded (max r.x0 s.x0) (max r.y0 s.y0) (min r.x1 s.x1) (min r.y1 s.y1)
+meet_of r s = rectangle_or_empty (max r.x0 s.x0) (max r.y0 s.y0) (min r.x1 s.x1) (min r.y1 s.y1)
 
 -- the pixels whose window, of radius rx across and ry down, lies wholly in the rectangle
-abbrev pub shrunk : Rectangle → ℕ → ℕ → Rectangle
-shrunk r rx ry = bounded (r.x0 + rx) (r.y0 + ry) (r.x1 - rx) (r.y1 - ry)
+abbrev pub shrink_of : Rectangle → ℕ → ℕ → Rectangle
+shrink_of r rx ry = rectangle_or_empty (r.x0 + rx) (r.y0 + ry) (r.x1 - rx) (r.y1 - ry)
 
 -- a rectangle in canonical form: all bounds 0, or each start below its end
 abbrev pub IsCanonical : Rectangle → Type 0

@@ -25,20 +25,20 @@ range_size S16 = 65536
 range_size U32 = 4294967296
 
 -- the least and the greatest sample
-abbrev pub least : Format → ℤ
-least U8 = pos 0
-least S16 = negsuc 32767
-least U32 = pos 0
+abbrev pub min_sample : Format → ℤ
+min_sample U8 = pos 0
+min_sample S16 = negsuc 32767
+min_sample U32 = pos 0
 
-abbrev pub greatest : Format → ℤ
-greatest U8 = pos 255
-greatest S16 = pos 32767
-greatest U32 = pos 4294967295
+abbrev pub max_sample : Format → ℤ
+max_sample U8 = pos 255
+max_sample S16 = pos 32767
+max_sample U32 = pos 4294967295
 
 -- a number in the format's range
 pub record IsSample (format : Format) (z : ℤ) : Type 0 where
-  pub at_least : least format ≤ℤ z
-  pub at_most : z ≤ℤ greatest format
+  pub at_least : min_sample format ≤ℤ z
+  pub at_most : z ≤ℤ max_sample format
 
 -- v and z differ by a multiple of m
 abbrev pub AgreesModulo : ℕ → ℤ → ℤ → Type 0
@@ -60,7 +60,7 @@ wrap U32 v = int_rem_euclid v (pos 4294967296)
 
 -- the sample nearest to v
 abbrev pub clamp : Format → ℤ → ℤ
-clamp format v = int_max (least format) (int_min v (greatest format))
+clamp format v = int_max (min_sample format) (int_min v (max_sample format))
 
 -- the sample that replaces v under the overflow policy
 abbrev pub narrow : Format → Policy → ℤ → ℤ

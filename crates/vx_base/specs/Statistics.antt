@@ -7,21 +7,21 @@ use Rattle.std.specs.Int.{int_min, int_max}
 use Rattle.vx_base.specs.declared.format.Format.{Format}
 use Rattle.vx_base.specs.declared.format.Format.TheVariants.{U32}
 use Rattle.vx_base.specs.declared.extremes.Extremes.{Extremes}
-use Rattle.vx_base.specs.Rectangle.{Rectangle, whole, meet_of}
-use Rattle.vx_base.specs.Image.{ImageValue, at, made}
+use Rattle.vx_base.specs.Rectangle.{Rectangle, whole_rectangle, meet_of}
+use Rattle.vx_base.specs.Image.{ImageValue, pixel_at, image_from}
 use Rattle.vx_base.specs.declared.bins.TheConstants.{GREATEST_BINS}
 
 -- n pixels of row y, from column x on
-abbrev pub row_places : ℕ → ℕ → ℕ → List (ℕ × ℕ)
-row_places x n y = map (λ k. (k, y)) (range_with_len x n)
+abbrev pub row_pixels : ℕ → ℕ → ℕ → List (ℕ × ℕ)
+row_pixels x n y = map (λ k. (k, y)) (range_with_len x n)
 
 -- the pixels of a rectangle in row-major order
-abbrev pub places : Rectangle → List (ℕ × ℕ)
-places r = flat_map (row_places r.x0 (r.x1 - r.x0)) (range_with_len r.y0 (r.y1 - r.y0))
+abbrev pub rectangle_pixels : Rectangle → List (ℕ × ℕ)
+rectangle_pixels r = flat_map (row_pixels r.x0 (r.x1 - r.x0)) (range_with_len r.y0 (r.y1 - r.y0))
 
 -- the samples of a rectangle in row-major order
 abbrev pub samples_in : Rectangle → ImageValue → List ℤ
-samples_in r image = map (λ p. at image p.0 p.1) (places r)
+samples_in r image = map (λ p. pixel_at image p.0 p.1) (rectangle_pixels r)
 
 -- the samples of the valid rectangle in row-major order
 abbrev pub valid_samples : ImageValue → List ℤ
@@ -64,12 +64,12 @@ histogram b image = tallies b (valid_samples image)
 
 -- the sum of the valid U8 samples in columns 0 to x of rows 0 to y, modulo 2^32
 abbrev pub sum_to : ImageValue → ℕ → ℕ → ℤ
-sum_to image x y = pos (sum_by unsigned_abs (samples_in (meet_of image.valid (whole (x + 1) (y + 1))) image) % 2 ^ 32)
+sum_to image x y = pos (sum_by unsigned_abs (samples_in (meet_of image.valid (whole_rectangle (x + 1) (y + 1))) image) % 2 ^ 32)
 
 -- the integral image of a U8 image in this format, valid where the input is; samples outside the input's valid rectangle count as 0.
 -- This and the modulus are this project's choice, since OpenVX doesn't define sums beyond 32 bits.
 abbrev pub sums_in : Format → ImageValue → ImageValue
-sums_in format image = made image.width image.height format image.valid (sum_to image)
+sums_in format image = image_from image.width image.height format image.valid (sum_to image)
 
 -- the integral image of a U8 image, in U32
 abbrev pub integral : ImageValue → ImageValue
@@ -78,9 +78,9 @@ integral image = sums_in U32 image
 -- ---- "Min, Max Location"
 
 -- the result of folding the samples with choose, which picks one of two; 0 if there are none
-abbrev pub chosen : (ℤ → ℤ → ℤ) → List ℤ → ℤ
-chosen choose [] = pos 0
-chosen choose (z ∷ zs) = fold choose z zs
+abbrev pub best_of : (ℤ → ℤ → ℤ) → List ℤ → ℤ
+best_of choose [] = pos 0
+best_of choose (z ∷ zs) = fold choose z zs
 
 -- the number of these samples that are z
 abbrev pub count_of : ℤ → List ℤ → ℕ
@@ -93,13 +93,13 @@ first_of f z ps = unwrap_or (find (λ p. int_eq (f p.0 p.1) z) ps) (0, 0)
 -- the least and the greatest valid sample of a U8 or S16 image, the number of pixels that have each, and the first such pixel
 abbrev pub extremes : ImageValue → Extremes
 extremes image =
-    let least = chosen int_min (valid_samples image) in
-    let greatest = chosen int_max (valid_samples image) in
+    let least = best_of int_min (valid_samples image) in
+    let greatest = best_of int_max (valid_samples image) in
     record {
       min = least;
       max = greatest;
       min_count = count_of least (valid_samples image);
       max_count = count_of greatest (valid_samples image);
-      min_at = first_of (at image) least (places image.valid);
-      max_at = first_of (at image) greatest (places image.valid);
+      min_at = first_of (pixel_at image) least (rectangle_pixels image.valid);
+      max_at = first_of (pixel_at image) greatest (rectangle_pixels image.valid);
     }

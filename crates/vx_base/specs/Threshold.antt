@@ -4,7 +4,7 @@ use Rattle.vx_base.specs.declared.format.Format.{Format}
 use Rattle.vx_base.specs.declared.format.Format.TheVariants.{U32}
 use Rattle.vx_base.specs.declared.threshold.ThresholdKind.{ThresholdKind}
 use Rattle.vx_base.specs.declared.threshold.ThresholdKind.TheVariants.{Binary, Range}
-use Rattle.vx_base.specs.Sample.{least, greatest}
+use Rattle.vx_base.specs.Sample.{min_sample, max_sample}
 
 -- a threshold for samples of the format
 pub record ThresholdValue : Type 0 where
@@ -15,7 +15,7 @@ pub record ThresholdValue : Type 0 where
 
 -- whether a number is a sample of the format
 abbrev pub is_sample : Format → ℤ → Bool
-is_sample format z = int_le (least format) z && int_le z (greatest format)
+is_sample format z = int_le (min_sample format) z && int_le z (max_sample format)
 
 -- whether the format is U8 or S16, the limits are samples of it, and the upper one is not below the lower
 abbrev pub has_limits : Format → ThresholdKind → Bool

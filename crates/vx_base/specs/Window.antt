@@ -12,8 +12,8 @@ use Rattle.vx_base.specs.declared.output.Output.{Output}
 use Rattle.vx_base.specs.declared.output.Output.TheVariants.{First, Second}
 use Rattle.vx_base.specs.Convolution.{ConvolutionValue, coefficient}
 use Rattle.vx_base.specs.Sample.{clamp}
-use Rattle.vx_base.specs.Rectangle.{Rectangle, shrunk}
-use Rattle.vx_base.specs.Image.{ImageValue, at, made}
+use Rattle.vx_base.specs.Rectangle.{Rectangle, shrink_of}
+use Rattle.vx_base.specs.Image.{ImageValue, pixel_at, image_from}
 
 -- ---- the input of a window
 
@@ -22,19 +22,19 @@ abbrev pub holds : Rectangle → ℤ → ℤ → Bool
 holds r x y = (int_le (pos r.x0) x && int_lt x (pos r.x1)) && (int_le (pos r.y0) y && int_lt y (pos r.y1))
 
 -- the number from low to high - 1 that is nearest to v
-abbrev pub nearest : ℕ → ℕ → ℤ → ℕ
-nearest low high v = unsigned_abs (int_max (pos low) (int_min v (pos high -ℤ pos 1)))
+abbrev pub clamp_coordinate : ℕ → ℕ → ℤ → ℕ
+clamp_coordinate low high v = unsigned_abs (int_max (pos low) (int_min v (pos high -ℤ pos 1)))
 
 -- the sample of a pixel outside the valid rectangle: 0 under Undefined, where no result uses it; the constant; or under Replicate
 -- the nearest valid sample, with each coordinate clamped to the rectangle on its own
-abbrev pub beside : ImageValue → Border → ℤ → ℤ → ℤ
-beside image Undefined x y = pos 0
-beside image (Constant value) x y = pos value
-beside image Replicate x y = at image (nearest image.valid.x0 image.valid.x1 x) (nearest image.valid.y0 image.valid.y1 y)
+abbrev pub border_sample : ImageValue → Border → ℤ → ℤ → ℤ
+border_sample image Undefined x y = pos 0
+border_sample image (Constant value) x y = pos value
+border_sample image Replicate x y = pixel_at image (clamp_coordinate image.valid.x0 image.valid.x1 x) (clamp_coordinate image.valid.y0 image.valid.y1 y)
 
 -- the sample that a window reads at a pixel: the image's own in the valid rectangle, else the border's
-abbrev pub look : ImageValue → Border → ℤ → ℤ → ℤ
-look image border x y = if holds image.valid x y then at image (unsigned_abs x) (unsigned_abs y) else beside image border x y
+abbrev pub sample_or_border : ImageValue → Border → ℤ → ℤ → ℤ
+sample_or_border image border x y = if holds image.valid x y then pixel_at image (unsigned_abs x) (unsigned_abs y) else border_sample image border x y
 
 -- the 3x3 window around a pixel, in row-major order
 abbrev pub nine_around : (ℤ → ℤ → ℤ) → ℤ → ℤ → List ℤ
@@ -51,9 +51,9 @@ total [] = pos 0
 total (z ∷ zs) = z +ℤ total zs
 
 -- the weighted sum of the samples
-abbrev pub weighted : List ℤ → List ℤ → ℤ
-weighted (w ∷ ws) (z ∷ zs) = w *ℤ z +ℤ weighted ws zs
-weighted ws zs = pos 0
+abbrev pub dot_product : List ℤ → List ℤ → ℤ
+dot_product (w ∷ ws) (z ∷ zs) = w *ℤ z +ℤ dot_product ws zs
+dot_product ws zs = pos 0
 
 -- "Box Filter": the mean of the nine samples, rounded down
 abbrev pub box_mean : List ℤ → ℤ
@@ -68,7 +68,7 @@ gaussian_weights =
 
 -- "Gaussian Filter": the weighted mean of the nine samples, rounded down
 abbrev pub gaussian_mean : List ℤ → ℤ
-gaussian_mean zs = int_div_euclid (weighted gaussian_weights zs) (pos 16)
+gaussian_mean zs = int_div_euclid (dot_product gaussian_weights zs) (pos 16)
 
 -- whether at most four of the samples are below v, and at most four are above it
 abbrev pub is_middle : List ℤ → ℤ → Bool
@@ -91,7 +91,7 @@ greatest_of (z ∷ zs) = fold int_max z zs
 -- "Sobel 3x3": the horizontal gradient, positive from left to right
 abbrev pub gradient_x : List ℤ → ℤ
 gradient_x =
-    weighted
+    dot_product
     (negsuc 0 ∷ pos 0 ∷ pos 1
     ∷ negsuc 1 ∷ pos 0 ∷ pos 2
     ∷ negsuc 0 ∷ pos 0 ∷ pos 1 ∷ [])
@@ -99,7 +99,7 @@ gradient_x =
 -- "Sobel 3x3": the vertical gradient, positive from top to bottom
 abbrev pub gradient_y : List ℤ → ℤ
 gradient_y =
-    weighted
+    dot_product
     (negsuc 0 ∷ negsuc 1 ∷ negsuc 0
     ∷ pos 0 ∷ pos 0 ∷ pos 0
     ∷ pos 1 ∷ pos 2 ∷ pos 1 ∷ [])
@@ -126,24 +126,24 @@ abbrev pub matrix_product : ConvolutionValue → (ℤ → ℤ → ℤ) → ℤ �
 matrix_product c f x y = total (map (λ l. row_product c (λ u. f u (y +ℤ pos (c.rows / 2) -ℤ pos l)) x l) (range_with_len 0 c.rows))
 
 -- the sum over 2^exponent, rounded to zero and clamped to the format
-abbrev pub convolved : ConvolutionValue → Format → (ℤ → ℤ → ℤ) → ℤ → ℤ → ℤ
-convolved c format f x y = clamp format (int_div (matrix_product c f x y) (pos (2 ^ c.exponent)))
+abbrev pub convolution_result : ConvolutionValue → Format → (ℤ → ℤ → ℤ) → ℤ → ℤ → ℤ
+convolution_result c format f x y = clamp format (int_div (matrix_product c f x y) (pos (2 ^ c.exponent)))
 
 -- ---- images
 
 -- the output's valid rectangle for windows of these radii: under Undefined the pixels whose whole window is valid, otherwise that of
 -- the input
 abbrev pub window_valid : Border → ℕ → ℕ → Rectangle → Rectangle
-window_valid Undefined rx ry valid = shrunk valid rx ry
+window_valid Undefined rx ry valid = shrink_of valid rx ry
 window_valid (Constant value) rx ry valid = valid
 window_valid Replicate rx ry valid = valid
 
 -- the image whose samples are f of the 3x3 window around each pixel
 abbrev pub from_nine : Format → (List ℤ → ℤ) → Border → ImageValue → ImageValue
 from_nine format f border a =
-    made a.width a.height format (window_valid border 1 1 a.valid) (λ x y. f (nine_around (look a border) (pos x) (pos y)))
+    image_from a.width a.height format (window_valid border 1 1 a.valid) (λ x y. f (nine_around (sample_or_border a border) (pos x) (pos y)))
 
 -- the image convolved with a matrix
 abbrev pub from_matrix : Format → ConvolutionValue → Border → ImageValue → ImageValue
 from_matrix format c border a =
-    made a.width a.height format (window_valid border (c.columns / 2) (c.rows / 2) a.valid) (λ x y. convolved c format (look a border) (pos x) (pos y))
+    image_from a.width a.height format (window_valid border (c.columns / 2) (c.rows / 2) a.valid) (λ x y. convolution_result c format (sample_or_border a border) (pos x) (pos y))

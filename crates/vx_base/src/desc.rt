@@ -2,7 +2,7 @@
 ghost use Rattle.std.specs.Prelude.{◌≡◌, ◌≤◌, ◌*◌, IsTrue, ◌&&◌};
 ghost use Rattle.vx_base.specs.Description.{description, is_side, IsDescription, same_size};
 ghost use Rattle.vx_base.specs.Description.{sample_count, byte_count};
-ghost use Rattle.vx_base.specs.Rectangle.{whole};
+ghost use Rattle.vx_base.specs.Rectangle.{whole_rectangle};
 
 use crate::format::Format;
 use crate::rect::Rect;
@@ -100,7 +100,7 @@ impl Desc {
 
     /// Returns the rectangle of all pixels.
     pub fn whole(self) -> Rect
-        ensures { result ≡ whole self.width self.height }
+        ensures { result ≡ whole_rectangle self.width self.height }
     {
         Rect::new(0, 0, self.width, self.height).unwrap()
     }

@@ -10,20 +10,20 @@ ghost use Rattle.vx_base.specs.declared.function.Function.TheVariants.{ConvertDe
 ghost use Rattle.vx_base.specs.declared.threshold.ThresholdKind.TheVariants.{Binary, Range};
 ghost use Rattle.vx_base.specs.declared.code.Code.TheVariants.{InvalidFormat};
 ghost use Rattle.vx_base.specs.Sample.{narrow};
-ghost use Rattle.vx_base.specs.Rectangle.{Rectangle, rectangle, empty, meet_of, shrunk, inside};
+ghost use Rattle.vx_base.specs.Rectangle.{Rectangle, rectangle, empty_rectangle, meet_of, shrink_of, has_pixel};
 ghost use Rattle.vx_base.specs.Description.{description, byte_count};
-ghost use Rattle.vx_base.specs.Outline.{outline, outline_of, filled, closed};
+ghost use Rattle.vx_base.specs.PartialDescription.{partial_description, partial_desc_of, with_defaults, full_description};
 ghost use Rattle.vx_base.specs.declared.node.Node.{Node};
 ghost use Rattle.vx_base.specs.Graph.{new_graph, nodes_of, with_node, without_node, can_add};
-ghost use Rattle.vx_base.specs.Image.{ImageValue, made, at, new_image};
+ghost use Rattle.vx_base.specs.Image.{ImageValue, image_from, pixel_at, new_image};
 ghost use Rattle.vx_base.specs.Lut.{entry_for};
 ghost use Rattle.vx_base.specs.Object.{ImageObject, LutObject, object_kind};
 ghost use Rattle.vx_base.specs.Formats.{takes_formats, open_format};
 ghost use Rattle.vx_base.specs.Function.{parameters};
 ghost use Rattle.vx_base.specs.declared.kind.Kind.TheVariants.{Image};
 ghost use Rattle.vx_base.specs.Pixelwise.{and_bits, or_bits, xor_bits, not_bits, sum, difference};
-ghost use Rattle.vx_base.specs.Pixelwise.{product, absolute_difference, thresholded, converted};
-ghost use Rattle.vx_base.specs.Pixelwise.{accumulated, accumulated_square, from_one, from_two};
+ghost use Rattle.vx_base.specs.Pixelwise.{product, absolute_difference, threshold_result, depth_conversion};
+ghost use Rattle.vx_base.specs.Pixelwise.{accumulated_sum, accumulated_square, from_one, from_two};
 ghost use Rattle.vx_base.specs.declared.output.Output.TheVariants.{First};
 ghost use Rattle.vx_base.specs.Outputs.{node_image};
 ghost use Rattle.vx_base.specs.Code.{code_number, code_name};
@@ -44,16 +44,16 @@ pub fn narrowed()
 /// Rectangles and their pixels.
 pub fn rectangles()
     ensures proper { rectangle 1 0 3 1 ≡ Some (record { x0 = 1; y0 = 0; x1 = 3; y1 = 1 }) }
-    ensures zeros { rectangle 0 0 0 0 ≡ Some empty }
+    ensures zeros { rectangle 0 0 0 0 ≡ Some empty_rectangle }
     ensures no_places { rectangle 3 0 3 1 ≡ None }
     ensures turned { rectangle 3 0 1 1 ≡ None }
     ensures met { meet_of (record { x0 = 0; y0 = 0; x1 = 3; y1 = 2 })
         (record { x0 = 1; y0 = 1; x1 = 4; y1 = 4 }) ≡ record { x0 = 1; y0 = 1; x1 = 3; y1 = 2 } }
     ensures apart { meet_of (record { x0 = 0; y0 = 0; x1 = 2; y1 = 1 })
-        (record { x0 = 2; y0 = 0; x1 = 4; y1 = 1 }) ≡ empty }
-    ensures inner { shrunk (record { x0 = 0; y0 = 0; x1 = 8; y1 = 7 }) 3 3
+        (record { x0 = 2; y0 = 0; x1 = 4; y1 = 1 }) ≡ empty_rectangle }
+    ensures inner { shrink_of (record { x0 = 0; y0 = 0; x1 = 8; y1 = 7 }) 3 3
         ≡ record { x0 = 3; y0 = 3; x1 = 5; y1 = 4 } }
-    ensures too_small { shrunk (record { x0 = 0; y0 = 0; x1 = 2; y1 = 2 }) 1 1 ≡ empty }
+    ensures too_small { shrink_of (record { x0 = 0; y0 = 0; x1 = 2; y1 = 2 }) 1 1 ≡ empty_rectangle }
 {}
 
 /// Descriptions within the limits and beyond them.
@@ -68,9 +68,9 @@ pub fn descriptions()
 
 /// An image of two columns and two rows that is valid in its left column.
 pub fn images()
-    ensures samples { (made 2 2 U8 (record { x0 = 0; y0 = 0; x1 = 1; y1 = 2 })
+    ensures samples { (image_from 2 2 U8 (record { x0 = 0; y0 = 0; x1 = 1; y1 = 2 })
         (λ x y. pos 10)).samples ≡ pos 10 ∷ pos 0 ∷ pos 10 ∷ pos 0 ∷ [] }
-    ensures place { at (made 2 2 U8 (record { x0 = 0; y0 = 0; x1 = 1; y1 = 2 })
+    ensures place { pixel_at (image_from 2 2 U8 (record { x0 = 0; y0 = 0; x1 = 1; y1 = 2 })
         (λ x y. pos 10)) 0 1 ≡ pos 10 }
     ensures new { (new_image 2 1 S16).samples ≡ pos 0 ∷ pos 0 ∷ [] }
 {}
@@ -126,8 +126,8 @@ pub fn products()
 
 /// 200 added to 400, 100 added to 32700, and squares of 255: unscaled, over 2 and over 32768.
 pub fn accumulations()
-    ensures added { accumulated S16 (pos 200) (pos 400) ≡ pos 600 }
-    ensures nearest { accumulated S16 (pos 100) (pos 32700) ≡ pos 32767 }
+    ensures added { accumulated_sum S16 (pos 200) (pos 400) ≡ pos 600 }
+    ensures nearest { accumulated_sum S16 (pos 100) (pos 32700) ≡ pos 32767 }
     ensures nearest_square { accumulated_square S16 0 (pos 255) (pos 0) ≡ pos 32767 }
     ensures half { accumulated_square S16 1 (pos 255) (pos 0) ≡ pos 32512 }
     ensures rounded_down { accumulated_square S16 15 (pos 255) (negsuc 32767) ≡ negsuc 32766 }
@@ -135,7 +135,7 @@ pub fn accumulations()
 
 /// A row added to an accumulator that is valid in its left half only.
 pub fn accumulated_row()
-    ensures { (from_two S16 (accumulated S16) (record {
+    ensures { (from_two S16 (accumulated_sum S16) (record {
       width = 4;
       height = 1;
       format = U8;
@@ -152,49 +152,49 @@ pub fn accumulated_row()
 
 /// -1 over 2 converted to U8, and 255 times 128 converted to S16.
 pub fn conversions()
-    ensures wrapped { converted U8 Wrap 1 (negsuc 0) ≡ pos 255 }
-    ensures nearest { converted U8 Saturate 1 (negsuc 0) ≡ pos 0 }
-    ensures widened { converted S16 Wrap 7 (pos 255) ≡ pos 32640 }
+    ensures wrapped { depth_conversion U8 Wrap 1 (negsuc 0) ≡ pos 255 }
+    ensures nearest { depth_conversion U8 Saturate 1 (negsuc 0) ≡ pos 0 }
+    ensures widened { depth_conversion S16 Wrap 7 (pos 255) ≡ pos 32640 }
 {}
 
 /// Samples at the limits of range and binary thresholds.
 pub fn thresholds()
-    ensures below { thresholded (record {
+    ensures below { threshold_result (record {
       format = U8;
       kind = Range (pos 10)
           (pos 20);
       true_value = 255;
       false_value = 0;
     }) (pos 9) ≡ pos 0 }
-    ensures lower { thresholded (record {
+    ensures lower { threshold_result (record {
       format = U8;
       kind = Range (pos 10)
           (pos 20);
       true_value = 255;
       false_value = 0;
     }) (pos 10) ≡ pos 255 }
-    ensures upper { thresholded (record {
+    ensures upper { threshold_result (record {
       format = U8;
       kind = Range (pos 10)
           (pos 20);
       true_value = 255;
       false_value = 0;
     }) (pos 20) ≡ pos 255 }
-    ensures above { thresholded (record {
+    ensures above { threshold_result (record {
       format = U8;
       kind = Range (pos 10)
           (pos 20);
       true_value = 255;
       false_value = 0;
     }) (pos 21) ≡ pos 0 }
-    ensures limit { thresholded (record {
+    ensures limit { threshold_result (record {
       format = U8;
       kind = Binary
           (pos 10);
       true_value = 255;
       false_value = 0;
     }) (pos 10) ≡ pos 0 }
-    ensures above_limit { thresholded (record {
+    ensures above_limit { threshold_result (record {
       format = U8;
       kind = Binary
           (pos 10);
@@ -258,7 +258,7 @@ pub fn and_of_halves()
           width = 4;
           height = 1;
           format = U8;
-          valid = empty;
+          valid = empty_rectangle;
           samples = pos 0 ∷ pos 0
               ∷ pos 0 ∷ pos 0 ∷ [];
         } }
@@ -307,14 +307,14 @@ pub fn nodes()
 {}
 
 /// Partial descriptions with their open parts filled in, and the formats of open outputs.
-pub fn outlines()
-    ensures filled { filled (record { width = Some 4; height = None; format = None })
+pub fn partial_descs()
+    ensures filled { with_defaults (record { width = Some 4; height = None; format = None })
         (record { width = Some 8; height = Some 2; format = Some U8 })
         ≡ record { width = Some 4; height = Some 2; format = Some U8 } }
-    ensures open { closed (record { width = Some 4; height = None; format = Some U8 }) ≡ None }
-    ensures closed { closed (outline_of (record { width = 4; height = 2; format = S16 }))
+    ensures open { full_description (record { width = Some 4; height = None; format = Some U8 }) ≡ None }
+    ensures closed { full_description (partial_desc_of (record { width = 4; height = 2; format = S16 }))
         ≡ Some (record { width = 4; height = 2; format = S16 }) }
-    ensures side { outline (Some 8193) None None ≡ None }
+    ensures side { partial_description (Some 8193) None None ≡ None }
     ensures sums { open_format Add U8 ≡ S16 }
     ensures kept { open_format TableLookup S16 ≡ S16 }
     ensures converted { open_format ConvertDepth S16 ≡ U8 }

@@ -1,6 +1,6 @@
 //! Rectangles of pixels.
 ghost use Rattle.std.specs.Prelude.{◌≡◌};
-ghost use Rattle.vx_base.specs.Rectangle.{rectangle, empty, meet_of, shrunk, IsRectangle, IsOrdered};
+ghost use Rattle.vx_base.specs.Rectangle.{rectangle, empty_rectangle, meet_of, shrink_of, IsRectangle, IsOrdered};
 
 use std::marker::Model;
 
@@ -43,7 +43,7 @@ impl Rect {
 
     /// Returns the empty rectangle.
     pub fn empty() -> Rect
-        ensures { result ≡ empty }
+        ensures { result ≡ empty_rectangle }
     {
         Rect {
             x0: 0,
@@ -77,7 +77,7 @@ impl Rect {
     /// Returns the pixels whose window, of radius `rx` across and `ry` down, lies wholly in this
     /// rectangle: the valid rectangle of a window function's output under an undefined border.
     pub fn shrink(self, rx: u16, ry: u16) -> Rect
-        ensures { result ≡ shrunk self rx ry }
+        ensures { result ≡ shrink_of self rx ry }
     {
         let (x0, x1) = (self.x0.saturating_add(rx), self.x1.saturating_sub(rx));
         let (y0, y1) = (self.y0.saturating_add(ry), self.y1.saturating_sub(ry));

@@ -15,9 +15,9 @@ pub struct ObjRef {
 impl Model for ObjRef {
     ghost use Rattle.std.specs.Prelude.{◌<◌};
     ghost use Rattle.std.specs.Option.{ForSome};
-    ghost use Rattle.vx_base.specs.Cell.{Cell};
+    ghost use Rattle.vx_base.specs.Reference.{Reference};
 
-    ghost Value = { Cell };
+    ghost Value = { Reference };
 
     ghost view = { λ r. record { name = r.name; slot = r.slot } };
 
@@ -27,7 +27,7 @@ impl Model for ObjRef {
 }
 
 impl ObjRef {
-    ghost use Rattle.vx_base.specs.Cell.{IsCell};
+    ghost use Rattle.vx_base.specs.Reference.{IsReference};
     ghost use Rattle.vx_base.specs.Node.{is_nothing};
 
     /// Returns the reference to the object of this name, or to one of its slots. A slot is below
@@ -58,7 +58,7 @@ impl ObjRef {
     /// Proves that name and slot are in their ranges. The prover learns the range of a number only
     /// where it is read; at run time this does nothing.
     pub fn is_cell(self)
-        ensures { IsCell self }
+        ensures { IsReference self }
     {
         let _parts = (self.name, self.slot);
     }

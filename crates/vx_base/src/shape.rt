@@ -1,6 +1,6 @@
 //! Checks of a node's fields against the parameters of its function.
 ghost use Rattle.std.specs.Prelude.{◌≡◌, ◌<◌, ◌^◌, IfSome};
-ghost use Rattle.vx_base.specs.Cell.{IsCell};
+ghost use Rattle.vx_base.specs.Reference.{IsReference};
 ghost use Rattle.vx_base.specs.Node.{is_named, all_named, has_amount, has_operands, is_node};
 ghost use Rattle.vx_base.specs.Node.{IsBorder};
 
@@ -58,10 +58,10 @@ fn all_named(node: &Node) -> bool
 pub fn has_numbers(node: &Node)
     ensures border { IsBorder node.now.border }
     ensures amount { node.now.amount < 2 ^ 8 }
-    ensures in1 { IsCell node.now.in1 }
-    ensures in2 { IfSome node.now.in2 IsCell }
-    ensures out1 { IfSome node.now.out1 IsCell }
-    ensures out2 { IfSome node.now.out2 IsCell }
+    ensures in1 { IsReference node.now.in1 }
+    ensures in2 { IfSome node.now.in2 IsReference }
+    ensures out1 { IfSome node.now.out1 IsReference }
+    ensures out2 { IfSome node.now.out2 IsReference }
 {
     let _amount = node.amount;
     has_constant(node.border);
@@ -81,7 +81,7 @@ fn has_constant(border: Border)
 }
 
 fn are_cells(cell: Option<ObjRef>)
-    ensures { IfSome cell IsCell }
+    ensures { IfSome cell IsReference }
 {
     if let Some(cell) = cell {
         cell.is_cell();

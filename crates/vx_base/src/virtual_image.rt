@@ -1,5 +1,5 @@
 //! Virtual images.
-use crate::outline::Outline;
+use crate::partial_desc::PartialDesc;
 
 /// An image without samples of its own, which links nodes of one graph (OpenVX 1.3,
 /// `vxCreateVirtualImage`).
@@ -8,5 +8,5 @@ pub struct VirtualImage {
     /// The name of its graph. The graph may have been released.
     pub graph: u32,
     /// The declared part of its description.
-    pub declared: Outline,
+    pub declared: PartialDesc,
 }

@@ -5,8 +5,8 @@ use Rattle.std.specs.Str.{all_ascii_digits}
 use Rattle.std.specs.Result.{OkIff}
 use Rattle.std.specs.Str.Parse.{digits_value, ParsesUnsigned}
 use Rattle.std.proofs.lemmas.Str.Parse.{IsNumeralModel, numerals_by_value, tells_all_ascii_digits, parse_plain}
-use Rattle.client_model.specs.Allowance.{is_limit}
-use Rattle.vx_main.specs.CommandLine.{bytes_told}
+use Rattle.client_model.specs.Limits.{is_limit}
+use Rattle.vx_main.specs.CommandLine.{parse_bytes}
 
 -- the words of digits, and the numbers that they write
 digits_model : IsNumeralModel (λ ds. all_ascii_digits ds ≡ true) (digits_value 10)
@@ -21,7 +21,7 @@ abbrev pub limit_of : ℕ → Option ℕ
 limit_of n = if is_limit n then Some n else None
 
 -- digits alone give the number that they spell
-told_of_digits : (word : List ℕ) → all_ascii_digits word ≡ true → bytes_told word ≡ limit_of (digits_value 10 word)
+told_of_digits : (word : List ℕ) → all_ascii_digits word ≡ true → parse_bytes word ≡ limit_of (digits_value 10 word)
 told_of_digits word digits = ap (λ (t : Bool). if t then limit_of (digits_value 10 word) else None) digits
 
 -- a great number is no limit
@@ -29,7 +29,7 @@ great : (n : ℕ) → 2 ^ 64 ≤ n → limit_of n ≡ None
 great n high = search (rules, arith, high, lt-leb n 1099511627776)
 
 -- a word that spells no number below 2^64 gives none
-told_of_others : (word : List ℕ) → (IsNumber word → ⊥) → bytes_told word ≡ None
+told_of_others : (word : List ℕ) → (IsNumber word → ⊥) → parse_bytes word ≡ None
 told_of_others [] others = refl
 told_of_others (c ∷ cs) others =
     let word = c ∷ cs in
@@ -46,10 +46,10 @@ module _ {E : Type 0} (word : List ℕ) (r : Result ℕ E) (plain : get_or word 
   parsed : OkIff r (IsNumber word) (digits_value 10 word)
   parsed = parse_plain digits_model 64 word r read plain
 
-  pub told_ok : (n : ℕ) → r ≡ Ok n → bytes_told word ≡ limit_of n
+  pub told_ok : (n : ℕ) → r ≡ Ok n → parse_bytes word ≡ limit_of n
   told_ok n is =
       let found : IsNumber word × (n ≡ digits_value 10 word) = subst (λ (s : Result ℕ E). OkIff s (IsNumber word) (digits_value 10 word)) is parsed in
       told_of_digits word found.0.0 ∙ ap (λ (m : ℕ). limit_of m) (sym found.1)
 
-  pub told_err : (e : E) → r ≡ Err e → bytes_told word ≡ None
+  pub told_err : (e : E) → r ≡ Err e → parse_bytes word ≡ None
   told_err e is = told_of_others word (subst (λ (s : Result ℕ E). OkIff s (IsNumber word) (digits_value 10 word)) is parsed)

@@ -6,11 +6,11 @@ use Rattle.vx_base.specs.declared.format.Format.TheVariants.{U8}
 use Rattle.vx_base.specs.declared.output.Output.TheVariants.{First}
 use Rattle.vx_base.specs.Sample.{same_format}
 use Rattle.vx_base.specs.Image.{ImageValue}
-use Rattle.vx_base.specs.Picture.{PictureValue, picture_of, pictured}
+use Rattle.vx_base.specs.Picture.{PictureValue, picture_of, picture_image}
 use Rattle.vx_base.specs.Outputs.{node_image}
 use Rattle.pgm_images.specs.declared.fault.PgmFault.{PgmFault}
 use Rattle.pgm_images.specs.declared.fault.PgmFault.TheVariants as fault
-use Rattle.pgm_images.specs.Reading.{reading}
+use Rattle.pgm_images.specs.Reading.{read_result}
 use Rattle.pgm_images.specs.Writing.{pgm_text}
 use Rattle.vx_main.specs.declared.ended.Ended.{Ended}
 use Rattle.vx_main.specs.declared.ended.Ended.TheVariants.{Refused}
@@ -19,7 +19,7 @@ use Rattle.vx_main.specs.Job.{node_of}
 
 -- the image that the job's node gives for a picture, and its text
 abbrev pub image_made : Job → PictureValue → ImageValue
-image_made job p = node_image (node_of job) First U8 (pictured p) None
+image_made job p = node_image (node_of job) First U8 (picture_image p) None
 
 abbrev pub text_made : Job → PictureValue → List ℕ
 text_made job p = pgm_text (picture_of (image_made job p))
@@ -36,8 +36,8 @@ abbrev pub applied_to : Job → Result PictureValue PgmFault → Result (List �
 applied_to job (Err fault) = Err (pgm_fault_code fault)
 applied_to job (Ok p) = if same_format p.description.format U8 then Ok (text_made job p) else Err InvalidFormat
 
-abbrev pub applied : Job → List ℕ → Result (List ℕ) Code
-applied job text = applied_to job (reading text)
+abbrev pub job_result : Job → List ℕ → Result (List ℕ) Code
+job_result job text = applied_to job (read_result text)
 
 -- the program ended because memory ran out, or with the code of the fault
 pub record EndsFor (outcome : Result (List ℕ) Code) (ended : Ended) : Type 0 where

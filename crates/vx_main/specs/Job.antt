@@ -14,8 +14,8 @@ use Rattle.vx_main.specs.declared.job.Operation.TheVariants.{Not, Box, Gaussian,
 -- ---- words
 
 -- the operation that the word FUNCTION names
-abbrev pub operation_told : List ℕ → Option Operation
-operation_told word =
+abbrev pub parse_operation : List ℕ → Option Operation
+parse_operation word =
     if bytes_eq word (codes "not") then Some Not
     else (if bytes_eq word (codes "box") then Some Box
     else (if bytes_eq word (codes "gaussian") then Some Gaussian
@@ -24,8 +24,8 @@ operation_told word =
     else (if bytes_eq word (codes "dilate") then Some Dilate else None)))))
 
 -- the border that the word after `--border` names
-abbrev pub border_told : List ℕ → Option Border
-border_told word =
+abbrev pub parse_border : List ℕ → Option Border
+parse_border word =
     if bytes_eq word (codes "undefined") then Some Undefined
     else (if bytes_eq word (codes "replicate") then Some Replicate else None)
 

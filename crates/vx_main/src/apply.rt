@@ -3,11 +3,11 @@ ghost use Rattle.std.specs.Prelude.{◌≡◌, Ok, IfOk, IfErr, OnOk};
 ghost use Rattle.vx_base.specs.declared.format.Format.TheVariants.{U8 as FormatU8};
 ghost use Rattle.client_model.specs.Answer.{answer_to};
 ghost use Rattle.client_contexts.specs.World.{state_of};
-ghost use Rattle.vx_main.specs.Apply.{applied, pgm_fault_code, text_made, EndsFor};
+ghost use Rattle.vx_main.specs.Apply.{job_result, pgm_fault_code, text_made, EndsFor};
 
 use crate::ended::Ended;
 use crate::job::{Job, RESULT, SOURCE};
-use crate::output::write_bytes;
+use crate::output::write_to_end;
 use client_contexts::{NoMemory, Runtime};
 use client_model::{Limits, Reply, Request, Text};
 use std::alloc::Global;
@@ -32,8 +32,8 @@ pub fn apply<R: Read + Drop, W: Write>(
     writer: &mut W,
 ) -> Result<(), Ended> {
     let text = read_text(alloc, reader)?;
-    let made = applied(alloc, job, text.as_slice())?;
-    write_bytes(writer, made.bytes())
+    let made = job_result(alloc, job, text.as_slice())?;
+    write_to_end(writer, made.bytes())
 }
 
 /// Returns all bytes of a reader. `NoResources`: they are more than a text may have.
@@ -51,9 +51,9 @@ fn read_text<R: Read + Drop>(alloc: Global, reader: R) -> Result<Vec<u8>, Ended>
 }
 
 /// Returns the text that the job gives for the U8 picture of a text, or why there is none.
-fn applied(alloc: Global, job: Job, text: &[u8]) -> Result<Text, Ended>
-    ensures ok { IfOk result (λ made. applied job text.now ≡ Ok made) }
-    ensures err { IfErr result (EndsFor (applied job text.now)) }
+fn job_result(alloc: Global, job: Job, text: &[u8]) -> Result<Text, Ended>
+    ensures ok { IfOk result (λ made. job_result job text.now ≡ Ok made) }
+    ensures err { IfErr result (EndsFor (job_result job text.now)) }
 {
     let picture = pgm_images::read(alloc, text)?;
     if picture.desc().format() != Format::U8 {

@@ -1,7 +1,7 @@
 //! The program's command line.
 ghost use Rattle.std.specs.Prelude.{◌≡◌};
 
-use crate::job::{Job, border_told, operation_told};
+use crate::job::{Job, parse_border, parse_operation};
 use clap::error::ErrorKind;
 use clap::{Arg, ArgAction, ArgMatches, Command, Error};
 use client_model::{GREATEST_LIMIT, Limits};
@@ -90,10 +90,10 @@ fn bytes_option<'a>(alloc: Global, name: &'static str, help: &'static str) -> Ar
 fn read_limits(alloc: Global, serve: &ArgMatches<'_>) -> Result<Limits, Error> {
     let quota = serve.get_str("quota").unwrap_or(DEFAULT_BYTES);
     let work = serve.get_str("work").unwrap_or(DEFAULT_BYTES);
-    if let Some(limits) = limits_told(quota, work) {
+    if let Some(limits) = parse_limits(quota, work) {
         return Ok(limits);
     }
-    let text = if bytes_told(quota).is_none() {
+    let text = if parse_bytes(quota).is_none() {
         "the value of '--quota <BYTES>' isn't a decimal number from 1 to 1099511627776"
     } else {
         "the value of '--work <BYTES>' isn't a decimal number from 1 to 1099511627776"
@@ -122,14 +122,14 @@ fn apply_command<'a>(alloc: Global) -> Result<Command<'a>, AllocError> {
 
 /// Returns the job of the words after `apply`.
 fn read_job(alloc: Global, apply: &ArgMatches<'_>) -> Result<Job, Error> {
-    let Some(operation) = operation_told(apply.get_str("function").unwrap_or("")) else {
+    let Some(operation) = parse_operation(apply.get_str("function").unwrap_or("")) else {
         return Err(no_word(
             alloc,
             "the value of '<FUNCTION>' is none of not, box, gaussian, median, erode and dilate",
         )?);
     };
     let border = match apply.get_str("border") {
-        Some(word) => border_told(word),
+        Some(word) => parse_border(word),
         None => Some(Border::Undefined),
     };
     match border {
@@ -147,13 +147,13 @@ fn no_word(alloc: Global, text: &str) -> Result<Error, AllocError> {
     apply.error(ErrorKind::ValueValidation, text)
 }
 
-ghost use Rattle.client_model.specs.Allowance.{is_limit};
-ghost use Rattle.vx_main.specs.CommandLine.{bytes_told, limits_told};
+ghost use Rattle.client_model.specs.Limits.{is_limit};
+ghost use Rattle.vx_main.specs.CommandLine.{parse_bytes, parse_limits};
 
 /// Returns the number of bytes that a word spells: decimal digits and nothing else, for a number
 /// from 1 to 2^40. `None`: any other word.
-pub fn bytes_told(word: &str) -> Option<u64>
-    ensures { result ≡ bytes_told word.now }
+pub fn parse_bytes(word: &str) -> Option<u64>
+    ensures { result ≡ parse_bytes word.now }
 {
     // `parse` would accept a plus sign.
     if word.starts_with('+') {
@@ -174,10 +174,10 @@ fn is_limit(bytes: u64) -> bool
 
 /// Returns the limits for the words of a quota and a work. `None`: one of them spells no number of
 /// bytes that is allowed.
-pub fn limits_told(quota: &str, work: &str) -> Option<Limits>
-    ensures { result ≡ limits_told quota.now work.now }
+pub fn parse_limits(quota: &str, work: &str) -> Option<Limits>
+    ensures { result ≡ parse_limits quota.now work.now }
 {
-    match (bytes_told(quota), bytes_told(work)) {
+    match (parse_bytes(quota), parse_bytes(work)) {
         (Some(quota), Some(work)) => Limits::new(quota, work),
         _ => None,
     }

@@ -1,6 +1,6 @@
 //! The jobs of `apply`.
 ghost use Rattle.std.specs.Prelude.{◌≡◌};
-ghost use Rattle.vx_main.specs.Job.{function_of, node_of, operation_told, border_told};
+ghost use Rattle.vx_main.specs.Job.{function_of, node_of, parse_operation, parse_border};
 
 use vx_base::{Border, Function, Node, NodeSpec, ObjRef, Policy};
 
@@ -63,8 +63,8 @@ impl Job {
 }
 
 /// Returns the operation with this word, if there is one.
-pub fn operation_told(word: &str) -> Option<Operation>
-    ensures { result ≡ operation_told word.now }
+pub fn parse_operation(word: &str) -> Option<Operation>
+    ensures { result ≡ parse_operation word.now }
 {
     if word == "not" {
         Some(Operation::Not)
@@ -84,8 +84,8 @@ pub fn operation_told(word: &str) -> Option<Operation>
 }
 
 /// Returns the border with this word, if there is one.
-pub fn border_told(word: &str) -> Option<Border>
-    ensures { result ≡ border_told word.now }
+pub fn parse_border(word: &str) -> Option<Border>
+    ensures { result ≡ parse_border word.now }
 {
     if word == "undefined" {
         Some(Border::Undefined)

@@ -9,7 +9,7 @@ use std::io::Write;
 use vx_requests::StreamFault;
 
 /// Writes all of the bytes, and flushes the writer.
-pub fn write_bytes<W: Write>(writer: &mut W, bytes: &[u8]) -> Result<(), Ended>
+pub fn write_to_end<W: Write>(writer: &mut W, bytes: &[u8]) -> Result<(), Ended>
     ensures ok { OnOk result (Appends (W.contents writer.old) (W.contents writer.new) bytes.now) }
     ensures err { IfErr result (λ ended. ended ≡ Stream WriteFailed) }
 {

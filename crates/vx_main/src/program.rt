@@ -2,7 +2,7 @@
 use crate::apply::apply;
 use crate::command_line::{Asked, read_words};
 use crate::ended::Ended;
-use crate::output::write_bytes;
+use crate::output::write_to_end;
 use clap::Error;
 use clap::error::ErrorKind;
 use client_contexts::Runtime;
@@ -50,7 +50,7 @@ fn refuse<W: Write>(alloc: Global, error: &Error, writer: &mut W) -> Result<(), 
     if error.use_stderr() {
         return Err(Ended::CommandLine(text.trim_end().to_string(alloc)?));
     }
-    write_bytes(writer, text.as_bytes())
+    write_to_end(writer, text.as_bytes())
 }
 
 /// Serves the frames of the reader, with these limits for each client.

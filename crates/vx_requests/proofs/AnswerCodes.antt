@@ -1,6 +1,6 @@
 -- No answer of the model has the code NO_MEMORY.
 use Rattle.std.proofs.Common.{◌≡◌, ◌≢◌, ℕ, false, List, Result, Ok, Err, refl, ◌==◌}
-use Rattle.vx_requests.proofs.Common.{Code, NoMemory, Request, Reply, Refused, Allowance, State, answer_to, BodyFault, request_of, said_of, answer_spelled}
+use Rattle.vx_requests.proofs.Common.{Code, NoMemory, Request, Reply, Refused, LimitsValue, State, answer_to, BodyFault, request_of, said_of, answer_spelled}
 use Rattle.vx_base.specs.Code.{code_number}
 use Rattle.client_laws.proofs.RefusalLaws.{never_no_memory}
 use Rattle.vx_wire.specs.declared.body_fault.BodyFault.TheVariants.{InvalidValue}
@@ -16,11 +16,11 @@ said-other : (reply : Reply) → reply ≢ Refused NoMemory → ((said_of reply)
 said-other (Refused code) other = other_number code (λ e. other cc)
 said-other other_reply other = refl
 
-spelled-other : (limits : Allowance) (state : State) (spelled : Result Request BodyFault) → ((answer_spelled limits state spelled).0.code == 1) ≡ false
+spelled-other : (limits : LimitsValue) (state : State) (spelled : Result Request BodyFault) → ((answer_spelled limits state spelled).0.code == 1) ≡ false
 spelled-other limits state (Ok request) = said-other (answer_to limits state request).0 (never_no_memory limits state request)
 spelled-other limits state (Err InvalidValue) = refl
 spelled-other limits state other = refl
 
-pub answer-other : (limits : Allowance) (state : State) (op : ℕ) (body : List ℕ) → ((answer limits state op body).0.code == 1) ≡ false
+pub answer-other : (limits : LimitsValue) (state : State) (op : ℕ) (body : List ℕ) → ((answer limits state op body).0.code == 1) ≡ false
 unfolding answer
 answer-other limits state op body = spelled-other limits state (request_of op body)

@@ -1,6 +1,6 @@
 -- The names that several proofs cite, passed on from one place. Declares nothing.
 pub use Rattle.client_contexts.specs.World.{World, state_of}
-pub use Rattle.client_model.specs.Allowance.{Allowance}
+pub use Rattle.client_model.specs.Limits.{LimitsValue}
 pub use Rattle.client_model.specs.Answer.{answer_to}
 pub use Rattle.client_model.specs.Context.{State}
 pub use Rattle.client_model.specs.Operands.{image_of}
@@ -19,7 +19,7 @@ pub use Rattle.std.proofs.lemmas.Result.{err_from_is_err_and}
 pub use Rattle.std.specs.Int.{from_be_bytes, to_be_bytes, w16, w32}
 pub use Rattle.std.specs.Io.KnownBytes.{Appends, Consumes, Keeps}
 pub use Rattle.std.specs.List.{flat_map}
-pub use Rattle.vx_base.specs.Cell.{Cell}
+pub use Rattle.vx_base.specs.Reference.{Reference}
 pub use Rattle.vx_base.specs.Description.{Description, byte_count, sample_count}
 pub use Rattle.vx_base.specs.Image.{IsImage}
 pub use Rattle.vx_base.specs.Picture.{Describes, PictureValue, picture_of, samples_format, values}
@@ -28,10 +28,10 @@ pub use Rattle.vx_base.specs.declared.code.Code.{Code}
 pub use Rattle.vx_base.specs.declared.code.Code.TheVariants.{NoMemory}
 pub use Rattle.vx_base.specs.declared.format.Format.{Format}
 pub use Rattle.vx_base.specs.declared.format.Format.TheVariants.{U8}
-pub use Rattle.vx_requests.specs.Frame.Frames.{Frame, IsFrame, IsLength, IsRest, ReplyFrame, Splits, frame_bytes, frame_of, joined, reply_bytes, reply_head, request_frame, said_length}
+pub use Rattle.vx_requests.specs.Frame.Frames.{Frame, IsFrame, IsLength, IsRest, ReplyFrame, Splits, frame_bytes, frame_of, frames_bytes, reply_bytes, reply_head, request_frame, said_length}
 pub use Rattle.vx_requests.specs.Frame.Reading.{BreaksOff, KeepsCount, ReadsPart, ReadsSamples, ReadsSome}
 pub use Rattle.vx_requests.specs.Serving.Answer.{answer, answer_spelled}
-pub use Rattle.vx_requests.specs.Serving.Clients.{Received, after, answer_frame, frames_of, is_kept_of, mine, reply_in, served, spelled, state_then, states_after, states_of}
+pub use Rattle.vx_requests.specs.Serving.Clients.{ReceivedFrame, after, answer_frame, frames_of, is_kept_of, mine, reply_in, served, spelled_frame, state_then, states_after, states_of}
 pub use Rattle.vx_requests.specs.Serving.Lost.{MayBeLost}
 pub use Rattle.vx_requests.specs.Serving.Session.{Session}
 pub use Rattle.vx_requests.specs.Serving.Turn.{AnswersBody, IsReply, ServesFrame, Turn, reply_frame, said_in}
@@ -48,6 +48,6 @@ pub use Rattle.vx_wire.specs.Faults.{fault_code, parse_fault}
 pub use Rattle.vx_wire.specs.Op.{op_numbered}
 pub use Rattle.vx_wire.specs.Replies.{Said, said_of}
 pub use Rattle.vx_wire.specs.Requests.{request_of}
-pub use Rattle.vx_wire.specs.Samples.{decoded, encoded_sample}
+pub use Rattle.vx_wire.specs.Samples.{decoded_samples, encoded_sample}
 pub use Rattle.vx_wire.specs.declared.body_fault.BodyFault.{BodyFault}
 pub use borrow.Rule.Slice.PartMut.{put_mid}

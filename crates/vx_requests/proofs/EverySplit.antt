@@ -1,6 +1,6 @@
 -- All bytes are whole frames and a rest.
 use Rattle.std.proofs.Common.{◌≡◌, ℕ, ◌+◌, ◌-◌, ◌<◌, ◌≤◌, zero, suc, List, [], ◌∷◌, ◌++◌, ◌⊎◌, inl, inr, arith, length, take, drop, get_or, refl, sym, ap, ◌∙◌, append_assoc, take-append-drop, length-drop, length-take-le, le_refl, All}
-use Rattle.vx_requests.proofs.Common.{w16, w32, to_be_bytes, from_be_bytes, All-drop, All-take, be_bytes_2, be_bytes_4, Frame, IsFrame, IsLength, IsRest, Splits, said_length, frame_bytes, joined}
+use Rattle.vx_requests.proofs.Common.{w16, w32, to_be_bytes, from_be_bytes, All-drop, All-take, be_bytes_2, be_bytes_4, Frame, IsFrame, IsLength, IsRest, Splits, said_length, frame_bytes, frames_bytes}
 use Rattle.std.proofs.lemmas.List.Elements.{All-cons}
 
 abbrev IsBytes : List ℕ → Type 0
@@ -19,7 +19,7 @@ one_more f stream later is e (frames, rest, split) = (
   f ∷ frames,
   rest,
   record {
-    whole = e ∙ ap (λ l. frame_bytes f ++ l) split.whole ∙ sym (append_assoc (frame_bytes f) (joined frames) rest);
+    whole = e ∙ ap (λ l. frame_bytes f ++ l) split.whole ∙ sym (append_assoc (frame_bytes f) (frames_bytes frames) rest);
     each = All-cons IsFrame f frames is split.each;
     rest_is = split.rest_is;
   },

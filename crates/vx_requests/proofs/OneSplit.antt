@@ -1,6 +1,6 @@
 -- A stream splits in one way.
 use Rattle.std.proofs.Common.{◌≡◌, ℕ, ◌+◌, List, [], ◌∷◌, ◌++◌, inl, inr, arith, length, take, drop, get_or, refl, sym, ap, ◌∙◌, append_assoc, take_at, drop_at, length-append, All}
-use Rattle.vx_requests.proofs.Common.{All-head, All-tail, w16, from_be_bytes, from_be_bytes-to_be_bytes_4, Frame, IsFrame, IsRest, Splits, said_length, frame_bytes, joined}
+use Rattle.vx_requests.proofs.Common.{All-head, All-tail, w16, from_be_bytes, from_be_bytes-to_be_bytes_4, Frame, IsFrame, IsRest, Splits, said_length, frame_bytes, frames_bytes}
 use Rattle.std.proofs.lemmas.Nat.{from_be_bytes-to_be_bytes_2}
 
 frame_eq : (f g : Frame) → f.client ≡ g.client → f.op ≡ g.op → f.body ≡ g.body → f ≡ g
@@ -38,12 +38,12 @@ not_rest rest g y (inr bad) is e =
     let len = is.len in
     bad.1 (omega arith, omega arith)
 
-one_rest : (fs gs : List Frame) (r s : List ℕ) → All IsFrame fs → All IsFrame gs → IsRest r → IsRest s → joined fs ++ r ≡ joined gs ++ s → (fs ≡ gs) × (r ≡ s)
+one_rest : (fs gs : List Frame) (r s : List ℕ) → All IsFrame fs → All IsFrame gs → IsRest r → IsRest s → frames_bytes fs ++ r ≡ frames_bytes gs ++ s → (fs ≡ gs) × (r ≡ s)
 one_rest [] [] r s each each' is is' e = (refl, e)
-one_rest [] (g ∷ gs) r s each each' is is' e = absurd (not_rest r g (joined gs ++ s) is (All-head IsFrame g gs each') (e ∙ append_assoc (frame_bytes g) (joined gs) s))
-one_rest (f ∷ fs) [] r s each each' is is' e = absurd (not_rest s f (joined fs ++ r) is' (All-head IsFrame f fs each) (sym e ∙ append_assoc (frame_bytes f) (joined fs) r))
+one_rest [] (g ∷ gs) r s each each' is is' e = absurd (not_rest r g (frames_bytes gs ++ s) is (All-head IsFrame g gs each') (e ∙ append_assoc (frame_bytes g) (frames_bytes gs) s))
+one_rest (f ∷ fs) [] r s each each' is is' e = absurd (not_rest s f (frames_bytes fs ++ r) is' (All-head IsFrame f fs each) (sym e ∙ append_assoc (frame_bytes f) (frames_bytes fs) r))
 one_rest (f ∷ fs) (g ∷ gs) r s each each' is is' e =
-    let same = same_front f g (joined fs ++ r) (joined gs ++ s) (All-head IsFrame f fs each) (All-head IsFrame g gs each') (sym (append_assoc (frame_bytes f) (joined fs) r) ∙ e ∙ append_assoc (frame_bytes g) (joined gs) s) in
+    let same = same_front f g (frames_bytes fs ++ r) (frames_bytes gs ++ s) (All-head IsFrame f fs each) (All-head IsFrame g gs each') (sym (append_assoc (frame_bytes f) (frames_bytes fs) r) ∙ e ∙ append_assoc (frame_bytes g) (frames_bytes gs) s) in
     let rest = one_rest fs gs r s (All-tail IsFrame f fs each) (All-tail IsFrame g gs each') is is' same.1 in
     (ap (λ h. h ∷ fs) same.0 ∙ ap (λ hs. g ∷ hs) rest.0, rest.1)
 

@@ -1,6 +1,6 @@
 -- The frame of a picture: its head and description, and then its samples; and that of its PGM text.
 use Rattle.std.proofs.Common.{◌≡◌, ℕ, ◌+◌, ◌*◌, ℤ, List, [], ◌∷◌, ◌++◌, length, map, unsigned_abs, refl, sym, ap, ◌∙◌, arith, append_assoc, length-append}
-use Rattle.vx_requests.proofs.Common.{length-map, pgm_text, IsImage, flat_map, U8, sample_bytes, Description, sample_count, byte_count, PictureValue, Describes, values, samples_format, picture_of, reply_bytes, reply_head, spelled, encoded_sample, description_bytes, length-encoded}
+use Rattle.vx_requests.proofs.Common.{length-map, pgm_text, IsImage, flat_map, U8, sample_bytes, Description, sample_count, byte_count, PictureValue, Describes, values, samples_format, picture_of, reply_bytes, reply_head, spelled_frame, encoded_sample, description_bytes, length-encoded}
 use Rattle.pgm_images.specs.Writing.{written_header}
 use Rattle.vx_base.specs.Image.{ImageValue, description_of}
 use Rattle.vx_base.specs.declared.samples.Samples.{Samples}
@@ -12,7 +12,7 @@ samples_in samples = flat_map (encoded_sample (samples_format samples)) (values 
 
 picture_frame : (client op : ℕ) (p : PictureValue) (samples : Samples) → values samples ≡ p.samples → Describes p.description samples
     → (reply_head (byte_count p.description + 9) client op 0 ++ description_bytes p.description) ++ samples_in samples
-    ≡ reply_bytes (spelled client op (record { code = 0; body = picture_bytes p }))
+    ≡ reply_bytes (spelled_frame client op (record { code = 0; body = picture_bytes p }))
 picture_frame client op p samples are fills =
     let d : Description = p.description in
     let n : ℕ = length (picture_bytes p) + 4 in
@@ -33,7 +33,7 @@ picture_is p d samples described are =
 -- the frame of a picture, with the description and the head as they were made
 pub picture_parts : (client op : ℕ) (p : PictureValue) (samples : Samples) (d : Description) (head : List ℕ) → values samples ≡ p.samples → Describes p.description samples
     → d ≡ p.description → head ≡ reply_head (byte_count d + 9) client op 0 ++ description_bytes d
-    → head ++ samples_in samples ≡ reply_bytes (spelled client op (record { code = 0; body = picture_bytes p }))
+    → head ++ samples_in samples ≡ reply_bytes (spelled_frame client op (record { code = 0; body = picture_bytes p }))
 picture_parts client op p samples d head are fills is made =
     rw (made, is) (picture_frame client op p samples are fills)
 
@@ -47,7 +47,7 @@ byte_samples (z ∷ samples) = ap (λ l. unsigned_abs z ∷ l) (byte_samples sam
 -- the frame of the text of a U8 image, with the head as it was made
 pub text_image_parts : (client op : ℕ) (image : ImageValue) (d : Description) (head : List ℕ) → IsImage image → d ≡ description_of image
     → head ≡ reply_head (length (written_header d) + sample_count d + 4) client op 0 ++ written_header d
-    → head ++ map unsigned_abs image.samples ≡ reply_bytes (spelled client op (record { code = 0; body = pgm_text (picture_of image) }))
+    → head ++ map unsigned_abs image.samples ≡ reply_bytes (spelled_frame client op (record { code = 0; body = pgm_text (picture_of image) }))
 text_image_parts client op image d head is described made =
     let header : List ℕ = written_header (description_of image) in
     let raster : List ℕ = map unsigned_abs image.samples in

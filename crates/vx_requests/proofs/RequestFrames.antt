@@ -1,6 +1,6 @@
 -- The frames of requests that hold samples, a text or coefficients: a head, and then these.
 use Rattle.std.proofs.Common.{◌≡◌, ℕ, ℤ, ◌+◌, ◌*◌, List, [], ◌∷◌, ◌++◌, length, arith, refl, ap, ◌∙◌}
-use Rattle.vx_requests.proofs.Common.{flat_map, w16, w32, to_be_bytes, Format, sample_bytes, Cell, Description, byte_count, PictureValue, Describes, values, samples_format, WriteImage, WriteImagePgm, CreateLut, CreateConvolution, frame_bytes, request_frame, encoded_sample, description_bytes, length-encoded}
+use Rattle.vx_requests.proofs.Common.{flat_map, w16, w32, to_be_bytes, Format, sample_bytes, Reference, Description, byte_count, PictureValue, Describes, values, samples_format, WriteImage, WriteImagePgm, CreateLut, CreateConvolution, frame_bytes, request_frame, encoded_sample, description_bytes, length-encoded}
 use Rattle.vx_base.specs.declared.samples.Samples.{Samples}
 use Rattle.vx_base.specs.Lut.{LutValue}
 use Rattle.vx_base.specs.declared.format.Format.TheVariants.{S16}
@@ -13,7 +13,7 @@ use Rattle.vx_wire.specs.Reference.{reference_bytes}
 abbrev spelled : Samples → List ℕ
 spelled samples = flat_map (encoded_sample (samples_format samples)) (values samples)
 
-pub write_image_frame : (client : ℕ) (cell : Cell) (p : PictureValue) (samples : Samples) (d : Description) (head : List ℕ) → values samples ≡ p.samples → Describes p.description samples
+pub write_image_frame : (client : ℕ) (cell : Reference) (p : PictureValue) (samples : Samples) (d : Description) (head : List ℕ) → values samples ≡ p.samples → Describes p.description samples
     → d ≡ p.description → head ≡ frame_head (13 + byte_count d) client 5 ++ (reference_bytes cell ++ description_bytes d)
     → head ++ spelled samples ≡ frame_bytes (request_frame client (WriteImage cell p))
 write_image_frame client cell p samples d head are fills is made =
@@ -40,7 +40,7 @@ create_lut_frame client lut entries format count head are same_format is_format 
     ∙ ap (λ f. frame_bytes (record { client = client; op = 11; body = format_number f ∷ spelled entries })) same_format
     ∙ ap (λ l. frame_bytes (record { client = client; op = 11; body = format_number lut.format ∷ l })) same)
 
-pub write_image_pgm_frame : (client : ℕ) (cell : Cell) (text bytes head : List ℕ) → bytes ≡ text → head ≡ frame_head (8 + length bytes) client 6 ++ reference_bytes cell
+pub write_image_pgm_frame : (client : ℕ) (cell : Reference) (text bytes head : List ℕ) → bytes ≡ text → head ≡ frame_head (8 + length bytes) client 6 ++ reference_bytes cell
     → head ++ bytes ≡ frame_bytes (request_frame client (WriteImagePgm cell text))
 write_image_pgm_frame client cell text bytes head are made =
     let body : List ℕ = reference_bytes cell ++ bytes in

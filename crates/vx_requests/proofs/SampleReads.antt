@@ -1,6 +1,6 @@
 -- Samples that are read piece by piece.
 use Rattle.std.proofs.Common.{◌≡◌, ℕ, ℤ, pos, zero, suc, ◌+◌, ◌*◌, ◌-◌, ◌<◌, ◌≤◌, ◌^◌, List, [], ◌∷◌, ◌++◌, Option, arith, length, take, drop, map, sym, ap, ◌∙◌, zero-add, length-append, length-take-le, length-drop, All}
-use Rattle.vx_requests.proofs.Common.{Consumes, Consumes-trans, length-map, All-append, Format, U8, sample_bytes, decoded, StreamFault, ReadsPart, ReadsSamples, put_mid}
+use Rattle.vx_requests.proofs.Common.{Consumes, Consumes-trans, length-map, All-append, Format, U8, sample_bytes, decoded_samples, StreamFault, ReadsPart, ReadsSamples, put_mid}
 use Rattle.std.proofs.Math.Nat.{add-mul}
 use Rattle.std.proofs.lemmas.List.{map-append, take-append-le, drop-append-le}
 use Rattle.vx_wire.proofs.SampleBytes.{decoded-U8}
@@ -8,8 +8,8 @@ use Rattle.vx_requests.proofs.Pieces.{part_after}
 use Rattle.vx_requests.proofs.TransferSteps.{take-put_mid}
 
 -- the bytes of some samples, and then those of others
-decoded-append : (format : Format) (n m : ℕ) (xs ys : List ℕ) → length xs ≡ n * sample_bytes format → decoded format (n + m) (xs ++ ys) ≡ decoded format n xs ++ decoded format m ys
-decoded-append format zero m [] ys long = ap (λ k. decoded format k ys) (zero-add m)
+decoded-append : (format : Format) (n m : ℕ) (xs ys : List ℕ) → length xs ≡ n * sample_bytes format → decoded_samples format (n + m) (xs ++ ys) ≡ decoded_samples format n xs ++ decoded_samples format m ys
+decoded-append format zero m [] ys long = ap (λ k. decoded_samples format k ys) (zero-add m)
 decoded-append format zero m (x ∷ xs) ys long = absurd (omega arith)
 decoded-append format (suc n) m xs ys long =
     let w = sample_bytes format in
@@ -59,4 +59,4 @@ pub reads_bytes : (a b : Option (List ℕ)) (bytes : List ℕ) → All (λ x. x 
 reads_bytes a b bytes each read =
     let many : length (map pos bytes) ≡ length bytes = length-map bytes pos in
     let size : length bytes ≡ length bytes * 1 = omega arith in
-    (bytes, read, size ∙ ap (λ k. k * 1) (sym many), each, decoded-U8 (length bytes) bytes size ∙ ap (λ k. decoded U8 k bytes) (sym many))
+    (bytes, read, size ∙ ap (λ k. k * 1) (sym many), each, decoded-U8 (length bytes) bytes size ∙ ap (λ k. decoded_samples U8 k bytes) (sym many))

@@ -4,7 +4,7 @@ ghost use Rattle.client_model.specs.declared.request.Request.TheVariants.{ReadIm
 ghost use Rattle.client_model.specs.declared.reply.Reply.TheVariants.{Node};
 ghost use Rattle.vx_requests.specs.Frame.Frames.{frame_bytes, request_frame, reply_bytes};
 ghost use Rattle.vx_requests.specs.Frame.Frames.{IsLength};
-ghost use Rattle.vx_requests.specs.Serving.Clients.{spelled};
+ghost use Rattle.vx_requests.specs.Serving.Clients.{spelled_frame};
 ghost use Rattle.vx_wire.specs.Replies.{said_of};
 
 /// The least and the greatest length, and one beyond each.
@@ -25,6 +25,6 @@ pub fn frames()
 
 /// The reply frame that gives client 258 the number of a node that was added.
 pub fn replies()
-    ensures { reply_bytes (spelled 258 20 (said_of (Node 3)))
+    ensures { reply_bytes (spelled_frame 258 20 (said_of (Node 3)))
         ≡ 0 ∷ 0 ∷ 0 ∷ 8 ∷ 1 ∷ 2 ∷ 20 ∷ 0 ∷ 0 ∷ 0 ∷ 0 ∷ 3 ∷ [] }
 {}

@@ -9,5 +9,5 @@ mod samples;
 
 pub use limits::fits_a_frame;
 pub use reader::{Reader, number_of_two};
-pub use replies::{code_of, write_image, write_image_text, write_reply};
+pub use replies::{code_of, write_image_reply, write_image_text_reply, write_reply};
 pub use requests::write_request;

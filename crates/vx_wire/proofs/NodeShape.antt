@@ -1,6 +1,6 @@
 -- A node whose fields are as its function wants them is one.
 use Rattle.std.proofs.Common.{◌≡◌, ℕ, Bool, true, false, not, ◌&&◌, ◌||◌, nat_le, Option, Some, None, is_some, is_none, unwrap_or, if◌then◌else◌, IsTrue, refl, ap, ◌∙◌, List, ◌++◌, append_assoc}
-use Rattle.vx_wire.proofs.Common.{Node, Parameters, parameters, Cell, is_nothing, is_named, is_wrap, Required, Absent, Free, second_input, first_output, second_output, is_operand}
+use Rattle.vx_wire.proofs.Common.{Node, Parameters, parameters, Reference, is_nothing, is_named, is_wrap, Required, Absent, Free, second_input, first_output, second_output, is_operand}
 use Rattle.vx_base.specs.Node.{is_node}
 
 pub both : (a b : Bool) → IsTrue a → IsTrue b → IsTrue (a && b)
@@ -10,14 +10,14 @@ pub both_of : (a b : Bool) → IsTrue (a && b) → IsTrue a × IsTrue b
 both_of true b is = (refl, is)
 both_of false b is = cc
 
-second_has : (second : Bool) (in2 : Option Cell) → IsTrue (is_operand (if second then Required else Absent) in2) →
+second_has : (second : Bool) (in2 : Option Reference) → IsTrue (is_operand (if second then Required else Absent) in2) →
     IsTrue (if second then is_some in2 else is_none in2) × IsTrue (is_named in2)
 second_has true None h = cc
 second_has true (Some cell) h = (refl, h)
 second_has false None h = (refl, refl)
 second_has false (Some cell) h = cc
 
-outputs_have : (pair : Bool) (out1 out2 : Option Cell) →
+outputs_have : (pair : Bool) (out1 out2 : Option Reference) →
     IsTrue (is_operand (if pair then Free else Required) out1) → IsTrue (is_operand (if pair then (if is_none out1 then Required else Free) else Absent) out2) →
     IsTrue (if pair then (is_some out1 || is_some out2) else (is_some out1 && is_none out2)) × IsTrue (is_named out1) × IsTrue (is_named out2)
 outputs_have true None None h k = cc

@@ -1,6 +1,6 @@
 -- What a look-up finds.
 use Rattle.std.proofs.Common.{◌≡◌, ℕ, ◌==◌, Bool, true, false, cond, List, [], ◌∷◌, Some, IsTrue, refl, subst, All, eqb-true}
-use Rattle.vx_wire.proofs.Common.{All-head, All-tail, numbered}
+use Rattle.vx_wire.proofs.Common.{All-head, All-tail, with_number}
 use Rattle.std.specs.List.{find}
 
 -- it passes the test
@@ -22,5 +22,5 @@ found_each {A} p P (y ∷ all) x each e = known (p y) e (found_each p P all x (A
     known false e later = later e
 
 -- a value that is found by a number has that number
-pub number_is : {A : Type 0} (number : A → ℕ) (all : List A) (n : ℕ) (x : A) → numbered number all n ≡ Some x → n ≡ number x
+pub number_is : {A : Type 0} (number : A → ℕ) (all : List A) (n : ℕ) (x : A) → with_number number all n ≡ Some x → n ≡ number x
 number_is number all n x e = eqb-true n (number x) (found_passes (λ y. n == number y) all x e)

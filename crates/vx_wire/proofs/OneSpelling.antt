@@ -1,6 +1,6 @@
 -- Each request has one spelling.
 use Rattle.std.proofs.Common.{◌≡◌, ℕ, List, [], ◌∷◌, ◌++◌, Option, Some, None, Result, Ok, refl, sym, ap, subst, ◌∙◌, append-nil}
-use Rattle.vx_wire.proofs.Common.{Cell, Request, OpenContext, ReleaseContext, CreateImage, QueryImage, WriteImage, WriteImagePgm, ReadImage, ReadImagePgm, SetValid, Release, CreateLut, CreateThreshold, CreateConvolution, CreateDistribution, ReadDistribution, CreateMinMax, ReadMinMax, CreateGraph, CreateVirtualImage, AddNode, RemoveNode, VerifyGraph, ProcessGraph, Immediate, CreateDelay, AgeDelay, RegisterAutoAging, BodyFault, op_number, op_of, Taken, at_end, one_field, two_fields, request_of, body_of, take_reference, IsRequest}
+use Rattle.vx_wire.proofs.Common.{Reference, Request, OpenContext, ReleaseContext, CreateImage, QueryImage, WriteImage, WriteImagePgm, ReadImage, ReadImagePgm, SetValid, Release, CreateLut, CreateThreshold, CreateConvolution, CreateDistribution, ReadDistribution, CreateMinMax, ReadMinMax, CreateGraph, CreateVirtualImage, AddNode, RemoveNode, VerifyGraph, ProcessGraph, Immediate, CreateDelay, AgeDelay, RegisterAutoAging, BodyFault, op_number, op_of, FieldResult, at_end, one_field, two_fields, request_of, body_of, take_reference, IsRequest}
 use Rattle.vx_wire.specs.declared.op.Op.{Op}
 use Rattle.vx_wire.specs.declared.op.Op.TheVariants as kinds
 use Rattle.vx_wire.specs.Op.{ops, op_numbered}
@@ -29,7 +29,7 @@ none_of {op} made spelled body request e =
     let (same, empty) = end_of made request body e in
     subst (λ b. Spelled op b request) (sym empty) (subst (Spelled op []) same spelled)
 
-one_of : {op : Op} {A : Type 0} {take : List ℕ → Taken A} {bytes : A → List ℕ} {Is : A → Type 0} → Reads [] take bytes Is
+one_of : {op : Op} {A : Type 0} {take : List ℕ → FieldResult A} {bytes : A → List ℕ} {Is : A → Type 0} → Reads [] take bytes Is
     → (made : A → Request) → ((x : A) → Is x → Spelled op (bytes x) (made x))
     → (body : List ℕ) (request : Request) → AllBytes body → one_field take made body ≡ Ok request → Spelled op body request
 one_of {op} {take} {bytes} field made spelled body request is e =
@@ -39,7 +39,7 @@ one_of {op} {take} {bytes} field made spelled body request is e =
     let whole : body ≡ bytes x = body_is ∙ ap (λ l. bytes x ++ l) empty ∙ append-nil (bytes x) in
     subst (λ b. Spelled op b request) (sym whole) (subst (Spelled op (bytes x)) same (spelled x x_is))
 
-two_of : {op : Op} {A B : Type 0} {take : List ℕ → Taken A} {bytes : A → List ℕ} {Is : A → Type 0} {next : List ℕ → Taken B} {others : B → List ℕ} {Are : B → Type 0}
+two_of : {op : Op} {A B : Type 0} {take : List ℕ → FieldResult A} {bytes : A → List ℕ} {Is : A → Type 0} {next : List ℕ → FieldResult B} {others : B → List ℕ} {Are : B → Type 0}
     → Reads [] take bytes Is → Reads [] next others Are
     → (made : A → B → Request) → ((x : A) (y : B) → Is x → Are y → Spelled op (bytes x ++ others y) (made x y))
     → (body : List ℕ) (request : Request) → AllBytes body → two_fields take next made body ≡ Ok request → Spelled op body request
@@ -55,7 +55,7 @@ two_of {op} {take} {bytes} {next} {others} first second made spelled body reques
 -- all bytes after the reference are the text
 write_pgm_of : (body : List ℕ) (request : Request) → AllBytes body → write_image_pgm_in body ≡ Ok request → Spelled kinds.WriteImagePgm body request
 write_pgm_of body request is e =
-    let next : Cell → List ℕ → Result Request BodyFault = λ cell text. Ok (WriteImagePgm cell text) in
+    let next : Reference → List ℕ → Result Request BodyFault = λ cell text. Ok (WriteImagePgm cell text) in
     let (cell, text, is_cell, e1) = then_of (take_reference body) next request e in
     let same : WriteImagePgm cell text ≡ request = cc in
     let (body_is, cell_is, is1) = cell_reads.of body cell text is is_cell in

@@ -1,6 +1,6 @@
 -- A value that is read has one encoding: the bytes that it was read from.
 use Rattle.std.proofs.Common.{◌≡◌, ℕ, ◌+◌, ◌*◌, ◌<◌, ◌≤◌, nat_le, nat_lt, length, take, drop, sym, take-append-drop, length-take-le, ◌^◌, ◌%◌, ◌/◌, ◌==◌, List, [], ◌∷◌, ◌++◌, Option, Some, None, Result, Ok, Err, Bool, true, false, ◌⊎◌, inl, inr, IsTrue, if◌then◌else◌, unwrap_or, arith, refl, ap, subst, ◌∙◌, append_assoc, All, IfSome, eqb-true, leb-true}
-use Rattle.vx_wire.proofs.Common.{nat_tests, w16, w32, to_be_bytes, All-head, All-tail, All-take, All-drop, U8, S16, U32, IsCell, is_side, IsDescription, may_be_side, IsOutline, is_slot_count, IsRectangle, are_bins, BodyFault, InvalidParameters, InvalidFormat, InvalidDimension, InvalidValue, Taken, and_then, allowed, take_byte, take_short, take_long, take_bytes, take_format, format_number, open_format_number, take_open_format, take_side, take_description, description_bytes, open_side_number, open_side_numbered, take_open_side, take_outline, outline_bytes, slot_numbered, take_reference, reference_bytes, take_slots, take_rectangle, rectangle_bytes, is_up_to_256, take_bins, bins_bytes}
+use Rattle.vx_wire.proofs.Common.{nat_tests, w16, w32, to_be_bytes, All-head, All-tail, All-take, All-drop, U8, S16, U32, IsReference, is_side, IsDescription, may_be_side, IsPartialDescription, is_slot_count, IsRectangle, are_bins, BodyFault, InvalidParameters, InvalidFormat, InvalidDimension, InvalidValue, FieldResult, and_then, allowed_or_fault, take_byte, take_short, take_long, take_bytes, take_format, format_number, open_format_number, take_open_format, take_side, take_description, description_bytes, open_side_number, open_side_numbered, take_open_side, take_partial_desc, partial_desc_bytes, slot_numbered, take_reference, reference_bytes, take_slots, take_rectangle, rectangle_bytes, is_up_to_256, take_bins, bins_bytes}
 use Rattle.vx_base.specs.Rectangle.{rectangle}
 use Rattle.std.proofs.lemmas.Option.{cond_some}
 use Rattle.vx_base.specs.Rectangle.{is_rectangle}
@@ -11,7 +11,7 @@ use Rattle.vx_wire.proofs.Numbers.{number_is}
 abbrev pub AllBytes : List ℕ → Type 0
 AllBytes bytes = All (λ b. b < 256) bytes
 
-abbrev pub ok : {A : Type 0} → A → List ℕ → Taken A
+abbrev pub ok : {A : Type 0} → A → List ℕ → FieldResult A
 ok x rest = Ok (x, rest)
 
 pub taken_same : {A : Type 0} (x y : A) (r s : List ℕ) → ok x r ≡ ok y s → (x ≡ y) × (r ≡ s)
@@ -22,12 +22,12 @@ taken_same {A} x y r s e =
     (ap (λ t. t.0) same, ap (λ t. t.1) same)
 
 -- the first field, and those after it
-pub then_of : {A B : Type 0} (t : Taken A) (next : A → List ℕ → Result B BodyFault) (r : B) → and_then t next ≡ Ok r
+pub then_of : {A B : Type 0} (t : FieldResult A) (next : A → List ℕ → Result B BodyFault) (r : B) → and_then t next ≡ Ok r
     → (x : A) × (rest : List ℕ) × (t ≡ Ok (x, rest)) × (next x rest ≡ Ok r)
 then_of (Ok taken) next r e = (taken.0, taken.1, refl, e)
 then_of (Err fault) next r e = cc
 
-pub allowed_of : {A : Type 0} (fault : BodyFault) (o : Option A) (x : A) (rest others : List ℕ) → allowed fault o rest ≡ Ok (x, others) → (o ≡ Some x) × (rest ≡ others)
+pub allowed_of : {A : Type 0} (fault : BodyFault) (o : Option A) (x : A) (rest others : List ℕ) → allowed_or_fault fault o rest ≡ Ok (x, others) → (o ≡ Some x) × (rest ≡ others)
 allowed_of fault None x rest others e = cc
 allowed_of fault (Some y) x rest others e = let (same, behind) = taken_same y x rest others e in (ap Some same, behind)
 
@@ -49,12 +49,12 @@ byte_of (a ∷ others) n rest is e =
 -- ---- fields after one another
 
 -- a field that is read after `front`: the bytes up to its end encode its value, which has the property P
-pub record Reads {A : Type 0} (front : List ℕ) (take : List ℕ → Taken A) (bytes : A → List ℕ) (P : A → Type 0) : Type 0 where
+pub record Reads {A : Type 0} (front : List ℕ) (take : List ℕ → FieldResult A) (bytes : A → List ℕ) (P : A → Type 0) : Type 0 where
   pub of : (body : List ℕ) (x : A) (rest : List ℕ) → AllBytes body → take body ≡ Ok (x, rest) → (front ++ body ≡ bytes x ++ rest) × P x × AllBytes rest
 
 -- a field, and the fields after it
-pub then_reads : {A B : Type 0} {front : List ℕ} {take : List ℕ → Taken A} {field : A → List ℕ} {P : A → Type 0} {bytes : B → List ℕ} {Q : B → Type 0}
-    → Reads [] take field P → (next : A → List ℕ → Taken B) → ((x : A) → P x → Reads (front ++ field x) (next x) bytes Q) → Reads front (λ body. and_then (take body) next) bytes Q
+pub then_reads : {A B : Type 0} {front : List ℕ} {take : List ℕ → FieldResult A} {field : A → List ℕ} {P : A → Type 0} {bytes : B → List ℕ} {Q : B → Type 0}
+    → Reads [] take field P → (next : A → List ℕ → FieldResult B) → ((x : A) → P x → Reads (front ++ field x) (next x) bytes Q) → Reads front (λ body. and_then (take body) next) bytes Q
 then_reads {A} {B} {front} {take} {field} {P} {bytes} {Q} first next later = record {
   of = λ body y rest is e.
       let (x, rest1, is_x, e1) = then_of (take body) next (y, rest) e in
@@ -65,7 +65,7 @@ then_reads {A} {B} {front} {take} {field} {P} {bytes} {Q} first next later = rec
 
 -- nothing more: it is made of the fields, where that is allowed
 pub made_of : {A : Type 0} {front : List ℕ} {bytes : A → List ℕ} {P : A → Type 0} (fault : BodyFault) (made : Option A)
-    → ((x : A) → made ≡ Some x → (front ≡ bytes x) × P x) → Reads front (λ rest. allowed fault made rest) bytes P
+    → ((x : A) → made ≡ Some x → (front ≡ bytes x) × P x) → Reads front (λ rest. allowed_or_fault fault made rest) bytes P
 made_of {A} {front} {bytes} {P} fault made are = record {
   of = λ body x rest is e.
       let (same, behind) = allowed_of fault made x body rest e in
@@ -81,17 +81,17 @@ made {A} {front} {bytes} {P} x spelled x_is = record {
 }
 
 -- a field that is made of another one
-pub one_made : {A B : Type 0} {take : List ℕ → Taken A} {field : A → List ℕ} {P : A → Type 0} {bytes : B → List ℕ} {Q : B → Type 0}
+pub one_made : {A B : Type 0} {take : List ℕ → FieldResult A} {field : A → List ℕ} {P : A → Type 0} {bytes : B → List ℕ} {Q : B → Type 0}
     → Reads [] take field P → (fault : BodyFault) (made : A → Option B) → ((x : A) (y : B) → P x → made x ≡ Some y → (field x ≡ bytes y) × Q y)
-    → Reads [] (λ body. and_then (take body) (λ x rest. allowed fault (made x) rest)) bytes Q
-one_made first fault made are = then_reads first (λ x rest. allowed fault (made x) rest) (λ x x_is. made_of fault (made x) (λ y same. are x y x_is same))
+    → Reads [] (λ body. and_then (take body) (λ x rest. allowed_or_fault fault (made x) rest)) bytes Q
+one_made first fault made are = then_reads first (λ x rest. allowed_or_fault fault (made x) rest) (λ x x_is. made_of fault (made x) (λ y same. are x y x_is same))
 
 pub passed : {A : Type 0} (test : A → Bool) (x y : A) → (if test x then Some x else None) ≡ Some y → (x ≡ y) × IsTrue (test y)
 passed test x y e = let (is, same) = cond_some (test x) x y e in (same, subst (λ z. IsTrue (test z)) same is)
 
 -- a field that passes a test
-pub tested : {A : Type 0} {take : List ℕ → Taken A} {bytes : A → List ℕ} {P : A → Type 0} → Reads [] take bytes P → (fault : BodyFault) (test : A → Bool)
-    → Reads [] (λ body. and_then (take body) (λ x rest. allowed fault (if test x then Some x else None) rest)) bytes (λ x. IsTrue (test x))
+pub tested : {A : Type 0} {take : List ℕ → FieldResult A} {bytes : A → List ℕ} {P : A → Type 0} → Reads [] take bytes P → (fault : BodyFault) (test : A → Bool)
+    → Reads [] (λ body. and_then (take body) (λ x rest. allowed_or_fault fault (if test x then Some x else None) rest)) bytes (λ x. IsTrue (test x))
 tested {A} {take} {bytes} {P} first fault test =
     one_made first fault (λ x. if test x then Some x else None) (λ x y x_is e. let (same, is) = passed test x y e in (ap bytes same, is))
 
@@ -163,7 +163,7 @@ open_side_reads : Reads [] take_open_side (λ side. to_be_bytes w16 (open_side_n
 open_side_reads =
     one_made short_reads InvalidDimension open_side_numbered (λ n side below e. let (number, is) = number_of_side n side e in (ap (λ x. to_be_bytes w16 x) number, is))
 
-pub outline_reads : Reads [] take_outline outline_bytes IsOutline
+pub outline_reads : Reads [] take_partial_desc partial_desc_bytes IsPartialDescription
 outline_reads =
     then_reads open_format_reads _ (λ format f. then_reads open_side_reads _ (λ width w. then_reads open_side_reads _ (λ height h.
     made (record { width = width; height = height; format = format }) refl (both (may_be_side width) (may_be_side height) w h))))
@@ -171,7 +171,7 @@ outline_reads =
 number_of_slot : (n : ℕ) → n < 256 → (n ≡ unwrap_or (slot_numbered n) 255) × IfSome (slot_numbered n) (λ k. k < 255)
 number_of_slot n below = (grind (arith, nat_tests), grind (arith, nat_tests))
 
-pub cell_reads : Reads [] take_reference reference_bytes IsCell
+pub cell_reads : Reads [] take_reference reference_bytes IsReference
 cell_reads =
     then_reads long_reads _ (λ name n. then_reads byte_reads _ (λ slot s.
     let (slot_is, within) = number_of_slot slot s in

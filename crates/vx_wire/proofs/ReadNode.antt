@@ -1,6 +1,6 @@
 -- A node that is read has one spelling.
 use Rattle.std.proofs.Common.{◌≡◌, ℕ, ◌<◌, ◌==◌, List, [], ◌∷◌, ◌++◌, Option, Some, None, Bool, true, false, not, ◌&&◌, ◌||◌, IsTrue, if◌then◌else◌, nat_le, is_none, unwrap_or, arith, refl, ap, subst, ◌∙◌, append_assoc, All, IfSome, eqb-true, le-leb}
-use Rattle.vx_wire.proofs.Common.{All-nil, All-cons, numbered, Border, Undefined, Constant, Replicate, Policy, Wrap, Saturate, Function, Parameters, Node, function_number, function_numbered, parameters, Cell, IsCell, is_nothing, is_wrap, IsBorder, IsNode, InvalidParameters, InvalidValue, Presence, Required, Absent, Free, reference_bytes, operand, take_operand, second_input, first_output, second_output, take_operands, take_first_input, is_operand, operand_bytes, take_function, take_border, take_policy, amount_allowed, take_node, border_bytes, policy_number, node_bytes}
+use Rattle.vx_wire.proofs.Common.{All-nil, All-cons, with_number, Border, Undefined, Constant, Replicate, Policy, Wrap, Saturate, Function, Parameters, Node, function_number, function_numbered, parameters, Reference, IsReference, is_nothing, is_wrap, IsBorder, IsNode, InvalidParameters, InvalidValue, Presence, Required, Absent, Free, reference_bytes, operand, take_operand, second_input, first_output, second_output, take_operands, take_first_input, is_operand, operand_bytes, take_function, take_border, take_policy, amount_allowed, take_node, border_bytes, policy_number, node_bytes}
 use Rattle.vx_wire.specs.Node.{take_amount}
 use Rattle.vx_wire.proofs.Numbers.{found_passes, found_each, number_is}
 use Rattle.vx_wire.specs.Node.{border_mode, border_constant, border_with, policies}
@@ -37,7 +37,7 @@ each_policy false = let Has : Policy → Type 0 = λ p. IsTrue (false || is_wrap
 
 policy_reads : (p : Parameters) → Reads [] (take_policy p) (λ policy. policy_number policy ∷ []) (λ policy. IsTrue (p.policy || is_wrap policy))
 policy_reads p =
-    one_made byte_reads InvalidParameters (λ n. numbered policy_number (policies p) n) (λ n policy below e. (
+    one_made byte_reads InvalidParameters (λ n. with_number policy_number (policies p) n) (λ n policy below e. (
       ap (λ x. x ∷ []) (number_is policy_number (policies p) n policy e),
       found_each (λ q. n == policy_number q) (λ q. IsTrue (p.policy || is_wrap q)) (policies p) policy (each_policy p.policy) e,
     ))
@@ -56,22 +56,22 @@ amount_reads : (p : Parameters) → Reads [] (take_amount p) (λ amount. amount 
 amount_reads p = then_reads byte_reads _ (λ n below. allowed_amount p.greatest_amount n below)
 
 -- name 0 without a slot
-nothing_is : (cell : Cell) → is_nothing cell ≡ true → cell ≡ record { name = 0; slot = None }
+nothing_is : (cell : Reference) → is_nothing cell ≡ true → cell ≡ record { name = 0; slot = None }
 nothing_is cell e =
     let (zero_name, no_slot) = both_of (cell.name == 0) (is_none cell.slot) e in
-    let made : ℕ → Option ℕ → Cell = λ name slot. record { name = name; slot = slot } in
+    let made : ℕ → Option ℕ → Reference = λ name slot. record { name = name; slot = slot } in
     ap (λ n. made n cell.slot) (eqb-true cell.name 0 zero_name) ∙ ap (made 0) (none cell.slot no_slot)
   where
     none : (slot : Option ℕ) → is_none slot ≡ true → slot ≡ None
     none None e = refl
     none (Some k) e = cc
 
-bytes_of_operand : (presence : Presence) (cell : Cell) (o : Option Cell) → IsCell cell → operand presence cell ≡ Some o
-    → (reference_bytes cell ≡ operand_bytes o) × IsTrue (is_operand presence o) × IfSome o IsCell
+bytes_of_operand : (presence : Presence) (cell : Reference) (o : Option Reference) → IsReference cell → operand presence cell ≡ Some o
+    → (reference_bytes cell ≡ operand_bytes o) × IsTrue (is_operand presence o) × IfSome o IsReference
 bytes_of_operand presence cell o is e = known (is_nothing cell) refl presence e
   where
-    Spells : Presence → Option Cell → Type 0
-    Spells presence o = (reference_bytes cell ≡ operand_bytes o) × IsTrue (is_operand presence o) × IfSome o IsCell
+    Spells : Presence → Option Reference → Type 0
+    Spells presence o = (reference_bytes cell ≡ operand_bytes o) × IsTrue (is_operand presence o) × IfSome o IsReference
 
     there : is_nothing cell ≡ false → (presence : Presence) → IsTrue (is_operand presence (Some cell)) → Some cell ≡ o → Spells presence o
     there f presence has same = subst (Spells presence) same (refl, has, is)
@@ -87,33 +87,33 @@ bytes_of_operand presence cell o is e = known (is_nothing cell) refl presence e
     known false f Absent e = let e = rw f at e in cc
     known false f Free e = let e = rw f at e in there f Free (ap not f) cc
 
-operand_reads : (presence : Presence) → Reads [] (take_operand presence) operand_bytes (λ o. IsTrue (is_operand presence o) × IfSome o IsCell)
+operand_reads : (presence : Presence) → Reads [] (take_operand presence) operand_bytes (λ o. IsTrue (is_operand presence o) × IfSome o IsReference)
 operand_reads presence =
     one_made cell_reads InvalidParameters (λ cell. operand presence cell) (λ cell o is e. let (spelled, has, o_is) = bytes_of_operand presence cell o is e in (spelled, (has, o_is)))
 
-first_reads : Reads [] take_first_input reference_bytes (λ cell. IsTrue (not (is_nothing cell)) × IsCell cell)
+first_reads : Reads [] take_first_input reference_bytes (λ cell. IsTrue (not (is_nothing cell)) × IsReference cell)
 first_reads =
     one_made cell_reads InvalidParameters (λ cell. if is_nothing cell then None else Some cell) (λ c cell is e.
     let (given, some) = if_none (is_nothing c) (Some c) cell e in
     let there : c ≡ cell = cc in
-    (ap reference_bytes there, (subst (λ c. IsTrue (not (is_nothing c))) there (ap not given), subst IsCell there is)))
+    (ap reference_bytes there, (subst (λ c. IsTrue (not (is_nothing c))) there (ap not given), subst IsReference there is)))
 
 abbrev Others : Type 0
-Others = Option Cell × Option Cell × Option Cell
+Others = Option Reference × Option Reference × Option Reference
 
 abbrev others_bytes : Others → List ℕ
 others_bytes o = operand_bytes o.0 ++ (operand_bytes o.1 ++ operand_bytes o.2)
 
 operands_reads : (p : Parameters) → Reads [] (take_operands p) others_bytes (λ o.
     (IsTrue (is_operand (second_input p) o.0) × IsTrue (is_operand (first_output p) o.1) × IsTrue (is_operand (second_output p o.1) o.2))
-    × (IfSome o.0 IsCell × IfSome o.1 IsCell × IfSome o.2 IsCell))
+    × (IfSome o.0 IsReference × IfSome o.1 IsReference × IfSome o.2 IsReference))
 operands_reads p =
     then_reads (operand_reads (second_input p)) _ (λ in2 a. then_reads (operand_reads (first_output p)) _ (λ out1 b. then_reads (operand_reads (second_output p out1)) _ (λ out2 c.
     made (in2, out1, out2) (append_assoc (operand_bytes in2) (operand_bytes out1) (operand_bytes out2)) ((a.0, b.0, c.0), (a.1, b.1, c.1)))))
 
 -- ---- the node
 
-abbrev node : Function → Border → Policy → ℕ → Cell → Others → Node
+abbrev node : Function → Border → Policy → ℕ → Reference → Others → Node
 node function border policy amount in1 others =
     record { function = function; border = border; policy = policy; amount = amount; in1 = in1; in2 = others.0; out1 = others.1; out2 = others.2 }
 

@@ -1,15 +1,15 @@
 -- Samples that are read have one spelling.
 use Rattle.std.proofs.Common.{◌≡◌, ℕ, ◌*◌, [], length, sym, refl, All}
-use Rattle.vx_wire.proofs.Common.{Format, sample_count, IsSample, sample_bytes, IsPicture, decoded, encoded, take_samples, take_picture, picture_bytes}
+use Rattle.vx_wire.proofs.Common.{Format, sample_count, IsSample, sample_bytes, IsPicture, decoded_samples, encoded_samples, take_samples, take_picture, picture_bytes}
 use Rattle.vx_wire.proofs.ReadFields.{Reads, then_reads, made, bytes_reads, description_reads}
 use Rattle.vx_wire.proofs.SampleBytes.{encoded_back}
 
 -- a number of samples
-pub samples_reads : (format : Format) (count : ℕ) → Reads [] (take_samples format count) (λ samples. encoded format samples) (λ samples. (length samples ≡ count) × All (IsSample format) samples)
+pub samples_reads : (format : Format) (count : ℕ) → Reads [] (take_samples format count) (λ samples. encoded_samples format samples) (λ samples. (length samples ≡ count) × All (IsSample format) samples)
 samples_reads format count =
     then_reads (bytes_reads (count * sample_bytes format)) _ (λ bytes are.
     let (back, size, each) = encoded_back format count bytes are.1 are.0 in
-    made (decoded format count bytes) (sym back) (size, each))
+    made (decoded_samples format count bytes) (sym back) (size, each))
 
 -- a picture
 pub picture_reads : Reads [] take_picture picture_bytes IsPicture

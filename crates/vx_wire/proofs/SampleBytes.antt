@@ -1,6 +1,6 @@
 -- Samples and their bytes: each is had back from the other.
 use Rattle.std.proofs.Common.{◌≡◌, ℕ, ℤ, pos, negsuc, zero, suc, ◌+◌, ◌*◌, ◌<◌, ◌≤◌, ◌^◌, List, [], ◌∷◌, ◌++◌, length, take, drop, map, get_or, arith, refl, ap, ◌∙◌, take_at, drop_at, take-append-drop, length-take-le, length-append, All}
-use Rattle.vx_wire.proofs.Common.{w16, w32, to_be_bytes, cast_unsigned, ints, nat_tests, from_be_bytes-to_be_bytes_4, All-head, All-tail, All-nil, All-cons, All-take, All-drop, Format, U8, S16, U32, IsSample, sample_bytes, decoded_sample, encoded_sample, decoded, encoded}
+use Rattle.vx_wire.proofs.Common.{w16, w32, to_be_bytes, cast_unsigned, ints, nat_tests, from_be_bytes-to_be_bytes_4, All-head, All-tail, All-nil, All-cons, All-take, All-drop, Format, U8, S16, U32, IsSample, sample_bytes, decoded_sample, encoded_sample, decoded_samples, encoded_samples}
 use Rattle.std.specs.Int.{from_be_bytes}
 use Rattle.std.proofs.lemmas.Nat.{be_bytes_2, be_bytes_4, from_be_bytes-to_be_bytes_2}
 use Rattle.vx_base.specs.Sample.{signed_of}
@@ -76,25 +76,25 @@ sample_of_bytes U32 bytes is long =
 -- ---- samples one after the other
 
 -- the encoding of samples has the bytes of one sample times their number
-pub length-encoded : (format : Format) (samples : List ℤ) → length (encoded format samples) ≡ length samples * sample_bytes format
+pub length-encoded : (format : Format) (samples : List ℤ) → length (encoded_samples format samples) ≡ length samples * sample_bytes format
 length-encoded format [] = omega arith
 length-encoded format (z ∷ samples) =
     let first = encoded_sample format z in
-    omega (arith, length-append first (encoded format samples), length-encoded_sample format z, length-encoded format samples)
+    omega (arith, length-append first (encoded_samples format samples), length-encoded_sample format z, length-encoded format samples)
 
 -- they are decoded from their bytes
-pub decoded_back : (format : Format) (samples : List ℤ) → All (IsSample format) samples → decoded format (length samples) (encoded format samples) ≡ samples
+pub decoded_back : (format : Format) (samples : List ℤ) → All (IsSample format) samples → decoded_samples format (length samples) (encoded_samples format samples) ≡ samples
 decoded_back format [] is = refl
 decoded_back format (z ∷ samples) is =
     let first = encoded_sample format z in
-    let others = encoded format samples in
+    let others = encoded_samples format samples in
     let long : length first ≡ sample_bytes format = length-encoded_sample format z in
     rw (take_at first others (sample_bytes format) long, drop_at first others (sample_bytes format) long, sample_back format z (All-head (IsSample format) z samples is))
     (rw (decoded_back format samples (All-tail (IsSample format) z samples is)) refl)
 
 -- bytes of the length of `count` samples are the encoding of the samples that they decode to
 pub encoded_back : (format : Format) (count : ℕ) (bytes : List ℕ) → AllBytes bytes → length bytes ≡ count * sample_bytes format
-    → (encoded format (decoded format count bytes) ≡ bytes) × (length (decoded format count bytes) ≡ count) × All (IsSample format) (decoded format count bytes)
+    → (encoded_samples format (decoded_samples format count bytes) ≡ bytes) × (length (decoded_samples format count bytes) ≡ count) × All (IsSample format) (decoded_samples format count bytes)
 encoded_back format zero [] is long = (refl, refl, All-nil (IsSample format))
 encoded_back format zero (b ∷ bytes) is long = absurd (omega arith)
 encoded_back format (suc count) bytes is long =
@@ -107,16 +107,16 @@ encoded_back format (suc count) bytes is long =
     let rest : length others ≡ count * w = omega (arith, suc_times count w, length-append first others, ap length split) in
     let (same, sample) = sample_of_bytes format first (All-take (λ b. b < 256) w bytes is) size in
     let (back, many, each) = encoded_back format count others (All-drop (λ b. b < 256) w bytes is) rest in (
-      ap (λ l. l ++ encoded format (decoded format count others)) same ∙ ap (λ l. first ++ l) back ∙ split,
+      ap (λ l. l ++ encoded_samples format (decoded_samples format count others)) same ∙ ap (λ l. first ++ l) back ∙ split,
       ap suc many,
-      All-cons (IsSample format) (decoded_sample format first) (decoded format count others) sample each,
+      All-cons (IsSample format) (decoded_sample format first) (decoded_samples format count others) sample each,
     )
   where
     suc_times : (n w : ℕ) → suc n * w ≡ w + n * w
     suc_times n w = omega arith
 
 -- the bytes of U8 samples are the samples
-pub decoded-U8 : (count : ℕ) (bytes : List ℕ) → length bytes ≡ count * sample_bytes U8 → map pos bytes ≡ decoded U8 count bytes
+pub decoded-U8 : (count : ℕ) (bytes : List ℕ) → length bytes ≡ count * sample_bytes U8 → map pos bytes ≡ decoded_samples U8 count bytes
 decoded-U8 zero [] long = refl
 decoded-U8 zero (b ∷ bytes) long = absurd (omega arith)
 decoded-U8 (suc count) [] long = absurd (omega arith)

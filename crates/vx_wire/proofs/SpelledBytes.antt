@@ -1,6 +1,6 @@
 -- The bodies of requests are bytes.
 use Rattle.std.proofs.Common.{ℕ, ℤ, zero, suc, pos, negsuc, ◌<◌, ◌^◌, List, [], ◌∷◌, ◌++◌, length, Option, Some, None, Bool, arith, IsTrue, rules, All, IfSome, leb-true, unwrap_or, unsigned_abs}
-use Rattle.vx_wire.proofs.Common.{w16, w32, to_be_bytes, cast_unsigned, ints, nat_tests, All-nil, All-cons, All-head, All-tail, Format, U8, S16, U32, Border, Undefined, Constant, Replicate, Policy, Function, Node, ThresholdKind, Binary, Range, Cell, IsCell, ConvolutionValue, is_odd_side, IsConvolution, Description, function_number, LutValue, IsLut, IsBorder, IsNode, Outline, PictureValue, IsPicture, Rectangle, IsSample, is_slot_count, BinsValue, ThresholdValue, IsThreshold, Request, OpenContext, ReleaseContext, CreateImage, QueryImage, WriteImage, WriteImagePgm, ReadImage, ReadImagePgm, SetValid, Release, CreateLut, CreateThreshold, CreateConvolution, CreateDistribution, ReadDistribution, CreateMinMax, ReadMinMax, CreateGraph, CreateVirtualImage, AddNode, RemoveNode, VerifyGraph, ProcessGraph, Immediate, CreateDelay, AgeDelay, RegisterAutoAging, IsRequest, format_number, open_format_number, description_bytes, encoded_sample, encoded, picture_bytes, reference_bytes, operand_bytes, rectangle_bytes, lut_bytes, range_number, limit_bytes, threshold_bytes, convolution_bytes, bins_bytes, outline_bytes, open_side_number, border_bytes, policy_number, node_bytes, body_of}
+use Rattle.vx_wire.proofs.Common.{w16, w32, to_be_bytes, cast_unsigned, ints, nat_tests, All-nil, All-cons, All-head, All-tail, Format, U8, S16, U32, Border, Undefined, Constant, Replicate, Policy, Function, Node, ThresholdKind, Binary, Range, Reference, IsReference, ConvolutionValue, is_odd_side, IsConvolution, Description, function_number, LutValue, IsLut, IsBorder, IsNode, PartialDescription, PictureValue, IsPicture, Rectangle, IsSample, is_slot_count, BinsValue, ThresholdValue, IsThreshold, Request, OpenContext, ReleaseContext, CreateImage, QueryImage, WriteImage, WriteImagePgm, ReadImage, ReadImagePgm, SetValid, Release, CreateLut, CreateThreshold, CreateConvolution, CreateDistribution, ReadDistribution, CreateMinMax, ReadMinMax, CreateGraph, CreateVirtualImage, AddNode, RemoveNode, VerifyGraph, ProcessGraph, Immediate, CreateDelay, AgeDelay, RegisterAutoAging, IsRequest, format_number, open_format_number, description_bytes, encoded_sample, encoded_samples, picture_bytes, reference_bytes, operand_bytes, rectangle_bytes, lut_bytes, range_number, limit_bytes, threshold_bytes, convolution_bytes, bins_bytes, partial_desc_bytes, open_side_number, border_bytes, policy_number, node_bytes, body_of}
 use Rattle.std.specs.Int.{Width, byte_len, byte_at, bytes_high_first}
 use Rattle.std.proofs.lemmas.List.Elements.{All-append}
 use Rattle.vx_wire.proofs.TableSizes.{convolution_parts}
@@ -39,10 +39,10 @@ sample U8 (negsuc n) is = absurd (omega (arith, ints, is.at_least))
 sample S16 z is = number w16 (cast_unsigned w16 z)
 sample U32 z is = number w32 (unsigned_abs z)
 
-samples : (format : Format) (zs : List ℤ) → All (IsSample format) zs → AreBytes (encoded format zs)
+samples : (format : Format) (zs : List ℤ) → All (IsSample format) zs → AreBytes (encoded_samples format zs)
 samples format [] are = none
 samples format (z ∷ zs) are =
-    joined (encoded_sample format z) (encoded format zs) (sample format z (All-head (IsSample format) z zs are)) (samples format zs (All-tail (IsSample format) z zs are))
+    joined (encoded_sample format z) (encoded_samples format zs) (sample format z (All-head (IsSample format) z zs are)) (samples format zs (All-tail (IsSample format) z zs are))
 
 -- ---- fields
 
@@ -62,18 +62,18 @@ slot_byte : (slot : Option ℕ) → IfSome slot (λ k. k < 255) → unwrap_or sl
 slot_byte None is = omega arith
 slot_byte (Some k) is = omega (arith, is)
 
-reference : (cell : Cell) → IsCell cell → AreBytes (reference_bytes cell)
+reference : (cell : Reference) → IsReference cell → AreBytes (reference_bytes cell)
 reference cell is = joined _ _ (number w32 cell.name) (more _ [] (slot_byte cell.slot is.slot) none)
 
-operand : (cell : Option Cell) → IfSome cell IsCell → AreBytes (operand_bytes cell)
+operand : (cell : Option Reference) → IfSome cell IsReference → AreBytes (operand_bytes cell)
 operand None is = reference (record { name = 0; slot = None }) (record { name = omega arith; slot = tt })
 operand (Some cell) is = reference cell is
 
 rectangle : (r : Rectangle) → AreBytes (rectangle_bytes r)
 rectangle r = joined _ _ (number w16 r.x0) (joined _ _ (number w16 r.y0) (joined _ _ (number w16 r.x1) (number w16 r.y1)))
 
-outline : (o : Outline) → AreBytes (outline_bytes o)
-outline o = more _ _ (open_format_byte o.format) (joined _ _ (number w16 (open_side_number o.width)) (number w16 (open_side_number o.height)))
+partial_desc : (o : PartialDescription) → AreBytes (partial_desc_bytes o)
+partial_desc o = more _ _ (open_format_byte o.format) (joined _ _ (number w16 (open_side_number o.width)) (number w16 (open_side_number o.height)))
 
 bins : (b : BinsValue) → AreBytes (bins_bytes b)
 bins b = joined _ _ (number w16 b.bins) (joined _ _ (number w16 b.offset) (number w16 b.range))
@@ -147,7 +147,7 @@ body (ReadDistribution name) is = number w32 name
 body CreateMinMax is = none
 body (ReadMinMax name) is = number w32 name
 body CreateGraph is = none
-body (CreateVirtualImage graph declared) is = joined _ _ (number w32 graph) (outline declared)
+body (CreateVirtualImage graph declared) is = joined _ _ (number w32 graph) (partial_desc declared)
 body (AddNode graph n) is = joined _ _ (number w32 graph) (node n is.1)
 body (RemoveNode graph n) is = joined _ _ (number w32 graph) (number w32 n)
 body (VerifyGraph graph) is = number w32 graph

@@ -1,14 +1,14 @@
 -- Each field is read back from its bytes.
 use Rattle.std.proofs.Common.{◌≡◌, ℕ, ℤ, ◌+◌, ◌*◌, ◌<◌, ◌^◌, ◌%◌, ◌/◌, ◌==◌, ◌&&◌, List, ◌∷◌, ◌++◌, Option, Some, None, Ok, Bool, true, false, IsTrue, if◌then◌else◌, nat_le, nat_lt, unwrap_or, length, arith, length-append, refl, ap, ◌∙◌, take_at, drop_at, All, IfSome, le-leb}
-use Rattle.vx_wire.proofs.Common.{w16, w32, to_be_bytes, nat_tests, BodyFault, InvalidDimension, InvalidValue, from_be_bytes-to_be_bytes_4, Format, U8, S16, U32, Cell, IsCell, Description, is_side, sample_count, IsDescription, Outline, may_be_side, IsOutline, IsSample, sample_bytes, PictureValue, IsPicture, is_slot_count, Rectangle, IsRectangle, BinsValue, are_bins, Taken, and_then, allowed, take_byte, take_short, take_long, take_bytes, take_format, format_number, open_format_number, take_open_format, take_side, take_description, description_bytes, open_side_number, open_side_numbered, take_open_side, take_outline, outline_bytes, slot_numbered, take_reference, reference_bytes, encoded, take_samples, take_picture, picture_bytes, take_slots, take_rectangle, rectangle_bytes, is_up_to_256, take_bins, bins_bytes}
+use Rattle.vx_wire.proofs.Common.{w16, w32, to_be_bytes, nat_tests, BodyFault, InvalidDimension, InvalidValue, from_be_bytes-to_be_bytes_4, Format, U8, S16, U32, Reference, IsReference, Description, is_side, sample_count, IsDescription, PartialDescription, may_be_side, IsPartialDescription, IsSample, sample_bytes, PictureValue, IsPicture, is_slot_count, Rectangle, IsRectangle, BinsValue, are_bins, FieldResult, and_then, allowed_or_fault, take_byte, take_short, take_long, take_bytes, take_format, format_number, open_format_number, take_open_format, take_side, take_description, description_bytes, open_side_number, open_side_numbered, take_open_side, take_partial_desc, partial_desc_bytes, slot_numbered, take_reference, reference_bytes, encoded_samples, take_samples, take_picture, picture_bytes, take_slots, take_rectangle, rectangle_bytes, is_up_to_256, take_bins, bins_bytes}
 use Rattle.vx_wire.specs.Bins.{take_up_to_256, take_offset}
 use Rattle.vx_base.proofs.RectangleLaws.{rectangle_ordered}
 use Rattle.vx_wire.proofs.NodeShape.{both_of}
 use Rattle.vx_wire.proofs.SampleBytes.{length-encoded, decoded_back}
 
 -- a field that is made of another one
-pub allowed_back : {A B : Type 0} (t : Taken A) (x : A) (y : B) (rest : List ℕ) (fault : BodyFault) (made : A → Option B) → t ≡ Ok (x, rest) → made x ≡ Some y
-    → and_then t (λ x rest. allowed fault (made x) rest) ≡ Ok (y, rest)
+pub allowed_back : {A B : Type 0} (t : FieldResult A) (x : A) (y : B) (rest : List ℕ) (fault : BodyFault) (made : A → Option B) → t ≡ Ok (x, rest) → made x ≡ Some y
+    → and_then t (λ x rest. allowed_or_fault fault (made x) rest) ≡ Ok (y, rest)
 allowed_back t x y rest fault made is so = rw (is, so) refl
 
 -- a number and that of its bytes
@@ -23,11 +23,11 @@ long_back n rest below = rw (long_is n below) refl
 
 -- numbers that pass a test
 pub tested_byte_back : (fault : BodyFault) (test : ℕ → Bool) (n : ℕ) (rest : List ℕ) → IsTrue (test n)
-    → and_then (take_byte (n ∷ rest)) (λ n rest. allowed fault (if test n then Some n else None) rest) ≡ Ok (n, rest)
-tested_byte_back fault test n rest is = ap (λ b. allowed fault (if b then Some n else None) rest) is
+    → and_then (take_byte (n ∷ rest)) (λ n rest. allowed_or_fault fault (if test n then Some n else None) rest) ≡ Ok (n, rest)
+tested_byte_back fault test n rest is = ap (λ b. allowed_or_fault fault (if b then Some n else None) rest) is
 
 tested_short_back : (fault : BodyFault) (test : ℕ → Bool) (n : ℕ) (rest : List ℕ) → n < 2 ^ 16 → IsTrue (test n)
-    → and_then (take_short (to_be_bytes w16 n ++ rest)) (λ n rest. allowed fault (if test n then Some n else None) rest) ≡ Ok (n, rest)
+    → and_then (take_short (to_be_bytes w16 n ++ rest)) (λ n rest. allowed_or_fault fault (if test n then Some n else None) rest) ≡ Ok (n, rest)
 tested_short_back fault test n rest below is = rw (short_is n below, is) refl
 
 format_back : (format : Format) (rest : List ℕ) → take_format (format_number format ∷ rest) ≡ Ok (format, rest)
@@ -61,7 +61,7 @@ numbered_side (Some n) is = let some : (n == 0) ≡ false = grind (arith, nat_te
 open_side_back : (side : Option ℕ) (rest : List ℕ) → IsTrue (may_be_side side) → take_open_side (to_be_bytes w16 (open_side_number side) ++ rest) ≡ Ok (side, rest)
 open_side_back side rest is = rw (short_is (open_side_number side) (open_side_below side is), numbered_side side is) refl
 
-pub outline_back : (o : Outline) (rest : List ℕ) → IsOutline o → take_outline (outline_bytes o ++ rest) ≡ Ok (o, rest)
+pub outline_back : (o : PartialDescription) (rest : List ℕ) → IsPartialDescription o → take_partial_desc (partial_desc_bytes o ++ rest) ≡ Ok (o, rest)
 outline_back o rest is =
     let (width, height) = both_of (may_be_side o.width) (may_be_side o.height) is in
     rw (open_format_back o.format _, open_side_back o.width _ width, open_side_back o.height _ height) refl
@@ -70,7 +70,7 @@ slot_back : (slot : Option ℕ) → IfSome slot (λ k. k < 255) → slot_numbere
 slot_back None is = refl
 slot_back (Some k) is = let other : (k == 255) ≡ false = grind (arith, nat_tests) in rw other refl
 
-pub cell_back : (cell : Cell) (rest : List ℕ) → IsCell cell → take_reference (reference_bytes cell ++ rest) ≡ Ok (cell, rest)
+pub cell_back : (cell : Reference) (rest : List ℕ) → IsReference cell → take_reference (reference_bytes cell ++ rest) ≡ Ok (cell, rest)
 cell_back cell rest is = rw (long_is cell.name is.name, slot_back cell.slot is.slot) refl
 
 starts_below : (r : Rectangle) → IsRectangle r → (r.x0 < 2 ^ 16) × (r.y0 < 2 ^ 16)
@@ -114,9 +114,9 @@ bytes_back n bytes rest long =
 
 -- a number of samples
 pub taken_back : (format : Format) (count : ℕ) (samples : List ℤ) (rest : List ℕ) → length samples ≡ count → All (IsSample format) samples
-    → take_samples format count (encoded format samples ++ rest) ≡ Ok (samples, rest)
+    → take_samples format count (encoded_samples format samples ++ rest) ≡ Ok (samples, rest)
 taken_back format count samples rest size is =
-    let bytes = encoded format samples in
+    let bytes = encoded_samples format samples in
     let n = count * sample_bytes format in
     let long : length bytes ≡ n = length-encoded format samples ∙ ap (λ m. m * sample_bytes format) size in
     rw (bytes_back n bytes rest long, ← size, decoded_back format samples is) refl

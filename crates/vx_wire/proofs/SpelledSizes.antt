@@ -1,6 +1,6 @@
 -- How long the bodies of requests are.
 use Rattle.std.proofs.Common.{◌≡◌, ℕ, ◌*◌, ◌≤◌, [], ◌∷◌, Option, Some, None, length, IsTrue, arith, refl, length-append}
-use Rattle.vx_wire.proofs.Common.{nat_tests, Format, U8, S16, U32, Border, Undefined, Constant, Replicate, Node, Cell, sample_count, PictureValue, IsPicture, sample_bytes, LutValue, IsLut, ThresholdKind, Binary, Range, ThresholdValue, ConvolutionValue, is_odd_side, IsConvolution, encoded, limit_bytes, threshold_bytes, convolution_bytes, operand_bytes, border_bytes, node_bytes}
+use Rattle.vx_wire.proofs.Common.{nat_tests, Format, U8, S16, U32, Border, Undefined, Constant, Replicate, Node, Reference, sample_count, PictureValue, IsPicture, sample_bytes, LutValue, IsLut, ThresholdKind, Binary, Range, ThresholdValue, ConvolutionValue, is_odd_side, IsConvolution, encoded_samples, limit_bytes, threshold_bytes, convolution_bytes, operand_bytes, border_bytes, node_bytes}
 use Rattle.std.proofs.Math.Nat.{mul-le-mul}
 use Rattle.vx_base.proofs.PictureLaws.{side}
 use Rattle.vx_wire.proofs.SampleBytes.{length-encoded}
@@ -12,14 +12,14 @@ sample_bytes_most U8 = omega arith
 sample_bytes_most S16 = omega arith
 sample_bytes_most U32 = omega arith
 
-pub spelled_most : (p : PictureValue) → IsPicture p → length (encoded p.description.format p.samples) ≤ GREATEST_BYTES
+pub spelled_most : (p : PictureValue) → IsPicture p → length (encoded_samples p.description.format p.samples) ≤ GREATEST_BYTES
 spelled_most p is =
     let count : sample_count p.description ≤ GREATEST_SIDE * GREATEST_SIDE = mul-le-mul (side p.description.height is.description.height) (side p.description.width is.description.width) in
     let most : sample_count p.description * sample_bytes p.description.format ≤ (GREATEST_SIDE * GREATEST_SIDE) * 4 = mul-le-mul count (sample_bytes_most p.description.format) in
     let size = is.size in
     rw (length-encoded p.description.format p.samples, size) (omega arith)
 
-pub entries_most : (lut : LutValue) → IsLut lut → length (encoded lut.format lut.entries) ≤ 131072
+pub entries_most : (lut : LutValue) → IsLut lut → length (encoded_samples lut.format lut.entries) ≤ 131072
 entries_most lut is = rw (length-encoded lut.format lut.entries) (bytes_most lut.format (length lut.entries) is.full)
 
 limits_most : (kind : ThresholdKind) → length (limit_bytes kind) ≤ 4
@@ -43,7 +43,7 @@ length-border_bytes Undefined = refl
 length-border_bytes (Constant value) = refl
 length-border_bytes Replicate = refl
 
-length-operand_bytes : (o : Option Cell) → length (operand_bytes o) ≡ 5
+length-operand_bytes : (o : Option Reference) → length (operand_bytes o) ≡ 5
 length-operand_bytes None = refl
 length-operand_bytes (Some cell) = refl
 

@@ -3,19 +3,19 @@ use Rattle.std.specs.Prelude.{ℕ, ◌&&◌, Bool, if◌then◌else◌, nat_le, 
 use Rattle.std.specs.Int.{w16, to_be_bytes}
 use Rattle.vx_base.specs.Statistics.{BinsValue}
 use Rattle.vx_wire.specs.declared.body_fault.BodyFault.TheVariants.{InvalidValue}
-use Rattle.vx_wire.specs.Fields.{Taken, and_then, allowed, take_short}
+use Rattle.vx_wire.specs.Fields.{FieldResult, and_then, allowed_or_fault, take_short}
 
 -- whether a number of bins or a range is 1 to 256
 abbrev pub is_up_to_256 : ℕ → Bool
 is_up_to_256 n = nat_le 1 n && nat_le n 256
 
-abbrev pub take_up_to_256 : List ℕ → Taken ℕ
-take_up_to_256 body = and_then (take_short body) (λ n rest. allowed InvalidValue (if is_up_to_256 n then Some n else None) rest)
+abbrev pub take_up_to_256 : List ℕ → FieldResult ℕ
+take_up_to_256 body = and_then (take_short body) (λ n rest. allowed_or_fault InvalidValue (if is_up_to_256 n then Some n else None) rest)
 
-abbrev pub take_offset : List ℕ → Taken ℕ
-take_offset body = and_then (take_short body) (λ n rest. allowed InvalidValue (if nat_lt n 256 then Some n else None) rest)
+abbrev pub take_offset : List ℕ → FieldResult ℕ
+take_offset body = and_then (take_short body) (λ n rest. allowed_or_fault InvalidValue (if nat_lt n 256 then Some n else None) rest)
 
-abbrev pub take_bins : List ℕ → Taken BinsValue
+abbrev pub take_bins : List ℕ → FieldResult BinsValue
 take_bins body =
     and_then (take_up_to_256 body) (λ bins rest. and_then (take_offset rest) (λ offset rest. and_then (take_up_to_256 rest) (λ range rest.
     Ok (record { bins = bins; offset = offset; range = range }, rest))))

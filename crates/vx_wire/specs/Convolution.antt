@@ -3,22 +3,22 @@ use Rattle.std.specs.Prelude.{ℕ, ◌*◌, if◌then◌else◌, nat_le, List, �
 use Rattle.vx_base.specs.declared.format.Format.TheVariants.{S16}
 use Rattle.vx_base.specs.Convolution.{ConvolutionValue, is_odd_side}
 use Rattle.vx_wire.specs.declared.body_fault.BodyFault.TheVariants.{InvalidDimension, InvalidValue}
-use Rattle.vx_wire.specs.Fields.{Taken, and_then, allowed, take_byte}
-use Rattle.vx_wire.specs.Samples.{encoded, take_samples}
+use Rattle.vx_wire.specs.Fields.{FieldResult, and_then, allowed_or_fault, take_byte}
+use Rattle.vx_wire.specs.Samples.{encoded_samples, take_samples}
 
 -- the number of columns or rows: 3, 5, 7 or 9
-abbrev pub take_odd_side : List ℕ → Taken ℕ
-take_odd_side body = and_then (take_byte body) (λ n rest. allowed InvalidDimension (if is_odd_side n then Some n else None) rest)
+abbrev pub take_odd_side : List ℕ → FieldResult ℕ
+take_odd_side body = and_then (take_byte body) (λ n rest. allowed_or_fault InvalidDimension (if is_odd_side n then Some n else None) rest)
 
-abbrev pub take_exponent : List ℕ → Taken ℕ
-take_exponent body = and_then (take_byte body) (λ n rest. allowed InvalidValue (if nat_le n 31 then Some n else None) rest)
+abbrev pub take_exponent : List ℕ → FieldResult ℕ
+take_exponent body = and_then (take_byte body) (λ n rest. allowed_or_fault InvalidValue (if nat_le n 31 then Some n else None) rest)
 
 -- a convolution; the coefficients are encoded as S16 samples
-abbrev pub take_convolution : List ℕ → Taken ConvolutionValue
+abbrev pub take_convolution : List ℕ → FieldResult ConvolutionValue
 take_convolution body =
     and_then (take_odd_side body) (λ columns rest. and_then (take_odd_side rest) (λ rows rest. and_then (take_exponent rest) (λ exponent rest.
     and_then (take_samples S16 (rows * columns) rest) (λ coefficients rest.
     Ok (record { columns = columns; rows = rows; exponent = exponent; coefficients = coefficients }, rest)))))
 
 abbrev pub convolution_bytes : ConvolutionValue → List ℕ
-convolution_bytes c = c.columns ∷ c.rows ∷ c.exponent ∷ encoded S16 c.coefficients
+convolution_bytes c = c.columns ∷ c.rows ∷ c.exponent ∷ encoded_samples S16 c.coefficients

@@ -3,13 +3,13 @@ use Rattle.std.specs.Prelude.{ℕ, if◌then◌else◌, List, ◌∷◌, ◌++�
 use Rattle.std.specs.Int.{w16, to_be_bytes}
 use Rattle.vx_base.specs.Description.{Description, is_side}
 use Rattle.vx_wire.specs.declared.body_fault.BodyFault.TheVariants.{InvalidDimension}
-use Rattle.vx_wire.specs.Fields.{Taken, and_then, allowed, take_short}
+use Rattle.vx_wire.specs.Fields.{FieldResult, and_then, allowed_or_fault, take_short}
 use Rattle.vx_wire.specs.Format.{format_number, take_format}
 
-abbrev pub take_side : List ℕ → Taken ℕ
-take_side body = and_then (take_short body) (λ n rest. allowed InvalidDimension (if is_side n then Some n else None) rest)
+abbrev pub take_side : List ℕ → FieldResult ℕ
+take_side body = and_then (take_short body) (λ n rest. allowed_or_fault InvalidDimension (if is_side n then Some n else None) rest)
 
-abbrev pub take_description : List ℕ → Taken Description
+abbrev pub take_description : List ℕ → FieldResult Description
 take_description body =
     and_then (take_format body) (λ format rest. and_then (take_side rest) (λ width rest. and_then (take_side rest) (λ height rest.
     Ok (record { width = width; height = height; format = format }, rest))))

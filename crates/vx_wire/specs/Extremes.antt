@@ -6,10 +6,10 @@ use Rattle.vx_base.specs.declared.extremes.Extremes.{Extremes}
 use Rattle.vx_wire.specs.Samples.{encoded_sample}
 
 -- the column and the row of a pixel
-abbrev pub place_bytes : ℕ × ℕ → List ℕ
-place_bytes place = to_be_bytes w16 place.0 ++ to_be_bytes w16 place.1
+abbrev pub pixel_bytes : ℕ × ℕ → List ℕ
+pixel_bytes place = to_be_bytes w16 place.0 ++ to_be_bytes w16 place.1
 
 abbrev pub extremes_bytes : Extremes → List ℕ
 extremes_bytes e =
     encoded_sample S16 e.min ++ (encoded_sample S16 e.max ++ (to_be_bytes w32 e.min_count ++ (to_be_bytes w32 e.max_count
-    ++ (place_bytes e.min_at ++ place_bytes e.max_at))))
+    ++ (pixel_bytes e.min_at ++ pixel_bytes e.max_at))))

@@ -4,16 +4,16 @@ use Rattle.vx_wire.specs.declared.body_fault.BodyFault.{BodyFault}
 use Rattle.vx_wire.specs.declared.body_fault.BodyFault.TheVariants.{InvalidParameters}
 
 -- a field's value and the bytes after it, or the field's fault
-abbrev pub Taken : Type 0 → Type 0
-Taken A = Result (A × List ℕ) BodyFault
+abbrev pub FieldResult : Type 0 → Type 0
+FieldResult A = Result (A × List ℕ) BodyFault
 
 -- a call read this field from the front of the bytes and left those after it, or returned the field's fault
-pub record Takes {A : Type 0} (take : List ℕ → Taken A) (old new : List ℕ) (result : Result A BodyFault) : Type 0 where
+pub record Takes {A : Type 0} (take : List ℕ → FieldResult A) (old new : List ℕ) (result : Result A BodyFault) : Type 0 where
   pub ok : IfOk result (λ x. take old ≡ Ok (x, new))
   pub err : IfErr result (λ fault. take old ≡ Err fault)
 
 -- two fields in order: the fault of the first comes first
-abbrev pub and_then : {A B : Type 0} → Taken A → (A → List ℕ → Result B BodyFault) → Result B BodyFault
+abbrev pub and_then : {A B : Type 0} → FieldResult A → (A → List ℕ → Result B BodyFault) → Result B BodyFault
 and_then (Ok taken) next = next taken.0 taken.1
 and_then (Err fault) next = Err fault
 
@@ -23,31 +23,31 @@ at_end value [] = Ok value
 at_end value (b ∷ rest) = Err InvalidParameters
 
 -- a body of one field, and the value that is made from it
-abbrev pub one_field : {A B : Type 0} → (List ℕ → Taken A) → (A → B) → List ℕ → Result B BodyFault
+abbrev pub one_field : {A B : Type 0} → (List ℕ → FieldResult A) → (A → B) → List ℕ → Result B BodyFault
 one_field take made body = and_then (take body) (λ x rest. at_end (made x) rest)
 
 -- a body of two fields, and the value that is made from them
-abbrev pub two_fields : {A B C : Type 0} → (List ℕ → Taken A) → (List ℕ → Taken B) → (A → B → C) → List ℕ → Result C BodyFault
+abbrev pub two_fields : {A B C : Type 0} → (List ℕ → FieldResult A) → (List ℕ → FieldResult B) → (A → B → C) → List ℕ → Result C BodyFault
 two_fields first second made body = and_then (first body) (λ x rest. one_field second (made x) rest)
 
 -- the field's value, or its fault if the value isn't allowed
-abbrev pub allowed : {A : Type 0} → BodyFault → Option A → List ℕ → Taken A
-allowed fault None rest = Err fault
-allowed fault (Some value) rest = Ok (value, rest)
+abbrev pub allowed_or_fault : {A : Type 0} → BodyFault → Option A → List ℕ → FieldResult A
+allowed_or_fault fault None rest = Err fault
+allowed_or_fault fault (Some value) rest = Ok (value, rest)
 
 -- ---- numbers, most significant byte first; a number that is cut short is InvalidParameters
 
-abbrev pub take_byte : List ℕ → Taken ℕ
+abbrev pub take_byte : List ℕ → FieldResult ℕ
 take_byte [] = Err InvalidParameters
 take_byte (a ∷ rest) = Ok (a, rest)
 
-abbrev pub take_short : List ℕ → Taken ℕ
+abbrev pub take_short : List ℕ → FieldResult ℕ
 take_short body = and_then (take_byte body) (λ a rest. and_then (take_byte rest) (λ b rest. Ok (256 * a + b, rest)))
 
-abbrev pub take_long : List ℕ → Taken ℕ
+abbrev pub take_long : List ℕ → FieldResult ℕ
 take_long body = and_then (take_short body) (λ a rest. and_then (take_short rest) (λ b rest. Ok (65536 * a + b, rest)))
 
 -- ---- a number of bytes, which are one field
 
-abbrev pub take_bytes : ℕ → List ℕ → Taken (List ℕ)
+abbrev pub take_bytes : ℕ → List ℕ → FieldResult (List ℕ)
 take_bytes n body = if nat_le n (length body) then Ok (take n body, drop n body) else Err InvalidParameters

@@ -3,8 +3,8 @@ use Rattle.std.specs.Prelude.{ℕ, List, [], ◌∷◌, Option, Some, None}
 use Rattle.vx_base.specs.declared.format.Format.{Format}
 use Rattle.vx_base.specs.declared.format.Format.TheVariants.{U8, S16, U32}
 use Rattle.vx_wire.specs.declared.body_fault.BodyFault.TheVariants.{InvalidFormat}
-use Rattle.vx_wire.specs.Numbered.{numbered}
-use Rattle.vx_wire.specs.Fields.{Taken, and_then, allowed, take_byte}
+use Rattle.vx_wire.specs.Numbered.{with_number}
+use Rattle.vx_wire.specs.Fields.{FieldResult, and_then, allowed_or_fault, take_byte}
 
 abbrev pub format_number : Format → ℕ
 format_number U8 = 1
@@ -13,10 +13,10 @@ format_number U32 = 3
 
 -- the format with this number
 abbrev pub format_numbered : ℕ → Option Format
-format_numbered n = numbered format_number (U8 ∷ S16 ∷ U32 ∷ []) n
+format_numbered n = with_number format_number (U8 ∷ S16 ∷ U32 ∷ []) n
 
-abbrev pub take_format : List ℕ → Taken Format
-take_format body = and_then (take_byte body) (λ n rest. allowed InvalidFormat (format_numbered n) rest)
+abbrev pub take_format : List ℕ → FieldResult Format
+take_format body = and_then (take_byte body) (λ n rest. allowed_or_fault InvalidFormat (format_numbered n) rest)
 
 -- the number of a format; an open format is 0
 abbrev pub open_format_number : Option Format → ℕ
@@ -25,14 +25,14 @@ open_format_number (Some format) = format_number format
 
 -- the format with this number; 0 is an open format
 abbrev pub open_format_numbered : ℕ → Option (Option Format)
-open_format_numbered n = numbered open_format_number (None ∷ Some U8 ∷ Some S16 ∷ Some U32 ∷ []) n
+open_format_numbered n = with_number open_format_number (None ∷ Some U8 ∷ Some S16 ∷ Some U32 ∷ []) n
 
-abbrev pub take_open_format : List ℕ → Taken (Option Format)
-take_open_format body = and_then (take_byte body) (λ n rest. allowed InvalidFormat (open_format_numbered n) rest)
+abbrev pub take_open_format : List ℕ → FieldResult (Option Format)
+take_open_format body = and_then (take_byte body) (λ n rest. allowed_or_fault InvalidFormat (open_format_numbered n) rest)
 
 -- the format with this number, of those that tables and thresholds can have
 abbrev pub input_format_numbered : ℕ → Option Format
-input_format_numbered n = numbered format_number (U8 ∷ S16 ∷ []) n
+input_format_numbered n = with_number format_number (U8 ∷ S16 ∷ []) n
 
-abbrev pub take_input_format : List ℕ → Taken Format
-take_input_format body = and_then (take_byte body) (λ n rest. allowed InvalidFormat (input_format_numbered n) rest)
+abbrev pub take_input_format : List ℕ → FieldResult Format
+take_input_format body = and_then (take_byte body) (λ n rest. allowed_or_fault InvalidFormat (input_format_numbered n) rest)

@@ -5,13 +5,13 @@ use Rattle.client_model.specs.declared.request.Request.TheVariants.{CreateGraph,
 use Rattle.vx_wire.specs.declared.body_fault.BodyFault.{BodyFault}
 use Rattle.vx_wire.specs.Fields.{at_end, one_field, two_fields, take_long}
 use Rattle.vx_wire.specs.Node.{take_node}
-use Rattle.vx_wire.specs.Outline.{take_outline}
+use Rattle.vx_wire.specs.PartialDescription.{take_partial_desc}
 
 abbrev pub create_graph_in : List ℕ → Result Request BodyFault
 create_graph_in body = at_end CreateGraph body
 
 abbrev pub create_virtual_image_in : List ℕ → Result Request BodyFault
-create_virtual_image_in body = two_fields take_long take_outline CreateVirtualImage body
+create_virtual_image_in body = two_fields take_long take_partial_desc CreateVirtualImage body
 
 abbrev pub add_node_in : List ℕ → Result Request BodyFault
 add_node_in body = two_fields take_long take_node AddNode body

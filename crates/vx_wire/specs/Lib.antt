@@ -3,7 +3,7 @@ pub mod Op
 pub mod Fields
 pub mod Format
 pub mod Description
-pub mod Outline
+pub mod PartialDescription
 pub mod Reference
 pub mod Rectangle
 pub mod Described

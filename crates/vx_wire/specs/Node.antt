@@ -10,13 +10,13 @@ use Rattle.vx_base.specs.declared.function.Parameters.{Parameters}
 use Rattle.vx_base.specs.declared.node.Node.{Node}
 use Rattle.vx_base.specs.Function.{function_number, function_numbered, parameters}
 use Rattle.vx_wire.specs.declared.body_fault.BodyFault.TheVariants.{InvalidParameters, InvalidValue}
-use Rattle.vx_wire.specs.Numbered.{numbered}
-use Rattle.vx_wire.specs.Fields.{Taken, and_then, allowed, take_byte}
+use Rattle.vx_wire.specs.Numbered.{with_number}
+use Rattle.vx_wire.specs.Fields.{FieldResult, and_then, allowed_or_fault, take_byte}
 use Rattle.vx_wire.specs.Reference.{reference_bytes}
 use Rattle.vx_wire.specs.Operand.{operand_bytes, take_first_input, take_operands}
 
-abbrev pub take_function : List ℕ → Taken Function
-take_function body = and_then (take_byte body) (λ n rest. allowed InvalidParameters (function_numbered n) rest)
+abbrev pub take_function : List ℕ → FieldResult Function
+take_function body = and_then (take_byte body) (λ n rest. allowed_or_fault InvalidParameters (function_numbered n) rest)
 
 -- ---- the border: its mode, and the constant, which is 0 unless the mode is CONSTANT
 
@@ -37,10 +37,10 @@ border_bytes border = border_mode border ∷ border_constant border ∷ []
 abbrev pub border_with : ℕ → ℕ → Option Border
 border_with mode constant = find (λ b. (mode == border_mode b) && (constant == border_constant b)) (Undefined ∷ Constant constant ∷ Replicate ∷ [])
 
-abbrev pub take_border : List ℕ → Taken Border
+abbrev pub take_border : List ℕ → FieldResult Border
 take_border body =
     and_then (take_byte body) (λ mode rest. and_then (take_byte rest) (λ constant rest.
-    allowed InvalidParameters (border_with mode constant) rest))
+    allowed_or_fault InvalidParameters (border_with mode constant) rest))
 
 -- ---- the policy and the amount; each is 0 if the function doesn't have it
 
@@ -52,19 +52,19 @@ policy_number Saturate = 1
 abbrev pub policies : Parameters → List Policy
 policies p = if p.policy then Wrap ∷ Saturate ∷ [] else Wrap ∷ []
 
-abbrev pub take_policy : Parameters → List ℕ → Taken Policy
-take_policy p body = and_then (take_byte body) (λ n rest. allowed InvalidParameters (numbered policy_number (policies p) n) rest)
+abbrev pub take_policy : Parameters → List ℕ → FieldResult Policy
+take_policy p body = and_then (take_byte body) (λ n rest. allowed_or_fault InvalidParameters (with_number policy_number (policies p) n) rest)
 
-abbrev pub amount_allowed : Option ℕ → ℕ → List ℕ → Taken ℕ
-amount_allowed None n rest = allowed InvalidParameters (if n == 0 then Some n else None) rest
-amount_allowed (Some greatest) n rest = allowed InvalidValue (if nat_le n greatest then Some n else None) rest
+abbrev pub amount_allowed : Option ℕ → ℕ → List ℕ → FieldResult ℕ
+amount_allowed None n rest = allowed_or_fault InvalidParameters (if n == 0 then Some n else None) rest
+amount_allowed (Some greatest) n rest = allowed_or_fault InvalidValue (if nat_le n greatest then Some n else None) rest
 
-abbrev pub take_amount : Parameters → List ℕ → Taken ℕ
+abbrev pub take_amount : Parameters → List ℕ → FieldResult ℕ
 take_amount p body = and_then (take_byte body) (λ n rest. amount_allowed p.greatest_amount n rest)
 
 -- ---- the node
 
-abbrev pub take_node : List ℕ → Taken Node
+abbrev pub take_node : List ℕ → FieldResult Node
 take_node body =
     and_then (take_function body) (λ function rest. and_then (take_border rest) (λ border rest.
     and_then (take_policy (parameters function) rest) (λ policy rest. and_then (take_amount (parameters function) rest) (λ amount rest.

@@ -3,5 +3,5 @@ use Rattle.std.specs.Prelude.{ℕ, ◌==◌, List, Option}
 use Rattle.std.specs.List.{find}
 
 -- the first of these values with this number
-abbrev pub numbered : {A : Type 0} → (A → ℕ) → List A → ℕ → Option A
-numbered number all n = find (λ x. n == number x) all
+abbrev pub with_number : {A : Type 0} → (A → ℕ) → List A → ℕ → Option A
+with_number number all n = find (λ x. n == number x) all

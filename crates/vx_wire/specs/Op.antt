@@ -2,7 +2,7 @@
 use Rattle.std.specs.Prelude.{ℕ, List, [], ◌∷◌, Option}
 use Rattle.client_model.specs.declared.request.Request.{Request}
 use Rattle.client_model.specs.declared.request.Request.TheVariants as requests
-use Rattle.vx_wire.specs.Numbered.{numbered}
+use Rattle.vx_wire.specs.Numbered.{with_number}
 use Rattle.vx_wire.specs.declared.op.Op.{Op}
 use Rattle.vx_wire.specs.declared.op.Op.TheVariants.{OpenContext, ReleaseContext, CreateImage, QueryImage, WriteImage, WriteImagePgm, ReadImage, ReadImagePgm, SetValid, Release, CreateLut, CreateThreshold, CreateConvolution, CreateDistribution, ReadDistribution, CreateMinMax, ReadMinMax, CreateGraph, CreateVirtualImage, AddNode, RemoveNode, VerifyGraph, ProcessGraph, Immediate, CreateDelay, AgeDelay, RegisterAutoAging}
 
@@ -44,7 +44,7 @@ ops =
 
 -- the op with this number
 abbrev pub op_numbered : ℕ → Option Op
-op_numbered n = numbered op_number ops n
+op_numbered n = with_number op_number ops n
 
 -- the op of a request
 abbrev pub op_of : Request → Op

@@ -1,29 +1,29 @@
 -- The operands of a node. An operand that is absent is name 0 without a slot.
 use Rattle.std.specs.Prelude.{ℕ, ◌&&◌, Bool, if◌then◌else◌, List, Option, Some, None, is_some, is_none, Ok}
 use Rattle.vx_base.specs.declared.function.Parameters.{Parameters}
-use Rattle.vx_base.specs.Cell.{Cell}
+use Rattle.vx_base.specs.Reference.{Reference}
 use Rattle.vx_base.specs.Node.{is_nothing, is_named}
 use Rattle.vx_wire.specs.declared.body_fault.BodyFault.TheVariants.{InvalidParameters}
 use Rattle.vx_wire.specs.declared.fields.operand.Presence.{Presence}
 use Rattle.vx_wire.specs.declared.fields.operand.Presence.TheVariants.{Required, Absent, Free}
-use Rattle.vx_wire.specs.Fields.{Taken, and_then, allowed}
+use Rattle.vx_wire.specs.Fields.{FieldResult, and_then, allowed_or_fault}
 use Rattle.vx_wire.specs.Reference.{take_reference, reference_bytes}
 
 -- the operand that a reference encodes, if its presence is as required
-abbrev pub operand : Presence → Cell → Option (Option Cell)
+abbrev pub operand : Presence → Reference → Option (Option Reference)
 operand Required cell = if is_nothing cell then None else Some (Some cell)
 operand Absent cell = if is_nothing cell then Some None else None
 operand Free cell = if is_nothing cell then Some None else Some (Some cell)
 
-abbrev pub take_operand : Presence → List ℕ → Taken (Option Cell)
-take_operand presence body = and_then (take_reference body) (λ cell rest. allowed InvalidParameters (operand presence cell) rest)
+abbrev pub take_operand : Presence → List ℕ → FieldResult (Option Reference)
+take_operand presence body = and_then (take_reference body) (λ cell rest. allowed_or_fault InvalidParameters (operand presence cell) rest)
 
-abbrev pub operand_bytes : Option Cell → List ℕ
+abbrev pub operand_bytes : Option Reference → List ℕ
 operand_bytes None = reference_bytes (record { name = 0; slot = None })
 operand_bytes (Some cell) = reference_bytes cell
 
 -- whether an operand can be encoded, and its presence is as required
-abbrev pub is_operand : Presence → Option Cell → Bool
+abbrev pub is_operand : Presence → Option Reference → Bool
 is_operand Required cell = is_some cell && is_named cell
 is_operand Absent cell = is_none cell
 is_operand Free cell = is_named cell
@@ -37,15 +37,15 @@ abbrev pub first_output : Parameters → Presence
 first_output p = if p.output_pair then Free else Required
 
 -- whether the second output is required: of two outputs, at least one has to be there
-abbrev pub second_output : Parameters → Option Cell → Presence
+abbrev pub second_output : Parameters → Option Reference → Presence
 second_output p out1 = if p.output_pair then (if is_none out1 then Required else Free) else Absent
 
-abbrev pub take_first_input : List ℕ → Taken Cell
+abbrev pub take_first_input : List ℕ → FieldResult Reference
 take_first_input body =
-    and_then (take_reference body) (λ cell rest. allowed InvalidParameters (if is_nothing cell then None else Some cell) rest)
+    and_then (take_reference body) (λ cell rest. allowed_or_fault InvalidParameters (if is_nothing cell then None else Some cell) rest)
 
 -- the operands after the first input
-abbrev pub take_operands : Parameters → List ℕ → Taken (Option Cell × Option Cell × Option Cell)
+abbrev pub take_operands : Parameters → List ℕ → FieldResult (Option Reference × Option Reference × Option Reference)
 take_operands p body =
     and_then (take_operand (second_input p) body) (λ in2 rest. and_then (take_operand (first_output p) rest) (λ out1 rest.
     and_then (take_operand (second_output p out1) rest) (λ out2 rest. Ok ((in2, out1, out2), rest))))

@@ -3,14 +3,14 @@ use Rattle.std.specs.Prelude.{ℕ, List, ◌++◌}
 use Rattle.std.specs.Int.{w16, to_be_bytes}
 use Rattle.vx_base.specs.Rectangle.{Rectangle, rectangle}
 use Rattle.vx_wire.specs.declared.body_fault.BodyFault.TheVariants.{InvalidValue}
-use Rattle.vx_wire.specs.Fields.{Taken, and_then, allowed, take_short}
+use Rattle.vx_wire.specs.Fields.{FieldResult, and_then, allowed_or_fault, take_short}
 
 -- a rectangle; the bounds are checked only when all four are there
-abbrev pub take_rectangle : List ℕ → Taken Rectangle
+abbrev pub take_rectangle : List ℕ → FieldResult Rectangle
 take_rectangle body =
     and_then (take_short body) (λ x0 rest. and_then (take_short rest) (λ y0 rest.
     and_then (take_short rest) (λ x1 rest. and_then (take_short rest) (λ y1 rest.
-    allowed InvalidValue (rectangle x0 y0 x1 y1) rest))))
+    allowed_or_fault InvalidValue (rectangle x0 y0 x1 y1) rest))))
 
 abbrev pub rectangle_bytes : Rectangle → List ℕ
 rectangle_bytes r = to_be_bytes w16 r.x0 ++ (to_be_bytes w16 r.y0 ++ (to_be_bytes w16 r.x1 ++ to_be_bytes w16 r.y1))

@@ -1,16 +1,16 @@
 -- References to objects: a name and a slot. Slot 255 is the object itself.
 use Rattle.std.specs.Prelude.{ℕ, ◌==◌, if◌then◌else◌, List, [], ◌∷◌, ◌++◌, Option, Some, None, unwrap_or, Ok}
 use Rattle.std.specs.Int.{w32, to_be_bytes}
-use Rattle.vx_base.specs.Cell.{Cell}
-use Rattle.vx_wire.specs.Fields.{Taken, and_then, take_byte, take_long}
+use Rattle.vx_base.specs.Reference.{Reference}
+use Rattle.vx_wire.specs.Fields.{FieldResult, and_then, take_byte, take_long}
 
 abbrev pub slot_numbered : ℕ → Option ℕ
 slot_numbered n = if n == 255 then None else Some n
 
-abbrev pub take_reference : List ℕ → Taken Cell
+abbrev pub take_reference : List ℕ → FieldResult Reference
 take_reference body =
     and_then (take_long body) (λ name rest. and_then (take_byte rest) (λ slot rest.
     Ok (record { name = name; slot = slot_numbered slot }, rest)))
 
-abbrev pub reference_bytes : Cell → List ℕ
+abbrev pub reference_bytes : Reference → List ℕ
 reference_bytes cell = to_be_bytes w32 cell.name ++ unwrap_or cell.slot 255 ∷ []

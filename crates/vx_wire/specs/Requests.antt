@@ -10,7 +10,7 @@ use Rattle.vx_wire.specs.declared.op.Op.{Op}
 use Rattle.vx_wire.specs.declared.op.Op.TheVariants as ops
 use Rattle.vx_wire.specs.Op.{op_numbered}
 use Rattle.vx_wire.specs.Description.{description_bytes}
-use Rattle.vx_wire.specs.Outline.{outline_bytes}
+use Rattle.vx_wire.specs.PartialDescription.{partial_desc_bytes}
 use Rattle.vx_wire.specs.Reference.{reference_bytes}
 use Rattle.vx_wire.specs.Rectangle.{rectangle_bytes}
 use Rattle.vx_wire.specs.Samples.{picture_bytes}
@@ -87,7 +87,7 @@ body_of (ReadDistribution name) = to_be_bytes w32 name
 body_of CreateMinMax = []
 body_of (ReadMinMax name) = to_be_bytes w32 name
 body_of CreateGraph = []
-body_of (CreateVirtualImage graph declared) = to_be_bytes w32 graph ++ outline_bytes declared
+body_of (CreateVirtualImage graph declared) = to_be_bytes w32 graph ++ partial_desc_bytes declared
 body_of (AddNode graph node) = to_be_bytes w32 graph ++ node_bytes node
 body_of (RemoveNode graph number) = to_be_bytes w32 graph ++ to_be_bytes w32 number
 body_of (VerifyGraph graph) = to_be_bytes w32 graph

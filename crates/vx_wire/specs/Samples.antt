@@ -7,7 +7,7 @@ use Rattle.vx_base.specs.declared.format.Format.TheVariants.{U8, S16, U32}
 use Rattle.vx_base.specs.Sample.{sample_bytes, signed_of}
 use Rattle.vx_base.specs.Description.{sample_count}
 use Rattle.vx_base.specs.Picture.{PictureValue}
-use Rattle.vx_wire.specs.Fields.{Taken, and_then, take_bytes}
+use Rattle.vx_wire.specs.Fields.{FieldResult, and_then, take_bytes}
 use Rattle.vx_wire.specs.Description.{take_description, description_bytes}
 
 -- the sample that these bytes encode
@@ -23,23 +23,23 @@ encoded_sample S16 z = to_be_bytes w16 (cast_unsigned w16 z)
 encoded_sample U32 z = to_be_bytes w32 (unsigned_abs z)
 
 -- the samples that these bytes encode, one after the other
-abbrev pub decoded : Format → ℕ → List ℕ → List ℤ
-decoded format zero bytes = []
-decoded format (suc count) bytes = decoded_sample format (take (sample_bytes format) bytes) ∷ decoded format count (drop (sample_bytes format) bytes)
+abbrev pub decoded_samples : Format → ℕ → List ℕ → List ℤ
+decoded_samples format zero bytes = []
+decoded_samples format (suc count) bytes = decoded_sample format (take (sample_bytes format) bytes) ∷ decoded_samples format count (drop (sample_bytes format) bytes)
 
-abbrev pub encoded : Format → List ℤ → List ℕ
-encoded format samples = flat_map (encoded_sample format) samples
+abbrev pub encoded_samples : Format → List ℤ → List ℕ
+encoded_samples format samples = flat_map (encoded_sample format) samples
 
 -- `count` samples of a format, which are one field
-abbrev pub take_samples : Format → ℕ → List ℕ → Taken (List ℤ)
-take_samples format count body = and_then (take_bytes (count * sample_bytes format) body) (λ bytes rest. Ok (decoded format count bytes, rest))
+abbrev pub take_samples : Format → ℕ → List ℕ → FieldResult (List ℤ)
+take_samples format count body = and_then (take_bytes (count * sample_bytes format) body) (λ bytes rest. Ok (decoded_samples format count bytes, rest))
 
 -- ---- pictures: the description, and then the samples row by row from the top
 
-abbrev pub take_picture : List ℕ → Taken PictureValue
+abbrev pub take_picture : List ℕ → FieldResult PictureValue
 take_picture body =
     and_then (take_description body) (λ d rest. and_then (take_samples d.format (sample_count d) rest) (λ samples rest.
     Ok (record { description = d; samples = samples }, rest)))
 
 abbrev pub picture_bytes : PictureValue → List ℕ
-picture_bytes p = description_bytes p.description ++ encoded p.description.format p.samples
+picture_bytes p = description_bytes p.description ++ encoded_samples p.description.format p.samples

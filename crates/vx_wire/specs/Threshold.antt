@@ -6,8 +6,8 @@ use Rattle.vx_base.specs.declared.threshold.ThresholdKind.{ThresholdKind}
 use Rattle.vx_base.specs.declared.threshold.ThresholdKind.TheVariants.{Binary, Range}
 use Rattle.vx_base.specs.Threshold.{ThresholdValue, is_sample}
 use Rattle.vx_wire.specs.declared.body_fault.BodyFault.TheVariants.{InvalidParameters, InvalidValue}
-use Rattle.vx_wire.specs.Numbered.{numbered}
-use Rattle.vx_wire.specs.Fields.{Taken, and_then, allowed, take_byte, take_bytes}
+use Rattle.vx_wire.specs.Numbered.{with_number}
+use Rattle.vx_wire.specs.Fields.{FieldResult, and_then, allowed_or_fault, take_byte, take_bytes}
 use Rattle.vx_wire.specs.Format.{format_number, take_input_format}
 use Rattle.vx_wire.specs.Samples.{decoded_sample, encoded_sample}
 
@@ -22,29 +22,29 @@ range_number false = 0
 range_number true = 1
 
 abbrev pub range_numbered : ℕ → Option Bool
-range_numbered n = numbered range_number (false ∷ true ∷ []) n
+range_numbered n = with_number range_number (false ∷ true ∷ []) n
 
-abbrev pub take_is_range : List ℕ → Taken Bool
-take_is_range body = and_then (take_byte body) (λ n rest. allowed InvalidParameters (range_numbered n) rest)
+abbrev pub take_is_range : List ℕ → FieldResult Bool
+take_is_range body = and_then (take_byte body) (λ n rest. allowed_or_fault InvalidParameters (range_numbered n) rest)
 
 -- a limit, which is encoded as an S16 sample in every format
-abbrev pub take_signed : List ℕ → Taken ℤ
+abbrev pub take_signed : List ℕ → FieldResult ℤ
 take_signed body = and_then (take_bytes 2 body) (λ bytes rest. Ok (decoded_sample S16 bytes, rest))
 
 -- a limit that is a sample of the format
-abbrev pub take_limit : Format → List ℕ → Taken ℤ
-take_limit format body = and_then (take_signed body) (λ z rest. allowed InvalidValue (if is_sample format z then Some z else None) rest)
+abbrev pub take_limit : Format → List ℕ → FieldResult ℤ
+take_limit format body = and_then (take_signed body) (λ z rest. allowed_or_fault InvalidValue (if is_sample format z then Some z else None) rest)
 
 -- the upper limit, which is not below the lower
-abbrev pub take_upper : Format → ℤ → List ℕ → Taken ℤ
-take_upper format lower body = and_then (take_limit format body) (λ z rest. allowed InvalidValue (if int_le lower z then Some z else None) rest)
+abbrev pub take_upper : Format → ℤ → List ℕ → FieldResult ℤ
+take_upper format lower body = and_then (take_limit format body) (λ z rest. allowed_or_fault InvalidValue (if int_le lower z then Some z else None) rest)
 
-abbrev pub take_limits : Bool → Format → List ℕ → Taken ThresholdKind
+abbrev pub take_limits : Bool → Format → List ℕ → FieldResult ThresholdKind
 take_limits false format body = and_then (take_limit format body) (λ t rest. Ok (Binary t, rest))
 take_limits true format body =
     and_then (take_limit format body) (λ lower rest. and_then (take_upper format lower rest) (λ upper rest. Ok (Range lower upper, rest)))
 
-abbrev pub take_threshold : List ℕ → Taken ThresholdValue
+abbrev pub take_threshold : List ℕ → FieldResult ThresholdValue
 take_threshold body =
     and_then (take_is_range body) (λ range rest. and_then (take_input_format rest) (λ format rest.
     and_then (take_limits range format rest) (λ kind rest.

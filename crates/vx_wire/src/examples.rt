@@ -500,7 +500,7 @@ pub fn spelled()
         ∷ 10 ∷ 0 ∷ 11 ∷ 0 ∷ 12 ∷ 0 ∷ 13 ∷ 127 ∷ 255 ∷ 128 ∷ 0 ∷ [] }
     ensures bins { body_of (CreateDistribution (record { bins = 3; offset = 0; range = 256 }))
         ≡ 0 ∷ 3 ∷ 0 ∷ 0 ∷ 1 ∷ 0 ∷ [] }
-    ensures outline { body_of (CreateVirtualImage 3
+    ensures partial_desc { body_of (CreateVirtualImage 3
         (record { width = Some 258; height = Some 8192; format = Some U8 }))
         ≡ 0 ∷ 0 ∷ 0 ∷ 3 ∷ 1 ∷ 1 ∷ 2 ∷ 32 ∷ 0 ∷ [] }
     ensures open_outline { body_of (CreateVirtualImage 3

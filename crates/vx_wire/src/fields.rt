@@ -11,7 +11,7 @@ pub mod extremes;
 pub mod format;
 pub mod node;
 pub mod operand;
-pub mod outline;
+pub mod partial_desc;
 pub mod rectangle;
 pub mod reference;
 pub mod samples;

@@ -8,15 +8,15 @@
 //! - `op`: the kinds of requests, and their numbers
 //! - `body_fault`, `parse_fault`: why a body encodes no request, and why parsing failed
 //! - `fields`: reads fields from the front of a body. Its modules read and encode one field each:
-//!   `format`, `description`, `outline` (a partial description), `reference`, `rectangle`,
+//!   `format`, `description`, `partial_desc` (a partial description), `reference`, `rectangle`,
 //!   `samples`, `threshold`, `convolution`, `bins` (of a distribution), `operand`, `node`, `slots`
 //!   (of a delay). `described` (of an image) and `extremes` encode replies.
 //! - `requests`: the bodies of requests, by families: `contexts`, `images`, `objects` (of any
 //!   kind), `tables` (and thresholds and convolutions), `statistics` (distributions and extremes),
 //!   `graphs`, `immediate`, `delays`
 //! - `parsing`: the body of any request
-//! - `write_image_head`: the fields before the samples in the body of WriteImage
-//! - `write_image_pgm_fields`: the image and the text in the body of WriteImagePgm
+//! - `take_image_head`: the fields before the samples in the body of WriteImage
+//! - `take_image_pgm_fields`: the image and the text in the body of WriteImagePgm
 //! - `laws`, `examples`: what the definitions mean
 #![tactic(auto)]
 
@@ -36,7 +36,7 @@ pub use fields::description::description_bytes;
 pub use fields::extremes::extremes_bytes;
 pub use fields::format::format_number;
 pub use fields::node::node_bytes;
-pub use fields::outline::outline_bytes;
+pub use fields::partial_desc::partial_desc_bytes;
 pub use fields::rectangle::rectangle_bytes;
 pub use fields::reference::reference_bytes;
 pub use fields::samples::{WideSample, decode_wide, encode};
@@ -44,4 +44,4 @@ pub use fields::threshold::{binary_bytes, range_bytes};
 pub use op::Op;
 pub use parse_fault::ParseFault;
 pub use parsing::parse;
-pub use requests::images::{write_image_head, write_image_pgm_fields};
+pub use requests::images::{take_image_head, take_image_pgm_fields};

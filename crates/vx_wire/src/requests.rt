@@ -1,7 +1,7 @@
 //! The bodies of requests, by families.
 ghost use Rattle.std.specs.Prelude.{◌≡◌, ℕ, Ok, Err, IfOk, IfErr};
 ghost use Rattle.client_model.specs.declared.request.Request.{Request as RequestValue};
-ghost use Rattle.vx_base.specs.Cell.{Cell};
+ghost use Rattle.vx_base.specs.Reference.{Reference};
 ghost use Rattle.vx_wire.specs.Fields.{one_field, take_long};
 ghost use Rattle.vx_wire.specs.Reference.{take_reference};
 
@@ -34,9 +34,9 @@ fn name_alone(body: &[u8]) -> Result<u32, BodyFault>
 
 /// Reads a body that is a reference and nothing else.
 fn reference_alone(body: &[u8]) -> Result<ObjRef, BodyFault>
-    ensures ok { IfOk result (λ cell. (made : Cell → RequestValue) →
+    ensures ok { IfOk result (λ cell. (made : Reference → RequestValue) →
         one_field take_reference made body.now ≡ Ok (made cell)) }
-    ensures err { IfErr result (λ e. (made : Cell → RequestValue) →
+    ensures err { IfErr result (λ e. (made : Reference → RequestValue) →
         one_field take_reference made body.now ≡ Err e) }
 {
     let mut fields = Fields::new(body);

@@ -1,8 +1,8 @@
 -- The names that several proofs cite, passed on from one place. Declares nothing.
 pub use Rattle.image_core.proofs.BandLaws.{written_alike}
 pub use Rattle.image_core.proofs.SizeLaws.{same_sides}
-pub use Rattle.image_core.specs.Target.{written}
-pub use Rattle.lane_rows.specs.Pairs.{IsNear, IsPairTable, alternating, first_of_pair, line_of, pair_at, row_sum, second_of_pair, sum_of_first, sum_of_rows}
+pub use Rattle.image_core.specs.Target.{target_image}
+pub use Rattle.lane_rows.specs.Pairs.{IsNear, IsPairTable, alternation, first_of_pair, line_of, pair_at, row_sum, second_of_pair, sum_of_first, sum_of_rows}
 pub use Rattle.std.proofs.Math.ListN.{get_or-map}
 pub use Rattle.std.proofs.lemmas.Int.{fits_signed_from_abs, ints, to_z-of_z}
 pub use Rattle.std.proofs.lemmas.List.{length-map, map-append, take_more_set}
@@ -15,8 +15,8 @@ pub use Rattle.vx_base.proofs.WindowLaws.{item_written, run_shifted}
 pub use Rattle.vx_base.specs.Image.{ImageValue, run, table}
 pub use Rattle.vx_base.specs.Rectangle.{Rectangle}
 pub use Rattle.vx_base.specs.Sample.{clamp}
-pub use Rattle.vx_base.specs.Window.{convolved, gradient_x, gradient_y, look, median, nine_around, window_valid}
+pub use Rattle.vx_base.specs.Window.{convolution_result, gradient_x, gradient_y, sample_or_border, median, nine_around, window_valid}
 pub use Rattle.vx_base.specs.declared.border.Border.{Border}
 pub use Rattle.vx_base.specs.declared.format.Format.TheVariants.{S16, U8}
-pub use Rattle.window_kernels.specs.Turned.{turned, turned_pairs}
+pub use Rattle.window_kernels.specs.Turned.{turned_coefficient, turned_pairs}
 pub use borrow.Rule.Slice.PartMut.{put_mid}

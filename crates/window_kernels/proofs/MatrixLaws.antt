@@ -1,6 +1,6 @@
 -- The results of a matrix with reversed columns on the rows that its windows read.
 use Rattle.std.proofs.Common.{◌≡◌, ℕ, ℤ, pos, zero, suc, ◌+◌, ◌-◌, ◌*◌, ◌/◌, ◌%◌, ◌<◌, ◌≤◌, ◌+ℤ◌, ◌-ℤ◌, List, length, map, take, get_or, refl, zero-add, ap, ◌∙◌, sym, subst, arith, ◌*ℤ◌, map-id, IsTrue}
-use Rattle.window_kernels.proofs.Common.{chunk, Each1, ints, put_mid, run, table, length-run, get_or-run, run_part, run-same, run_shifted, alternating, sum_of_first, line_of, row_sum, sum_of_rows, first_of_pair, second_of_pair, IsPairTable, turned, turned_pairs}
+use Rattle.window_kernels.proofs.Common.{chunk, Each1, ints, put_mid, run, table, length-run, get_or-run, run_part, run-same, run_shifted, alternation, sum_of_first, line_of, row_sum, sum_of_rows, first_of_pair, second_of_pair, IsPairTable, turned_coefficient, turned_pairs}
 use Rattle.std.proofs.lemmas.Bool.Decides.{nat_tests}
 use Rattle.std.proofs.lemmas.Simd.{get_or-chunk}
 use Rattle.vx_base.specs.Convolution.{ConvolutionValue, is_odd_side, coefficient}
@@ -19,14 +19,14 @@ odd_side n h = (grind (arith, nat_tests), grind (arith, nat_tests), grind (arith
 
 -- a coefficient in the tables, which have pair j of row l eight times
 entry : ConvolutionValue → ℕ → ℤ
-entry m n = turned m (n / 80) (n % 80 / 16 * 2 + n % 2)
+entry m n = turned_coefficient m (n / 80) (n % 80 / 16 * 2 + n % 2)
 
-entry_is : (m : ConvolutionValue) (l j k r n : ℕ) → j < 5 → k < 8 → r < 2 → n ≡ l * 80 + (16 * j + 2 * k + r) → entry m n ≡ turned m l (2 * j + r)
+entry_is : (m : ConvolutionValue) (l j k r n : ℕ) → j < 5 → k < 8 → r < 2 → n ≡ l * 80 + (16 * j + 2 * k + r) → entry m n ≡ turned_coefficient m l (2 * j + r)
 unfolding entry
 entry_is m l j k r n a b c is =
     let row : n / 80 ≡ l = omega arith in
     let column : n % 80 / 16 * 2 + n % 2 ≡ 2 * j + r = omega arith in
-    ap (λ i. turned m i (n % 80 / 16 * 2 + n % 2)) row ∙ ap (turned m l) column
+    ap (λ i. turned_coefficient m i (n % 80 / 16 * 2 + n % 2)) row ∙ ap (turned_coefficient m l) column
 
 row_of_tables : (m : ConvolutionValue) (tables : List ℤ) (l : ℕ) → tables ≡ turned_tables m → l < m.rows → line_of tables 80 l ≡ run 0 80 (λ n. entry m (l * 80 + n))
 unfolding entry
@@ -35,26 +35,26 @@ row_of_tables m tables l are below =
     ∙ run_part (entry m) (m.rows * 80) (l * 80) 80 (omega arith)
     ∙ run_shifted (entry m) (λ n. entry m (l * 80 + n)) (l * 80) 0 80 (λ k h. ap (λ n. entry m (l * 80 + n)) (sym (zero-add k)))
 
-entry_read : (m : ConvolutionValue) (tables : List ℤ) (l j r : ℕ) → tables ≡ turned_tables m → l < m.rows → j < 5 → r < 2 → get_or (line_of tables 80 l) (16 * j + r) (pos 0) ≡ turned m l (2 * j + r)
+entry_read : (m : ConvolutionValue) (tables : List ℤ) (l j r : ℕ) → tables ≡ turned_tables m → l < m.rows → j < 5 → r < 2 → get_or (line_of tables 80 l) (16 * j + r) (pos 0) ≡ turned_coefficient m l (2 * j + r)
 entry_read m tables l j r are below a b =
     ap (λ t. get_or t (16 * j + r) (pos 0)) (row_of_tables m tables l are below)
     ∙ get_or-run (λ n. entry m (l * 80 + n)) 0 80 (16 * j + r) (pos 0) (omega arith)
     ∙ entry_is m l j 0 r (l * 80 + (0 + (16 * j + r))) a (omega arith) b (omega arith)
 
-first_read : (m : ConvolutionValue) (tables : List ℤ) (l j : ℕ) → tables ≡ turned_tables m → l < m.rows → j < 5 → first_of_pair (line_of tables 80 l) j ≡ turned m l (2 * j)
+first_read : (m : ConvolutionValue) (tables : List ℤ) (l j : ℕ) → tables ≡ turned_tables m → l < m.rows → j < 5 → first_of_pair (line_of tables 80 l) j ≡ turned_coefficient m l (2 * j)
 first_read m tables l j are below a =
     let at : 16 * j ≡ 16 * j + 0 = omega arith in
     let of : 2 * j + 0 ≡ 2 * j = omega arith in
-    ap (λ n. get_or (line_of tables 80 l) n (pos 0)) at ∙ entry_read m tables l j 0 are below a (omega arith) ∙ ap (turned m l) of
+    ap (λ n. get_or (line_of tables 80 l) n (pos 0)) at ∙ entry_read m tables l j 0 are below a (omega arith) ∙ ap (turned_coefficient m l) of
 
-second_read : (m : ConvolutionValue) (tables : List ℤ) (l j : ℕ) → tables ≡ turned_tables m → l < m.rows → j < 5 → second_of_pair (line_of tables 80 l) j ≡ turned m l (2 * j + 1)
+second_read : (m : ConvolutionValue) (tables : List ℤ) (l j : ℕ) → tables ≡ turned_tables m → l < m.rows → j < 5 → second_of_pair (line_of tables 80 l) j ≡ turned_coefficient m l (2 * j + 1)
 second_read m tables l j are below a = entry_read m tables l j 1 are below a (omega arith)
 
 twice : ℕ → ℕ
 twice zero = zero
 twice (suc n) = suc (suc (twice n))
 
-in_turn : (g : ℕ → ℤ) (a b : ℤ) (n x : ℕ) → ((k : ℕ) → k < n → g (x + 2 * k) ≡ a) → ((k : ℕ) → k < n → g (x + 2 * k + 1) ≡ b) → run x (twice n) g ≡ alternating n a b
+in_turn : (g : ℕ → ℤ) (a b : ℤ) (n x : ℕ) → ((k : ℕ) → k < n → g (x + 2 * k) ≡ a) → ((k : ℕ) → k < n → g (x + 2 * k + 1) ≡ b) → run x (twice n) g ≡ alternation n a b
 unfolding twice
 in_turn g a b zero x first second = refl
 in_turn g a b (suc n) x first second =
@@ -69,15 +69,15 @@ in_turn g a b (suc n) x first second =
     )
 
 -- a pair of them, eight times
-pair_run : (m : ConvolutionValue) (l j : ℕ) → alternating 8 (turned m l (2 * j)) (turned m l (2 * j + 1)) ≡ run 0 16 (λ i. turned_pairs m l (16 * j + i))
+pair_run : (m : ConvolutionValue) (l j : ℕ) → alternation 8 (turned_coefficient m l (2 * j)) (turned_coefficient m l (2 * j + 1)) ≡ run 0 16 (λ i. turned_pairs m l (16 * j + i))
 unfolding twice
 pair_run m l j =
     let first : (k : ℕ) → k < 8 → (16 * j + (0 + 2 * k)) / 16 * 2 + (16 * j + (0 + 2 * k)) % 2 ≡ 2 * j = λ k h. omega arith in
     let second : (k : ℕ) → k < 8 → (16 * j + (0 + 2 * k + 1)) / 16 * 2 + (16 * j + (0 + 2 * k + 1)) % 2 ≡ 2 * j + 1 = λ k h. omega arith in
-    sym (in_turn (λ i. turned_pairs m l (16 * j + i)) (turned m l (2 * j)) (turned m l (2 * j + 1)) 8 0 (λ k h. ap (turned m l) (first k h)) (λ k h. ap (turned m l) (second k h)))
+    sym (in_turn (λ i. turned_pairs m l (16 * j + i)) (turned_coefficient m l (2 * j)) (turned_coefficient m l (2 * j + 1)) 8 0 (λ k h. ap (turned_coefficient m l) (first k h)) (λ k h. ap (turned_coefficient m l) (second k h)))
 
 -- one more pair of a row, eight times
-pub pair_written : (m : ConvolutionValue) (l j k : ℕ) (out ws : List ℤ) (a b : ℤ) → 16 * j ≤ length out → map (λ z. z) (take (16 * j) out) ≡ run 0 (16 * j) (turned_pairs m l) → ws ≡ alternating 8 a b → a ≡ turned m l (2 * j) → b ≡ turned m l (2 * j + 1)
+pub pair_written : (m : ConvolutionValue) (l j k : ℕ) (out ws : List ℤ) (a b : ℤ) → 16 * j ≤ length out → map (λ z. z) (take (16 * j) out) ≡ run 0 (16 * j) (turned_pairs m l) → ws ≡ alternation 8 a b → a ≡ turned_coefficient m l (2 * j) → b ≡ turned_coefficient m l (2 * j + 1)
     → map (λ z. z) (take (16 * (j + 1)) (put_mid (16 * j) k out ws)) ≡ run 0 (16 * (j + 1)) (turned_pairs m l)
 pair_written m l j k out ws a b room before is first second =
     let long : length ws ≡ 16 = ap length is in
@@ -85,12 +85,12 @@ pair_written m l j k out ws a b room before is first second =
     (rw (long, map-id ws, is, first, second) (pair_run m l j))
 
 -- two numbers in turn fit, if both do
-alternating_fits : (P : ℤ → Type 0) (n : ℕ) (a b : ℤ) → P a → P b → Each1 P (alternating n a b)
+alternating_fits : (P : ℤ → Type 0) (n : ℕ) (a b : ℤ) → P a → P b → Each1 P (alternation n a b)
 alternating_fits P zero a b p q = tt
 alternating_fits P (suc n) a b p q = (p, (q, alternating_fits P n a b p q))
 
 -- one more pair of a row fits, if both of its numbers do
-pub pair_fits : (P : ℤ → Type 0) (j k : ℕ) (out ws : List ℤ) (a b : ℤ) → 16 * j ≤ length out → Each1 P (take (16 * j) out) → ws ≡ alternating 8 a b → P a → P b → Each1 P (take (16 * (j + 1)) (put_mid (16 * j) k out ws))
+pub pair_fits : (P : ℤ → Type 0) (j k : ℕ) (out ws : List ℤ) (a b : ℤ) → 16 * j ≤ length out → Each1 P (take (16 * j) out) → ws ≡ alternation 8 a b → P a → P b → Each1 P (take (16 * (j + 1)) (put_mid (16 * j) k out ws))
 pair_fits P j k out ws a b room before is p q =
     let long : length ws ≡ 16 = ap length is in
     part_fits P out ws (16 * j) k (16 * (j + 1)) room (omega (arith, long)) before (subst (Each1 P) (sym is) (alternating_fits P 8 a b p q))
@@ -104,8 +104,8 @@ row_of_turned m l =
     run-same (turned_pairs m l) (λ n. entry m (80 * l + n)) 0 80 (λ n a b. rw (row n (omega arith), column n (omega arith)) refl)
 
 -- one more row of the tables
-pub table_written : (m : ConvolutionValue) (l k : ℕ) (out ws : List ℤ) → 80 * l ≤ length out → map (λ z. z) (take (80 * l) out) ≡ run 0 (80 * l) (λ n. turned m (n / 80) (n % 80 / 16 * 2 + n % 2)) → ws ≡ run 0 80 (turned_pairs m l)
-    → map (λ z. z) (take (80 * (l + 1)) (put_mid (80 * l) k out ws)) ≡ run 0 (80 * (l + 1)) (λ n. turned m (n / 80) (n % 80 / 16 * 2 + n % 2))
+pub table_written : (m : ConvolutionValue) (l k : ℕ) (out ws : List ℤ) → 80 * l ≤ length out → map (λ z. z) (take (80 * l) out) ≡ run 0 (80 * l) (λ n. turned_coefficient m (n / 80) (n % 80 / 16 * 2 + n % 2)) → ws ≡ run 0 80 (turned_pairs m l)
+    → map (λ z. z) (take (80 * (l + 1)) (put_mid (80 * l) k out ws)) ≡ run 0 (80 * (l + 1)) (λ n. turned_coefficient m (n / 80) (n % 80 / 16 * 2 + n % 2))
 unfolding entry
 table_written m l k out ws room before is =
     let long : length ws ≡ 80 = ap length is ∙ length-run (turned_pairs m l) 0 80 in
@@ -119,22 +119,22 @@ are_tables m tables pairs are few l below j h =
     let g : ℕ → ℤ = λ n. entry m (l * 80 + n) in
     ap (chunk (16 * j) 16) (row_of_tables m tables l are below)
     ∙ run_part g 80 (16 * j) 16 (omega arith)
-    ∙ in_turn g (turned m l (2 * j)) (turned m l (2 * j + 1)) 8 (16 * j) (λ k b. first k b) (λ k b. second k b)
-    ∙ ap (λ z. alternating 8 z (turned m l (2 * j + 1))) (sym (first_read m tables l j are below (omega arith)))
-    ∙ ap (λ z. alternating 8 (first_of_pair (line_of tables 80 l) j) z) (sym (second_read m tables l j are below (omega arith)))
+    ∙ in_turn g (turned_coefficient m l (2 * j)) (turned_coefficient m l (2 * j + 1)) 8 (16 * j) (λ k b. first k b) (λ k b. second k b)
+    ∙ ap (λ z. alternation 8 z (turned_coefficient m l (2 * j + 1))) (sym (first_read m tables l j are below (omega arith)))
+    ∙ ap (λ z. alternation 8 (first_of_pair (line_of tables 80 l) j) z) (sym (second_read m tables l j are below (omega arith)))
   where
-    first : (k : ℕ) → k < 8 → entry m (l * 80 + (16 * j + 2 * k)) ≡ turned m l (2 * j)
-    first k b = let of : 2 * j + 0 ≡ 2 * j = omega arith in entry_is m l j k 0 (l * 80 + (16 * j + 2 * k)) (omega arith) b (omega arith) (omega arith) ∙ ap (turned m l) of
+    first : (k : ℕ) → k < 8 → entry m (l * 80 + (16 * j + 2 * k)) ≡ turned_coefficient m l (2 * j)
+    first k b = let of : 2 * j + 0 ≡ 2 * j = omega arith in entry_is m l j k 0 (l * 80 + (16 * j + 2 * k)) (omega arith) b (omega arith) (omega arith) ∙ ap (turned_coefficient m l) of
 
-    second : (k : ℕ) → k < 8 → entry m (l * 80 + (16 * j + 2 * k + 1)) ≡ turned m l (2 * j + 1)
+    second : (k : ℕ) → k < 8 → entry m (l * 80 + (16 * j + 2 * k + 1)) ≡ turned_coefficient m l (2 * j + 1)
     second k b = entry_is m l j k 1 (l * 80 + (16 * j + 2 * k + 1)) (omega arith) b (omega arith) refl
 
 -- ---- the sum of a window
 
-turned_is : (m : ConvolutionValue) (l c : ℕ) → c < m.columns → turned m l c ≡ coefficient m l (m.columns - 1 - c)
+turned_is : (m : ConvolutionValue) (l c : ℕ) → c < m.columns → turned_coefficient m l c ≡ coefficient m l (m.columns - 1 - c)
 turned_is m l c h = grind (arith, nat_tests)
 
-none_beyond : (m : ConvolutionValue) (l : ℕ) → turned m l m.columns ≡ pos 0
+none_beyond : (m : ConvolutionValue) (l : ℕ) → turned_coefficient m l m.columns ≡ pos 0
 none_beyond m l = grind (arith, nat_tests)
 
 times_none : (x y z : ℤ) → z ≡ pos 0 → x +ℤ y *ℤ z ≡ x
@@ -146,11 +146,11 @@ row_is_product : (m : ConvolutionValue) (f : ℤ → ℤ) (row tables : List ℤ
 row_is_product m f row tables x p l n are side below room seen =
     let odd = odd_side m.columns side in
     let count : 2 * (m.columns / 2 + 1) ≡ suc m.columns = omega (arith, odd) in
-    let g : ℕ → ℤ = λ c. get_or row (p + c) (pos 0) *ℤ turned m l c in
-    pairs_add_up row (line_of tables 80 l) (turned m l) (m.columns / 2 + 1) p (λ j h. first_read m tables l j are below (omega (arith, odd))) (λ j h. second_read m tables l j are below (omega (arith, odd)))
+    let g : ℕ → ℤ = λ c. get_or row (p + c) (pos 0) *ℤ turned_coefficient m l c in
+    pairs_add_up row (line_of tables 80 l) (turned_coefficient m l) (m.columns / 2 + 1) p (λ j h. first_read m tables l j are below (omega (arith, odd))) (λ j h. second_read m tables l j are below (omega (arith, odd)))
     ∙ ap (λ k. sum_of_first k g) count
-    ∙ times_none (sum_of_first m.columns g) (get_or row (p + m.columns) (pos 0)) (turned m l m.columns) (none_beyond m l)
-    ∙ sum-same m.columns g (λ c. product (m.columns - 1 - c)) (λ c h. ap (λ z. z *ℤ turned m l c) (seen (p + c) (omega arith) ∙ ap f (at c h odd.2)) ∙ ap (λ z. f (pos (x + p) +ℤ pos (m.columns / 2) -ℤ pos (m.columns - 1 - c)) *ℤ z) (turned_is m l c h))
+    ∙ times_none (sum_of_first m.columns g) (get_or row (p + m.columns) (pos 0)) (turned_coefficient m l m.columns) (none_beyond m l)
+    ∙ sum-same m.columns g (λ c. product (m.columns - 1 - c)) (λ c h. ap (λ z. z *ℤ turned_coefficient m l c) (seen (p + c) (omega arith) ∙ ap f (at c h odd.2)) ∙ ap (λ z. f (pos (x + p) +ℤ pos (m.columns / 2) -ℤ pos (m.columns - 1 - c)) *ℤ z) (turned_is m l c h))
     ∙ sum_turned m.columns product
     ∙ sum_is_total m.columns product
   where

@@ -1,6 +1,6 @@
 -- Rows that are loaded.
 use Rattle.std.proofs.Common.{◌≡◌, ℕ, ℤ, pos, zero, suc, zero-add, ◌+◌, ◌*◌, ◌<◌, ◌≤◌, ◌+ℤ◌, ◌-ℤ◌, List, [], ◌∷◌, length, map, take, refl, ap, sym, subst, arith, w32, to_z, of_z, unsigned_abs, map-id}
-use Rattle.window_kernels.proofs.Common.{Each1, ints, take-put_mid, put_mid, Border, U8, ImageValue, run, look, run_shifted, IsNear}
+use Rattle.window_kernels.proofs.Common.{Each1, ints, take-put_mid, put_mid, Border, U8, ImageValue, run, sample_or_border, run_shifted, IsNear}
 use Rattle.vx_base.specs.Image.{IsImage}
 use Rattle.vx_base.specs.Node.{IsBorder}
 use Rattle.vx_base.specs.Sample.{IsSample}
@@ -12,7 +12,7 @@ seen_up_to : (z : ℤ) → IsSample U8 z → IsNear 255 z
 seen_up_to z is = omega (arith, ints, is.at_least, is.at_most)
 
 pub looks_up_to : (image : ImageValue) (border : Border) (radius : ℕ) (y : ℤ) (x n : ℕ) → IsImage image → image.format ≡ U8 → image.valid.x0 < image.valid.x1 → image.valid.y0 < image.valid.y1 → IsBorder border
-    → Each1 (IsNear 255) (run x n (λ c. look image border (pos c -ℤ pos radius) y))
+    → Each1 (IsNear 255) (run x n (λ c. sample_or_border image border (pos c -ℤ pos radius) y))
 looks_up_to image border radius y x zero is format columns rows constant = tt
 looks_up_to image border radius y x (suc n) is format columns rows constant =
     (seen_up_to _ (look_sample image border (pos x -ℤ pos radius) y is format columns rows constant), looks_up_to image border radius y (x + 1) n is format columns rows constant)

@@ -24,8 +24,8 @@ module _ (op : ℤ → ℤ → ℤ) (assoc : (x y z : ℤ) → op x (op y z) ≡
       ∙ ap (λ z. op z (op (op g h) i)) (one_after_another (op (op a b) c) d e f)
       ∙ one_after_another (op (op (op (op (op a b) c) d) e) f) g h i
 
-pub least_is_least : (a b c d e f g h i : ℤ) → int_min (int_min (int_min (int_min a d) g) (int_min (int_min b e) h)) (int_min (int_min c f) i) ≡ least_of (a ∷ b ∷ c ∷ d ∷ e ∷ f ∷ g ∷ h ∷ i ∷ [])
-least_is_least = by_columns int_min assoc turned
+pub column_least_is_least : (a b c d e f g h i : ℤ) → int_min (int_min (int_min (int_min a d) g) (int_min (int_min b e) h)) (int_min (int_min c f) i) ≡ least_of (a ∷ b ∷ c ∷ d ∷ e ∷ f ∷ g ∷ h ∷ i ∷ [])
+column_least_is_least = by_columns int_min assoc turned
   where
     assoc : (x y z : ℤ) → int_min x (int_min y z) ≡ int_min (int_min x y) z
     assoc x y z = grind (arith, ints)
@@ -33,8 +33,8 @@ least_is_least = by_columns int_min assoc turned
     turned : (x y z u : ℤ) → int_min (int_min x y) (int_min z u) ≡ int_min (int_min x z) (int_min y u)
     turned x y z u = grind (arith, ints)
 
-pub greatest_is_greatest : (a b c d e f g h i : ℤ) → int_max (int_max (int_max (int_max a d) g) (int_max (int_max b e) h)) (int_max (int_max c f) i) ≡ greatest_of (a ∷ b ∷ c ∷ d ∷ e ∷ f ∷ g ∷ h ∷ i ∷ [])
-greatest_is_greatest = by_columns int_max assoc turned
+pub column_greatest_is_greatest : (a b c d e f g h i : ℤ) → int_max (int_max (int_max (int_max a d) g) (int_max (int_max b e) h)) (int_max (int_max c f) i) ≡ greatest_of (a ∷ b ∷ c ∷ d ∷ e ∷ f ∷ g ∷ h ∷ i ∷ [])
+column_greatest_is_greatest = by_columns int_max assoc turned
   where
     assoc : (x y z : ℤ) → int_max x (int_max y z) ≡ int_max (int_max x y) z
     assoc x y z = grind (arith, ints)

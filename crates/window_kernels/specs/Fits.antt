@@ -7,17 +7,17 @@ use Rattle.vx_base.specs.Formats.{takes_formats}
 use Rattle.vx_base.specs.Image.{ImageValue}
 use Rattle.image_core.specs.declared.image_mut.ImageMut.{ImageMut}
 use Rattle.image_core.specs.Fits.{HaveSameSize}
-use Rattle.image_core.specs.Target.{written, IsTarget}
+use Rattle.image_core.specs.Target.{target_image, IsTarget}
 
 -- a U8 input, and an output of its size in this format
 pub record WindowFits (output : Format) (a : ImageValue) (out : ImageMut) : Type 0 where
   pub target : IsTarget out
-  pub size : HaveSameSize (written out) a
+  pub size : HaveSameSize (target_image out) a
   pub input_format : a.format ≡ U8
-  pub format : (written out).format ≡ output
+  pub format : (target_image out).format ≡ output
 
 -- a U8 input, and a U8 or S16 output of its size
 pub record ConvolutionFits (a : ImageValue) (out : ImageMut) : Type 0 where
   pub target : IsTarget out
-  pub size : HaveSameSize (written out) a
-  pub formats : IsTrue (takes_formats Convolve a.format (Some S16) (Some (written out).format))
+  pub size : HaveSameSize (target_image out) a
+  pub formats : IsTrue (takes_formats Convolve a.format (Some S16) (Some (target_image out).format))

@@ -4,13 +4,13 @@ use Rattle.vx_base.specs.Convolution.{ConvolutionValue, coefficient}
 use Rattle.vx_base.specs.Image.{run}
 
 -- coefficient c of row l with the columns reversed, 0 after the last column; the rows are not reversed here
-abbrev pub turned : ConvolutionValue → ℕ → ℕ → ℤ
-turned m l c = if nat_lt c m.columns then coefficient m l (m.columns - 1 - c) else pos 0
+abbrev pub turned_coefficient : ConvolutionValue → ℕ → ℕ → ℤ
+turned_coefficient m l c = if nat_lt c m.columns then coefficient m l (m.columns - 1 - c) else pos 0
 
 -- item n of a row's coefficient pairs, each pair eight times
 abbrev pub turned_pairs : ConvolutionValue → ℕ → ℕ → ℤ
-turned_pairs m l n = turned m l (n / 16 * 2 + n % 2)
+turned_pairs m l n = turned_coefficient m l (n / 16 * 2 + n % 2)
 
 -- the tables of all rows, one after another: five coefficient pairs for each row, each pair eight times
 abbrev pub turned_tables : ConvolutionValue → List ℤ
-turned_tables m = run 0 (m.rows * 80) (λ n. turned m (n / 80) (n % 80 / 16 * 2 + n % 2))
+turned_tables m = run 0 (m.rows * 80) (λ n. turned_coefficient m (n / 80) (n % 80 / 16 * 2 + n % 2))

@@ -7,13 +7,13 @@ ghost use Rattle.vx_base.specs.declared.format.Format.TheVariants.{U8};
 ghost use Rattle.vx_base.specs.Convolution.{is_odd_side};
 ghost use Rattle.vx_base.specs.Image.{run, table};
 ghost use Rattle.vx_base.specs.Node.{IsBorder};
-ghost use Rattle.vx_base.specs.Window.{look, convolved, from_matrix};
+ghost use Rattle.vx_base.specs.Window.{sample_or_border, convolution_result, from_matrix};
 ghost use Rattle.image_core.specs.Fits.{HaveSameSize};
-ghost use Rattle.image_core.specs.Target.{written, IsTarget, Writes};
+ghost use Rattle.image_core.specs.Target.{target_image, IsTarget, Writes};
 ghost use Rattle.window_kernels.specs.declared.pieces.TheConstants.{PIECE};
 ghost use Rattle.window_kernels.specs.Fits.{ConvolutionFits};
-ghost use Rattle.lane_rows.specs.Pairs.{IsNear, alternating};
-ghost use Rattle.window_kernels.specs.Turned.{turned, turned_pairs, turned_tables};
+ghost use Rattle.lane_rows.specs.Pairs.{IsNear, alternation};
+ghost use Rattle.window_kernels.specs.Turned.{turned_coefficient, turned_pairs, turned_tables};
 
 use crate::pieces::PIECE;
 use crate::windows::SampleItem;
@@ -36,9 +36,9 @@ impl Convolved for i16 {
 }
 
 /// A coefficient of a row with the columns reversed, 0 after the last column.
-fn turned(convolution: &Convolution, row: usize, column: usize) -> i16
+fn turned_coefficient(convolution: &Convolution, row: usize, column: usize) -> i16
     requires { row < convolution.now.rows }
-    ensures { result ≡ turned convolution.now row column }
+    ensures { result ≡ turned_coefficient convolution.now row column }
 {
     let columns = usize::from(convolution.columns());
     if column < columns {
@@ -51,7 +51,7 @@ fn turned(convolution: &Convolution, row: usize, column: usize) -> i16
 /// Writes two coefficients alternately, each eight times.
 fn write_pair(first: i16, second: i16, out: &mut [i16])
     requires { length out.old ≡ 16 }
-    ensures { out.new ≡ alternating 8 first second }
+    ensures { out.new ≡ alternation 8 first second }
 {
     let (a, b) = (first, second);
     out.copy_from_slice(&[a, b, a, b, a, b, a, b, a, b, a, b, a, b, a, b]);
@@ -65,8 +65,8 @@ fn write_pairs(convolution: &Convolution, row: usize, pairs: &mut [i16])
     ensures fits { Each1 (FitsSigned w16) pairs.new }
 {
     for j in 0..usize::from(convolution.columns()) / 2 + 1 {
-        let first = turned(convolution, row, 2 * j);
-        let second = turned(convolution, row, 2 * j + 1);
+        let first = turned_coefficient(convolution, row, 2 * j);
+        let second = turned_coefficient(convolution, row, 2 * j + 1);
         write_pair(first, second, &mut pairs[16 * j..16 * j + 16]);
     }
 }
@@ -119,7 +119,7 @@ struct FromMatrix<'a, 'b> {
         (area.x0 < area.x1 → image.now.valid.x0 < image.now.valid.x1) },
     ghost rows: { (area.y1 ≤ image.now.valid.y1) ×
         (area.y0 < area.y1 → image.now.valid.y0 < image.now.valid.y1) },
-    ghost turned: { tables.now ≡ turned_tables convolution.now },
+    ghost turned_coefficient: { tables.now ≡ turned_tables convolution.now },
     ghost fits: { All (FitsSigned w16) tables.now },
     ghost side: { IsTrue (is_odd_side convolution.now.columns) },
 }
@@ -130,7 +130,7 @@ impl FromMatrix<'_, '_> {
         requires columns { self.now.image.now.valid.x0 < self.now.image.now.valid.x1 }
         requires rows { self.now.image.now.valid.y0 < self.now.image.now.valid.y1 }
         ensures value { line.new ≡ run x (length line.old)
-            (λ c. look self.now.image.now self.now.border
+            (λ c. sample_or_border self.now.image.now self.now.border
             (pos c -ℤ pos (self.now.convolution.now.columns / 2)) row) }
         ensures limit { Each1 (IsNear 255) line.new }
     {
@@ -148,7 +148,7 @@ impl FromMatrix<'_, '_> {
         requires line { line ≤ PIECE + 48 }
         requires len { length rows.old ≡ self.now.convolution.now.rows * line }
         ensures value { rows.new ≡ table line self.now.convolution.now.rows
-            (λ c l. look self.now.image.now self.now.border
+            (λ c l. sample_or_border self.now.image.now self.now.border
             (pos (x + c) -ℤ pos (self.now.convolution.now.columns / 2))
             (pos y +ℤ pos (self.now.convolution.now.rows / 2) -ℤ pos l)) }
         ensures limit { Each1 (IsNear 255) rows.new }
@@ -164,7 +164,7 @@ impl FromMatrix<'_, '_> {
 }
 
 impl<T: Convolved> RowFormula<T, i16> for FromMatrix<'_, '_> {
-    ghost at = { λ s x y. convolved s.convolution.now T.Sample.format (look s.image.now s.border)
+    ghost at = { λ s x y. convolution_result s.convolution.now T.Sample.format (sample_or_border s.image.now s.border)
         (pos x) (pos y) };
 
     ghost area = { λ s. s.area };
@@ -209,9 +209,9 @@ fn write_convolved<T: Convolved>(
     scratch: &mut [i16],
 )
     requires target { IsTarget output.old }
-    requires size { HaveSameSize (written output.old) image.now }
+    requires size { HaveSameSize (target_image output.old) image.now }
     requires input_format { image.now.format ≡ U8 }
-    requires format { (written output.old).format ≡ T.Sample.format }
+    requires format { (target_image output.old).format ≡ T.Sample.format }
     requires scratch { 9 * (min image.now.width PIECE + 48) ≤ length scratch.old }
     ensures { Writes (from_matrix T.Sample.format convolution.now border image.now)
         output.old output.new }
@@ -259,7 +259,7 @@ fn convolve_with(
 )
     requires fits { ConvolutionFits image.now output.old }
     requires scratch { 9 * (min image.now.width PIECE + 48) ≤ length rows.old }
-    ensures { Writes (from_matrix (written output.old).format convolution.now border image.now)
+    ensures { Writes (from_matrix (target_image output.old).format convolution.now border image.now)
         output.old output.new }
 {
     match output.desc().format() {
@@ -279,7 +279,7 @@ pub fn convolve(
     border: Border,
 )
     requires { ConvolutionFits image.now output.old }
-    ensures { Writes (from_matrix (written output.old).format convolution.now border image.now)
+    ensures { Writes (from_matrix (target_image output.old).format convolution.now border image.now)
         output.old output.new }
 {
     let _limits = image.valid();

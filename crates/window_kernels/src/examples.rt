@@ -4,8 +4,8 @@
 ghost use Rattle.std.specs.Prelude.{◌≡◌, ℤ, List, [], ◌∷◌, pos, negsuc};
 ghost use Rattle.vx_base.specs.declared.format.Format.TheVariants.{U8, S16};
 ghost use Rattle.vx_base.specs.declared.border.Border.TheVariants.{Undefined, Constant, Replicate};
-ghost use Rattle.vx_base.specs.Rectangle.{empty};
-ghost use Rattle.vx_base.specs.Window.{look, nine_around, box_mean, gaussian_mean, median};
+ghost use Rattle.vx_base.specs.Rectangle.{empty_rectangle};
+ghost use Rattle.vx_base.specs.Window.{sample_or_border, nine_around, box_mean, gaussian_mean, median};
 ghost use Rattle.vx_base.specs.Window.{least_of, greatest_of, gradient_x, gradient_y, window_valid};
 ghost use Rattle.vx_base.specs.Window.{from_nine, from_matrix};
 ghost use Rattle.window_kernels.specs.Examples.{row_of_four, two_by_two, three_by_three, single};
@@ -13,10 +13,10 @@ ghost use Rattle.window_kernels.specs.Examples.{at_centre, upper_left, minus_thr
 
 /// What windows read of the row 0 20 30 0, which is valid except at its ends.
 pub fn places()
-    ensures valid { look row_of_four Replicate (pos 1) (pos 0) ≡ pos 20 }
-    ensures left { look row_of_four Replicate (pos 0) (negsuc 0) ≡ pos 20 }
-    ensures right { look row_of_four Replicate (pos 9) (pos 1) ≡ pos 30 }
-    ensures constant { look row_of_four (Constant 7) (pos 3) (pos 0) ≡ pos 7 }
+    ensures valid { sample_or_border row_of_four Replicate (pos 1) (pos 0) ≡ pos 20 }
+    ensures left { sample_or_border row_of_four Replicate (pos 0) (negsuc 0) ≡ pos 20 }
+    ensures right { sample_or_border row_of_four Replicate (pos 9) (pos 1) ≡ pos 30 }
+    ensures constant { sample_or_border row_of_four (Constant 7) (pos 3) (pos 0) ≡ pos 7 }
 {}
 
 /// The formulas for the window 1 2 9, 3 4 8, 5 6 7.
@@ -46,7 +46,7 @@ pub fn boxes()
           width = 2;
           height = 2;
           format = U8;
-          valid = empty;
+          valid = empty_rectangle;
           samples = pos 0 ∷ pos 0
               ∷ pos 0 ∷ pos 0 ∷ [];
         } }

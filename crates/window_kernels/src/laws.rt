@@ -6,25 +6,25 @@ ghost use Rattle.vx_base.specs.declared.format.Format.{Format};
 ghost use Rattle.vx_base.specs.declared.format.Format.TheVariants.{U8, S16};
 ghost use Rattle.vx_base.specs.declared.border.Border.{Border};
 ghost use Rattle.vx_base.specs.Sample.{distance};
-ghost use Rattle.vx_base.specs.Rectangle.{inside};
+ghost use Rattle.vx_base.specs.Rectangle.{has_pixel};
 ghost use Rattle.vx_base.specs.Convolution.{ConvolutionValue};
-ghost use Rattle.vx_base.specs.Image.{ImageValue, IsImage, at};
+ghost use Rattle.vx_base.specs.Image.{ImageValue, IsImage, pixel_at};
 ghost use Rattle.vx_base.specs.Node.{IsBorder};
-ghost use Rattle.vx_base.specs.Window.{nearest, look, box_mean, gaussian_mean, median, least_of};
+ghost use Rattle.vx_base.specs.Window.{clamp_coordinate, sample_or_border, box_mean, gaussian_mean, median, least_of};
 ghost use Rattle.vx_base.specs.Window.{greatest_of, gradient_x, gradient_y, from_nine, from_matrix};
 
 /// At a valid pixel a window reads the image's sample, under every border mode.
 pub fn valid_places()
-    ensures { (image : ImageValue) (border : Border) (x y : ℕ) → inside image.valid x y ≡ true →
-        look image border (pos x) (pos y) ≡ at image x y }
+    ensures { (image : ImageValue) (border : Border) (x y : ℕ) → has_pixel image.valid x y ≡ true →
+        sample_or_border image border (pos x) (pos y) ≡ pixel_at image x y }
 {}
 
-/// `nearest` gives one of the numbers from `low` to `high - 1`, and none of them is nearer.
+/// `clamp_coordinate` gives one of the numbers from `low` to `high - 1`, and none of them is nearer.
 pub fn nearest_number()
-    ensures within { (low high : ℕ) (v : ℤ) → low < high → (low ≤ nearest low high v) ×
-        (nearest low high v < high) }
+    ensures within { (low high : ℕ) (v : ℤ) → low < high → (low ≤ clamp_coordinate low high v) ×
+        (clamp_coordinate low high v < high) }
     ensures nearest { (low high n : ℕ) (v : ℤ) → low ≤ n → n < high →
-        distance v (pos (nearest low high v)) ≤ distance v (pos n) }
+        distance v (pos (clamp_coordinate low high v)) ≤ distance v (pos n) }
 {}
 
 /// Nine numbers have exactly one median: it is among them, at most four are smaller, and at most

@@ -3,7 +3,7 @@ ghost use Rattle.vx_base.specs.declared.format.Format.TheVariants.{U8};
 ghost use Rattle.vx_base.specs.Window.{least_of, greatest_of, median, from_nine};
 ghost use Rattle.image_core.specs.Target.{Writes};
 ghost use Rattle.window_kernels.specs.Fits.{WindowFits};
-ghost use Rattle.window_kernels.specs.ByColumns.{all_taken, least_is_least, greatest_is_greatest};
+ghost use Rattle.window_kernels.specs.ByColumns.{all_taken, column_least_is_least, column_greatest_is_greatest};
 
 use crate::columns::{Across, ByColumns};
 use crate::windows::{OfWindow, SIDE, with_scratch, write_windows};
@@ -14,7 +14,7 @@ use vx_base::Border;
 impl Across<u8, u8, ByChoice<Least>> for ByChoice<Least> {
     ghost of_nine = { least_of };
 
-    ghost is_of_nine = { least_is_least };
+    ghost is_of_nine = { column_least_is_least };
 
     ghost takes_bytes = { all_taken };
 }
@@ -22,7 +22,7 @@ impl Across<u8, u8, ByChoice<Least>> for ByChoice<Least> {
 impl Across<u8, u8, ByChoice<Greatest>> for ByChoice<Greatest> {
     ghost of_nine = { greatest_of };
 
-    ghost is_of_nine = { greatest_is_greatest };
+    ghost is_of_nine = { column_greatest_is_greatest };
 
     ghost takes_bytes = { all_taken };
 }

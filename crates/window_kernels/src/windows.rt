@@ -3,13 +3,13 @@ ghost use Rattle.std.specs.Prelude.{◌≡◌, ◌+◌, ◌*◌, ◌<◌, ◌≤
 ghost use Rattle.std.specs.Prelude.{replicate, refl};
 ghost use Rattle.vx_base.specs.declared.format.Format.TheVariants.{U8};
 ghost use Rattle.vx_base.specs.Image.{run};
-ghost use Rattle.vx_base.specs.Window.{look, nine_around, window_valid, from_nine};
+ghost use Rattle.vx_base.specs.Window.{sample_or_border, nine_around, window_valid, from_nine};
 ghost use Rattle.image_core.specs.Fits.{HaveSameSize};
-ghost use Rattle.image_core.specs.Target.{written, IsTarget, Writes};
-ghost use Rattle.border_rows.specs.Seen.{value_beside};
+ghost use Rattle.image_core.specs.Target.{target_image, IsTarget, Writes};
+ghost use Rattle.border_rows.specs.Seen.{border_value};
 ghost use Rattle.lane_rows.specs.Windows.{nine_of, nine_from};
 
-use border_rows::{row_in_place, seen_around, value_beside, window_valid};
+use border_rows::{border_value, row_in_place, seen_around, window_valid};
 use image_core::{Image, ImageMut, RowFormula, Sample, set_all};
 use lane_rows::{Item, ThreeItems};
 use vx_base::{Border, GREATEST_SIDE, Rect};
@@ -64,7 +64,7 @@ struct Window<'a, 'b> {
     ghost rows: { (area.y1 ≤ image.now.valid.y1) ×
         (area.y0 < area.y1 → image.now.valid.y0 < image.now.valid.y1) },
     ghost off: { map pos off_rows.now ≡ replicate (length off_rows.now)
-        (value_beside border (pos 0)) },
+        (border_value border (pos 0)) },
     ghost room: { image.now.width ≤ length off_rows.now },
 }
 
@@ -86,7 +86,7 @@ impl<K> FromNine<'_, '_, K> {
             (x < self.now.window.now.image.now.valid.x1) }
         requires one { length out.old ≡ 1 }
         ensures { map T.value out.new ≡ run x 1 (λ k. K.formula self.now.kernel.now (nine_around
-            (look self.now.window.now.image.now self.now.window.now.border) (pos k) (pos y))) }
+            (sample_or_border self.now.window.now.image.now self.now.window.now.border) (pos k) (pos y))) }
     {
         let (image, border, line) = (self.window.image, self.window.border, i32::from(y));
         let above = seen_around(image, x, line - 1, border);
@@ -107,7 +107,7 @@ impl<K> FromNine<'_, '_, K> {
         requires scratch { K.room * (length out.old + 2) ≤ length scratch.old }
         ensures { map T.value out.new ≡ run (x + 1) (length out.old)
             (λ k. K.formula self.now.kernel.now (nine_around
-            (look self.now.window.now.image.now self.now.window.now.border) (pos k) (pos y))) }
+            (sample_or_border self.now.window.now.image.now self.now.window.now.border) (pos k) (pos y))) }
     {
         let (image, border, off_rows) = (
             self.window.image,
@@ -125,7 +125,7 @@ impl<K> FromNine<'_, '_, K> {
 
 impl<T: Sample, S, K: OfWindow<T, S>> RowFormula<T, S> for FromNine<'_, '_, K> {
     ghost at = { λ s x y. K.formula s.kernel.now
-        (nine_around (look s.window.now.image.now s.window.now.border) (pos x) (pos y)) };
+        (nine_around (sample_or_border s.window.now.image.now s.window.now.border) (pos x) (pos y)) };
 
     ghost area = { λ s. s.window.now.area };
 
@@ -157,7 +157,7 @@ impl<T: Sample, S, K: OfWindow<T, S>> RowFormula<T, S> for FromNine<'_, '_, K> {
 }
 
 /// Writes the results of a window function, given a row of the border's samples.
-fn write_with_rows<T: Sample, S, K: OfWindow<T, S>>(
+fn write_windows_with_rows<T: Sample, S, K: OfWindow<T, S>>(
     kernel: &K,
     image: &Image<'_>,
     output: &mut ImageMut<'_>,
@@ -166,11 +166,11 @@ fn write_with_rows<T: Sample, S, K: OfWindow<T, S>>(
     scratch: &mut [S],
 )
     requires target { IsTarget output.old }
-    requires size { HaveSameSize (written output.old) image.now }
+    requires size { HaveSameSize (target_image output.old) image.now }
     requires input_format { image.now.format ≡ U8 }
-    requires format { (written output.old).format ≡ T.format }
+    requires format { (target_image output.old).format ≡ T.format }
     requires off_rows { map pos off_rows.now
-        ≡ replicate (length off_rows.now) (value_beside border (pos 0)) }
+        ≡ replicate (length off_rows.now) (border_value border (pos 0)) }
     requires room { image.now.width ≤ length off_rows.now }
     requires scratch { K.room * image.now.width ≤ length scratch.old }
     ensures { Writes (from_nine T.format (K.formula kernel.now) border image.now)
@@ -223,16 +223,16 @@ pub fn write_windows<T: Sample, S, K: OfWindow<T, S>>(
     scratch: &mut [S],
 )
     requires target { IsTarget output.old }
-    requires size { HaveSameSize (written output.old) image.now }
+    requires size { HaveSameSize (target_image output.old) image.now }
     requires input_format { image.now.format ≡ U8 }
-    requires format { (written output.old).format ≡ T.format }
+    requires format { (target_image output.old).format ≡ T.format }
     requires scratch { K.room * image.now.width ≤ length scratch.old }
     ensures { Writes (from_nine T.format (K.formula kernel.now) border image.now)
         output.old output.new }
 {
     let _limits = image.valid();
-    let (width, off) = (image.desc().width(), value_beside(border, 0));
+    let (width, off) = (image.desc().width(), border_value(border, 0));
     with_scratch!(width, [off; SIDE], rows => {
-        write_with_rows(kernel, image, output, border, rows, scratch)
+        write_windows_with_rows(kernel, image, output, border, rows, scratch)
     })
 }

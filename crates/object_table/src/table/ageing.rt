@@ -2,7 +2,7 @@
 ghost use Rattle.std.specs.Prelude.{◌≡◌, [], ◌∷◌, ◌++◌, filter, IfOk, IfErr, OnOk, OnErr};
 ghost use Rattle.vx_base.specs.declared.kind.Kind.TheVariants as kind;
 ghost use Rattle.object_table.specs.declared.fault.TableFault.TheVariants.{NoMemory};
-ghost use Rattle.object_table.specs.Ageing.{is_there, registered, aged_under};
+ghost use Rattle.object_table.specs.Ageing.{is_there, with_registration, aged_under};
 ghost use Rattle.object_table.specs.Context.{with_objects};
 ghost use Rattle.object_table.specs.Table.{IsUnder, graph_under};
 
@@ -23,7 +23,7 @@ impl Table {
     pub fn register(&mut self, graph: u32, delay: u32) -> Result<(), TableFault>
         requires { IsUnder self.old.objects kind.Graph graph }
         ensures ok { OnOk result (self.new
-            ≡ with_objects self.old (registered self.old.objects graph
+            ≡ with_objects self.old (with_registration self.old.objects graph
             (graph_under self.old.objects graph) delay)) }
         ensures fault { IfErr result (λ fault. fault ≡ NoMemory) }
         ensures err { OnErr result (self.new ≡ self.old) }

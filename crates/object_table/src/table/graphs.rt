@@ -9,16 +9,16 @@ ghost use Rattle.std.specs.Map.{lookup, remove_entry};
 ghost use Rattle.std.specs.BTreeMap.{is_at};
 ghost use Rattle.vx_base.specs.declared.kind.Kind.TheVariants as kind;
 ghost use Rattle.vx_base.specs.Graph.{can_add, with_node, has_node, without_node};
-ghost use Rattle.vx_base.specs.Node.{given};
+ghost use Rattle.vx_base.specs.Node.{optional_cells};
 ghost use Rattle.vx_base.specs.Object.{object_kind};
 ghost use Rattle.graph_verify.specs.declared.fault.GraphFault.TheVariants as graph_fault;
 ghost use Rattle.object_table.specs.declared.fault.TableFault.TheVariants.{InvalidReference};
 ghost use Rattle.object_table.specs.Blocks.{blocks_in, LendsAtLeast, Balances};
 ghost use Rattle.object_table.specs.Context.{object_named, charge_of, with_objects, with_graph};
-ghost use Rattle.object_table.specs.Holds.{still_held, unnamed};
-ghost use Rattle.object_table.specs.Named.{object_held};
-ghost use Rattle.object_table.specs.Table.{IsUnder, graph_under, named, nodes_at, used_more};
-ghost use Rattle.object_table.specs.Table.{used_less, ended, is_kept, kept};
+ghost use Rattle.object_table.specs.Holds.{still_held, without_name};
+ghost use Rattle.object_table.specs.NamedObject.{object_held};
+ghost use Rattle.object_table.specs.Table.{IsUnder, graph_under, entry_object, nodes_at, used_more};
+ghost use Rattle.object_table.specs.Table.{used_less, entries_without_name, is_kept, kept_entries};
 ghost use Rattle.object_table.specs.Uses.{used_names};
 ghost use Rattle.vx_base.specs.declared.desc.TheConstants.{GREATEST_BYTES};
 ghost use Rattle.vx_base.specs.declared.slots.TheConstants.{GREATEST_SLOTS};
@@ -108,7 +108,7 @@ impl Table {
         ensures result { result ≡ (if is_none (object_named self.old.objects name)
             then Err InvalidReference else Ok tt) }
         ensures ok { OnOk result (self.new
-            ≡ with_objects self.old (still_held (unnamed self.old.objects name))) }
+            ≡ with_objects self.old (still_held (without_name self.old.objects name))) }
         ensures err { OnErr result (self.new ≡ self.old) }
         ensures balances { Balances pool.old pool.new self.old.objects self.new.objects }
     {
@@ -140,7 +140,7 @@ fn begin_uses(entries: &mut BTreeMap<u32, Entry>, node: &Node)
 /// Counts a node's use of an operand, if the node has that operand.
 fn begin_use(entries: &mut BTreeMap<u32, Entry>, operand: Option<ObjRef>)
     requires { All (λ e. e.1.uses < 4294967295) entries.old.entries }
-    ensures { entries.new.entries ≡ used_more (map (λ cell. cell.name) (given operand))
+    ensures { entries.new.entries ≡ used_more (map (λ cell. cell.name) (optional_cells operand))
         entries.old.entries }
 {
     if let Some(cell) = operand {
@@ -154,13 +154,13 @@ fn begin_use(entries: &mut BTreeMap<u32, Entry>, operand: Option<ObjRef>)
 /// are dropped. Returns the charge of the remaining objects.
 fn end_uses(entries: &mut BTreeMap<u32, Entry>, charge: u64, node: &Node, pool: &mut Pool) -> u64
     requires held { All (λ e. IsTrue (is_kept e)) entries.old.entries }
-    requires charge { charge ≡ charge_of (map named entries.old.entries) }
-    requires owns { LendsAtLeast pool.old (blocks_in (map named entries.old.entries)) }
+    requires charge { charge ≡ charge_of (map entry_object entries.old.entries) }
+    requires owns { LendsAtLeast pool.old (blocks_in (map entry_object entries.old.entries)) }
     ensures entries { entries.new.entries
-        ≡ kept (used_less (used_names node.now) entries.old.entries) }
-    ensures charge { result ≡ charge_of (map named entries.new.entries) }
+        ≡ kept_entries (used_less (used_names node.now) entries.old.entries) }
+    ensures charge { result ≡ charge_of (map entry_object entries.new.entries) }
     ensures balances { Balances pool.old pool.new
-        (map named entries.old.entries) (map named entries.new.entries) }
+        (map entry_object entries.old.entries) (map entry_object entries.new.entries) }
 {
     let charge = end_use(entries, charge, Some(node.in1), pool);
     let charge = end_use(entries, charge, node.in2, pool);
@@ -176,13 +176,13 @@ fn end_use(
     pool: &mut Pool,
 ) -> u64
     requires held { All (λ e. IsTrue (is_kept e)) entries.old.entries }
-    requires charge { charge ≡ charge_of (map named entries.old.entries) }
-    requires owns { LendsAtLeast pool.old (blocks_in (map named entries.old.entries)) }
+    requires charge { charge ≡ charge_of (map entry_object entries.old.entries) }
+    requires owns { LendsAtLeast pool.old (blocks_in (map entry_object entries.old.entries)) }
     ensures entries { entries.new.entries
-        ≡ kept (used_less (map (λ cell. cell.name) (given operand)) entries.old.entries) }
-    ensures charge { result ≡ charge_of (map named entries.new.entries) }
+        ≡ kept_entries (used_less (map (λ cell. cell.name) (optional_cells operand)) entries.old.entries) }
+    ensures charge { result ≡ charge_of (map entry_object entries.new.entries) }
     ensures balances { Balances pool.old pool.new
-        (map named entries.old.entries) (map named entries.new.entries) }
+        (map entry_object entries.old.entries) (map entry_object entries.new.entries) }
 {
     let Some(cell) = operand else {
         return charge;
@@ -205,14 +205,14 @@ fn end_all_uses(entries: &mut BTreeMap<u32, Entry>, charge: u64, graph: u32, poo
     requires live { option_map (λ e. e.live)
         (lookup (is_at (nat_cmp graph)) entries.old.entries) ≡ Some true }
     requires held { All (λ e. IsTrue (is_kept e)) entries.old.entries }
-    requires charge { charge ≡ charge_of (map named entries.old.entries) }
-    requires owns { LendsAtLeast pool.old (blocks_in (map named entries.old.entries)) }
+    requires charge { charge ≡ charge_of (map entry_object entries.old.entries) }
+    requires owns { LendsAtLeast pool.old (blocks_in (map entry_object entries.old.entries)) }
     ensures entries { entries.new.entries
-        ≡ kept (used_less (flat_map used_names (nodes_at graph entries.old.entries))
+        ≡ kept_entries (used_less (flat_map used_names (nodes_at graph entries.old.entries))
         entries.old.entries) }
-    ensures charge { result ≡ charge_of (map named entries.new.entries) }
+    ensures charge { result ≡ charge_of (map entry_object entries.new.entries) }
     ensures balances { Balances pool.old pool.new
-        (map named entries.old.entries) (map named entries.new.entries) }
+        (map entry_object entries.old.entries) (map entry_object entries.new.entries) }
 {
     let mut left = charge;
     let count = nodes_under(entries, graph).len();
@@ -227,12 +227,12 @@ fn end_all_uses(entries: &mut BTreeMap<u32, Entry>, charge: u64, graph: u32, poo
 /// remaining objects.
 fn end_name(entries: &mut BTreeMap<u32, Entry>, charge: u64, name: u32, pool: &mut Pool) -> u64
     requires held { All (λ e. IsTrue (is_kept e)) entries.old.entries }
-    requires charge { charge ≡ charge_of (map named entries.old.entries) }
-    requires owns { LendsAtLeast pool.old (blocks_in (map named entries.old.entries)) }
-    ensures entries { entries.new.entries ≡ kept (ended name entries.old.entries) }
-    ensures charge { result ≡ charge_of (map named entries.new.entries) }
+    requires charge { charge ≡ charge_of (map entry_object entries.old.entries) }
+    requires owns { LendsAtLeast pool.old (blocks_in (map entry_object entries.old.entries)) }
+    ensures entries { entries.new.entries ≡ kept_entries (entries_without_name name entries.old.entries) }
+    ensures charge { result ≡ charge_of (map entry_object entries.new.entries) }
     ensures balances { Balances pool.old pool.new
-        (map named entries.old.entries) (map named entries.new.entries) }
+        (map entry_object entries.old.entries) (map entry_object entries.new.entries) }
 {
     let Some(entry) = entries.get_mut(&name) else {
         return charge;
@@ -246,13 +246,13 @@ fn end_name(entries: &mut BTreeMap<u32, Entry>, charge: u64, name: u32, pool: &m
 
 /// Drops the object under a name. Returns the charge of the remaining objects.
 fn end_entry(entries: &mut BTreeMap<u32, Entry>, charge: u64, name: u32, pool: &mut Pool) -> u64
-    requires charge { charge ≡ charge_of (map named entries.old.entries) }
-    requires owns { LendsAtLeast pool.old (blocks_in (map named entries.old.entries)) }
+    requires charge { charge ≡ charge_of (map entry_object entries.old.entries) }
+    requires owns { LendsAtLeast pool.old (blocks_in (map entry_object entries.old.entries)) }
     ensures entries { entries.new.entries
         ≡ remove_entry (is_at (nat_cmp name)) entries.old.entries }
-    ensures charge { result ≡ charge_of (map named entries.new.entries) }
+    ensures charge { result ≡ charge_of (map entry_object entries.new.entries) }
     ensures balances { Balances pool.old pool.new
-        (map named entries.old.entries) (map named entries.new.entries) }
+        (map entry_object entries.old.entries) (map entry_object entries.new.entries) }
 {
     match entries.remove(&name) {
         Some(entry) => {

@@ -2,11 +2,11 @@
 ghost use Rattle.std.specs.Prelude.{◌≡◌, ◌<◌, ◌*◌, ◌+◌, ◌++◌, ℕ, ℤ, pos, true, false, length, IsTrue};
 ghost use Rattle.vx_base.specs.Sample.{IsSample};
 ghost use Rattle.vx_base.specs.declared.format.Format.{Format};
-ghost use Rattle.vx_base.specs.Rectangle.{Rectangle, inside, IsCanonical, IsWithin};
+ghost use Rattle.vx_base.specs.Rectangle.{Rectangle, has_pixel, IsCanonical, IsWithin};
 ghost use Rattle.vx_base.specs.Description.{is_side};
-ghost use Rattle.vx_base.specs.Image.{ImageValue, IsImage, band, table, at, made};
+ghost use Rattle.vx_base.specs.Image.{ImageValue, IsImage, band, table, pixel_at, image_from};
 ghost use Rattle.vx_base.specs.Image.{new_image};
-ghost use Rattle.vx_base.specs.Picture.{PictureValue, IsPicture, picture_of, pictured};
+ghost use Rattle.vx_base.specs.Picture.{PictureValue, IsPicture, picture_of, picture_image};
 
 /// A table has a sample for each pixel.
 pub fn table_size()
@@ -16,7 +16,7 @@ pub fn table_size()
 /// An image's samples are the band of all its rows. Two adjacent bands, one after the other, are
 /// the band of the rows of both.
 pub fn bands()
-    ensures whole { (a : ImageValue) → IsImage a → band a.width 0 a.height (at a) ≡ a.samples }
+    ensures whole { (a : ImageValue) → IsImage a → band a.width 0 a.height (pixel_at a) ≡ a.samples }
     ensures joined { (width start above below : ℕ) (f : ℕ → ℕ → ℤ) →
         band width start (above + below) f
         ≡ band width start above f ++ band width (start + above) below f }
@@ -28,21 +28,21 @@ pub fn made_samples()
     ensures image { (width height : ℕ) (format : Format) (valid : Rectangle) (f : ℕ → ℕ → ℤ) →
         IsTrue (is_side width) → IsTrue (is_side height) → IsCanonical valid →
         IsWithin valid width height →
-        ((x y : ℕ) → inside valid x y ≡ true → IsSample format (f x y)) →
-        IsImage (made width height format valid f) }
+        ((x y : ℕ) → has_pixel valid x y ≡ true → IsSample format (f x y)) →
+        IsImage (image_from width height format valid f) }
     ensures valid { (width height : ℕ) (format : Format) (valid : Rectangle)
         (f : ℕ → ℕ → ℤ) (x y : ℕ) →
-        x < width → y < height → inside valid x y ≡ true →
-        at (made width height format valid f) x y ≡ f x y }
+        x < width → y < height → has_pixel valid x y ≡ true →
+        pixel_at (image_from width height format valid f) x y ≡ f x y }
     ensures outside { (width height : ℕ) (format : Format) (valid : Rectangle)
         (f : ℕ → ℕ → ℤ) (x y : ℕ) →
-        x < width → y < height → inside valid x y ≡ false →
-        at (made width height format valid f) x y ≡ pos 0 }
+        x < width → y < height → has_pixel valid x y ≡ false →
+        pixel_at (image_from width height format valid f) x y ≡ pos 0 }
 {}
 
 /// A picture is a well-formed image, and an image's samples are a well-formed picture.
 pub fn pictures()
-    ensures image { (p : PictureValue) → IsPicture p → IsImage (pictured p) }
+    ensures image { (p : PictureValue) → IsPicture p → IsImage (picture_image p) }
     ensures picture { (a : ImageValue) → IsImage a → IsPicture (picture_of a) }
 {}
 
@@ -50,12 +50,12 @@ pub fn pictures()
 pub fn places_decide()
     ensures { (a b : ImageValue) → IsImage a → IsImage b →
         a.width ≡ b.width → a.height ≡ b.height → a.format ≡ b.format → a.valid ≡ b.valid →
-        ((x y : ℕ) → x < a.width → y < a.height → at a x y ≡ at b x y) → a ≡ b }
+        ((x y : ℕ) → x < a.width → y < a.height → pixel_at a x y ≡ pixel_at b x y) → a ≡ b }
 {}
 
 /// An image equals the one made from its own samples.
 pub fn made_of_itself()
-    ensures { (a : ImageValue) → IsImage a → made a.width a.height a.format a.valid (at a) ≡ a }
+    ensures { (a : ImageValue) → IsImage a → image_from a.width a.height a.format a.valid (pixel_at a) ≡ a }
 {}
 
 /// A new image is well-formed, and 0 at each pixel.
@@ -63,5 +63,5 @@ pub fn new_is_zero()
     ensures image { (width height : ℕ) (format : Format) → IsTrue (is_side width) →
         IsTrue (is_side height) → IsImage (new_image width height format) }
     ensures zero { (width height : ℕ) (format : Format) (x y : ℕ) → x < width → y < height →
-        at (new_image width height format) x y ≡ pos 0 }
+        pixel_at (new_image width height format) x y ≡ pos 0 }
 {}

@@ -9,11 +9,11 @@ ghost use Rattle.vx_base.specs.declared.format.Format.TheVariants.{U8, S16};
 ghost use Rattle.vx_base.specs.declared.policy.Policy.{Policy};
 ghost use Rattle.vx_base.specs.declared.function.Function.{Function};
 ghost use Rattle.vx_base.specs.Sample.{IsSample, distance};
-ghost use Rattle.vx_base.specs.Rectangle.{inside};
+ghost use Rattle.vx_base.specs.Rectangle.{has_pixel};
 ghost use Rattle.vx_base.specs.Function.{parameters, accumulates};
 ghost use Rattle.vx_base.specs.Formats.{takes_formats};
 ghost use Rattle.vx_base.specs.Node.{has_amount, IsNode};
-ghost use Rattle.vx_base.specs.Image.{ImageValue, IsImage, at};
+ghost use Rattle.vx_base.specs.Image.{ImageValue, IsImage, pixel_at};
 ghost use Rattle.vx_base.specs.Lut.{LutValue};
 ghost use Rattle.vx_base.specs.Threshold.{ThresholdValue};
 ghost use Rattle.vx_base.specs.declared.node.Node.{Node};
@@ -22,7 +22,7 @@ ghost use Rattle.vx_base.specs.Outputs.{node_image};
 ghost use Rattle.vx_base.specs.Object.{ObjectValue, ImageObject, IsObject, object_kind};
 ghost use Rattle.vx_base.specs.Object.{object_format};
 ghost use Rattle.vx_base.specs.Pixelwise.{and_bits, or_bits, xor_bits, not_bits};
-ghost use Rattle.vx_base.specs.Pixelwise.{absolute_difference, thresholded, looked_up};
+ghost use Rattle.vx_base.specs.Pixelwise.{absolute_difference, threshold_result, lookup_result};
 ghost use Rattle.vx_base.specs.Pixelwise.{formula_of_one, formula_of_two, from_one, from_two};
 
 /// Bitwise Not inverts each of the eight bits of a U8 sample.
@@ -79,10 +79,10 @@ pub fn results_are_samples()
         (a c : ℤ) → accumulates function ≡ true →
         IsSample output (formula_of_two function output policy n a c) }
     ensures looked_up { (lut : LutValue) (a : ℤ) → All (IsSample lut.format) lut.entries →
-        IsSample lut.format (looked_up lut a) }
+        IsSample lut.format (lookup_result lut a) }
     ensures thresholded { (threshold : ThresholdValue) (a : ℤ) → threshold.true_value < 256 →
         threshold.false_value < 256 →
-        IsSample U8 (thresholded threshold a) }
+        IsSample U8 (threshold_result threshold a) }
 {}
 
 /// A formula of one image gives its value at each valid pixel. The result is a well-formed image if
@@ -91,8 +91,8 @@ pub fn from_one_samples()
     ensures image { (format : Format) (f : ℤ → ℤ) (a : ImageValue) → IsImage a →
         ((z : ℤ) → IsSample a.format z → IsSample format (f z)) → IsImage (from_one format f a) }
     ensures valid { (format : Format) (f : ℤ → ℤ) (a : ImageValue) (x y : ℕ) → IsImage a →
-        inside a.valid x y ≡ true →
-        at (from_one format f a) x y ≡ f (at a x y) }
+        has_pixel a.valid x y ≡ true →
+        pixel_at (from_one format f a) x y ≡ f (pixel_at a x y) }
 {}
 
 /// A formula of two images gives its value where both are valid. The result is a well-formed image
@@ -102,11 +102,11 @@ pub fn from_two_samples()
         ((y z : ℤ) → IsSample a.format y → IsSample b.format z → IsSample format (f y z)) →
         IsImage (from_two format f a b) }
     ensures rectangle { (format : Format) (f : ℤ → ℤ → ℤ) (a b : ImageValue) (x y : ℕ) →
-        inside (from_two format f a b).valid x y ≡ (inside a.valid x y && inside b.valid x y) }
+        has_pixel (from_two format f a b).valid x y ≡ (has_pixel a.valid x y && has_pixel b.valid x y) }
     ensures valid { (format : Format) (f : ℤ → ℤ → ℤ) (a b : ImageValue) (x y : ℕ) →
         IsImage a → IsImage b →
-        inside a.valid x y ≡ true → inside b.valid x y ≡ true →
-        at (from_two format f a b) x y ≡ f (at a x y) (at b x y) }
+        has_pixel a.valid x y ≡ true → has_pixel b.valid x y ≡ true →
+        pixel_at (from_two format f a b) x y ≡ f (pixel_at a x y) (pixel_at b x y) }
 {}
 
 /// An accumulating node's output is a well-formed image of its format.

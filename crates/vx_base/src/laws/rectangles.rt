@@ -1,39 +1,39 @@
 //! Laws of rectangles as sets of pixels.
 ghost use Rattle.std.specs.Prelude.{◌≡◌, ◌≤◌, ◌+◌, ◌↔◌, ℕ, IsTrue, ◌&&◌, nat_le, nat_lt};
-ghost use Rattle.vx_base.specs.Rectangle.{Rectangle, inside, is_rectangle, bounded, whole, meet_of};
-ghost use Rattle.vx_base.specs.Rectangle.{shrunk};
+ghost use Rattle.vx_base.specs.Rectangle.{Rectangle, has_pixel, is_rectangle, rectangle_or_empty, whole_rectangle, meet_of};
+ghost use Rattle.vx_base.specs.Rectangle.{shrink_of};
 
 /// Two rectangles with the same pixels are equal.
 pub fn places_decide()
     ensures { (r s : Rectangle) → IsTrue (is_rectangle r.x0 r.y0 r.x1 r.y1) →
         IsTrue (is_rectangle s.x0 s.y0 s.x1 s.y1) →
-        ((x y : ℕ) → inside r x y ≡ inside s x y) → r ≡ s }
+        ((x y : ℕ) → has_pixel r x y ≡ has_pixel s x y) → r ≡ s }
 {}
 
 /// A rectangle made from bounds has the pixels between them.
 pub fn bounded_places()
     ensures rectangle { (x0 y0 x1 y1 : ℕ) →
-        let r = bounded x0 y0 x1 y1 in IsTrue (is_rectangle r.x0 r.y0 r.x1 r.y1) }
+        let r = rectangle_or_empty x0 y0 x1 y1 in IsTrue (is_rectangle r.x0 r.y0 r.x1 r.y1) }
     ensures places { (x0 y0 x1 y1 x y : ℕ) →
-        inside (bounded x0 y0 x1 y1) x y
+        has_pixel (rectangle_or_empty x0 y0 x1 y1) x y
         ≡ ((nat_le x0 x && nat_lt x x1) && (nat_le y0 y && nat_lt y y1)) }
 {}
 
 /// The whole rectangle has all pixels of the image, and no others.
 pub fn whole_places()
-    ensures { (width height x y : ℕ) → inside (whole width height) x y
+    ensures { (width height x y : ℕ) → has_pixel (whole_rectangle width height) x y
         ≡ (nat_lt x width && nat_lt y height) }
 {}
 
 /// The intersection of two rectangles has the pixels that are in both.
 pub fn meet_places()
     ensures { (r s : Rectangle) (x y : ℕ) →
-        inside (meet_of r s) x y ≡ (inside r x y && inside s x y) }
+        has_pixel (meet_of r s) x y ≡ (has_pixel r x y && has_pixel s x y) }
 {}
 
 /// A rectangle shrunk by radii has the pixels whose whole window is in the rectangle.
 pub fn shrunk_places()
-    ensures { (r : Rectangle) (rx ry x y : ℕ) → IsTrue (inside (shrunk r rx ry) x y) ↔
+    ensures { (r : Rectangle) (rx ry x y : ℕ) → IsTrue (has_pixel (shrink_of r rx ry) x y) ↔
         ((rx ≤ x) × (ry ≤ y) × ((i j : ℕ) → x ≤ i + rx → i ≤ x + rx → y ≤ j + ry → j ≤ y + ry →
-        IsTrue (inside r i j))) }
+        IsTrue (has_pixel r i j))) }
 {}

@@ -2,7 +2,7 @@
 ghost use Rattle.std.specs.Prelude.{◌≡◌, ◌<ℤ◌, ◌≤ℤ◌, ◌+ℤ◌, ◌↔◌, ℤ, pos, IsTrue};
 ghost use Rattle.vx_base.specs.declared.format.Format.{Format};
 ghost use Rattle.vx_base.specs.declared.threshold.ThresholdKind.TheVariants.{Binary, Range};
-ghost use Rattle.vx_base.specs.Sample.{IsSample, greatest};
+ghost use Rattle.vx_base.specs.Sample.{IsSample, max_sample};
 ghost use Rattle.vx_base.specs.Threshold.{passes};
 
 /// A sample passes a binary threshold if it is above the limit, and a range threshold if it is in
@@ -12,5 +12,5 @@ pub fn passing()
     ensures range { (lower upper a : ℤ) →
         IsTrue (passes (Range lower upper) a) ↔ ((lower ≤ℤ a) × (a ≤ℤ upper)) }
     ensures binary_as_range { (format : Format) (limit a : ℤ) → IsSample format a →
-        passes (Binary limit) a ≡ passes (Range (limit +ℤ pos 1) (greatest format)) a }
+        passes (Binary limit) a ≡ passes (Range (limit +ℤ pos 1) (max_sample format)) a }
 {}

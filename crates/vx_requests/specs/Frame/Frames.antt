@@ -45,8 +45,8 @@ abbrev pub reply_bytes : ReplyFrame → List ℕ
 reply_bytes r = to_be_bytes w32 (length r.body + 4) ++ (to_be_bytes w16 r.client ++ r.op ∷ r.code ∷ r.body)
 
 -- the frames, joined
-abbrev pub joined : List Frame → List ℕ
-joined frames = flat_map frame_bytes frames
+abbrev pub frames_bytes : List Frame → List ℕ
+frames_bytes frames = flat_map frame_bytes frames
 
 abbrev pub joined_replies : List ReplyFrame → List ℕ
 joined_replies replies = flat_map reply_bytes replies
@@ -84,7 +84,7 @@ IsRest rest = IsBegun rest ⊎ BeginsBadly rest
 
 -- the stream is these frames, followed by this rest
 pub record Splits (stream : List ℕ) (frames : List Frame) (rest : List ℕ) : Type 0 where
-  pub whole : stream ≡ joined frames ++ rest
+  pub whole : stream ≡ frames_bytes frames ++ rest
   pub each : All IsFrame frames
   pub rest_is : IsRest rest
 

@@ -4,7 +4,7 @@ use Rattle.std.specs.Int.{w32, to_be_bytes}
 use Rattle.std.specs.Io.KnownBytes.{Consumes, IsAtEnd}
 use Rattle.vx_base.specs.declared.format.Format.{Format}
 use Rattle.vx_base.specs.Sample.{sample_bytes}
-use Rattle.vx_wire.specs.Samples.{decoded}
+use Rattle.vx_wire.specs.Samples.{decoded_samples}
 use Rattle.vx_requests.specs.declared.stream.fault.StreamFault.{StreamFault}
 use Rattle.vx_requests.specs.declared.stream.fault.StreamFault.TheVariants.{Truncated, BadLength, ReadFailed, WriteFailed, ReaderWouldNotEnd}
 use Rattle.vx_requests.specs.declared.frame.reader.Reader.{Reader}
@@ -39,7 +39,7 @@ ReadsSome old new len = (bytes : List ℕ) × Consumes old new bytes × (length 
 -- the bytes of these samples were read
 abbrev pub ReadsSamples : Option (List ℕ) → Option (List ℕ) → Format → List ℤ → Type 0
 ReadsSamples old new format samples = (bytes : List ℕ) × Consumes old new bytes × (length bytes ≡ length samples * sample_bytes format) × All (λ b. b < 2 ^ 8) bytes
-    × (samples ≡ decoded format (length samples) bytes)
+    × (samples ≡ decoded_samples format (length samples) bytes)
 
 -- the length of the next frame was read, or the stream had ended
 abbrev pub ReadsLength : Option (List ℕ) → Option (List ℕ) → Result (Option ℕ) StreamFault → Type 0

@@ -10,34 +10,34 @@ abbrev pub states_of : World → ℕ → State
 states_of world client = state_of client world
 
 -- the frame of a reply
-abbrev pub spelled : ℕ → ℕ → Said → ReplyFrame
-spelled client op said = record { client = client; op = op; code = said.code; body = said.body }
+abbrev pub spelled_frame : ℕ → ℕ → Said → ReplyFrame
+spelled_frame client op said = record { client = client; op = op; code = said.code; body = said.body }
 
 abbrev pub reply_to : Frame → Said → ReplyFrame
-reply_to f said = spelled f.client f.op said
+reply_to f said = spelled_frame f.client f.op said
 
 -- a frame that was received, and whether it was lost because memory ran out
-pub record Received : Type 0 where
+pub record ReceivedFrame : Type 0 where
   pub frame : Frame
   pub lost : Bool
 
-abbrev pub frames_of : List Received → List Frame
+abbrev pub frames_of : List ReceivedFrame → List Frame
 frames_of marked = map (λ m. m.frame) marked
 
 -- whether a received frame is the client's and was kept
-abbrev pub is_kept_of : ℕ → Received → Bool
+abbrev pub is_kept_of : ℕ → ReceivedFrame → Bool
 is_kept_of client m = (m.frame.client == client) && not m.lost
 
 -- the client's kept frames, in order
-abbrev pub mine : ℕ → List Received → List Frame
+abbrev pub mine : ℕ → List ReceivedFrame → List Frame
 mine client marked = map (λ m. m.frame) (filter (is_kept_of client) marked)
 
 -- the frames that a router sends to the server of this number: those of its clients
-abbrev pub sent_to : (ℕ → ℕ) → ℕ → List Received → List Received
+abbrev pub sent_to : (ℕ → ℕ) → ℕ → List ReceivedFrame → List ReceivedFrame
 sent_to server number marked = filter (λ m. server m.frame.client == number) marked
 
 -- the replies to the client's kept frames
-abbrev pub kept_replies : ℕ → List Received → List ReplyFrame → List ReplyFrame
+abbrev pub kept_replies : ℕ → List ReceivedFrame → List ReplyFrame → List ReplyFrame
 kept_replies client [] replies = []
 kept_replies client (m ∷ marked) [] = []
 kept_replies client (m ∷ marked) (r ∷ replies) = cond (is_kept_of client m) (r ∷ kept_replies client marked replies) (kept_replies client marked replies)
@@ -62,22 +62,22 @@ module _ {S : Type 0} (answer : S → ℕ → List ℕ → Said × S) where
   alone state (f ∷ frames) = reply_to f (answer_frame state f).0 ∷ alone (answer_frame state f).1 frames
 
   -- the reply to a frame in these states of the clients; the reply to a lost frame is NO_MEMORY
-  abbrev pub reply_in : (ℕ → S) → Received → ReplyFrame
+  abbrev pub reply_in : (ℕ → S) → ReceivedFrame → ReplyFrame
   reply_in states m = cond m.lost (no_memory m.frame) (reply_to m.frame (answer_frame (states m.frame.client) m.frame).0)
 
   -- a client's state after the frame
-  abbrev pub state_then : (ℕ → S) → Received → ℕ → S
+  abbrev pub state_then : (ℕ → S) → ReceivedFrame → ℕ → S
   state_then states m client = cond (is_kept_of client m) (answer_frame (states client) m.frame).1 (states client)
 
   -- each client's state after its own kept frames
-  abbrev pub states_after : (ℕ → S) → List Received → ℕ → S
+  abbrev pub states_after : (ℕ → S) → List ReceivedFrame → ℕ → S
   states_after start marked client = after (start client) (mine client marked)
 
   -- the replies to frames that come after others: each is the next reply of its client alone
-  abbrev pub served_after : (ℕ → S) → List Received → List Received → List ReplyFrame
+  abbrev pub served_after : (ℕ → S) → List ReceivedFrame → List ReceivedFrame → List ReplyFrame
   served_after start before [] = []
   served_after start before (m ∷ marked) = reply_in (states_after start before) m ∷ served_after start (before ++ m ∷ []) marked
 
   -- one reply for each frame, in order
-  abbrev pub served : (ℕ → S) → List Received → List ReplyFrame
+  abbrev pub served : (ℕ → S) → List ReceivedFrame → List ReplyFrame
   served start marked = served_after start [] marked

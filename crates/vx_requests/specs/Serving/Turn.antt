@@ -1,7 +1,7 @@
 -- One turn of serve: a frame is read and answered, and its reply is written.
 use Rattle.std.specs.Prelude.{◌≡◌, ℕ, ◌+◌, ◌<◌, ◌^◌, Bool, true, List, [], length, All, Option, Some, None, Result, Ok, Err, ◌⊎◌}
 use Rattle.std.specs.Io.KnownBytes.{Consumes, Appends, IsAtEnd}
-use Rattle.client_model.specs.Allowance.{Allowance}
+use Rattle.client_model.specs.Limits.{LimitsValue}
 use Rattle.client_model.specs.Context.{State}
 use Rattle.client_model.specs.Answer.{answer_to}
 use Rattle.client_model.specs.declared.request.Request.TheVariants.{ReadImage, ReadImagePgm}
@@ -13,13 +13,13 @@ use Rattle.vx_requests.specs.declared.serving.answered.Content.TheVariants.{Made
 use Rattle.vx_requests.specs.Stream.Transfer.{AppendsFront}
 use Rattle.vx_requests.specs.Frame.Frames.{Frame, ReplyFrame, IsFrame, frame_of, payload, frame_bytes, reply_bytes}
 use Rattle.vx_requests.specs.Serving.Answer.{answer}
-use Rattle.vx_requests.specs.Serving.Clients.{spelled, reply_in, state_then}
+use Rattle.vx_requests.specs.Serving.Clients.{spelled_frame, reply_in, state_then}
 use Rattle.vx_requests.specs.Serving.Lost.{MayBeLost}
 use Rattle.vx_requests.specs.Frame.Reading.{BreaksOff, ReadsPart}
 use Rattle.vx_wire.specs.Replies.{Said, said_of}
 
 -- the reply to a frame that was kept or lost, and the clients' states after it
-pub record IsReply (limits : Allowance) (f : Frame) (old new : ℕ → State) (reply : ReplyFrame) : Type 0 where
+pub record IsReply (limits : LimitsValue) (f : Frame) (old new : ℕ → State) (reply : ReplyFrame) : Type 0 where
   pub lost : Bool
   pub may : lost ≡ true → MayBeLost f
   pub states : (client : ℕ) → new client ≡ state_then (answer limits) old (record { frame = f; lost = lost }) client
@@ -29,16 +29,16 @@ abbrev pub SameStates : (old new : ℕ → State) → Type 0
 SameStates old new = (client : ℕ) → new client ≡ old client
 
 -- the code and body of a reply, given its content and its client's state
-abbrev pub said_in : Allowance → State → Content → Said
+abbrev pub said_in : LimitsValue → State → Content → Said
 said_in limits state (Made reply) = said_of reply
 said_in limits state (Samples image) = said_of (answer_to limits state (ReadImage image)).0
 said_in limits state (Text image) = said_of (answer_to limits state (ReadImagePgm image)).0
 
 -- the frame of a reply, given the clients' states
-abbrev pub reply_frame : Allowance → (ℕ → State) → Answered → ReplyFrame
-reply_frame limits states a = spelled a.client a.op (said_in limits (states a.client) a.content)
+abbrev pub reply_frame : LimitsValue → (ℕ → State) → Answered → ReplyFrame
+reply_frame limits states a = spelled_frame a.client a.op (said_in limits (states a.client) a.content)
 
-module _ (limits : Allowance) (left_old left_new : Option (List ℕ)) (old new : ℕ → State) where
+module _ (limits : LimitsValue) (left_old left_new : Option (List ℕ)) (old new : ℕ → State) where
   -- after a frame's client and op: a body of `len` bytes was read and answered, or fewer bytes were read
   abbrev pub AnswersBody : (client op len : ℕ) → Result Content StreamFault → Type 0
   AnswersBody client op len (Ok content) = (body : List ℕ) × Consumes left_old left_new body × (length body ≡ len) × All (λ b. b < 2 ^ 8) body
@@ -55,7 +55,7 @@ abbrev pub WritesReply : Option (List ℕ) → Option (List ℕ) → ReplyFrame 
 WritesReply old new r (Ok code) = Appends old new (reply_bytes r) × (code ≡ r.code)
 WritesReply old new r (Err e) = (e ≡ WriteFailed) × AppendsFront old new (reply_bytes r)
 
-module _ (limits : Allowance) (left_old left_new taken_old taken_new : Option (List ℕ)) (old new : ℕ → State) where
+module _ (limits : LimitsValue) (left_old left_new taken_old taken_new : Option (List ℕ)) (old new : ℕ → State) where
   -- a whole frame was read, and its reply was written
   abbrev pub ServesFrame : Result ℕ StreamFault → Type 0
   ServesFrame result = (f : Frame) × (reply : ReplyFrame) × IsFrame f × Consumes left_old left_new (frame_bytes f) × IsReply limits f old new reply × WritesReply taken_old taken_new reply result

@@ -12,7 +12,7 @@ ghost use Rattle.vx_base.specs.Picture.{PictureValue, values, Describes, picture
 ghost use Rattle.vx_requests.specs.Stream.Calls.{failed_calls};
 ghost use Rattle.vx_requests.specs.Stream.Transfer.{Sends};
 ghost use Rattle.vx_requests.specs.Frame.Frames.{reply_bytes, reply_head};
-ghost use Rattle.vx_requests.specs.Serving.Clients.{spelled};
+ghost use Rattle.vx_requests.specs.Serving.Clients.{spelled_frame};
 ghost use Rattle.vx_wire.specs.Counts.{counts_bytes};
 ghost use Rattle.vx_wire.specs.Described.{described_bytes};
 ghost use Rattle.vx_wire.specs.Description.{description_bytes};
@@ -44,7 +44,7 @@ pub fn write_reply<K: Sink>(
 ) -> Result<(), StreamFault>
     requires { K.failures sink.old < 2 ^ 62 }
     ensures { Sends K.taken K.failures sink.old sink.new
-        (reply_bytes (spelled client op (said_of reply.now))) result }
+        (reply_bytes (spelled_frame client op (said_of reply.now))) result }
 {
     match reply {
         Reply::Refused(code) => write_small(sink, &head(4, client, op, code.number())),
@@ -55,10 +55,10 @@ pub fn write_reply<K: Sink>(
             write_small(sink, &head_and_described(client, op, *described))
         }
         Reply::Picture(picture) => {
-            write_picture(sink, client, op, picture.desc(), picture.samples())
+            write_picture_reply(sink, client, op, picture.desc(), picture.samples())
         }
-        Reply::Text(text) => write_text(sink, client, op, text),
-        Reply::Counts(counts) => write_counts(sink, client, op, counts),
+        Reply::Text(text) => write_text_reply(sink, client, op, text),
+        Reply::Counts(counts) => write_counts_reply(sink, client, op, counts),
         Reply::Extremes(extremes) => write_small(sink, &head_and_extremes(client, op, *extremes)),
     }
 }
@@ -75,7 +75,7 @@ pub fn code_of(reply: &Reply) -> u8
 
 /// Writes the frame of the reply to ReadImage, and flushes the sink, as `write_reply` does. It
 /// writes the samples of the image itself, and allocates nothing.
-pub fn write_image<K: Sink>(
+pub fn write_image_reply<K: Sink>(
     sink: &mut K,
     client: u16,
     op: u8,
@@ -84,14 +84,14 @@ pub fn write_image<K: Sink>(
     requires failures_fit { K.failures sink.old < 2 ^ 62 }
     requires image { IsImage image.now }
     ensures { Sends K.taken K.failures sink.old sink.new
-        (reply_bytes (spelled client op (said_of (PictureReply (picture_of image.now))))) result }
+        (reply_bytes (spelled_frame client op (said_of (PictureReply (picture_of image.now))))) result }
 {
-    write_picture(sink, client, op, image.desc(), image.samples())
+    write_picture_reply(sink, client, op, image.desc(), image.samples())
 }
 
 /// Writes the frame of the reply to ReadImagePgm for a U8 image, and flushes the sink, as
 /// `write_reply` does. It writes the samples of the image itself, and allocates nothing.
-pub fn write_image_text<K: Sink>(
+pub fn write_image_text_reply<K: Sink>(
     sink: &mut K,
     client: u16,
     op: u8,
@@ -101,7 +101,7 @@ pub fn write_image_text<K: Sink>(
     requires image { IsImage image.now }
     requires format { image.now.format ≡ FormatU8 }
     ensures { Sends K.taken K.failures sink.old sink.new
-        (reply_bytes (spelled client op (said_of (TextReply (pgm_text (picture_of image.now))))))
+        (reply_bytes (spelled_frame client op (said_of (TextReply (pgm_text (picture_of image.now))))))
         result }
 {
     let mut head = [0; TEXT_HEAD];
@@ -112,7 +112,7 @@ pub fn write_image_text<K: Sink>(
 }
 
 /// Writes the frame of a picture, and flushes the sink.
-fn write_picture<K: Sink>(
+fn write_picture_reply<K: Sink>(
     sink: &mut K,
     client: u16,
     op: u8,
@@ -124,7 +124,7 @@ fn write_picture<K: Sink>(
     ensures { let picture : PictureValue =
         record { description = desc; samples = values samples.now } in
         Sends K.taken K.failures sink.old sink.new
-        (reply_bytes (spelled client op (record { code = 0; body = picture_bytes picture })))
+        (reply_bytes (spelled_frame client op (record { code = 0; body = picture_bytes picture })))
         result }
 {
     write_all(sink, &head_and_description(client, op, desc))?;
@@ -133,10 +133,15 @@ fn write_picture<K: Sink>(
 }
 
 /// Writes the frame of a text, and flushes the sink.
-fn write_text<K: Sink>(sink: &mut K, client: u16, op: u8, text: &Text) -> Result<(), StreamFault>
+fn write_text_reply<K: Sink>(
+    sink: &mut K,
+    client: u16,
+    op: u8,
+    text: &Text,
+) -> Result<(), StreamFault>
     requires { K.failures sink.old < 2 ^ 62 }
     ensures { Sends K.taken K.failures sink.old sink.new
-        (reply_bytes (spelled client op (record { code = 0; body = text.now }))) result }
+        (reply_bytes (spelled_frame client op (record { code = 0; body = text.now }))) result }
 {
     let bytes = text.bytes();
     write_all(sink, &head_before(bytes.len(), client, op))?;
@@ -145,7 +150,7 @@ fn write_text<K: Sink>(sink: &mut K, client: u16, op: u8, text: &Text) -> Result
 }
 
 /// Writes the frame of counts, and flushes the sink.
-fn write_counts<K: Sink>(
+fn write_counts_reply<K: Sink>(
     sink: &mut K,
     client: u16,
     op: u8,
@@ -153,7 +158,7 @@ fn write_counts<K: Sink>(
 ) -> Result<(), StreamFault>
     requires { K.failures sink.old < 2 ^ 62 }
     ensures { Sends K.taken K.failures sink.old sink.new
-        (reply_bytes (spelled client op
+        (reply_bytes (spelled_frame client op
         (record { code = 0; body = counts_bytes counts.now }))) result }
 {
     let counts = counts.counts();

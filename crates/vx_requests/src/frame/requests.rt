@@ -33,7 +33,7 @@ use vx_base::{
     Convolution, Desc, Format, Lut, ObjRef, Picture, Rect, SlotCount, ThresholdKind, ThresholdRule,
 };
 use vx_wire::{
-    Op, binary_bytes, bins_bytes, description_bytes, format_number, node_bytes, outline_bytes,
+    Op, binary_bytes, bins_bytes, description_bytes, format_number, node_bytes, partial_desc_bytes,
     range_bytes, rectangle_bytes, reference_bytes,
 };
 
@@ -83,8 +83,8 @@ pub fn write_request<K: Sink>(
         Request::ReadMinMax(name) => write_name(sink, client, Op::ReadMinMax, *name),
         Request::CreateGraph => write_short(sink, client, Op::CreateGraph.number(), &[]),
         Request::CreateVirtualImage(graph, declared) => {
-            let outline = outline_bytes(*declared);
-            write_named(sink, client, Op::CreateVirtualImage, *graph, &outline)
+            let partial_desc = partial_desc_bytes(*declared);
+            write_named(sink, client, Op::CreateVirtualImage, *graph, &partial_desc)
         }
         Request::AddNode(graph, node) => {
             let node = node_bytes(*node);
@@ -217,12 +217,12 @@ fn write_write_image<K: Sink>(
         (frame_bytes (request_frame client (WriteImageRequest image picture.now))) result }
 {
     let samples = picture.samples();
-    write_all(sink, &write_image_head(client, image, picture.desc()))?;
+    write_all(sink, &image_head_bytes(client, image, picture.desc()))?;
     write_samples(sink, samples)
 }
 
 /// Returns the bytes before the samples in the frame of a `WriteImage`.
-fn write_image_head(client: u16, image: ObjRef, desc: Desc) -> [u8; 17]
+fn image_head_bytes(client: u16, image: ObjRef, desc: Desc) -> [u8; 17]
     ensures { result ≡ frame_head (13 + byte_count desc) client (op_number WriteImageOp)
         ++ (reference_bytes image ++ description_bytes desc) }
 {
@@ -248,12 +248,12 @@ fn write_write_image_pgm<K: Sink>(
         (frame_bytes (request_frame client (WriteImagePgmRequest image text.now))) result }
 {
     let bytes = text.bytes();
-    write_all(sink, &write_image_pgm_head(client, image, bytes.len()))?;
+    write_all(sink, &image_pgm_head_bytes(client, image, bytes.len()))?;
     write_all(sink, bytes)
 }
 
 /// Returns the bytes before the text in the frame of a `WriteImagePgm`.
-fn write_image_pgm_head(client: u16, image: ObjRef, count: usize) -> [u8; 12]
+fn image_pgm_head_bytes(client: u16, image: ObjRef, count: usize) -> [u8; 12]
     requires { count ≤ GREATEST_TEXT }
     ensures { result ≡ frame_head (8 + count) client (op_number WriteImagePgmOp)
         ++ reference_bytes image }

@@ -39,14 +39,14 @@ pub fn write_wide<S: WideSample, K: Sink>(sink: &mut K, samples: &[S]) -> Result
     let mut rest = samples;
     while !rest.is_empty() {
         let (front, back) = rest.split_at(rest.len().min(1024));
-        write_block(sink, &mut block, front)?;
+        write_sample_block(sink, &mut block, front)?;
         rest = back;
     }
     Ok(())
 }
 
 /// Encodes samples into the block, which is long enough, and writes them.
-fn write_block<S: WideSample, K: Sink>(
+fn write_sample_block<S: WideSample, K: Sink>(
     sink: &mut K,
     block: &mut [u8],
     samples: &[S],

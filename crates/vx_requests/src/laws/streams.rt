@@ -1,16 +1,16 @@
 //! Laws of streams and of their clients.
 ghost use Rattle.std.specs.Prelude.{◌≡◌, ℕ, ◌<◌, false, List, [], ◌++◌, ◌==◌, map, All, Option};
 ghost use Rattle.std.specs.Prelude.{Some, IfSome, IfOk, Result};
-ghost use Rattle.vx_base.specs.Cell.{Cell};
+ghost use Rattle.vx_base.specs.Reference.{Reference};
 ghost use Rattle.vx_base.specs.Image.{IsImage};
-ghost use Rattle.client_model.specs.Allowance.{Allowance};
+ghost use Rattle.client_model.specs.Limits.{LimitsValue};
 ghost use Rattle.client_model.specs.Context.{State};
 ghost use Rattle.client_model.specs.Operands.{image_of};
 ghost use Rattle.client_model.specs.States.{KeepsLimits};
 ghost use Rattle.vx_requests.specs.declared.stream.fault.StreamFault.{StreamFault};
 ghost use Rattle.vx_requests.specs.declared.serving.summary.Summary.{Summary};
 ghost use Rattle.vx_requests.specs.Frame.Frames.{Frame, IsFrame, frame_bytes, Splits};
-ghost use Rattle.vx_requests.specs.Serving.Clients.{Received, mine, sent_to, kept_replies, alone};
+ghost use Rattle.vx_requests.specs.Serving.Clients.{ReceivedFrame, mine, sent_to, kept_replies, alone};
 ghost use Rattle.vx_requests.specs.Serving.Clients.{after, served, frames_of};
 ghost use Rattle.vx_requests.specs.Serving.Answer.{answer};
 ghost use Rattle.vx_requests.specs.Serving.Ends.{ReadsToARest};
@@ -36,14 +36,14 @@ pub fn one_split()
 
 /// The replies to a client's kept frames are those that it would get as the only client.
 pub fn each_alone()
-    ensures { (limits : Allowance) (start : ℕ → State) (marked : List Received) (client : ℕ) →
+    ensures { (limits : LimitsValue) (start : ℕ → State) (marked : List ReceivedFrame) (client : ℕ) →
         kept_replies client marked (served (answer limits) start marked)
         ≡ alone (answer limits) (start client) (mine client marked) }
 {}
 
 /// If all frames are of one client and none was lost, the replies are those of that client alone.
 pub fn one_client()
-    ensures { (limits : Allowance) (start : ℕ → State) (marked : List Received) (client : ℕ) →
+    ensures { (limits : LimitsValue) (start : ℕ → State) (marked : List ReceivedFrame) (client : ℕ) →
         All (λ m. (m.frame.client ≡ client) × (m.lost ≡ false)) marked →
         served (answer limits) start marked
         ≡ alone (answer limits) (start client) (frames_of marked) }
@@ -52,8 +52,8 @@ pub fn one_client()
 /// If two streams have the same kept frames of a client, which starts in the same state in both,
 /// the client gets the same replies.
 pub fn isolated()
-    ensures { (limits : Allowance) (start other : ℕ → State)
-        (marked others : List Received) (client : ℕ) →
+    ensures { (limits : LimitsValue) (start other : ℕ → State)
+        (marked others : List ReceivedFrame) (client : ℕ) →
         start client ≡ other client → mine client marked ≡ mine client others →
         kept_replies client marked (served (answer limits) start marked)
         ≡ kept_replies client others (served (answer limits) other others) }
@@ -62,8 +62,8 @@ pub fn isolated()
 /// Several servers may share a stream, each with all frames of its own clients: each client gets
 /// the replies to its kept frames that one server of all clients would give.
 pub fn over_servers()
-    ensures { (limits : Allowance) (start : ℕ → State) (server : ℕ → ℕ)
-        (marked : List Received) (client : ℕ) →
+    ensures { (limits : LimitsValue) (start : ℕ → State) (server : ℕ → ℕ)
+        (marked : List ReceivedFrame) (client : ℕ) →
         kept_replies client (sent_to server (server client) marked)
         (served (answer limits) start (sent_to server (server client) marked))
         ≡ kept_replies client marked (served (answer limits) start marked) }
@@ -71,14 +71,14 @@ pub fn over_servers()
 
 /// A frame was lost exactly if the code of its reply is 1, NO_MEMORY.
 pub fn lost_shows()
-    ensures { (limits : Allowance) (start : ℕ → State) (marked : List Received) →
+    ensures { (limits : LimitsValue) (start : ℕ → State) (marked : List ReceivedFrame) →
         map (λ r. r.code == 1) (served (answer limits) start marked) ≡ map (λ m. m.lost) marked }
 {}
 
 /// If the source knows its bytes, and `serve` succeeded or failed because of the stream's bytes,
 /// the frames and the rest that it read are the split of the stream.
 pub fn session_splits()
-    ensures { (limits : Allowance) (input more : List ℕ) (taken_old taken_new : Option (List ℕ))
+    ensures { (limits : LimitsValue) (input more : List ℕ) (taken_old taken_new : Option (List ℕ))
         (old new : ℕ → State) (result : Result Summary StreamFault) →
         (session : Session limits (Some input) (Some more) taken_old taken_new old new result) →
         ReadsToARest result → Splits input (frames_of session.marked) (session.rest ++ more) }
@@ -88,10 +88,10 @@ pub fn session_splits()
 /// does. Each reference then names a valid image or none: its samples are of its format, and 0
 /// outside its valid rectangle.
 pub fn states_keep()
-    ensures limits { (limits : Allowance) (state : State) (frames : List Frame) →
+    ensures limits { (limits : LimitsValue) (state : State) (frames : List Frame) →
         All IsFrame frames → IfSome state (KeepsLimits limits) →
         IfSome (after (answer limits) state frames) (KeepsLimits limits) }
-    ensures images { (limits : Allowance) (state : State) (frames : List Frame) (cell : Cell) →
+    ensures images { (limits : LimitsValue) (state : State) (frames : List Frame) (cell : Reference) →
         All IsFrame frames → IfSome state (KeepsLimits limits) →
         IfSome (after (answer limits) state frames)
         (λ c. IfOk (image_of c.objects cell) IsImage) }
@@ -100,7 +100,7 @@ pub fn states_keep()
 /// If a client's state keeps the limits before a call of `serve`, it does so after the call,
 /// however the call ends. No context keeps them.
 pub fn session_keeps()
-    ensures { (limits : Allowance) (left_old left_new taken_old taken_new : Option (List ℕ))
+    ensures { (limits : LimitsValue) (left_old left_new taken_old taken_new : Option (List ℕ))
         (old new : ℕ → State) (result : Result Summary StreamFault) (client : ℕ) →
         Session limits left_old left_new taken_old taken_new old new result →
         IfSome (old client) (KeepsLimits limits) → IfSome (new client) (KeepsLimits limits) }

@@ -2,11 +2,11 @@
 ghost use Rattle.std.specs.Prelude.{◌≡◌, ◌<◌, ◌^◌, IfOk};
 ghost use Rattle.vx_requests.specs.Stream.Transfer.{Sends};
 ghost use Rattle.vx_requests.specs.Frame.Frames.{reply_bytes};
-ghost use Rattle.vx_requests.specs.Serving.Clients.{states_of, spelled};
+ghost use Rattle.vx_requests.specs.Serving.Clients.{states_of, spelled_frame};
 ghost use Rattle.vx_requests.specs.Serving.Turn.{reply_frame};
 ghost use Rattle.vx_wire.specs.Replies.{said_of};
 
-use crate::frame::{code_of, write_image, write_image_text, write_reply};
+use crate::frame::{code_of, write_image_reply, write_image_text_reply, write_reply};
 use crate::stream::{Sink, StreamFault};
 use client_contexts::Runtime;
 use client_model::Reply;
@@ -48,29 +48,34 @@ pub fn write_answered<K: Sink>(
 {
     let (client, op) = (answered.client, answered.op);
     match &answered.content {
-        Content::Made(reply) => write_made(sink, client, op, reply),
+        Content::Made(reply) => write_made_reply(sink, client, op, reply),
         Content::Samples(image) => match runtime.image(client, *image) {
             Ok(image) => {
-                write_image(sink, client, op, image)?;
+                write_image_reply(sink, client, op, image)?;
                 Ok(0)
             }
-            Err(code) => write_made(sink, client, op, &Reply::Refused(code)),
+            Err(code) => write_made_reply(sink, client, op, &Reply::Refused(code)),
         },
         Content::Text(image) => match runtime.text_image(client, *image) {
             Ok(image) => {
-                write_image_text(sink, client, op, image)?;
+                write_image_text_reply(sink, client, op, image)?;
                 Ok(0)
             }
-            Err(code) => write_made(sink, client, op, &Reply::Refused(code)),
+            Err(code) => write_made_reply(sink, client, op, &Reply::Refused(code)),
         },
     }
 }
 
 /// Writes the frame of a reply that was computed, and returns its code.
-fn write_made<K: Sink>(sink: &mut K, client: u16, op: u8, reply: &Reply) -> Result<u8, StreamFault>
+fn write_made_reply<K: Sink>(
+    sink: &mut K,
+    client: u16,
+    op: u8,
+    reply: &Reply,
+) -> Result<u8, StreamFault>
     requires { K.failures sink.old < 2 ^ 62 }
     ensures sent { Sends K.taken K.failures sink.old sink.new
-        (reply_bytes (spelled client op (said_of reply.now))) result }
+        (reply_bytes (spelled_frame client op (said_of reply.now))) result }
     ensures code { IfOk result (λ code. code ≡ (said_of reply.now).code) }
 {
     write_reply(sink, client, op, reply)?;

@@ -1,6 +1,6 @@
 //! Reads the payload of a frame whose length is known, and answers it from the runtime.
 ghost use Rattle.std.specs.Prelude.{◌≡◌, ℕ, ◌<◌, ◌≤◌, ◌^◌, List, length, All, Ok, IfOk};
-ghost use Rattle.client_model.specs.Allowance.{Allowance};
+ghost use Rattle.client_model.specs.Limits.{LimitsValue};
 ghost use Rattle.client_model.specs.Context.{State};
 ghost use Rattle.vx_requests.specs.Frame.Frames.{IsLength, frame_of, payload};
 ghost use Rattle.vx_requests.specs.Serving.Clients.{states_of};
@@ -150,7 +150,7 @@ fn lose_body<S: Source>(
 ) -> Result<Content, StreamFault>
     requires long { 64 < count }
     requires can_read { CanRead S.reads S.failures reader.old }
-    ensures answered { (limits : Allowance) (states : ℕ → State) → AnswersBody limits
+    ensures answered { (limits : LimitsValue) (states : ℕ → State) → AnswersBody limits
         (S.left reader.old.source.now) (S.left reader.new.source.now)
         states states client op count result }
     ensures counted { KeepsCount S.reads S.failures reader.old reader.new result }

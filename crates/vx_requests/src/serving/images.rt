@@ -14,7 +14,7 @@ use crate::stream::{Source, StreamFault};
 use client_contexts::{Runtime, WriteFault};
 use client_model::Reply;
 use vx_base::Code;
-use vx_wire::{ParseFault, write_image_head};
+use vx_wire::{ParseFault, take_image_head};
 
 /// The number of bytes before the samples in the body of a WriteImage.
 const HEAD: usize = 10;
@@ -42,7 +42,7 @@ pub fn answer_write_image<S: Source>(
     let mut head = [0u8; HEAD];
     reader.read_exactly(&mut head)?;
     let rest = count - HEAD;
-    match write_image_head(&head, rest) {
+    match take_image_head(&head, rest) {
         Ok((image, desc)) => match runtime.write_from(client, image, desc, reader) {
             Ok(()) => Ok(Content::Made(Reply::Empty)),
             Err(WriteFault::Refused(code)) => refuse(reader, rest, code),

@@ -1,13 +1,13 @@
 //! The reply for extremes: the two samples, how many pixels have each, and the first of these
 //! pixels.
 ghost use Rattle.std.specs.Prelude.{◌≡◌};
-ghost use Rattle.vx_wire.specs.Extremes.{place_bytes, extremes_bytes};
+ghost use Rattle.vx_wire.specs.Extremes.{pixel_bytes, extremes_bytes};
 
 use vx_base::Extremes;
 
 /// Returns the bytes of a column and a row.
-fn place_bytes(place: (u16, u16)) -> [u8; 4]
-    ensures { result ≡ place_bytes place }
+fn pixel_bytes(place: (u16, u16)) -> [u8; 4]
+    ensures { result ≡ pixel_bytes place }
 {
     let [a, b] = place.0.to_be_bytes();
     let [c, d] = place.1.to_be_bytes();
@@ -22,7 +22,7 @@ pub fn extremes_bytes(extremes: Extremes) -> [u8; 20]
     let [c, d] = extremes.max.to_be_bytes();
     let [e, f, g, h] = extremes.min_count.to_be_bytes();
     let [i, j, k, l] = extremes.max_count.to_be_bytes();
-    let [m, n, o, p] = place_bytes(extremes.min_at);
-    let [q, r, s, t] = place_bytes(extremes.max_at);
+    let [m, n, o, p] = pixel_bytes(extremes.min_at);
+    let [q, r, s, t] = pixel_bytes(extremes.max_at);
     [a, b, c, d, e, f, g, h, i, j, k, l, m, n, o, p, q, r, s, t]
 }

@@ -7,7 +7,7 @@ ghost use Rattle.vx_base.specs.declared.format.Format.TheVariants.{S16 as Format
 ghost use Rattle.vx_base.specs.declared.format.Format.TheVariants.{U32 as FormatU32};
 ghost use Rattle.vx_base.specs.Sample.{sample_bytes};
 ghost use Rattle.vx_base.specs.Picture.{values, samples_format};
-ghost use Rattle.vx_wire.specs.Samples.{decoded_sample, encoded_sample, decoded, take_samples};
+ghost use Rattle.vx_wire.specs.Samples.{decoded_sample, encoded_sample, decoded_samples, take_samples};
 
 use crate::body_fault::BodyFault;
 use crate::fields::Fields;
@@ -22,7 +22,7 @@ pub fn take_samples<'a>(
 ) -> Result<&'a [u8], BodyFault>
     requires { count ≤ 2 ^ 32 }
     ensures ok { IfOk result (λ bytes. take_samples format count fields.old
-        ≡ Ok (decoded format count bytes.now, fields.new)) }
+        ≡ Ok (decoded_samples format count bytes.now, fields.new)) }
     ensures len { IfOk result (λ bytes. length bytes.now ≡ count * sample_bytes format) }
     ensures err { IfErr result (λ e. take_samples format count fields.old ≡ Err e) }
 {
@@ -103,7 +103,7 @@ pub fn decode(
     bytes: &[u8],
 ) -> Result<Samples, AllocError>
     requires { length bytes.now ≡ count * sample_bytes format }
-    ensures value { IfOk result (λ samples. values samples ≡ decoded format count bytes.now) }
+    ensures value { IfOk result (λ samples. values samples ≡ decoded_samples format count bytes.now) }
     ensures format { IfOk result (λ samples. samples_format samples ≡ format) }
     ensures size { IfOk result (λ samples. length (values samples) ≡ count) }
 {
@@ -125,7 +125,7 @@ pub fn decode(
 /// Decodes bytes into `samples`, and fills all of them.
 pub fn decode_wide<S: WideSample>(bytes: &[u8], samples: &mut [S])
     requires { length bytes.now ≡ length samples.old * sample_bytes S.format }
-    ensures { map S.value samples.new ≡ decoded S.format (length samples.old) bytes.now }
+    ensures { map S.value samples.new ≡ decoded_samples S.format (length samples.old) bytes.now }
 {
     let size = S::size();
     for i in 0..samples.len() {

@@ -6,7 +6,7 @@ ghost use Rattle.vx_wire.specs.Graphs.{remove_node_in, verify_graph_in, process_
 use crate::body_fault::BodyFault;
 use crate::fields::Fields;
 use crate::fields::node::take_node;
-use crate::fields::outline::take_outline;
+use crate::fields::partial_desc::take_partial_desc;
 use crate::requests::name_alone;
 use client_model::Request;
 
@@ -24,7 +24,7 @@ pub fn create_virtual_image(body: &[u8]) -> Result<Request, BodyFault>
 {
     let mut fields = Fields::new(body);
     let graph = fields.long()?;
-    let declared = take_outline(&mut fields)?;
+    let declared = take_partial_desc(&mut fields)?;
     fields.end()?;
     Ok(Request::CreateVirtualImage(graph, declared))
 }

@@ -55,7 +55,7 @@ pub fn write_image(alloc: Global, body: &[u8]) -> Result<Request, ParseFault>
 /// Parses the first ten bytes of the body of WriteImage: a reference, and the description of the
 /// picture. `rest` is the number of bytes that follow. `InvalidParameters`: it isn't the number
 /// that the description requires. The values of these bytes don't matter.
-pub fn write_image_head(head: &[u8; 10], rest: usize) -> Result<(ObjRef, Desc), BodyFault>
+pub fn take_image_head(head: &[u8; 10], rest: usize) -> Result<(ObjRef, Desc), BodyFault>
     ensures ok { IfOk result (λ found. (samples : List ℕ) → length samples ≡ rest →
         write_image_in (head.now ++ samples) ≡ Ok (write_image_of found.0 found.1 samples)) }
     ensures size { IfOk result (λ found. rest ≡ byte_count found.1) }
@@ -74,7 +74,7 @@ pub fn write_image_head(head: &[u8; 10], rest: usize) -> Result<(ObjRef, Desc), 
 
 /// Splits the body of WriteImagePgm into its reference and its text. The text is all remaining
 /// bytes, and isn't parsed here. It allocates nothing.
-pub fn write_image_pgm_fields(body: &[u8]) -> Result<(ObjRef, &[u8]), BodyFault>
+pub fn take_image_pgm_fields(body: &[u8]) -> Result<(ObjRef, &[u8]), BodyFault>
     ensures ok { IfOk result (λ found.
         write_image_pgm_in body.now ≡ Ok (WriteImagePgm found.0 found.1.now)) }
     ensures err { IfErr result (λ e. write_image_pgm_in body.now ≡ Err e) }
@@ -89,7 +89,7 @@ pub fn write_image_pgm(alloc: Global, body: &[u8]) -> Result<Request, ParseFault
     ensures ok { IfOk result (λ request. write_image_pgm_in body.now ≡ Ok request) }
     ensures err { IfErr result (MayFailWith (write_image_pgm_in body.now)) }
 {
-    match write_image_pgm_fields(body) {
+    match take_image_pgm_fields(body) {
         Ok((image, text)) => Ok(Request::WriteImagePgm(image, Text::new(text.to_vec(alloc)?))),
         Err(fault) => Err(ParseFault::from(fault)),
     }

@@ -1,7 +1,7 @@
 use Rattle.std.proofs.Common.{◌∙◌, ◌-ℤ◌, ap, sym, length, replicate, pos, w32}
 use Rattle.std.proofs.lemmas.Int.{to_z-of_z}
 use Rattle.vx_base.specs.Rectangle.{Rectangle}
-use Rattle.vx_base.specs.Window.{look}
+use Rattle.vx_base.specs.Window.{sample_or_border}
 use Rattle.vx_base.proofs.TableLaws.{run-same, run-constant}
 use Rattle.border_rows.specs.Seen.{row_seen, seen_along}
 use Rattle.border_rows.proofs.SeenLaws.{look_along, look_off}
@@ -15,7 +15,7 @@ returns-in-Some g c =
     let radius = c.args.radius in
     let seen = ap (λ (r : Rectangle). row_seen r border c.args.y) (sym c.valid.ensures.value) ∙ ap (row_seen c.valid.result border) (sym (to_z-of_z w32 c.args.y c.ranges.y)) ∙ sym c.row_seen.ensures.value ∙ c.in-Some.is in
     c.load_line.ensures
-    ∙ run-same (λ k. seen_along image border line (pos k -ℤ pos radius)) (λ k. look image border (pos k -ℤ pos radius) c.args.y) c.args.start (length c.args.out.now)
+    ∙ run-same (λ k. seen_along image border line (pos k -ℤ pos radius)) (λ k. sample_or_border image border (pos k -ℤ pos radius) c.args.y) c.args.start (length c.args.out.now)
     (λ k a b. sym (look_along image border (pos k -ℤ pos radius) c.args.y line c.requires.columns seen))
 
 pub returns-in-None : goal.returns-in-None
@@ -27,6 +27,6 @@ returns-in-None g c =
     let seen = ap (λ (r : Rectangle). row_seen r border c.args.y) (sym c.valid.ensures.value) ∙ ap (row_seen c.valid.result border) (sym (to_z-of_z w32 c.args.y c.ranges.y)) ∙ sym c.row_seen.ensures.value ∙ c.in-None.is in
     c.set_all.ensures
     ∙ ap (replicate n) c.loaded.ensures
-    ∙ sym (run-constant (pos c.value_beside.result) c.args.start n)
-    ∙ run-same (λ _. pos c.value_beside.result) (λ k. look image border (pos k -ℤ pos radius) c.args.y) c.args.start n
-    (λ k a b. c.value_beside.ensures ∙ sym (look_off image border (pos k -ℤ pos radius) c.args.y seen))
+    ∙ sym (run-constant (pos c.border_value.result) c.args.start n)
+    ∙ run-same (λ _. pos c.border_value.result) (λ k. sample_or_border image border (pos k -ℤ pos radius) c.args.y) c.args.start n
+    (λ k a b. c.border_value.ensures ∙ sym (look_off image border (pos k -ℤ pos radius) c.args.y seen))

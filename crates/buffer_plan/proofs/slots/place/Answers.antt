@@ -1,5 +1,5 @@
 use Rattle.std.proofs.Common.{◌≡◌, ℕ, ◌∙◌, length, sym, ap, arith, subst, ◌==◌, if◌then◌else◌, Some, Option, take_all}
-use Rattle.buffer_plan.proofs.Common.{common_steps, In, Placed, IsReached, samples_in}
+use Rattle.buffer_plan.proofs.Common.{common_steps, In, Placed, IsReached, slot_capacity}
 use Rattle.buffer_plan.proofs.PlacingLemmas.{placing_more, reached_in_all}
 use Rattle.buffer_plan.proofs.slots.place.Goals as goal
 
@@ -27,7 +27,7 @@ returns c =
       each = was.each ∙ all;
       below = (λ q i. let b = was.below q i in omega arith);
       apart = (λ rising. (was.fine rising).apart);
-      samples = (λ k. c.in_ok-samples.ensures.greatest k ∙ ap (λ ps. samples_in ps k) c.deref.ensures.value);
+      samples = (λ k. c.in_ok-samples.ensures.greatest k ∙ ap (λ ps. slot_capacity ps k) c.deref.ensures.value);
       none = (λ e. n ∙ was.none e);
       reached = (λ rising step e. subst (λ count. IsReached c.args.lives.now count step) (sym n)
           (reached_in_all c.args.lives.now c.loop-life.life-index c.loop-life.ends.items c.loop-life.placed.items c.loop-life.peak_step step c.loop-life-test.false rising was e));

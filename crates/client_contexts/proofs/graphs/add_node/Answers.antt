@@ -1,5 +1,5 @@
 use Rattle.std.proofs.Common.{rules, sym, subst, ◌==◌, ap, ◌∙◌, Some, ◌∷◌}
-use Rattle.client_contexts.proofs.Common.{with_node, KeepsBlocks, Context, graph_under, OperandsStand, Node, operands, cell_of, operands_refusal, KeepsBut}
+use Rattle.client_contexts.proofs.Common.{with_node, KeepsBlocks, Context, graph_under, OperandsStand, Node, operands, reference_to, operands_refusal, KeepsBut}
 use Rattle.vx_base.specs.declared.kind.Kind.TheVariants as kind
 use Rattle.client_model.proofs.GraphStepLaws.{add_node_keeps}
 use Rattle.client_contexts.proofs.BlockLemmas.{graph_keeps_blocks}
@@ -13,7 +13,7 @@ add_node-requires-clause-held c =
 pub returns-in_err-add_node-clause-comes : goal.returns-in_err-add_node-clause-comes
 returns-in_err-add_node-clause-comes c =
     let found = c.in_ok-find_graph_for.ensures in
-    let known = found.err ∙ ap (λ (n : Node). operands_refusal (Some c.args.graph) c.args.table.now.objects ((cell_of c.args.graph, kind.Graph) ∷ operands n)) c.node.ensures.value in
+    let known = found.err ∙ ap (λ (n : Node). operands_refusal (Some c.args.graph) c.args.table.now.objects ((reference_to c.args.graph, kind.Graph) ∷ operands n)) c.node.ensures.value in
     let refused = node_refused c.requires.0 c.args.table.now c.args.graph c.requires.1 found.ok.0 found.ok.1 c.args.node known _ c.in_err-add_node.ensures.fault in
     search (rules, refused)
 
@@ -21,7 +21,7 @@ pub returns-clause-comes : goal.returns-clause-comes
 returns-clause-comes c =
     let found = c.in_ok-find_graph_for.ensures in
     let added = c.in_ok-add_node.ensures in
-    let known = found.err ∙ ap (λ (n : Node). operands_refusal (Some c.args.graph) c.args.table.now.objects ((cell_of c.args.graph, kind.Graph) ∷ operands n)) c.node.ensures.value in
+    let known = found.err ∙ ap (λ (n : Node). operands_refusal (Some c.args.graph) c.args.table.now.objects ((reference_to c.args.graph, kind.Graph) ∷ operands n)) c.node.ensures.value in
     node_added c.requires.0 c.args.table.now c.args.graph c.requires.1 found.ok.0 found.ok.1 c.args.node known _ _ added.room added.number added.ok
 
 pub returns-clause-kept : goal.returns-clause-kept

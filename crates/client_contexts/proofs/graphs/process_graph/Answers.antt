@@ -1,6 +1,6 @@
 use Rattle.std.proofs.Common.{◌≡◌, Some, None, Ok, Err, rules, arith, subst, sym, ap}
 use Rattle.client_contexts.proofs.Common.{option_map, GraphValue, nodes_of, object_kind, blocks_in, Context, graph_under, IsReady, graph_named, graph_verdict}
-use Rattle.buffer_plan.specs.Places.{told}
+use Rattle.buffer_plan.specs.Places.{plan_view}
 use Rattle.graph_run.specs.Schedule.{IsSchedule}
 use Rattle.client_model.proofs.DelayStepLaws.{aged_under_last}
 use Rattle.client_model.proofs.OutcomeLaws.{Keeps}
@@ -20,7 +20,7 @@ returns-in_err-verify_graph-clause-comes c =
 kept_graph : (c : In-Some)
     → (graph : GraphValue) × (graph_named c.args.table.now.objects c.args.graph ≡ Ok graph) × (graph_verdict c.args.limits c.args.table.now.objects graph ≡ None)
     × IsReady c.args.table.now.objects (nodes_of graph) c.in-Some.kept.now.verified
-    × IsSchedule c.args.table.now.objects c.in-Some.kept.now.verified (told c.in-Some.kept.now.plan) c.in-Some.kept.now.schedule
+    × IsSchedule c.args.table.now.objects c.in-Some.kept.now.verified (plan_view c.in-Some.kept.now.plan) c.in-Some.kept.now.schedule
 kept_graph c =
     let t = c.args.table.now in
     kept_runs c.args.limits t c.args.graph c.requires.context (c.in_ok-verify_graph.field-0, Some t) c.in_ok-verify_graph.ensures.comes.done c.in-Some.kept.now
@@ -33,7 +33,7 @@ pub run_scheduled-requires-clause-schedule : goal.run_scheduled-requires-clause-
 run_scheduled-requires-clause-schedule c =
     let k = c.in-Some.kept.now in
     let kept = kept_there c.args.table.now c.args.graph k c.verify_graph.new.kept.entries c.verify_graph.ensures.kept (sym c.in-Some.ensures.value) in
-    (told k.plan, kept.plan, (kept_graph (goal.at.run_scheduled-requires-clause-schedule c).In-Some).4)
+    (plan_view k.plan, kept.plan, (kept_graph (goal.at.run_scheduled-requires-clause-schedule c).In-Some).4)
 
 pub age_registered-requires : goal.age_registered-requires
 age_registered-requires c =

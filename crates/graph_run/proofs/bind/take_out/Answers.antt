@@ -1,6 +1,6 @@
 use Rattle.std.proofs.Common.{◌≡◌, ◌++◌, [], ◌∷◌, List, length, sym, ap, subst, ◌∙◌, arith}
 use Rattle.std.proofs.lemmas.List.{length_push, append_assoc}
-use Rattle.graph_run.proofs.Common.{Context, Named, with_written, image_held}
+use Rattle.graph_run.proofs.Common.{Context, NamedObject, with_written, image_held}
 use Rattle.graph_steps.specs.Planes.{PlaneValue}
 use Rattle.graph_run.specs.Bind.{bare_images, image_plane, image_planes}
 use Rattle.graph_run.proofs.BindLemmas.{CanTake, next_context, taken_can, taken_planes, taken_written}
@@ -21,18 +21,18 @@ loop-cell-preserved c =
     let before : planes ++ image_planes t.objects (cell ∷ others) ≡ _ = rw e at inv.planes in
     let written : with_written t.objects (bare_images t.objects (cell ∷ others)) ≡ _ = rw e at inv.written in
     record {
-      can = subst (λ (o : List Named). CanTake o others) (sym left) (taken_can t.objects cell others can);
+      can = subst (λ (o : List NamedObject). CanTake o others) (sym left) (taken_can t.objects cell others can);
       room = omega (arith, ap length pushed, length_push planes (image_plane (image_held t.objects cell)), ap length e, inv.room, c.push_reserved.ensures.capacity);
       capacity = c.push_reserved.ensures.capacity ∙ inv.capacity;
       planes =
           ap (λ l. l ++ image_planes after.objects others) pushed
-          ∙ ap (λ (o : List Named). (planes ++ image_plane (image_held t.objects cell) ∷ []) ++ image_planes o others) left
+          ∙ ap (λ (o : List NamedObject). (planes ++ image_plane (image_held t.objects cell) ∷ []) ++ image_planes o others) left
           ∙ append_assoc planes (image_plane (image_held t.objects cell) ∷ []) _
           ∙ ap (λ l. planes ++ l) (sym (taken_planes t.objects cell others can))
           ∙ before;
       next = next_context c.args.table.now t after _ inv.next c.take_image-plane.ensures.left;
       written =
-          ap (λ (o : List Named). with_written o (bare_images o others)) left
+          ap (λ (o : List NamedObject). with_written o (bare_images o others)) left
           ∙ sym (taken_written t.objects cell others can)
           ∙ written;
     }

@@ -1,7 +1,7 @@
 use Rattle.std.proofs.Common.{◌≡◌, ℕ, ◌+◌, [], ◌∷◌, ◌++◌, List, length, map, ap, get_or, refl, sym, subst, ◌∙◌, arith}
 use Rattle.graph_run.proofs.Common.{Format, U8, lent_of, Samples}
 use Rattle.std.proofs.lemmas.List.{length_push}
-use Rattle.graph_run.specs.Blocks.{block_count, block_size}
+use Rattle.graph_run.specs.Blocks.{blocks_of_format, block_size}
 use Rattle.graph_run.proofs.BlockLemmas.{lends_more, rooms_left, sizes_more, taken_adds}
 use Rattle.graph_run.proofs.blocks.add_blocks.Goals as goal
 
@@ -20,7 +20,7 @@ loop-k-preserved c =
       room = omega (arith, ap length pushed, length_push blocks b, c.loop-k.invariant.room, c.push_reserved.ensures.capacity, c.loop-k-test.true);
       rooms = ap (map block_size) pushed ∙ sizes_more rooms blocks b k r d c.loop-k-test.true refl c.loop-k.invariant.rooms taken.format taken.count;
       lends = λ f.
-          subst (λ (l : List Samples). lent_of c.take.new.self f ≡ lent_of c.args.pool.now f + block_count l f) (sym pushed)
+          subst (λ (l : List Samples). lent_of c.take.new.self f ≡ lent_of c.args.pool.now f + blocks_of_format l f) (sym pushed)
           (lends_more blocks b r.0 taken.format c.args.pool.now pool c.take.new.self f taken.lends (c.loop-k.invariant.lends f));
       adds = λ f.
           omega (arith, taken_adds pool c.take.new.self r.0 taken.lends taken.most taken.other_free f, rooms_left rooms k r d c.loop-k-test.true refl f, c.loop-k.invariant.adds f);

@@ -1,6 +1,6 @@
 use Rattle.std.proofs.Common.{◌≡◌, ◌+◌, ◌-◌, ◌≤◌, drop, length, map, take, vec_capacity}
 use Rattle.graph_run.proofs.Common.{Format, lent_of, blocks_of}
-use Rattle.graph_run.specs.Blocks.{block_count, block_size, room_count}
+use Rattle.graph_run.specs.Blocks.{blocks_of_format, block_size, room_count}
 use Rattle.graph_run.proofs.blocks.add_blocks.Given as goal
 
 -- there is a block for each of the rooms so far, and room for the others
@@ -9,6 +9,6 @@ invariant-loop-k l =
     record {
       room : length l.blocks.items + (length l.rooms - l.k) ≤ vec_capacity l.blocks;
       rooms : map block_size l.blocks.items ≡ take l.k l.rooms;
-      lends : (f : Format) → lent_of l.pool f ≡ lent_of l.fn.pool f + block_count l.blocks.items f;
+      lends : (f : Format) → lent_of l.pool f ≡ lent_of l.fn.pool f + blocks_of_format l.blocks.items f;
       adds : (f : Format) → blocks_of l.pool f + room_count (drop l.k l.rooms) f ≤ blocks_of l.fn.pool f + room_count l.rooms f;
     }

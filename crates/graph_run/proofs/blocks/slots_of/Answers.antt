@@ -1,5 +1,5 @@
 use Rattle.std.proofs.Common.{arith, subst, ap, length, get_or, ◌<◌, ◌≡◌, ◌∙◌, sym}
-use Rattle.graph_run.proofs.Common.{In, In-at, told}
+use Rattle.graph_run.proofs.Common.{In, In-at, plan_view}
 use Rattle.graph_run.proofs.BlockLemmas.{place_below}
 use Rattle.graph_run.proofs.blocks.slots_of.Goals as goal
 
@@ -12,4 +12,4 @@ slot_of-requires c =
     let same : c.as_slice-images.result.now ≡ outs = c.as_slice-images.ensures.value in
     let below : k < length outs = omega (arith, c.loop-at-test.true, ap length same) in
     let is : get_or outs k o ≡ o = ap (λ l. get_or l k o) (sym same) ∙ sym c.index-images-at.is in
-    omega (arith, place_below v.steps.items outs (told c.args.plan.now) c.requires o (subst (λ x. In x outs) is (In-at outs k o below)), v.virtual_outputs.ok.0)
+    omega (arith, place_below v.steps.items outs (plan_view c.args.plan.now) c.requires o (subst (λ x. In x outs) is (In-at outs k o below)), v.virtual_outputs.ok.0)

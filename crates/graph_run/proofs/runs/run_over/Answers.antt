@@ -1,5 +1,5 @@
 use Rattle.std.proofs.Common.{◌≡◌, length, map, ap, subst, sym, ◌∙◌, arith}
-use Rattle.graph_run.proofs.Common.{Context, samples_format, with_objects, with_written, Lasts, run_of_graph, resolved, operand_held}
+use Rattle.graph_run.proofs.Common.{Context, samples_format, with_objects, with_written, Lasts, run_of_graph, resolved_operand, operand_held}
 use Rattle.graph_run.specs.Blocks.{block_size}
 use Rattle.graph_run.specs.Results.{tally_objects}
 use Rattle.graph_run.specs.Schedule.{schedule_objects}
@@ -106,7 +106,7 @@ returns-clause-lasts c =
     let nodes = c.requires.ready.0 in
     let ready = c.requires.ready.1 in
     let v = c.args.verified.now in
-    let left : c.give.new.table.objects ≡ run_of_graph (resolved (operand_held objects) nodes) nodes objects =
+    let left : c.give.new.table.objects ≡ run_of_graph (resolved_operand (operand_held objects) nodes) nodes objects =
     ap (λ (t : Context). t.objects) c.give.ensures.value ∙ run_value c.args.table.now.objects nodes c.args.verified.now ready c.requires.schedule.0 c.requires.schedule.1 c.args.schedule.now c.requires.schedule.2
     c.requires.objects c.requires.names c.are_described.ensures c.as_mut_slice-blocks.result.now (ap (map block_size) c.as_mut_slice-blocks.ensures.value ∙ c.requires.schedule.3) c.take.ensures.planes.0 c.as_mut_slice-planes.result.now c.take.ensures.planes.1 c.take.ensures.planes.2
     (c.as_mut_slice-planes.ensures.value ∙ c.take.ensures.planes.3) c.take.new.table.objects (ap (λ (x : Context). x.objects) c.take.ensures.left)

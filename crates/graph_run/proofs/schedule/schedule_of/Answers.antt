@@ -1,5 +1,5 @@
 use Rattle.std.proofs.Common.{◌≡◌, ◌≤◌, ℕ, List, length, drop, ap, sym, subst, ◌∙◌, arith, All}
-use Rattle.graph_run.proofs.Common.{Cell, VirtualOutput, image_held, planned_rooms, told}
+use Rattle.graph_run.proofs.Common.{Reference, VirtualOutput, image_held, planned_capacities, plan_view}
 use Rattle.graph_steps.specs.declared.step.Task.{Task}
 use Rattle.graph_steps.specs.Program.{Suffice}
 use Rattle.graph_run.specs.Bind.{HoldImages}
@@ -21,22 +21,22 @@ high_of-high-requires c =
     let v = c.args.verified.now in
     let outs = v.virtual_outputs.items in
     let same : c.clients_of.result.now ≡ client_cells v.steps.items outs =
-    c.clients_of.ensures ∙ ap (λ (l : List Cell). drop (length c.as_slice-images.result.now) l) (c.deref.ensures.value ∙ c.in_ok-cells.ensures)
+    c.clients_of.ensures ∙ ap (λ (l : List Reference). drop (length c.as_slice-images.result.now) l) (c.deref.ensures.value ∙ c.in_ok-cells.ensures)
     ∙ ap (λ l. drop (length l) (graph_cells v.steps.items outs)) c.as_slice-images.ensures.value
     in
-    subst (HoldImages c.args.table.now.objects) (sym same) (clients_hold c.args.table.now.objects c.requires.ready.0 v c.requires.ready.1 (told c.args.plan.now) c.requires.plan)
+    subst (HoldImages c.args.table.now.objects) (sym same) (clients_hold c.args.table.now.objects c.requires.ready.0 v c.requires.ready.1 (plan_view c.args.plan.now) c.requires.plan)
 
 pub halos_of-requires-clause-order : goal.halos_of-requires-clause-order
 halos_of-requires-clause-order c =
     let v = c.args.verified.now in
-    in_order c.args.table.now.objects c.requires.ready.0 v c.requires.ready.1 (told c.args.plan.now) c.requires.plan c.deref-2.result.now c.deref-3.result.now
+    in_order c.args.table.now.objects c.requires.ready.0 v c.requires.ready.1 (plan_view c.args.plan.now) c.requires.plan c.deref-2.result.now c.deref-3.result.now
     (radius_of c.args.table.now.objects c.high_of-high.result) c.deref-4.result.now (c.deref-2.ensures.value ∙ c.in_ok-cells.ensures) (c.deref-3.ensures.value ∙ c.in_ok-slots.ensures)
     (c.deref-4.ensures.value ∙ c.in_ok-tasks.ensures)
 
 pub halos_of-requires-clause-reads : goal.halos_of-requires-clause-reads
 halos_of-requires-clause-reads c = λ s i k read.
     let v = c.args.verified.now in
-    let names = within c.args.table.now.objects c.requires.ready.0 v c.requires.ready.1 (told c.args.plan.now) c.requires.plan c.deref-2.result.now c.deref-3.result.now
+    let names = within c.args.table.now.objects c.requires.ready.0 v c.requires.ready.1 (plan_view c.args.plan.now) c.requires.plan c.deref-2.result.now c.deref-3.result.now
     (radius_of c.args.table.now.objects c.high_of-high.result) c.deref-4.result.now (c.deref-2.ensures.value ∙ c.in_ok-cells.ensures) (c.deref-3.ensures.value ∙ c.in_ok-slots.ensures)
     (c.deref-4.ensures.value ∙ c.in_ok-tasks.ensures) s i
     in
@@ -46,7 +46,7 @@ halos_of-requires-clause-reads c = λ s i k read.
 pub halos_of-requires-clause-output : goal.halos_of-requires-clause-output
 halos_of-requires-clause-output c = λ s i.
     let v = c.args.verified.now in
-    let names = within c.args.table.now.objects c.requires.ready.0 v c.requires.ready.1 (told c.args.plan.now) c.requires.plan c.deref-2.result.now c.deref-3.result.now
+    let names = within c.args.table.now.objects c.requires.ready.0 v c.requires.ready.1 (plan_view c.args.plan.now) c.requires.plan c.deref-2.result.now c.deref-3.result.now
     (radius_of c.args.table.now.objects c.high_of-high.result) c.deref-4.result.now (c.deref-2.ensures.value ∙ c.in_ok-cells.ensures) (c.deref-3.ensures.value ∙ c.in_ok-slots.ensures)
     (c.deref-4.ensures.value ∙ c.in_ok-tasks.ensures) s i
     in
@@ -69,7 +69,7 @@ rooms_of-requires-clause-halos c =
 pub returns : goal.returns
 returns c =
     let v = c.args.verified.now in
-    let p = told c.args.plan.now in
+    let p = plan_view c.args.plan.now in
     let outs = v.virtual_outputs.items in
     let objects = c.args.table.now.objects in
     let high = c.high_of-high.result in
@@ -78,26 +78,26 @@ returns c =
     let slots = c.in_ok-slots.slots.items in
     let radius = radius_of objects high in
     let clients : c.clients_of.result.now ≡ client_cells v.steps.items outs =
-    c.clients_of.ensures ∙ ap (λ (l : List Cell). drop (length c.as_slice-images.result.now) l) (c.deref.ensures.value ∙ c.in_ok-cells.ensures)
+    c.clients_of.ensures ∙ ap (λ (l : List Reference). drop (length c.as_slice-images.result.now) l) (c.deref.ensures.value ∙ c.in_ok-cells.ensures)
     ∙ ap (λ l. drop (length l) (graph_cells v.steps.items outs)) c.as_slice-images.ensures.value
     in
     record {
       cells = c.in_ok-cells.ensures;
       slots = c.in_ok-slots.ensures;
       tasks = c.in_ok-tasks.ensures
-          ∙ ap (λ (l : List Cell). tasks_of l c.deref-3.result.now radius v.steps.items) (c.deref-2.ensures.value ∙ c.in_ok-cells.ensures)
+          ∙ ap (λ (l : List Reference). tasks_of l c.deref-3.result.now radius v.steps.items) (c.deref-2.ensures.value ∙ c.in_ok-cells.ensures)
           ∙ ap (λ (l : List ℕ). tasks_of (graph_cells v.steps.items outs) l radius v.steps.items) (c.deref-3.ensures.value ∙ c.in_ok-slots.ensures);
       halo_count = omega (arith, c.in_ok-halos.ensures.count, c.len.ensures, c.in_ok-cells.cells.ok.0, ap length c.in_ok-cells.ensures);
       enough = subst (λ (l : List Task). Suffice high halos l) c.deref-4.ensures.value c.in_ok-halos.ensures.enough;
       some = c.high_of-high.ensures.some;
       forward = c.band_size-size.ensures.forward;
       rooms = c.in_ok-rooms.ensures
-          ∙ ap (λ (l : List ℕ). planned_rooms (band_plan size l c.as_slice-images.result.now c.deref-8.result.now p)) c.deref-7.ensures.value
-          ∙ ap (λ (l : List VirtualOutput). planned_rooms (band_plan size halos l c.deref-8.result.now p)) c.as_slice-images.ensures.value
-          ∙ ap (λ (l : List ℕ). planned_rooms (band_plan size halos outs l p)) c.deref-8.ensures.value;
+          ∙ ap (λ (l : List ℕ). planned_capacities (band_plan size l c.as_slice-images.result.now c.deref-8.result.now p)) c.deref-7.ensures.value
+          ∙ ap (λ (l : List VirtualOutput). planned_capacities (band_plan size halos l c.deref-8.result.now p)) c.as_slice-images.ensures.value
+          ∙ ap (λ (l : List ℕ). planned_capacities (band_plan size halos outs l p)) c.deref-8.ensures.value;
       once = subst (λ (l : List Task). AddOnce high size halos l) c.deref-5.ensures.value
           (subst (λ (l : List ℕ). AddOnce high size l c.deref-5.result.now) c.deref-6.ensures.value c.band_size-size.ensures.once);
       virtuals = subst (λ (l : List VirtualOutput). All (λ o. o.desc.height ≤ high) l) c.as_slice-images.ensures.value c.high_of-high.ensures.virtuals;
-      clients = subst (λ (l : List Cell). All (λ d. (image_held objects d).height ≤ high) l) clients c.high_of-high.ensures.clients;
+      clients = subst (λ (l : List Reference). All (λ d. (image_held objects d).height ≤ high) l) clients c.high_of-high.ensures.clients;
       tally_cells = c.in_ok-tally_cells.ensures ∙ ap tally_cells c.deref-9.ensures.value;
     }

@@ -1,5 +1,5 @@
 use Rattle.std.proofs.Common.{◌<◌, ◌≤◌, All, take}
-use Rattle.graph_run.proofs.Common.{VirtualOutput, Cell, image_held}
+use Rattle.graph_run.proofs.Common.{VirtualOutput, Reference, image_held}
 use Rattle.graph_run.proofs.sizes.high_of.Given as goal
 
 abbrev pub invariant-loop-cell : goal.invariant-loop-cell
@@ -7,5 +7,5 @@ invariant-loop-cell l =
     record {
       some : 0 < l.high;
       virtuals : All (λ (o : VirtualOutput). o.desc.height ≤ l.high) l.images;
-      clients : All (λ (c : Cell). (image_held l.table.objects c).height ≤ l.high) (take l.cell-index l.clients);
+      clients : All (λ (c : Reference). (image_held l.table.objects c).height ≤ l.high) (take l.cell-index l.clients);
     }

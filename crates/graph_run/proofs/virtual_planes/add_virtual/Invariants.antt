@@ -3,7 +3,7 @@ use Rattle.std.specs.List.{range_with_len}
 use Rattle.graph_run.proofs.Common.{samples_format, VirtualOutput}
 use Rattle.graph_steps.specs.Planes.{PlaneValue}
 use Rattle.graph_steps.specs.Steps.{capacities}
-use Rattle.graph_run.specs.Blocks.{room_at}
+use Rattle.graph_run.specs.Blocks.{block_capacity}
 use Rattle.graph_run.specs.Tasks.{block_at, last_in}
 use Rattle.graph_run.proofs.virtual_planes.add_virtual.Given as goal
 
@@ -13,8 +13,8 @@ invariant-loop-k l =
       room : length l.planes.items + (length l.images - l.k) ≤ vec_capacity l.planes;
       capacity : vec_capacity l.planes ≡ vec_capacity l.fn.planes;
       descs : map (λ (q : PlaneValue). q.desc) l.planes.items ≡ map (λ (o : VirtualOutput). o.desc) (take l.k l.images);
-      blocks : capacities l.planes.items ≡ map (block_at l.slots (room_at l.fn.blocks) 0) (range_with_len 0 l.k);
+      blocks : capacities l.planes.items ≡ map (block_at l.slots (block_capacity l.fn.blocks) 0) (range_with_len 0 l.k);
       formats : map samples_format l.blocks ≡ map samples_format l.fn.blocks;
-      others : (s j : ℕ) → last_in s l.slots ≡ Some j → l.k ≤ j → room_at l.blocks s ≡ room_at l.fn.blocks s;
-      unused : (s : ℕ) → last_in s l.slots ≡ None → room_at l.blocks s ≡ room_at l.fn.blocks s;
+      others : (s j : ℕ) → last_in s l.slots ≡ Some j → l.k ≤ j → block_capacity l.blocks s ≡ block_capacity l.fn.blocks s;
+      unused : (s : ℕ) → last_in s l.slots ≡ None → block_capacity l.blocks s ≡ block_capacity l.fn.blocks s;
     }

@@ -4,7 +4,7 @@ use Rattle.std.proofs.lemmas.List.{drop-set-lt, length-set, get_or-set_other}
 use Rattle.graph_run.proofs.Common.{samples_format}
 use Rattle.graph_steps.specs.Planes.{no_plane, plane}
 use Rattle.graph_steps.specs.Steps.{capacities, capacity}
-use Rattle.graph_run.specs.Blocks.{block_size, room_at}
+use Rattle.graph_run.specs.Blocks.{block_size, block_capacity}
 use Rattle.graph_run.proofs.CycleLemmas.{last_below}
 use Rattle.graph_run.proofs.VirtualLemmas.{back_more, back_stays, returned_format, returned_size, unused_more}
 use Rattle.graph_run.proofs.virtual_planes.return_blocks.Goals as goal
@@ -34,8 +34,8 @@ loop-k-preserved c =
           ∙ returned_size c.args.planes.now c.loop-k.planes k b w.index-planes-k.result w.give.ensures.format w.give.ensures.value
           (omega (arith, inv.count, c.requires.count, c.loop-k-test.true)) (inv.planes k (omega arith)) inv.count in
           record {
-            back = λ s j there below. ap (λ l. room_at l s) w.blocks-is ∙ back_more c.args.slots.now c.loop-k.blocks (capacities c.args.planes.now) k w.put.new.self last inside size inv.back s j there below;
-            unused = λ s none. ap (λ l. room_at l s) w.blocks-is ∙ unused_more c.args.slots.now c.loop-k.blocks k s w.put.new.self last none ∙ inv.unused s none;
+            back = λ s j there below. ap (λ l. block_capacity l s) w.blocks-is ∙ back_more c.args.slots.now c.loop-k.blocks (capacities c.args.planes.now) k w.put.new.self last inside size inv.back s j there below;
+            unused = λ s none. ap (λ l. block_capacity l s) w.blocks-is ∙ unused_more c.args.slots.now c.loop-k.blocks k s w.put.new.self last none ∙ inv.unused s none;
             formats = ap (map samples_format) w.blocks-is ∙ map-set_same samples_format c.loop-k.blocks (get_or c.args.slots.now k 0) w.put.new.self w.index-blocks-slots.result (ap samples_format w.put.ensures ∙ same) ∙ inv.formats;
             planes = λ j later.
                 let ne : j ≢ k = omega (arith, later) in
@@ -44,8 +44,8 @@ loop-k-preserved c =
             count = ap length w.planes-is ∙ length-set c.loop-k.planes k w.give.new.self ∙ inv.count;
           }
       | else-is_last w ↦ record {
-        back = λ s j there below. ap (λ l. room_at l s) w.blocks-is ∙ back_stays c.args.slots.now c.loop-k.blocks (capacities c.args.planes.now) k (sym c.is_last.ensures ∙ w.if-is_last.false) inv.back s j there below;
-        unused = λ s none. ap (λ l. room_at l s) w.blocks-is ∙ inv.unused s none;
+        back = λ s j there below. ap (λ l. block_capacity l s) w.blocks-is ∙ back_stays c.args.slots.now c.loop-k.blocks (capacities c.args.planes.now) k (sym c.is_last.ensures ∙ w.if-is_last.false) inv.back s j there below;
+        unused = λ s none. ap (λ l. block_capacity l s) w.blocks-is ∙ inv.unused s none;
         formats = ap (map samples_format) w.blocks-is ∙ inv.formats;
         planes = λ j later. ap (λ l. plane l j) w.planes-is ∙ inv.planes j (omega (arith, later));
         others = ap (λ l. drop (length c.args.slots.now) l) w.planes-is ∙ inv.others;

@@ -1,14 +1,14 @@
 use Rattle.std.proofs.Common.{◌≡◌, ◌∙◌, ap, map-id, rules}
 use Rattle.vx_base.specs.declared.format.Format.TheVariants.{S16}
 use Rattle.vx_base.specs.Image.{image_over}
-use Rattle.vx_base.specs.Rectangle.{empty}
+use Rattle.vx_base.specs.Rectangle.{empty_rectangle}
 use Rattle.graph_steps.proofs.KernelLaws.{rows_made}
 use Rattle.graph_steps.proofs.rows.make_shorts.Goals as goal
 
 pub returns-clause-samples : goal.returns-clause-samples
 returns-clause-samples c =
     let made = rows_made c.args.kernel.now c.args.desc c.args.valid c.args.rows c.args.samples.now c.of_rows-output.result c.set_valid.new.self c.run.new.output c.requires.can
-    (c.of_rows-output.ensures.value ∙ ap (image_over c.args.desc empty) (map-id c.args.samples.now)) c.set_valid.ensures.value (c.set_valid.ensures.slices.rows ∙ c.of_rows-output.ensures.rows) c.run.ensures in
+    (c.of_rows-output.ensures.value ∙ ap (image_over c.args.desc empty_rectangle) (map-id c.args.samples.now)) c.set_valid.ensures.value (c.set_valid.ensures.slices.rows ∙ c.of_rows-output.ensures.rows) c.run.ensures in
     let known : c.run.new.output.desc.format ≡ S16 = made.0 ∙ c.requires.format in
     let samples = made.1 in
     search rules

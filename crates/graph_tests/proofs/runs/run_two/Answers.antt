@@ -3,7 +3,7 @@ use Rattle.std.specs.List.Sorted.{IsStrictlyIncreasing}
 use Rattle.vx_base.specs.declared.node.Node.{Node}
 use Rattle.vx_base.specs.Graph.{nodes_of}
 use Rattle.vx_base.specs.Object.{IsObject}
-use Rattle.object_table.specs.Named.{Named}
+use Rattle.object_table.specs.NamedObject.{NamedObject}
 use Rattle.object_table.specs.Table.{graph_under}
 use Rattle.graph_verify.specs.Verdict.{verdict}
 use Rattle.graph_verify.specs.Verified.{IsVerified}
@@ -17,22 +17,22 @@ run-requires c =
     let a = c.args.input in
     let b = c.args.output in
     let d = c.args.declared in
-    let objects : List Named = c.add_node-2.new.self.objects in
+    let objects : List NamedObject = c.add_node-2.new.self.objects in
     let v = c.in_ok-verified.verified in
     let is : objects ≡ linked a b d =
     linked_held a b d _ _ _ _ _ _ _ _ _ _ c.requires.table c.in_ok-hold.ensures c.in_ok-hold-2.ensures c.new.ensures.value c.in_ok-hold-3.ensures c.in_ok-hold-4.ensures
     c.in_ok-not.ensures c.in_ok-add_node.ensures.ok c.in_ok-not-2.ensures c.in_ok-add_node-2.ensures.ok in
-    let under : nodes_of c.graph.result.now ≡ nodes = ap nodes_of (c.graph.ensures ∙ ap (λ (o : List Named). graph_under o 3) is) in
+    let under : nodes_of c.graph.result.now ≡ nodes = ap nodes_of (c.graph.ensures ∙ ap (λ (o : List NamedObject). graph_under o 3) is) in
     let verified : IsVerified (operand_held (linked a b d)) nodes v =
-    subst (λ (o : List Named). IsVerified (operand_held o) nodes v) is
+    subst (λ (o : List NamedObject). IsVerified (operand_held o) nodes v) is
     (subst (λ (ns : List Node). IsVerified (operand_held objects) ns v) under c.in_ok-verified.ensures.verified) in
     let allowed : verdict 2 (operand_held (linked a b d)) nodes ≡ None =
-    ap (λ (o : List Named). verdict 2 (operand_held o) nodes) (sym is)
+    ap (λ (o : List NamedObject). verdict 2 (operand_held o) nodes) (sym is)
     ∙ ap (λ (ns : List Node). verdict 2 (operand_held objects) ns) (sym under)
     ∙ c.in_ok-verified.ensures.ok in
     record {
-      objects = subst (λ (o : List Named). All (λ n. IsObject n.object) o) (sym is) (linked_objects a b d c.requires.input c.requires.output c.has_sides.ensures);
-      names = subst (λ (o : List Named). IsStrictlyIncreasing (map {A = Named} {B = ℕ} (λ n. n.name) o)) (sym is) (linked_names a b d);
-      ready = (nodes, subst (λ (o : List Named). IsReady o nodes v) (sym is) (ready (linked a b d) nodes nodes_are (both_find a b d) v 2 verified allowed));
+      objects = subst (λ (o : List NamedObject). All (λ n. IsObject n.object) o) (sym is) (linked_objects a b d c.requires.input c.requires.output c.has_sides.ensures);
+      names = subst (λ (o : List NamedObject). IsStrictlyIncreasing (map {A = NamedObject} {B = ℕ} (λ n. n.name) o)) (sym is) (linked_names a b d);
+      ready = (nodes, subst (λ (o : List NamedObject). IsReady o nodes v) (sym is) (ready (linked a b d) nodes nodes_are (both_find a b d) v 2 verified allowed));
       plan = c.in_ok-plan.ensures.plan 2 (operand_held (linked a b d)) nodes allowed verified;
     }

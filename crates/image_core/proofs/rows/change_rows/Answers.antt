@@ -1,5 +1,5 @@
 use Rattle.std.proofs.Common.{◌≡◌, ℕ, ℤ, ◌+◌, ◌*◌, ap, ◌∙◌, map}
-use Rattle.vx_base.specs.Image.{within}
+use Rattle.vx_base.specs.Image.{zero_outside}
 use Rattle.vx_base.proofs.TableLaws.{length_part}
 use Rattle.image_core.specs.Rows.{sample_from}
 use Rattle.image_core.proofs.RowLaws.{row_of_band_written}
@@ -24,7 +24,7 @@ loop-k-preserved g c =
     let before : ℕ → ℕ → ℤ = sample_from width rows.start (map value samples) in
     record {
       written =
-          row_of_band_written value width rows.start rows.count line first step (within (g.C.RowChange.area c.args.change.now) (λ x y. next x y (before x y))) out row
+          row_of_band_written value width rows.start rows.count line first step (zero_outside (g.C.RowChange.area c.args.change.now) (λ x y. next x y (before x y))) out row
           size below at c.from-step.ensures c.loop-k.invariant.written c.change_row.auto.row
           (c.change_row.ensures (λ x. before x (rows.start + line)) (part_kept value samples out width rows.start rows.count line first step c.requires.size size below at c.from-step.ensures c.loop-k.invariant.kept));
       kept =

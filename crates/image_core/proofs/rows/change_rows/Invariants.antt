@@ -1,5 +1,5 @@
 use Rattle.std.proofs.Common.{◌≡◌, ◌*◌, map, take, drop}
-use Rattle.vx_base.specs.Image.{band, within}
+use Rattle.vx_base.specs.Image.{band, zero_outside}
 use Rattle.image_core.specs.Rows.{sample_from}
 use Rattle.image_core.proofs.rows.change_rows.Given as goal
 
@@ -7,6 +7,6 @@ abbrev pub invariant-loop-k : goal.invariant-loop-k
 invariant-loop-k g l = record {
   written :
       map g.T.Number.value (take (l.k * l.width) l.samples)
-      ≡ band l.width l.rows.start l.k (within (g.C.RowChange.area l.change) (λ x y. g.C.RowChange.next l.change x y (sample_from l.width l.rows.start (map g.T.Number.value l.fn.samples) x y)));
+      ≡ band l.width l.rows.start l.k (zero_outside (g.C.RowChange.area l.change) (λ x y. g.C.RowChange.next l.change x y (sample_from l.width l.rows.start (map g.T.Number.value l.fn.samples) x y)));
   kept : drop (l.k * l.width) l.samples ≡ drop (l.k * l.width) l.fn.samples;
 }

@@ -1,5 +1,5 @@
 use Rattle.std.proofs.Common.{◌≡◌, ℕ, ℤ, ◌^◌, pos, int_div, List, length, map, refl, ap, ◌∙◌, sym, subst, w16, w32, FitsSigned, to_z, of_z, ◌*ℤ◌}
-use Rattle.lane_rows.proofs.Common.{zip2, Each1, length-zip2, S16, Policy, narrow, product, exchanged, Width}
+use Rattle.lane_rows.proofs.Common.{zip2, Each1, length-zip2, S16, Policy, narrow, product, swap_quarters, Width}
 use Rattle.lane_rows.proofs.ShortLaws.{of_bits, told, products_fit}
 use Rattle.lane_rows.proofs.QuarterLaws.{written_out, Each1-exchanged}
 use Rattle.lane_rows.proofs.NarrowLaws.{quotients_fit, products_narrowed, narrow_fits, narrowed_products_fit}
@@ -14,19 +14,19 @@ over n zs = map (λ z. int_div z (pos (2 ^ n))) zs
 
 module _ (a b : List ℤ) (f : Each1 (FitsSigned w16) a) (g : Each1 (FitsSigned w16) b) where
   abbrev moved : List ℤ
-  moved = exchanged (zip2 ◌*ℤ◌ a b)
+  moved = swap_quarters (zip2 ◌*ℤ◌ a b)
 
   moved_fit : Each1 (FitsSigned w32) moved
   moved_fit = Each1-exchanged (FitsSigned w32) (zip2 ◌*ℤ◌ a b) (products_fit a b f g)
 
-  pub multiplied_are : (ps : List ℤ) → ps ≡ exchanged (zip2 ◌*ℤ◌ (in_lanes w16 a) (in_lanes w16 b)) → in_lanes w32 ps ≡ moved
+  pub multiplied_are : (ps : List ℤ) → ps ≡ swap_quarters (zip2 ◌*ℤ◌ (in_lanes w16 a) (in_lanes w16 b)) → in_lanes w32 ps ≡ moved
   multiplied_are ps is =
-      told w32 ps moved (is ∙ ap (λ (l : List ℤ). exchanged (zip2 ◌*ℤ◌ l (in_lanes w16 b))) (of_bits w16 a f) ∙ ap (λ (l : List ℤ). exchanged (zip2 ◌*ℤ◌ a l)) (of_bits w16 b g)) moved_fit
+      told w32 ps moved (is ∙ ap (λ (l : List ℤ). swap_quarters (zip2 ◌*ℤ◌ l (in_lanes w16 b))) (of_bits w16 a f) ∙ ap (λ (l : List ℤ). swap_quarters (zip2 ◌*ℤ◌ a l)) (of_bits w16 b g)) moved_fit
 
-  pub read_fit : (ps : List ℤ) → ps ≡ exchanged (zip2 ◌*ℤ◌ (in_lanes w16 a) (in_lanes w16 b)) → Each1 (FitsSigned w32) (in_lanes w32 ps)
+  pub read_fit : (ps : List ℤ) → ps ≡ swap_quarters (zip2 ◌*ℤ◌ (in_lanes w16 a) (in_lanes w16 b)) → Each1 (FitsSigned w32) (in_lanes w32 ps)
   read_fit ps is = subst (Each1 (FitsSigned w32)) (sym (multiplied_are ps is)) moved_fit
 
-  module _ (n : ℕ) (ps qs : List ℤ) (is : ps ≡ exchanged (zip2 ◌*ℤ◌ (in_lanes w16 a) (in_lanes w16 b))) (so : qs ≡ over n (in_lanes w32 ps)) where
+  module _ (n : ℕ) (ps qs : List ℤ) (is : ps ≡ swap_quarters (zip2 ◌*ℤ◌ (in_lanes w16 a) (in_lanes w16 b))) (so : qs ≡ over n (in_lanes w32 ps)) where
     divided_fit : Each1 (FitsSigned w32) (over n moved)
     divided_fit = quotients_fit n moved moved_fit
 
@@ -46,12 +46,12 @@ module _ (a b : List ℤ) (f : Each1 (FitsSigned w16) a) (g : Each1 (FitsSigned 
       pub narrow_fit : Each1 (FitsSigned w16) (in_lanes w16 ns)
       narrow_fit = subst (Each1 (FitsSigned w16)) (sym narrow_are) narrow_ones_fit
 
-      pub placed : (rs : List ℤ) → length a ≡ 16 → length b ≡ 16 → rs ≡ exchanged (in_lanes w16 ns) → in_lanes w16 rs ≡ zip2 (product S16 policy n) a b
+      pub placed : (rs : List ℤ) → length a ≡ 16 → length b ≡ 16 → rs ≡ swap_quarters (in_lanes w16 ns) → in_lanes w16 rs ≡ zip2 (product S16 policy n) a b
       placed rs p q last =
           told w16 rs (zip2 (product S16 policy n) a b)
           (last
-          ∙ ap exchanged narrow_are
-          ∙ written_out (pos 0) (λ u. exchanged (map (narrow S16 policy) (over n (exchanged u))) ≡ map (narrow S16 policy) (over n u)) (zip2 ◌*ℤ◌ a b) (length-zip2 ◌*ℤ◌ a b (p ∙ sym q) ∙ p) refl
+          ∙ ap swap_quarters narrow_are
+          ∙ written_out (pos 0) (λ u. swap_quarters (map (narrow S16 policy) (over n (swap_quarters u))) ≡ map (narrow S16 policy) (over n u)) (zip2 ◌*ℤ◌ a b) (length-zip2 ◌*ℤ◌ a b (p ∙ sym q) ∙ p) refl
           ∙ products_narrowed policy n a b)
           (narrowed_products_fit policy n a b f g)
 

@@ -1,5 +1,5 @@
 use Rattle.std.proofs.Common.{◌∙◌, length, subst, sym, arith}
-use Rattle.pgm_images.proofs.Common.{take_next, ends, so_many, PlainUpTo}
+use Rattle.pgm_images.proofs.Common.{take_next, ends, take_count, PlainUpTo}
 use Rattle.std.proofs.lemmas.List.{take_rest}
 use Rattle.pgm_images.proofs.RasterLemmas.{none_read, filling_done}
 use Rattle.pgm_images.proofs.raster.read_plain.Goals as goal
@@ -7,7 +7,7 @@ use Rattle.pgm_images.proofs.raster.read_plain.Goals as goal
 pub loop-index-preserved-then-begins-ne0 : goal.loop-index-preserved-then-begins-ne0
 loop-index-preserved-then-begins-ne0 g c =
     let rest = sym (take_rest c.loop-index.rest.now c.fill-end.result.0) in (
-      subst (λ rest. PlainUpTo g.T.Number.value c.args.maxval c.fill-end.result.1 c.loop-index.above c.fill-end.new.samples rest (so_many take_next ends (length c.args.samples.now) c.args.text.now)) rest
+      subst (λ rest. PlainUpTo g.T.Number.value c.args.maxval c.fill-end.result.1 c.loop-index.above c.fill-end.new.samples rest (take_count take_next ends (length c.args.samples.now) c.args.text.now)) rest
           (c.fill-end.ensures.filled c.loop-index.above _ c.loop-index.invariant.0),
       c.fill-end.ensures.same ∙ c.loop-index.invariant.1,
       c.fill-end.ensures.within,

@@ -1,5 +1,5 @@
 use Rattle.std.proofs.Common.{◌≡◌, Ok, sym, true, arith}
-use Rattle.pgm_images.proofs.Common.{common_steps, reading, is_headed}
+use Rattle.pgm_images.proofs.Common.{common_steps, read_result, is_headed}
 use Rattle.pgm_images.proofs.DescriptionLemmas.{told_headed}
 use Rattle.pgm_images.proofs.StandsLemmas.{stands_read}
 use Rattle.pgm_images.proofs.reading.read.Goals as goal
@@ -11,5 +11,5 @@ returns-in_err-samples-clause-err c =
 
 pub returns-clause-stands : goal.returns-clause-stands
 returns-clause-stands c =
-    let is : reading c.args.text.now ≡ Ok c.new.result = grind (arith, common_steps, c.in_ok-read_into.ensures.ok c.in_ok-desc.desc (sym c.in_ok-desc.ensures.told)) in
+    let is : read_result c.args.text.now ≡ Ok c.new.result = grind (arith, common_steps, c.in_ok-read_into.ensures.ok c.in_ok-desc.desc (sym c.in_ok-desc.ensures.told)) in
     stands_read c.args.text.now c.new.result is

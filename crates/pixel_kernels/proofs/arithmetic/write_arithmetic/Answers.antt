@@ -14,5 +14,5 @@ returns-in-U8 g c =
 pub returns-in_default : goal.returns-in_default
 returns-in_default g c =
     let format = ap (λ (d : Description). d.format) (sym c.desc.ensures) ∙ sym c.format.ensures in
-    in_format (λ f. from_two f (g.K.Arithmetic.formula c.args.kernel.now f) c.args.first.now c.args.second.now) c.args.output.now.desc.format S16 c.args.output.now c.write_shorts.new.output
-    (short_output c.args.first.now.format c.args.second.now.format c.args.output.now.desc.format c.requires.formats (λ is. c.in_default.not-U8 (sym format ∙ is))) c.write_shorts.ensures
+    in_format (λ f. from_two f (g.K.Arithmetic.formula c.args.kernel.now f) c.args.first.now c.args.second.now) c.args.output.now.desc.format S16 c.args.output.now c.write_from_shorts.new.output
+    (short_output c.args.first.now.format c.args.second.now.format c.args.output.now.desc.format c.requires.formats (λ is. c.in_default.not-U8 (sym format ∙ is))) c.write_from_shorts.ensures

@@ -1,5 +1,5 @@
 use Rattle.std.proofs.Common.{◌∙◌, ap, refl, arith, List, ℕ, slice_index}
-use Rattle.stat_kernels.proofs.Common.{nat_tests, valid_samples, added, valid_in}
+use Rattle.stat_kernels.proofs.Common.{nat_tests, valid_samples, bin_sums, valid_in}
 use Rattle.stat_kernels.proofs.BandLaws.{added_all, added_next, added_none, tally_few}
 use Rattle.stat_kernels.proofs.counts.add_histogram.Goals as goal
 
@@ -21,4 +21,4 @@ loop-k-preserved c =
 pub returns : goal.returns
 returns c =
     added_all c.args.counts.now c.count_in_bins.new.counts c.loop-k.counts c.loop-k.k (omega (arith, c.loop-k-test.false)) c.loop-k.invariant
-    ∙ ap (added c.args.counts.now) c.count_in_bins.ensures
+    ∙ ap (bin_sums c.args.counts.now) c.count_in_bins.ensures

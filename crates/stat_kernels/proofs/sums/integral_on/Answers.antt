@@ -1,5 +1,5 @@
 use Rattle.std.proofs.Common.{ℕ, List, Option, ◌≡◌, ◌+◌, ◌*◌, ◌≤◌, ◌∙◌, pos, length, map, take, drop, ap, sym, subst, arith, option_copied, length-take-le}
-use Rattle.stat_kernels.proofs.Common.{Description, run, within, sum_to, row_fits, IsRowAbove}
+use Rattle.stat_kernels.proofs.Common.{Description, run, zero_outside, sum_to, row_fits, IsRowAbove}
 use Rattle.stat_kernels.proofs.SumLaws.{rows_written}
 use Rattle.stat_kernels.proofs.NextRowLaws.{last_is, row_above}
 use Rattle.stat_kernels.specs.Sums.{row_sums, sum_on}
@@ -19,15 +19,15 @@ loop-k-preserved c =
     let size : length c.loop-k.samples ≡ rows.count * width = c.loop-k.auto.samples ∙ c.requires.size ∙ ap (λ n. rows.count * n) (sym wide) in
     let start : length before ≡ k * width = c.split_at_mut-before.ensures.front_len ∙ at in
     let room : width ≤ length others = omega (arith, row_fits width rows.count k c.loop-k-test.true, c.split_at_mut-before.ensures.back_len, at, size) in
-    let long : length c.write_row.new.out ≡ width = c.write_row.auto.out ∙ length-take-le width others room in
+    let long : length c.write_integral_row.new.out ≡ width = c.write_integral_row.auto.out ∙ length-take-le width others room in
     let last = ap option_copied c.or-above.ensures ∙ last_is width before c.row_above.result c.args.above c.row_above.ensures in
     record {
       sums =
-          let f = within image.valid (sum_on image rows.start (row_sums (option_copied c.args.above))) in
+          let f = zero_outside image.valid (sum_on image rows.start (row_sums (option_copied c.args.above))) in
           let so_far = ap (map pos) (c.split_at_mut-before.ensures.front ∙ ap (λ n. take n c.loop-k.samples) at) ∙ c.loop-k.invariant.sums in
-          rows_written k width before c.write_row.new.out (drop width others) start long rows.start f so_far
-          (c.write_row.ensures.sums
-          ∙ ap (λ (o : Option (List ℕ)). run 0 image.width (λ x. within image.valid (sum_on image (rows.start + k) (row_sums o)) x (rows.start + k))) last
+          rows_written k width before c.write_integral_row.new.out (drop width others) start long rows.start f so_far
+          (c.write_integral_row.ensures.sums
+          ∙ ap (λ (o : Option (List ℕ)). run 0 image.width (λ x. zero_outside image.valid (sum_on image (rows.start + k) (row_sums o)) x (rows.start + k))) last
           ∙ next_follows image rows.start k width before (option_copied c.args.above) (omega (arith, c.width.ensures.limits, c.from-width.ensures)) wide so_far start
           ∙ ap (λ n. run 0 n (λ x. f x (rows.start + k))) (sym wide));
       written = λ whole line are is_above.
@@ -36,6 +36,6 @@ loop-k-preserved c =
           let so_far = ap (map pos) (c.split_at_mut-before.ensures.front ∙ ap (λ n. take n c.loop-k.samples) at) ∙ c.loop-k.invariant.written whole line are is_above in
           let above = subst (IsRowAbove whole (line + k)) (sym last)
           (row_above whole line k width before (option_copied c.args.above) (omega (arith, c.width.ensures.limits, c.from-width.ensures)) same so_far start is_above) in
-          rows_written k width before c.write_row.new.out (drop width others) start long line (within whole.valid (sum_to whole)) so_far
-          (c.write_row.ensures.whole whole (line + k) are.is row above ∙ ap (λ n. run 0 n (λ x. within whole.valid (sum_to whole) x (line + k))) (sym same));
+          rows_written k width before c.write_integral_row.new.out (drop width others) start long line (zero_outside whole.valid (sum_to whole)) so_far
+          (c.write_integral_row.ensures.whole whole (line + k) are.is row above ∙ ap (λ n. run 0 n (λ x. zero_outside whole.valid (sum_to whole) x (line + k))) (sym same));
     }

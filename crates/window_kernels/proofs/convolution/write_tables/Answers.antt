@@ -1,5 +1,5 @@
 use Rattle.std.proofs.Common.{◌≡◌, ◌≤◌, ◌*◌, ◌/◌, ◌%◌, ◌+◌, ◌∙◌, ap, sym, subst, map, length, arith, w16, FitsSigned, map-id, take_all}
-use Rattle.window_kernels.proofs.Common.{Each1, Each1-get_or, run, length-run, turned, turned_pairs}
+use Rattle.window_kernels.proofs.Common.{Each1, Each1-get_or, run, length-run, turned_coefficient, turned_pairs}
 use Rattle.window_kernels.proofs.MatrixLaws.{table_written}
 use Rattle.window_kernels.proofs.RowLaws.{part_fits}
 use Rattle.window_kernels.proofs.convolution.write_tables.Goals as goal
@@ -22,7 +22,7 @@ returns-clause-value c =
     sym (map-id c.loop-row.tables)
     ∙ ap (map (λ z. z)) (sym (take_all (80 * c.loop-row.row) c.loop-row.tables (omega (arith, c.requires))))
     ∙ c.loop-row.invariant.value
-    ∙ ap (λ n. run 0 n (λ n. turned c.args.convolution.now (n / 80) (n % 80 / 16 * 2 + n % 2))) end
+    ∙ ap (λ n. run 0 n (λ n. turned_coefficient c.args.convolution.now (n / 80) (n % 80 / 16 * 2 + n % 2))) end
 
 pub returns-clause-fits : goal.returns-clause-fits
 returns-clause-fits c =

@@ -1,5 +1,5 @@
 use Rattle.std.proofs.Common.{ℕ, List, sym, subst, rules, IsSome}
-use Rattle.client_contexts.proofs.Common.{nat_cmp, IsRuntime, Opened}
+use Rattle.client_contexts.proofs.Common.{nat_cmp, IsRuntime, ClientContext}
 use Rattle.std.specs.BTreeMap.{get_by}
 use Rattle.client_contexts.proofs.IncomingLemmas.{write_applies, write_told, write_same}
 use Rattle.client_contexts.proofs.RuntimeLemmas.{client_keeps, changed_is}
@@ -9,7 +9,7 @@ pub invariant_of-self-2 : goal.invariant_of-self-2
 invariant_of-self-2 g c =
     let s = c.self.inside in
     let found = sym c.in-Some.ensures.value in
-    subst (λ (entries : List (ℕ × Opened)). IsRuntime s.limits entries c.write_from.new.pool) (sym (c.get_mut.follows.holds c.write_from.new.self).0)
+    subst (λ (entries : List (ℕ × ClientContext)). IsRuntime s.limits entries c.write_from.new.pool) (sym (c.get_mut.follows.holds c.write_from.new.self).0)
     (changed_is s.limits s.contexts.entries s.pool c.self.invariant c.args.client c.in-Some.held.now c.write_from.new.self c.write_from.new.pool found
     (c.write_from.ensures.kept s.limits (client_keeps s.limits s.contexts.entries s.pool c.self.invariant c.args.client c.in-Some.held.now found))
     c.write_from.ensures.balances)

@@ -1,7 +1,7 @@
 use Rattle.std.proofs.Common.{◌≡◌, ◌≤◌, ◌∙◌, ap, length, length-take-le, take, take_at, arith}
 use Rattle.vx_base.specs.Object.{DistributionValue}
 use Rattle.vx_base.specs.Statistics.{histogram}
-use Rattle.stat_kernels.specs.Counts.{added}
+use Rattle.stat_kernels.specs.Counts.{bin_sums}
 use Rattle.stat_kernels.specs.Part.{valid_in}
 use Rattle.graph_steps.specs.Tallies.{with_rows_counted}
 use Rattle.graph_steps.proofs.tally.Histogram.add.Goals as goal
@@ -17,5 +17,5 @@ returns c =
     let short : c.from.result ≤ length i.counts = omega arith in
     let long : length c.add_histogram.new.counts ≡ i.bins.bins = c.add_histogram.auto.counts ∙ length-take-le c.from.result i.counts short ∙ n in
     ap (λ l. let d : DistributionValue = record { bins = i.bins; counts = l } in d)
-    (take_at c.add_histogram.new.counts _ i.bins.bins long ∙ c.add_histogram.ensures ∙ ap (λ k. added (take k i.counts) more) n)
+    (take_at c.add_histogram.new.counts _ i.bins.bins long ∙ c.add_histogram.ensures ∙ ap (λ k. bin_sums (take k i.counts) more) n)
     ∙ ap (with_rows_counted c.args.rows c.args.image.now) c.self.view_is

@@ -1,5 +1,5 @@
 use Rattle.image_core.specs.Rows.{sample_from}
-use Rattle.image_core.specs.Target.{written}
+use Rattle.image_core.specs.Target.{target_image}
 use Rattle.image_core.proofs.BandLaws.{made_written}
 use Rattle.image_core.proofs.image_mut.ImageMut.update.Goals as goal
 
@@ -8,5 +8,5 @@ returns g c =
     let same = c.change_samples.ensures.slices in
     let old = c.args.self.now in
     made_written old c.change_samples.new.output g.T.Sample.format c.area-self.result (g.U.RowUpdate.area c.args.update.now)
-    (λ x y. g.U.RowUpdate.next c.args.update.now x y (sample_from old.desc.width old.rows.start (written old).samples x y))
+    (λ x y. g.U.RowUpdate.next c.args.update.now x y (sample_from old.desc.width old.rows.start (target_image old).samples x y))
     c.requires.target (record { rows = same.rows; bytes = same.bytes; shorts = same.shorts; words = same.words }) c.change_samples.ensures.value c.requires.format c.area-self.ensures

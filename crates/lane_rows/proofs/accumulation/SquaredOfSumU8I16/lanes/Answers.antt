@@ -1,6 +1,6 @@
 use Rattle.std.proofs.Common.{pos, map, take, take_all, ap, ◌∙◌, sym, w16, map-id, arith}
 use Rattle.lane_rows.proofs.Common.{zip2, S16, length-map, length-zip2}
-use Rattle.vx_base.specs.Pixelwise.{accumulated, accumulated_square}
+use Rattle.vx_base.specs.Pixelwise.{accumulated_sum, accumulated_square}
 use Rattle.lane_rows.proofs.ShortLaws.{of_bits}
 use Rattle.lane_rows.proofs.SumLaws.{of_squares}
 use Rattle.lane_rows.proofs.StoreLaws.{stored}
@@ -13,8 +13,8 @@ returns c =
     let sums = map (λ z. z) c.args.sums.now in
     let made =
     of_bits w16 c.accumulated_shorts.result c.accumulated_shorts.ensures.result_fits ∙ c.accumulated_shorts.ensures.value
-    ∙ ap (zip2 (accumulated S16) _) (of_bits w16 c.shorts.result c.shorts.ensures.fits ∙ c.shorts.ensures.value)
-    ∙ ap (λ l. zip2 (accumulated S16) l sums) c.scaled_squares-squares.ensures ∙ of_squares c.args.self.now.amount (map pos (take 16 c.args.row.now)) sums ∙ ap (λ l. zip2 f (map pos l) sums) (take_all 16 c.args.row.now (omega (arith, c.requires.row_len))) in
+    ∙ ap (zip2 (accumulated_sum S16) _) (of_bits w16 c.shorts.result c.shorts.ensures.fits ∙ c.shorts.ensures.value)
+    ∙ ap (λ l. zip2 (accumulated_sum S16) l sums) c.scaled_squares-squares.ensures ∙ of_squares c.args.self.now.amount (map pos (take 16 c.args.row.now)) sums ∙ ap (λ l. zip2 f (map pos l) sums) (take_all 16 c.args.row.now (omega (arith, c.requires.row_len))) in
     let one = length-map c.args.row.now pos ∙ c.requires.row_len in
     let two = length-map c.args.sums.now (λ z. z) ∙ c.requires.sums_len in
     stored (λ z. z) (zip2 f row sums) c.args.sums.now _ (map-id _ ∙ made) (length-zip2 f row sums (one ∙ sym two) ∙ one ∙ sym c.requires.sums_len)

@@ -1,5 +1,5 @@
 use Rattle.std.proofs.Common.{◌≡◌, ℕ, ◌+◌, ◌≤◌, List, map, All, IsTrue, refl, sym, ap, subst, ◌∙◌, if◌then◌else◌}
-use Rattle.object_table.proofs.Common.{set_value, is_at, nat_cmp, err_from_is_err_and, can_add, with_node, ObjectValue, GraphObject, object_bytes, Entry, Context, Named, graph_value, IsTable, named, used_more, nodes_in, used_names, times}
+use Rattle.object_table.proofs.Common.{set_value, is_at, nat_cmp, err_from_is_err_and, can_add, with_node, ObjectValue, GraphObject, object_bytes, Entry, Context, NamedObject, graph_value, IsTable, entry_object, used_more, nodes_in, used_names, name_count}
 use Rattle.graph_verify.specs.declared.fault.GraphFault.TheVariants as graph_fault
 use Rattle.object_table.proofs.EntryLemmas.{nothing_under, kind_under, under_is, shown_name, IsTable-written}
 use Rattle.object_table.proofs.GraphLemmas.{unchanged, live_there, all_below, few-uses, named-recounted, IsTable-added}
@@ -62,8 +62,8 @@ returns-clause-number c =
 pub returns-clause-ok : goal.returns-clause-ok
 returns-clause-ok c =
     let next = c.self.inside.next in
-    ap (λ (l : List (ℕ × Entry)). let t : Context = record { next = next; objects = map named l } in t) (begun (goal.at.returns-clause-ok c).After-begin_uses)
-    ∙ ap (λ (l : List Named). let t : Context = record { next = next; objects = l } in t) (named-recounted (λ k u. u + times k (used_names c.args.node)) _)
+    ap (λ (l : List (ℕ × Entry)). let t : Context = record { next = next; objects = map entry_object l } in t) (begun (goal.at.returns-clause-ok c).After-begin_uses)
+    ∙ ap (λ (l : List NamedObject). let t : Context = record { next = next; objects = l } in t) (named-recounted (λ k u. u + name_count k (used_names c.args.node)) _)
     ∙ shown_name _ _ _ c.self.view_is c.args.graph c.in-Some.entry.now (sym c.in-Some.ensures.value) (λ o. GraphObject (with_node (graph_value o) c.args.node)) (let old : Entry = c.in-Some.entry.now in record old { object = c.add_node.new.self }) _
     c.get_mut.ensures.ordered refl c.in_ok-number.ensures.ok refl
 

@@ -1,12 +1,12 @@
 use Rattle.std.proofs.Common.{◌≡◌, ℕ, ◌+◌, List, [], ◌∷◌, map, sym, ap, subst}
-use Rattle.object_table.proofs.Common.{lent_of, Entry, Balances, Context, named}
+use Rattle.object_table.proofs.Common.{lent_of, Entry, Balances, Context, entry_object}
 use Rattle.std.proofs.lemmas.Map.Iter.{rest_more, rest_all}
 use Rattle.object_table.proofs.EntryBlockLemmas.{entry_blocks, owns_first, Balances-first, Balances-all}
 use Rattle.object_table.proofs.table.Table.end.Goals as goal
 
 pub loop-entry-init : goal.loop-entry-init
 loop-entry-init c =
-    subst (λ (t : Context). Balances c.args.pool.now c.args.pool.now t.objects (map named c.into_iter-entry-iterator.result)) c.self.view_is
+    subst (λ (t : Context). Balances c.args.pool.now c.args.pool.now t.objects (map entry_object c.into_iter-entry-iterator.result)) c.self.view_is
     (λ format. ap (λ (l : List (ℕ × Entry)). lent_of c.args.pool.now format + entry_blocks l format) (sym c.into_iter-entry-iterator.ensures.into_iter_gives.0))
 
 pub end-requires : goal.end-requires

@@ -1,5 +1,5 @@
 use Rattle.std.proofs.Common.{◌≡◌, ◌+◌, ◌++◌, ◌∷◌, [], ℕ, List, true, map, refl, sym, ap, subst, ◌∙◌, arith}
-use Rattle.object_table.proofs.Common.{keys_of, IsStrictlyIncreasing, map-append, Entry, Context, Named, named, IsTable}
+use Rattle.object_table.proofs.Common.{keys_of, IsStrictlyIncreasing, map-append, Entry, Context, NamedObject, entry_object, IsTable}
 use Rattle.std.proofs.lemmas.Map.Keys.{IsStrictlyIncreasing-from_sorted}
 use Rattle.object_table.specs.Context.{with_new}
 use Rattle.object_table.proofs.EntryLemmas.{charge_limit, insert_last, IsTable-inserted, room_left}
@@ -26,6 +26,6 @@ returns-in-Ok-clause-ok c =
     let s = c.self.inside in
     let entry : Entry = record { live = true; uses = 0; object = c.args.object } in
     let last : c.insert.new.self.entries ≡ s.entries.entries ++ (s.next, entry) ∷ [] = c.in-Ok.ensures.entries ∙ insert_last s.entries.entries s.next entry c.self.invariant.below in
-    ap (λ (l : List (ℕ × Entry)). let t : Context = record { next = s.next + 1; objects = map named l } in t) last
-    ∙ ap (λ (l : List Named). let t : Context = record { next = s.next + 1; objects = l } in t) (map-append named s.entries.entries ((s.next, entry) ∷ []))
+    ap (λ (l : List (ℕ × Entry)). let t : Context = record { next = s.next + 1; objects = map entry_object l } in t) last
+    ∙ ap (λ (l : List NamedObject). let t : Context = record { next = s.next + 1; objects = l } in t) (map-append entry_object s.entries.entries ((s.next, entry) ∷ []))
     ∙ ap (λ (t : Context). with_new t c.args.object) c.self.view_is

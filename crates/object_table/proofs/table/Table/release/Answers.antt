@@ -1,5 +1,5 @@
 use Rattle.std.proofs.Common.{◌≡◌, ℕ, List, [], map, Option, Some, None, cond, false, refl, sym, ap, ◌∙◌, unwrap_or}
-use Rattle.object_table.proofs.Common.{flat_map, set_value, is_at, option_map, nat_cmp, Node, Entry, Context, charge_of, object_named, with_objects, still_held, unnamed, Named, named, used_less, ended, kept, used_names, nodes_in}
+use Rattle.object_table.proofs.Common.{flat_map, set_value, is_at, option_map, nat_cmp, Node, Entry, Context, charge_of, object_named, with_objects, still_held, without_name, NamedObject, entry_object, used_less, entries_without_name, kept_entries, used_names, nodes_in}
 use Rattle.object_table.proofs.EntryLemmas.{in_order, plain}
 use Rattle.object_table.proofs.KeptLemmas.{left_of, left-nil, left-ended, held-left}
 use Rattle.object_table.proofs.GraphLemmas.{AreLeft, names_in, named-unlive, none_there, named_there, released-left, IsTable-same}
@@ -50,7 +50,7 @@ changed c = let old : Entry = c.in-Some.entry.now in set_value (is_at (nat_cmp c
 abbrev left : Joined-kind → List (ℕ × Entry)
 left c = left_of (names_in c.in-Some.entry.now.object) (changed c)
 
-left_is : (c : Joined-kind) (then : List (ℕ × Entry)) → then ≡ kept (ended c.args.name c.match-kind.self-inside.entries.entries) → then ≡ left c
+left_is : (c : Joined-kind) (then : List (ℕ × Entry)) → then ≡ kept_entries (entries_without_name c.args.name c.match-kind.self-inside.entries.entries) → then ≡ left c
 left_is c then is =
     let entries = c.self.inside.entries.entries in
     let old = c.in-Some.entry.now in
@@ -70,16 +70,16 @@ pub invariant_of-self : goal.invariant_of-self
 invariant_of-self c =
     let at = (goal.at.invariant_of-self c).Joined-kind in
     let then = left_is at c.end_name-self-inside.new.entries.entries c.end_name-self-inside.ensures.entries in
-    IsTable-same c.self.inside.next c.match-kind.self-inside.next (charge_of (map named (left at))) c.end_name-self-inside.result (left at) c.end_name-self-inside.new.entries.entries
-    (next_is at) (c.end_name-self-inside.ensures.charge ∙ ap (λ (l : List (ℕ × Entry)). charge_of (map named l)) then) then (are_left at).table
+    IsTable-same c.self.inside.next c.match-kind.self-inside.next (charge_of (map entry_object (left at))) c.end_name-self-inside.result (left at) c.end_name-self-inside.new.entries.entries
+    (next_is at) (c.end_name-self-inside.ensures.charge ∙ ap (λ (l : List (ℕ × Entry)). charge_of (map entry_object l)) then) then (are_left at).table
 
 pub returns-clause-ok : goal.returns-clause-ok
 returns-clause-ok c =
     let at = (goal.at.returns-clause-ok c).Joined-kind in
     let s = c.self.inside in
-    ap (λ (n : ℕ). let t : Context = record { next = n; objects = map named c.end_name-self-inside.new.entries.entries } in t) (next_is at)
-    ∙ ap (λ (l : List (ℕ × Entry)). let t : Context = record { next = s.next; objects = map named l } in t) (left_is at c.end_name-self-inside.new.entries.entries c.end_name-self-inside.ensures.entries)
-    ∙ ap (λ (l : List Named). let t : Context = record { next = s.next; objects = l } in t) (are_left at).shown
+    ap (λ (n : ℕ). let t : Context = record { next = n; objects = map entry_object c.end_name-self-inside.new.entries.entries } in t) (next_is at)
+    ∙ ap (λ (l : List (ℕ × Entry)). let t : Context = record { next = s.next; objects = map entry_object l } in t) (left_is at c.end_name-self-inside.new.entries.entries c.end_name-self-inside.ensures.entries)
+    ∙ ap (λ (l : List NamedObject). let t : Context = record { next = s.next; objects = l } in t) (are_left at).shown
     ∙ ap (λ (t : Context). with_objects t (still_held t.objects))
-    (ap (λ (l : List Named). let t : Context = record { next = s.next; objects = l } in t) (named-unlive s.entries.entries c.args.name c.in-Some.entry.now (in_order s.entries.entries c.self.invariant.names) (sym c.in-Some.ensures.value))
-    ∙ ap (λ (t : Context). with_objects t (unnamed t.objects c.args.name)) c.self.view_is)
+    (ap (λ (l : List NamedObject). let t : Context = record { next = s.next; objects = l } in t) (named-unlive s.entries.entries c.args.name c.in-Some.entry.now (in_order s.entries.entries c.self.invariant.names) (sym c.in-Some.ensures.value))
+    ∙ ap (λ (t : Context). with_objects t (without_name t.objects c.args.name)) c.self.view_is)

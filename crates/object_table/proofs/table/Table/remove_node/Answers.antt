@@ -1,5 +1,5 @@
 use Rattle.std.proofs.Common.{◌≡◌, ℕ, List, map, not, refl, sym, ap, subst, ◌∙◌, All, IsTrue}
-use Rattle.object_table.proofs.Common.{set_value, is_at, nat_cmp, err_from_is_err_and, Format, Node, without_node, ObjectValue, GraphObject, object_bytes, object_kind, Entry, object_blocks, blocks_in, LendsAtLeast, Balances, Context, charge_of, with_objects, still_held, Named, graph_value, named, used_less, is_kept, kept, nodes_in, used_names}
+use Rattle.object_table.proofs.Common.{set_value, is_at, nat_cmp, err_from_is_err_and, Format, Node, without_node, ObjectValue, GraphObject, object_bytes, object_kind, Entry, object_blocks, blocks_in, LendsAtLeast, Balances, Context, charge_of, with_objects, still_held, NamedObject, graph_value, entry_object, used_less, is_kept, kept_entries, nodes_in, used_names}
 use Rattle.vx_base.specs.declared.kind.Kind.TheVariants as kind
 use Rattle.vx_base.specs.Graph.{has_node}
 use Rattle.object_table.proofs.EntryLemmas.{nothing_under, kind_under, under_is, shown_name, IsTable-written}
@@ -40,7 +40,7 @@ pub end_uses-self-inside-requires-clause-charge : goal.end_uses-self-inside-requ
 end_uses-self-inside-requires-clause-charge c =
     let new = record c.in-Some.entry.now { object = c.remove_node.new.self } in
     charged-after _ _ _ c.self.invariant c.args.graph _ new (sym c.in-Some.ensures.value) refl c.remove_node.ensures.bytes
-    ∙ ap (λ (l : List (ℕ × Entry)). charge_of (map named l)) (sym (c.get_mut.follows.holds new).0)
+    ∙ ap (λ (l : List (ℕ × Entry)). charge_of (map entry_object l)) (sym (c.get_mut.follows.holds new).0)
 
 -- the graph's entry, without the node
 abbrev new : In_ok-node → Entry
@@ -65,7 +65,7 @@ are_left c =
     c.remove_node.new.self c.remove_node.ensures.bytes (of_graph c)
     c.in_ok-node.node c.args.number c.remove_node.ensures.graph c.in_ok-node.ensures.removed c.in_ok-node.ensures.ok refl
 
-left_is : (c : In_ok-node) (node : Node) (written left : List (ℕ × Entry)) → left ≡ kept (used_less (used_names node) written) → node ≡ c.in_ok-node.node → written ≡ changed c → left ≡ kept (less c)
+left_is : (c : In_ok-node) (node : Node) (written left : List (ℕ × Entry)) → left ≡ kept_entries (used_less (used_names node) written) → node ≡ c.in_ok-node.node → written ≡ changed c → left ≡ kept_entries (less c)
 left_is c node written left is node_is written_is = cc
 
 same_blocks : (c : In_ok-node) (format : Format) → object_blocks c.remove_node.new.self format ≡ object_blocks c.in-Some.entry.now.object format
@@ -75,15 +75,15 @@ pub invariant_of-self-2 : goal.invariant_of-self-2
 invariant_of-self-2 c =
     let at = (goal.at.invariant_of-self-2 c).In_ok-node in
     let is = left_is at _ _ _ c.end_uses-self-inside.ensures.entries c.node.ensures.value (c.get_mut.follows.holds (new at)).0 in
-    IsTable-same c.self.inside.next _ (charge_of (map named (kept (less at)))) c.end_uses-self-inside.result (kept (less at)) c.end_uses-self-inside.new.entries.entries
-    refl (c.end_uses-self-inside.ensures.charge ∙ ap (λ (l : List (ℕ × Entry)). charge_of (map named l)) is) is (are_left at).table
+    IsTable-same c.self.inside.next _ (charge_of (map entry_object (kept_entries (less at)))) c.end_uses-self-inside.result (kept_entries (less at)) c.end_uses-self-inside.new.entries.entries
+    refl (c.end_uses-self-inside.ensures.charge ∙ ap (λ (l : List (ℕ × Entry)). charge_of (map entry_object l)) is) is (are_left at).table
 
 pub returns-clause-ok : goal.returns-clause-ok
 returns-clause-ok c =
     let at = (goal.at.returns-clause-ok c).In_ok-node in
     let s = c.self.inside in
-    ap (λ (l : List (ℕ × Entry)). let t : Context = record { next = s.next; objects = map named l } in t) (left_is at _ _ _ c.end_uses-self-inside.ensures.entries c.node.ensures.value (c.get_mut.follows.holds (new at)).0)
-    ∙ ap (λ (l : List Named). let t : Context = record { next = s.next; objects = l } in t) (are_left at).shown
+    ap (λ (l : List (ℕ × Entry)). let t : Context = record { next = s.next; objects = map entry_object l } in t) (left_is at _ _ _ c.end_uses-self-inside.ensures.entries c.node.ensures.value (c.get_mut.follows.holds (new at)).0)
+    ∙ ap (λ (l : List NamedObject). let t : Context = record { next = s.next; objects = l } in t) (are_left at).shown
     ∙ ap (λ (t : Context). with_objects t (still_held t.objects))
     (shown_name _ _ _ c.self.view_is c.args.graph _ (sym c.in-Some.ensures.value) (λ o. GraphObject (without_node (graph_value o) c.args.number)) (new at) (changed at)
     c.get_mut.ensures.ordered refl c.in_ok-node.ensures.ok refl)
@@ -95,7 +95,7 @@ returns-clause-missing c =
 pub returns-in_err-node-clause-balances : goal.returns-in_err-node-clause-balances
 returns-in_err-node-clause-balances c =
     let new = record c.in-Some.entry.now { object = c.remove_node.new.self } in
-    subst (λ (t : Context). Balances c.args.pool.now c.args.pool.now t.objects (map named (c.get_mut.follows.lender new).entries)) c.self.view_is
+    subst (λ (t : Context). Balances c.args.pool.now c.args.pool.now t.objects (map entry_object (c.get_mut.follows.lender new).entries)) c.self.view_is
     (Balances-written c.self.inside.entries.entries c.args.graph _ new (sym c.in-Some.ensures.value) (λ format. ap (λ o. object_blocks o format) c.in_err-node.ensures.err) (c.get_mut.follows.lender new).entries (c.get_mut.follows.holds new).0
     c.args.pool.now)
 
@@ -109,6 +109,6 @@ pub returns-clause-balances : goal.returns-clause-balances
 returns-clause-balances c =
     let at = (goal.at.returns-clause-balances c).In_ok-node in
     let left = c.end_uses-self-inside.new.entries.entries in
-    subst (λ (t : Context). Balances c.args.pool.now c.end_uses-self-inside.new.pool t.objects (map named left)) c.self.view_is
+    subst (λ (t : Context). Balances c.args.pool.now c.end_uses-self-inside.new.pool t.objects (map entry_object left)) c.self.view_is
     (Balances-written_then c.self.inside.entries.entries c.args.graph c.in-Some.entry.now (new at) (sym c.in-Some.ensures.value) (same_blocks at) (c.get_mut.follows.lender (new at)).entries (c.get_mut.follows.holds (new at)).0
     c.args.pool.now c.end_uses-self-inside.new.pool left c.end_uses-self-inside.ensures.balances)

@@ -1,6 +1,6 @@
 use Rattle.std.proofs.Common.{refl, sym, ap, subst, ◌∙◌}
 use Rattle.object_table.proofs.Common.{description_of, ImageObject, IsObject, nodes_in}
-use Rattle.vx_base.specs.Picture.{pictured}
+use Rattle.vx_base.specs.Picture.{picture_image}
 use Rattle.object_table.proofs.EntryLemmas.{nothing_held, found_under, image_is, image_there, shown_cell, IsTable-written, no_nodes}
 use Rattle.object_table.proofs.table.Table.write.Goals as goal
 
@@ -25,4 +25,4 @@ invariant_of-self c =
 pub returns-clause-value : goal.returns-clause-value
 returns-clause-value c =
     let new = record c.in-Some.entry.now { object = c.write.new.self } in
-    shown_cell _ _ _ c.self.view_is c.args.cell _ _ c.name.ensures.value c.slot.ensures.value _ (sym c.in-Some.ensures.value) (λ o. ImageObject (pictured c.args.picture.now)) new _ c.get_mut.ensures.ordered refl c.write.ensures.value (c.get_mut.follows.holds new).0
+    shown_cell _ _ _ c.self.view_is c.args.cell _ _ c.name.ensures.value c.slot.ensures.value _ (sym c.in-Some.ensures.value) (λ o. ImageObject (picture_image c.args.picture.now)) new _ c.get_mut.ensures.ordered refl c.write.ensures.value (c.get_mut.follows.holds new).0

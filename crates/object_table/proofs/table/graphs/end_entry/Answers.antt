@@ -1,5 +1,5 @@
 use Rattle.std.proofs.Common.{map, sym, ap, arith}
-use Rattle.object_table.proofs.Common.{charge_of, named}
+use Rattle.object_table.proofs.Common.{charge_of, entry_object}
 use Rattle.object_table.proofs.KeptLemmas.{charge-removed}
 use Rattle.object_table.proofs.EntryBlockLemmas.{entry_blocks, blocks-removed}
 use Rattle.object_table.proofs.table.graphs.end_entry.Goals as goal
@@ -15,7 +15,7 @@ returns-in-Some-clause-charge c =
       charge-removed c.args.entries.now.entries c.args.name c.in-Some.entry (sym c.in-Some.ensures.value),
       c.bytes-bytes.ensures.value,
       c.requires.charge,
-      ap (λ l. charge_of (map named l)) c.remove.ensures.entries,
+      ap (λ l. charge_of (map entry_object l)) c.remove.ensures.entries,
     )
 
 pub end-requires : goal.end-requires

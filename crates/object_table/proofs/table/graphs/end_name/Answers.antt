@@ -1,5 +1,5 @@
 use Rattle.std.proofs.Common.{map, false, refl, sym, ap, ◌∙◌, lt-ltb, le-ltb}
-use Rattle.object_table.proofs.Common.{remove_entry, is_at, nat_cmp, charge_of, named, kept}
+use Rattle.object_table.proofs.Common.{remove_entry, is_at, nat_cmp, charge_of, entry_object, kept_entries}
 use Rattle.object_table.proofs.KeptLemmas.{all_kept, held-written, dropped, charge-written, ended-none, ended-one}
 use Rattle.object_table.proofs.EntryBlockLemmas.{owns-written, Balances-written, Balances-written_then}
 use Rattle.object_table.proofs.table.graphs.end_name.Goals as goal
@@ -7,7 +7,7 @@ use Rattle.object_table.proofs.table.graphs.end_name.Goals as goal
 pub returns-in_default-clause-entries : goal.returns-in_default-clause-entries
 returns-in_default-clause-entries c =
     let entries = c.args.entries.now.entries in
-    ap (λ m. m.entries) c.get_mut.follows.holds-at-none ∙ sym (all_kept entries c.requires.held) ∙ ap kept (ended-none entries c.args.name (sym c.in_default.ensures.value))
+    ap (λ m. m.entries) c.get_mut.follows.holds-at-none ∙ sym (all_kept entries c.requires.held) ∙ ap kept_entries (ended-none entries c.args.name (sym c.in_default.ensures.value))
 
 pub returns-then-entry-gt0-clause-entries : goal.returns-then-entry-gt0-clause-entries
 returns-then-entry-gt0-clause-entries c =
@@ -17,19 +17,19 @@ returns-then-entry-gt0-clause-entries c =
     let found = sym c.in-Some.ensures.value in
     (c.get_mut.follows.holds new).0
     ∙ held-written entries c.args.name old new found c.requires.held (lt-ltb 0 old.uses c.if-entry-gt0.true)
-    ∙ ap kept (ended-one entries c.args.name old c.get_mut.ensures.ordered found)
+    ∙ ap kept_entries (ended-one entries c.args.name old c.get_mut.ensures.ordered found)
 
 pub returns-then-entry-gt0-clause-charge : goal.returns-then-entry-gt0-clause-charge
 returns-then-entry-gt0-clause-charge c =
     let new = record c.in-Some.entry.now { live = false } in
     c.requires.charge ∙ charge-written c.args.entries.now.entries c.args.name _ new (sym c.in-Some.ensures.value) refl
-    ∙ ap (λ l. charge_of (map named l)) (sym (c.get_mut.follows.holds new).0)
+    ∙ ap (λ l. charge_of (map entry_object l)) (sym (c.get_mut.follows.holds new).0)
 
 pub end_entry-requires-clause-charge : goal.end_entry-requires-clause-charge
 end_entry-requires-clause-charge c =
     let new = record c.in-Some.entry.now { live = false } in
     c.requires.charge ∙ charge-written c.args.entries.now.entries c.args.name _ new (sym c.in-Some.ensures.value) refl
-    ∙ ap (λ l. charge_of (map named l)) (sym (c.get_mut.follows.holds new).0)
+    ∙ ap (λ l. charge_of (map entry_object l)) (sym (c.get_mut.follows.holds new).0)
 
 pub returns-clause-entries : goal.returns-clause-entries
 returns-clause-entries c =
@@ -40,7 +40,7 @@ returns-clause-entries c =
     c.end_entry.ensures.entries
     ∙ ap (remove_entry (is_at (nat_cmp c.args.name))) (c.get_mut.follows.holds new).0
     ∙ dropped entries c.args.name old new found c.requires.held (le-ltb 0 old.uses c.if-entry-gt0.false)
-    ∙ ap kept (ended-one entries c.args.name old c.get_mut.ensures.ordered found)
+    ∙ ap kept_entries (ended-one entries c.args.name old c.get_mut.ensures.ordered found)
 
 pub returns-then-entry-gt0-clause-balances : goal.returns-then-entry-gt0-clause-balances
 returns-then-entry-gt0-clause-balances c =

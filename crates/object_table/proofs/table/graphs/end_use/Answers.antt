@@ -1,5 +1,5 @@
 use Rattle.std.proofs.Common.{◌≡◌, arith, true, map, refl, sym, ap, ◌∙◌, nat_lt, ◌||◌, le-ltb}
-use Rattle.object_table.proofs.Common.{remove_entry, set_value, is_at, nat_cmp, charge_of, named, kept, nat_tests}
+use Rattle.object_table.proofs.Common.{remove_entry, set_value, is_at, nat_cmp, charge_of, entry_object, kept_entries, nat_tests}
 use Rattle.std.proofs.lemmas.Bool.{or_from}
 use Rattle.object_table.proofs.UseLemmas.{with_uses, less, less_is, used-one, used-none, operand_uses, no_operand_uses}
 use Rattle.object_table.proofs.KeptLemmas.{all_kept, held-written, dropped, charge-written, left_of, left-nil}
@@ -17,7 +17,7 @@ returns-in_default-get_mut-clause-entries c =
     let entries = c.args.entries.now.entries in
     let name = c.name-name.result in
     ap (λ m. m.entries) c.get_mut.follows.holds-at-none ∙ sym (all_kept entries c.requires.held)
-    ∙ ap kept (used-none less less_is entries name (sym c.in_default-get_mut.ensures.value))
+    ∙ ap kept_entries (used-none less less_is entries name (sym c.in_default-get_mut.ensures.value))
     ∙ operand_uses left_of c.args.operand c.in-Some.cell name entries c.in-Some.is c.name-name.ensures.value
 
 -- the entry that is left of it
@@ -37,21 +37,21 @@ returns-then-entry-clause-entries c =
     let is : (old.live || nat_lt 0 left) ≡ true =
     grind (arith, nat_tests, c.then-entry.branch) in
     then_is c ∙ held-written entries name old new found c.requires.held is
-    ∙ ap (λ n. kept (set_value (is_at (nat_cmp name)) entries (with_uses old n))) c.saturating_sub-entry.ensures
-    ∙ ap kept (used-one less less_is entries name old c.get_mut.ensures.ordered found)
+    ∙ ap (λ n. kept_entries (set_value (is_at (nat_cmp name)) entries (with_uses old n))) c.saturating_sub-entry.ensures
+    ∙ ap kept_entries (used-one less less_is entries name old c.get_mut.ensures.ordered found)
     ∙ operand_uses left_of c.args.operand c.in-Some.cell name entries c.in-Some.is c.name-name.ensures.value
 
 pub returns-then-entry-clause-charge : goal.returns-then-entry-clause-charge
 returns-then-entry-clause-charge c =
     let new = with_uses c.in-Some-get_mut.entry.now c.saturating_sub-entry.result in
     c.requires.charge ∙ charge-written c.args.entries.now.entries c.name-name.result _ new (sym c.in-Some-get_mut.ensures.value) refl
-    ∙ ap (λ l. charge_of (map named l)) (sym (then_is c))
+    ∙ ap (λ l. charge_of (map entry_object l)) (sym (then_is c))
 
 pub end_entry-requires-clause-charge : goal.end_entry-requires-clause-charge
 end_entry-requires-clause-charge c =
     let new = with_uses c.in-Some-get_mut.entry.now c.saturating_sub-entry.result in
     c.requires.charge ∙ charge-written c.args.entries.now.entries c.name-name.result _ new (sym c.in-Some-get_mut.ensures.value) refl
-    ∙ ap (λ l. charge_of (map named l)) (sym (c.get_mut.follows.holds new).0)
+    ∙ ap (λ l. charge_of (map entry_object l)) (sym (c.get_mut.follows.holds new).0)
 
 pub returns-clause-entries : goal.returns-clause-entries
 returns-clause-entries c =
@@ -64,8 +64,8 @@ returns-clause-entries c =
     c.end_entry.ensures.entries
     ∙ ap (remove_entry (is_at (nat_cmp name))) (c.get_mut.follows.holds new).0
     ∙ dropped entries name old new found c.requires.held (or_from old.live (nat_lt 0 left) c.if-entry.false (le-ltb 0 left c.if-entry-gt0.false))
-    ∙ ap (λ n. kept (set_value (is_at (nat_cmp name)) entries (with_uses old n))) c.saturating_sub-entry.ensures
-    ∙ ap kept (used-one less less_is entries name old c.get_mut.ensures.ordered found)
+    ∙ ap (λ n. kept_entries (set_value (is_at (nat_cmp name)) entries (with_uses old n))) c.saturating_sub-entry.ensures
+    ∙ ap kept_entries (used-one less less_is entries name old c.get_mut.ensures.ordered found)
     ∙ operand_uses left_of c.args.operand c.in-Some.cell name entries c.in-Some.is c.name-name.ensures.value
 
 pub returns-then-entry-clause-balances : goal.returns-then-entry-clause-balances

@@ -1,5 +1,5 @@
 use Rattle.std.proofs.Common.{◌+◌, ◌-◌, ℕ, drop, ◌∙◌, ap, pos, arith, length-set}
-use Rattle.pgm_images.proofs.Common.{nat_tests, count_trailing_zeros, take_next, ends, Kept}
+use Rattle.pgm_images.proofs.Common.{nat_tests, count_trailing_zeros, take_next, ends, TakesNumber}
 use lib.Bits.{and_le_r}
 use Rattle.pgm_images.proofs.RasterLemmas.{filling_set}
 use Rattle.pgm_images.proofs.BlockLemmas.{walk_lowest}
@@ -20,7 +20,7 @@ loop-left-preserved g c =
     let place : ℕ = count_trailing_zeros 64 c.loop-left.left in
     let bytes = c.from-in-loop-left.ensures in
     let same = length-set c.loop-left.samples c.loop-left.next c.of_number.result in
-    let kept : Kept (take_next (drop c.loop-left.end text)) c.from.result (drop (place + c.from-in-loop-left.result) text) =
+    let kept : TakesNumber (take_next (drop c.loop-left.end text)) c.from.result (drop (place + c.from-in-loop-left.result) text) =
     rw (c.from.ensures, bytes) next.kept in (
       rw bytes next.walk,
       omega (arith, bytes, next.fits),

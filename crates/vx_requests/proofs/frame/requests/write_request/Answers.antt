@@ -28,7 +28,7 @@ pub returns-in-AgeDelay-clause-written : goal.returns-in-AgeDelay-clause-written
 returns-in-AgeDelay-clause-written g c = rw c.in-AgeDelay.is c.write_name-in-AgeDelay.ensures
 
 pub returns-in-CreateVirtualImage-clause-written : goal.returns-in-CreateVirtualImage-clause-written
-returns-in-CreateVirtualImage-clause-written g c = rw c.in-CreateVirtualImage.is (rw c.outline_bytes-outline.ensures at c.write_named.ensures)
+returns-in-CreateVirtualImage-clause-written g c = rw c.in-CreateVirtualImage.is (rw c.partial_desc_bytes-partial_desc.ensures at c.write_named.ensures)
 
 pub returns-in-AddNode-clause-written : goal.returns-in-AddNode-clause-written
 returns-in-AddNode-clause-written g c = rw c.in-AddNode.is (rw c.node_bytes-node.ensures at c.write_named-in-AddNode.ensures)

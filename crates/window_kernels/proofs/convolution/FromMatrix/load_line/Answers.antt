@@ -1,5 +1,5 @@
 use Rattle.std.proofs.Common.{◌≡◌, ◌∙◌, ◌/◌, ◌-ℤ◌, ap, sym, subst, pos, length, arith, w32, map-id}
-use Rattle.window_kernels.proofs.Common.{Each1, to_z-of_z, run, look, IsNear}
+use Rattle.window_kernels.proofs.Common.{Each1, to_z-of_z, run, sample_or_border, IsNear}
 use Rattle.window_kernels.proofs.RowLaws.{looks_up_to}
 use Rattle.window_kernels.proofs.convolution.FromMatrix.load_line.Goals as goal
 
@@ -9,8 +9,8 @@ returns-clause-value c =
     let r : c.from-radius.result ≡ s.convolution.now.columns / 2 = omega (arith, c.from-radius.ensures, c.columns.ensures.value) in
     sym (map-id c.load_row.new.out)
     ∙ c.load_row.ensures
-    ∙ ap (λ v. run c.args.x (length c.args.line.now) (λ c'. look s.image.now s.border (pos c' -ℤ pos c.from-radius.result) v)) (to_z-of_z w32 c.args.row c.ranges.row)
-    ∙ ap (λ n. run c.args.x (length c.args.line.now) (λ c'. look s.image.now s.border (pos c' -ℤ pos n) c.args.row)) r
+    ∙ ap (λ v. run c.args.x (length c.args.line.now) (λ c'. sample_or_border s.image.now s.border (pos c' -ℤ pos c.from-radius.result) v)) (to_z-of_z w32 c.args.row c.ranges.row)
+    ∙ ap (λ n. run c.args.x (length c.args.line.now) (λ c'. sample_or_border s.image.now s.border (pos c' -ℤ pos n) c.args.row)) r
 
 pub returns-clause-limit : goal.returns-clause-limit
 returns-clause-limit c =

@@ -1,5 +1,5 @@
 use Rattle.std.proofs.Common.{◌≡◌, ◌∙◌, ◌+◌, ◌*◌, ◌/◌, ◌<◌, ◌+ℤ◌, ◌-ℤ◌, ap, sym, subst, pos, length, map, take, arith, map-id, take_all}
-use Rattle.window_kernels.proofs.Common.{Each1, table, look, row_fits, IsNear}
+use Rattle.window_kernels.proofs.Common.{Each1, table, sample_or_border, row_fits, IsNear}
 use Rattle.vx_base.proofs.TableLaws.{row_written, length_part}
 use Rattle.window_kernels.proofs.RowLaws.{row_fits_too, row_in_bits, line_seen}
 use Rattle.window_kernels.proofs.convolution.FromMatrix.load_rows.Goals as goal
@@ -8,7 +8,7 @@ pub loop-l-preserved : goal.loop-l-preserved
 loop-l-preserved c =
     let s = c.args.self.now in
     let m = s.convolution.now in
-    let f = look s.image.now s.border in
+    let f = sample_or_border s.image.now s.border in
     let l = c.loop-l.l in
     let line = c.args.line in
     let first = c.from-in-loop-l-3.result in
@@ -37,7 +37,7 @@ returns-clause-value c =
     sym (map-id c.loop-l.rows)
     ∙ ap (map (λ z. z)) (sym (take_all (c.loop-l.l * c.args.line) c.loop-l.rows (omega (arith, all))))
     ∙ c.loop-l.invariant.value
-    ∙ ap (λ n. table c.args.line n (λ c' i. look s.image.now s.border (pos (c.args.x + c') -ℤ pos (m.columns / 2)) (pos c.args.y +ℤ pos (m.rows / 2) -ℤ pos i))) end
+    ∙ ap (λ n. table c.args.line n (λ c' i. sample_or_border s.image.now s.border (pos (c.args.x + c') -ℤ pos (m.columns / 2)) (pos c.args.y +ℤ pos (m.rows / 2) -ℤ pos i))) end
 
 pub returns-clause-limit : goal.returns-clause-limit
 returns-clause-limit c =

@@ -1,6 +1,6 @@
 use Rattle.std.proofs.Common.{◌≤◌, ◌+◌, ℕ, pos, length, arith}
 use Rattle.std.proofs.lemmas.Nat.{mul-le}
-use Rattle.window_kernels.proofs.Common.{look, nine_around}
+use Rattle.window_kernels.proofs.Common.{sample_or_border, nine_around}
 use Rattle.window_kernels.proofs.WindowLaws.{parts_joined}
 use Rattle.window_kernels.proofs.windows.FromNineRowFormula.fill.Goals as goal
 
@@ -19,7 +19,7 @@ returns-else-last-eq0 g c =
     let w = s.window.now in
     let first = c.split_at_mut-first.ensures in
     let inside = c.split_at_mut-inside.ensures in
-    parts_joined g.T.Number.value (λ (k : ℕ). g.K.OfWindow.formula s.kernel.now (nine_around (look w.image.now w.border) (pos k) (pos c.args.y))) c.args.x (length c.args.out.now) _ _ _ _ _
+    parts_joined g.T.Number.value (λ (k : ℕ). g.K.OfWindow.formula s.kernel.now (nine_around (sample_or_border w.image.now w.border) (pos k) (pos c.args.y))) c.args.x (length c.args.out.now) _ _ _ _ _
     c.write_place-else-last-eq0.ensures c.write_inside.ensures c.write_place-else-last-eq0-2.ensures
     (omega (arith, c.if-last-eq0.false, first.front_len, first.back_len, inside.front_len))
     (omega (arith, c.if-last-eq0.false, first.front_len, first.back_len, inside.front_len))

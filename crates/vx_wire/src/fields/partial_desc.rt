@@ -1,0 +1,43 @@
+//! Partial descriptions, as virtual images have them: the format, the width and the height. 0
+//! leaves one open.
+ghost use Rattle.std.specs.Prelude.{◌≡◌, IfOk, IsTrue};
+ghost use Rattle.vx_base.specs.PartialDescription.{may_be_side};
+ghost use Rattle.vx_wire.specs.Fields.{Takes};
+ghost use Rattle.vx_wire.specs.PartialDescription.{take_open_side, take_partial_desc, partial_desc_bytes};
+
+use crate::body_fault::BodyFault;
+use crate::fields::Fields;
+use crate::fields::format::{open_format_number, take_open_format};
+use vx_base::{GREATEST_SIDE, PartialDesc};
+
+/// Reads a width or a height: 0 where it is open, or 1 to 8192. `InvalidDimension`: out of range.
+fn take_open_side(fields: &mut Fields) -> Result<Option<u16>, BodyFault>
+    ensures taken { Takes take_open_side fields.old fields.new result }
+    ensures allowed { IfOk result (λ side. IsTrue (may_be_side side)) }
+{
+    match fields.short()? {
+        0 => Ok(None),
+        side if side <= GREATEST_SIDE => Ok(Some(side)),
+        _ => Err(BodyFault::InvalidDimension),
+    }
+}
+
+/// Reads a partial description.
+pub fn take_partial_desc(fields: &mut Fields) -> Result<PartialDesc, BodyFault>
+    ensures { Takes take_partial_desc fields.old fields.new result }
+{
+    let format = take_open_format(fields)?;
+    let width = take_open_side(fields)?;
+    let height = take_open_side(fields)?;
+    Ok(PartialDesc::new(width, height, format).unwrap())
+}
+
+/// Returns the bytes of a partial description.
+pub fn partial_desc_bytes(partial_desc: PartialDesc) -> [u8; 5]
+    ensures { result ≡ partial_desc_bytes partial_desc }
+{
+    let format = open_format_number(partial_desc.format());
+    let [a, b] = partial_desc.width().unwrap_or(0).to_be_bytes();
+    let [c, d] = partial_desc.height().unwrap_or(0).to_be_bytes();
+    [format, a, b, c, d]
+}
