@@ -113,14 +113,14 @@ labels-rounds nodes zero objects = refl
 labels-rounds nodes (suc k) objects = grind (arith, labels-rounds nodes k objects, labels-with_written)
 
 pub seen-one_by_one : (nodes steps : List Node) (objects : List NamedObject) → WritesNo kind.Delay nodes objects → AllIn steps nodes
-    → seen (one_by_one steps objects) ≡ cells.once writes given_in steps (seen objects)
+    → seen (one_by_one steps objects) ≡ cells.one_pass writes given_in steps (seen objects)
 seen-one_by_one nodes [] objects whole within = refl
 seen-one_by_one nodes (n ∷ steps) objects whole within =
     let ws = written_by n (object_at objects) in
     let after : List NamedObject = with_written objects ws in
     let are = AreWrites-node nodes objects objects (λ d. refl) whole n (within n (inl refl)) in
     seen-one_by_one nodes steps after (WritesNo-forms nodes objects after (form-with_written ws objects are) whole) (λ x i. within x (inr i))
-    ∙ ap (cells.once writes given_in steps) (seen-step nodes n objects whole (within n (inl refl)))
+    ∙ ap (cells.one_pass writes given_in steps) (seen-step nodes n objects whole (within n (inl refl)))
 
 pub labels-one_by_one : (steps : List Node) (objects : List NamedObject) → map label_of (one_by_one steps objects) ≡ map label_of objects
 labels-one_by_one [] objects = refl

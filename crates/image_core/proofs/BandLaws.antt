@@ -48,7 +48,7 @@ slice_written old new format s f target same desc valid known is =
 pub slice_written_as : (old new : ImageMut) (format : Format) (width height : ℕ) (s : Rectangle) (f : ℕ → ℕ → ℤ) → IsTarget old → SameSlices old new → new.desc ≡ old.desc → new.valid ≡ s → old.desc.format ≡ format
     → old.desc.width ≡ width → old.desc.height ≡ height → slice_of format new.bytes.now new.shorts.now new.words.now ≡ band width old.rows.start old.rows.count (zero_outside s f) → Writes (image_from width height format s f) old new
 slice_written_as old new format width height s f target same desc valid known wide high is =
-    rw (← wide, ← high) (slice_written old new format s f target same desc valid known (rw (← wide) pixel_at is))
+    rw (← wide, ← high) (slice_written old new format s f target same desc valid known (rw (← wide) at is))
 
 -- samples outside the rectangle are made 0
 pub slice_cleared : (old new : ImageMut) (format : Format) (width : ℕ) (before : List ℤ) → IsTarget old → SameSlices old new → new.desc ≡ old.desc → new.valid ≡ old.valid → old.desc.format ≡ format → width ≡ old.desc.width

@@ -117,7 +117,7 @@ pick : (b : Bool) (t f : ℕ) → pos (cond b t f) ≡ (if b then pos t else pos
 pick true t f = refl
 pick false t f = refl
 
-pub above_is : (limit t f x : ℕ) → pos (cond (top 7 (less limit x)) t f) ≡ spec.chosen (Binary (pos limit)) t f (pos x)
+pub above_is : (limit t f x : ℕ) → pos (cond (top 7 (less limit x)) t f) ≡ spec.threshold_choice (Binary (pos limit)) t f (pos x)
 above_is limit t f x = ap pos (where_w8 (ltb limit x) t f) ∙ pick (ltb limit x) t f
 
 between : (a b : Bool) (lower upper x t f : ℕ) → ltb x lower ≡ a → ltb upper x ≡ b
@@ -126,7 +126,7 @@ between true b lower upper x t f low high = grind (arith, nat_tests, ints, low)
 between false true lower upper x t f low high = grind (arith, nat_tests, ints, low, high)
 between false false lower upper x t f low high = grind (arith, nat_tests, ints, low, high)
 
-pub between_is : (lower upper t f x : ℕ) → pos (cond (top 7 (less x lower)) f (cond (top 7 (less upper x)) f t)) ≡ spec.chosen (Range (pos lower) (pos upper)) t f (pos x)
+pub between_is : (lower upper t f x : ℕ) → pos (cond (top 7 (less x lower)) f (cond (top 7 (less upper x)) f t)) ≡ spec.threshold_choice (Range (pos lower) (pos upper)) t f (pos x)
 between_is lower upper t f x =
     ap pos (where_w8 (ltb x lower) f (cond (top 7 (less upper x)) f t) ∙ ap (λ n. cond (ltb x lower) f n) (where_w8 (ltb upper x) f t))
     ∙ between (ltb x lower) (ltb upper x) lower upper x t f refl refl

@@ -44,7 +44,7 @@ pick : (b : Bool) (t f : ℕ) → pos (cond b t f) ≡ (if b then pos t else pos
 pick true t f = refl
 pick false t f = refl
 
-pub above_is : (limit z : ℤ) (t f : ℕ) → FitsSigned w16 limit → FitsSigned w16 z → pos (cond (top 7 (half (less (less (of_z w16 limit) (of_z w16 z)) 0))) t f) ≡ spec.chosen (Binary limit) t f z
+pub above_is : (limit z : ℤ) (t f : ℕ) → FitsSigned w16 limit → FitsSigned w16 z → pos (cond (top 7 (half (less (less (of_z w16 limit) (of_z w16 z)) 0))) t f) ≡ spec.threshold_choice (Binary limit) t f z
 above_is limit z t f p q = ap pos (at_lane limit z t f p q) ∙ pick (int_lt limit z) t f
 
 between : (a b : Bool) (lower upper z : ℤ) (t f : ℕ) → int_lt z lower ≡ a → int_lt upper z ≡ b
@@ -54,7 +54,7 @@ between false true lower upper z t f low high = grind (arith, nat_tests, ints, l
 between false false lower upper z t f low high = grind (arith, nat_tests, ints, low, high)
 
 pub between_is : (lower upper z : ℤ) (t f : ℕ) → FitsSigned w16 lower → FitsSigned w16 upper → FitsSigned w16 z
-    → pos (cond (top 7 (half (less (less (of_z w16 z) (of_z w16 lower)) 0))) f (cond (top 7 (half (less (less (of_z w16 upper) (of_z w16 z)) 0))) f t)) ≡ spec.chosen (Range lower upper) t f z
+    → pos (cond (top 7 (half (less (less (of_z w16 z) (of_z w16 lower)) 0))) f (cond (top 7 (half (less (less (of_z w16 upper) (of_z w16 z)) 0))) f t)) ≡ spec.threshold_choice (Range lower upper) t f z
 between_is lower upper z t f p q r =
     ap pos (at_lane z lower f (cond (top 7 (half (less (less (of_z w16 upper) (of_z w16 z)) 0))) f t) r p ∙ ap (λ n. cond (int_lt z lower) f n) (at_lane upper z f t q r))
     ∙ between (int_lt z lower) (int_lt upper z) lower upper z t f refl refl

@@ -10,4 +10,4 @@ returns c =
     let t = c.args.true_value in
     let f = c.args.false_value in
     let limit = c.args.limit in
-    row_is (where_less (constant limit) one (constant t) (constant f)) (spec.chosen (Binary (pos limit)) t f) c.args.row c.fits-row (λ x p. above_is limit t f x)
+    row_is (where_less (constant limit) one (constant t) (constant f)) (spec.threshold_choice (Binary (pos limit)) t f) c.args.row c.fits-row (λ x p. above_is limit t f x)

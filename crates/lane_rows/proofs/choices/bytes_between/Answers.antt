@@ -11,4 +11,4 @@ returns c =
     let f = c.args.false_value in
     let lower = c.args.lower in
     let upper = c.args.upper in
-    row_is (where_less one (constant lower) (constant f) (where_less (constant upper) one (constant f) (constant t))) (spec.chosen (Range (pos lower) (pos upper)) t f) c.args.row c.fits-row (λ x p. between_is lower upper t f x)
+    row_is (where_less one (constant lower) (constant f) (where_less (constant upper) one (constant f) (constant t))) (spec.threshold_choice (Range (pos lower) (pos upper)) t f) c.args.row c.fits-row (λ x p. between_is lower upper t f x)

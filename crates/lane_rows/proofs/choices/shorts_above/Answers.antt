@@ -15,5 +15,5 @@ returns c =
     let t = c.args.true_value in
     let f = c.args.false_value in
     let limit = c.args.limit in
-    chosen_are (where_less (constant (of_z w16 limit)) row (constant t) (constant f)) (spec.chosen (Binary limit) t f) c.args.row c.requires.len c.requires.fits
+    chosen_are (where_less (constant (of_z w16 limit)) row (constant t) (constant f)) (spec.threshold_choice (Binary limit) t f) c.args.row c.requires.len c.requires.fits
     (λ z p. above_is limit z t f c.ranges.limit p)

@@ -21,5 +21,5 @@ returns c =
     let f = c.args.false_value in
     let lower = c.args.lower in
     let upper = c.args.upper in
-    chosen_are (where_less row (constant (of_z w16 lower)) (constant f) (where_less (constant (of_z w16 upper)) row (constant f) (constant t))) (spec.chosen (Range lower upper) t f) c.args.row c.requires.len c.requires.fits
+    chosen_are (where_less row (constant (of_z w16 lower)) (constant f) (where_less (constant (of_z w16 upper)) row (constant f) (constant t))) (spec.threshold_choice (Range lower upper) t f) c.args.row c.requires.len c.requires.fits
     (λ z p. between_is lower upper z t f c.ranges.lower c.ranges.upper p)
