@@ -40,10 +40,10 @@ pub fn limits_are_kept()
 /// table, a threshold, a matrix or a virtual image's description. A graph keeps its nodes until one
 /// is added or removed. It follows that:
 ///
-/// - a reference is the same operand as long as an object is held under its name
+/// - while an object is held under a name, references to that name denote the same operand
 /// - the verdict on a graph is the same until a node is added to it or removed from it
-/// - a graph that was verified can still run, in the order and with the descriptions that were
-///   resolved, under the same condition and until the graph is dropped
+/// - a verified graph can still run, in the same order and with the same descriptions, until its
+///   nodes change or it is dropped
 pub fn what_is_held_stays()
     ensures after_one { (limits : LimitsValue) (c later : Context) (request : Request) (name : ℕ) →
         KeepsLimits limits c → IsRequest request →

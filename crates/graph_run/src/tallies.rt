@@ -72,7 +72,8 @@ fn add_tally(tallies: &mut Vec<Tally>, table: &Table, node: &Node) -> Result<(),
     }
 }
 
-/// Returns an empty tally for an object of this kind.
+/// Returns an empty tally for the object of a reference: a histogram with the bins of a
+/// distribution, or extremes.
 pub fn tally_for(table: &Table, wanted: Kind, cell: ObjRef) -> Tally
     requires keeps { KeepsTally table.now.objects wanted cell }
     requires other { wanted ≢ kind.Image }

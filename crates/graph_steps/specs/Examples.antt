@@ -76,7 +76,7 @@ abbrev pub sums_plane : PlaneValue
 sums_plane =
     record { desc = record { width = 1; height = 4; format = U32 }; valid = whole_rectangle 1 4; top = 0; rows = all_rows 4; format = U32; samples = (new_image 1 4 U32).samples }
 
--- the integral image of a client's image
+-- a step that writes the integral image of a client's image
 abbrev pub integral_step : Step
 integral_step =
     record { node = record box_node { function = Integral }; which = First; first = 0; second = Nothing; output = 1; takes = None; radius = 0 }

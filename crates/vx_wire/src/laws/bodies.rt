@@ -11,8 +11,8 @@ pub fn read_back()
         request_of (op_number (op_of request)) (body_of request) ≡ Ok request }
 {}
 
-/// A body encodes at most one request of an op, each request has exactly one encoding, and the
-/// fields of a request that is parsed are in the ranges of their types.
+/// A request that is parsed determines its op and its body, and its fields are in the ranges of
+/// their types. With `read_back`, each request has exactly one encoding.
 pub fn one_spelling()
     ensures op { (op : ℕ) (body : List ℕ) (request : Request) → All (λ b. b < 2 ^ 8) body →
         request_of op body ≡ Ok request → op ≡ op_number (op_of request) }
