@@ -386,7 +386,7 @@ class Beginning(BrokerTest):
             with open(f"{path}.lock", "w") as file, mock.patch.object(listener, "LOCK_SECONDS",
                                                                       0.1):
                 fcntl.flock(file, fcntl.LOCK_EX)
-                with self.assertRaisesRegex(Unusable, "another program begins at"):
+                with self.assertRaisesRegex(Unusable, "another program has been starting at"):
                     listener.listen_at(path, 0o600)
 
     def test_an_empty_path(self) -> None:

@@ -34,9 +34,9 @@ class Counts(Accepted):
 
 def meaning_of(status: int) -> str:
     if status < 0:
-        return f"has been ended by signal {-status}"
+        return f"was ended by signal {-status}"
     words = MEANINGS.get(status)
-    return f"has ended with status {status}{': ' if words else ''}{words or ''}"
+    return f"ended with status {status}{': ' if words else ''}{words or ''}"
 
 
 METRICS = (
