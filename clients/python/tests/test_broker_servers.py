@@ -115,7 +115,7 @@ class TheServer(BrokerTest):
         for program in before:
             program.sock.close()
         self.assertTrue(broker.wait_for(lambda: self.servers_of(broker) == 2))
-        self.assertNotIn("has ended", broker.words())
+        self.assertNotIn("ended with status", broker.words())
         self.assertEqual(after.ask(plain(51)), success(51))
         self.assertEqual(broker.stop(), 0)
 

@@ -80,7 +80,7 @@ class Connections(DoorTest):
             one = self.connect(door)
             self.assertEqual(one.who_asked(), [(CLIENT, WHO_ASKED)])
         self.assertEqual(other.ask(plain(50)), success(50))
-        self.assertIn(f"for process {os.getpid()} of user {os.getuid()} has ended", door.words())
+        self.assertIn(f"for process {os.getpid()} of user {os.getuid()} ended", door.words())
 
     def test_one_that_hangs_or_is_killed_is_nobody_else_s_affair(self) -> None:
         door = self.begin(tells_state=True)
