@@ -622,7 +622,7 @@ class Connection:
         waiting = next((request for request in self._line if request.answer is None), None)
         words = waiting.words if waiting else "the server's end"
         self._fault = TimedOut(f"{words}: no answer in {self._timeout:g} seconds, so the "
-                               "connection was closed")
+                               "connection was closed: allow more by timeout=")
         self._give_up()
         raise self._fault
 

@@ -196,7 +196,11 @@ def _coloured(picture: Any) -> Raster:
         return _of_coloured_array(numpy_module().asarray(picture))
     rows = picture.tolist() if hasattr(picture, "tolist") else picture
     height, width = len(rows), len(rows[0])
-    content = bytes(value for row in rows for pixel in row for value in pixel)
+    numbers = [value for row in rows for pixel in row for value in pixel]
+    wrong = [value for value in numbers if not 0 <= value <= 255]
+    if wrong:
+        raise ValueError(f"coloured pixels must be from 0 to 255, not {wrong[0]!r}")
+    content = bytes(numbers)
     if any(len(row) != width for row in rows) or len(content) != 3 * width * height:
         raise ValueError(f"{_SHAPE_OF_COLOURS}, not {len(content)} numbers in "
                          f"{lengths_in_words(rows)}")

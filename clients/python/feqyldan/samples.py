@@ -287,7 +287,8 @@ def lengths_in_words(rows: Sequence[Sequence[Any]]) -> str:
 def refuse_none_and_paths(value: Any) -> None:
     """Raises BadPicture for None and for a path, which are often passed by mistake."""
     if value is None:
-        raise NotAPicture("None is no picture: cv2.imread() returns it if it can't read a file")
+        raise NotAPicture("None is no picture: cv2.imread() returns it if it can't read a file, so "
+                          "check the path")
     if isinstance(value, (str, os.PathLike)):
         raise NotAPicture(f"a path is no picture, and this is {os.fspath(value)!r}: "
                           "context.load(path) reads the file")

@@ -377,7 +377,8 @@ class Beginning(BrokerTest):
                 is_over.set()
                 for process in begun:
                     process.join()
-                self.assertEqual(said, [f"another program listens at {path}"] * 2 + ["listens"])
+                refused = f"another program listens at {path}: end it, or choose another path"
+                self.assertEqual(said, [refused] * 2 + ["listens"])
             self.assertEqual(os.listdir(folder), [])
 
     def test_a_lock_that_is_held(self) -> None:

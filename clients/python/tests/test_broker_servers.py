@@ -527,7 +527,7 @@ class Beginning(BrokerTest):
         with tempfile.NamedTemporaryFile() as file:
             broker = self.begin_any(path=file.name)
             self.assertEqual(broker.status(), 2)
-            self.assertIn("is no socket", broker.words())
+            self.assertIn("exists and isn't a socket: remove it", broker.words())
             self.assertTrue(os.path.exists(file.name))
 
     def test_what_cant_begin_ends_with_status_2(self) -> None:

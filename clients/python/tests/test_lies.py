@@ -51,7 +51,8 @@ class TestLies(unittest.TestCase):
         for words in (">BHH", 1, 2, 3), (">BHH", 2, 3, 1):
             body = struct.pack(*words) + bytes(6)
             self.is_unexpected(ask, before, wire.reply_frame(0, wire.READ_IMAGE, 0, body),
-                               "the reply is of another object")
+                               "the reply is of another object: its body begins with 0.*, not with "
+                               "01 00 03 00 02")
         before, _, ask = ASKS[wire.READ_DISTRIBUTION]
         lie = wire.reply_frame(0, wire.READ_DISTRIBUTION, 0, b"\0\6" + bytes(20))
         self.is_unexpected(ask, before, lie, "the reply is of another object")

@@ -64,7 +64,8 @@ def check(words: List[str]) -> None:
         status = subprocess.run(words, stdin=subprocess.DEVNULL, stdout=subprocess.DEVNULL,
                                 timeout=TRIAL_SECONDS, check=False).returncode
     except OSError as error:
-        raise Unusable(f"{words[0]} can't be started: {error.strerror}") from error
+        raise Unusable(f"{words[0]} can't be started: {error.strerror}; give the server's path "
+                       "after --") from error
     except subprocess.TimeoutExpired:
         raise Unusable(f"{' '.join(words)} still runs {TRIAL_SECONDS:g} s after the end of its "
                        "input: is it a Feqyldan server?") from None
