@@ -18,7 +18,7 @@ static vx_uint8 *samples;
 static void expect(vx_status status) {
     if (status == VX_SUCCESS)
         return;
-    fprintf(stderr, "c_client: status %d\n", status);
+    fprintf(stderr, "c_client: a call has the status %d, and not VX_SUCCESS\n", status);
     exit(1);
 }
 

@@ -23,7 +23,7 @@ static struct move {
 static void expect(vx_status status) {
     if (status == VX_SUCCESS)
         return;
-    fprintf(stderr, "c_moves: status %d\n", status);
+    fprintf(stderr, "c_moves: a call has the status %d, and not VX_SUCCESS\n", status);
     exit(1);
 }
 

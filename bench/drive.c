@@ -187,8 +187,11 @@ static const char *mode_of(char *word) {
     return word;
   *sides = 0;
   if (sscanf(sides + 1, "%ux%ux%u", &width, &height, &size) != 3 || width < 1 || width > MOST ||
-      height < 1 || height > MOST || size < 1 || size > 2)
+      height < 1 || height > MOST || size < 1 || size > 2) {
+    fprintf(stderr, "drive: the size is %s, and has to be WxHxN: sides up to %d, N 1 or 2\n",
+            sides + 1, MOST);
     exit(2);
+  }
   return word;
 }
 

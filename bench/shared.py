@@ -33,7 +33,8 @@ class Server:
     def body(self):
         head = self.process.stdout.read(8)
         if head[7:] != b"\0":
-            sys.exit(wire.say(head) if head else "the server has ended")
+            sys.exit(f"a request was refused: {wire.say(head)}" if head else
+                     f"the server ended with status {self.process.wait()}")
         return self.process.stdout.read(int.from_bytes(head[:4], "big") - 4)
 
     def create(self, request):

@@ -121,9 +121,10 @@ class Watch:
 
 def main() -> None:
     folder = folder_told()
-    camera = Camera(sys.argv[2] if len(sys.argv) > 2 else "")
+    name = sys.argv[2] if len(sys.argv) > 2 else ""
+    camera = Camera(name)
     if not camera.width:
-        sys.exit("examples/live.py: OpenCV reads no such video or camera")
+        sys.exit(f"examples/live.py: OpenCV can't read {name!r}: give a video or a camera's number")
     late: List[float] = []
     moved = 0
     with vx.Server() as server, server.context() as context:

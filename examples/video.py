@@ -157,14 +157,14 @@ def drawn(seen: Seen) -> Any:
 
 def main() -> None:
     folder = folder_told()
-    camera = Camera(sys.argv[2] if len(sys.argv) > 2
-                    else make_video(os.path.join(folder, "belt.avi")))
+    name = sys.argv[2] if len(sys.argv) > 2 else make_video(os.path.join(folder, "belt.avi"))
+    camera = Camera(name)
     if not camera.width:
-        sys.exit("examples/video.py: OpenCV reads no such video")
+        sys.exit(f"examples/video.py: OpenCV can't read {name!r}: give a video")
     # Before the first frame the delay is 0 everywhere, so that all that is bright has moved.
     seen = watch(camera)[1:]
     if not seen:
-        sys.exit("examples/video.py: a video has two frames or more")
+        sys.exit(f"examples/video.py: {name!r} has fewer than two frames: give a longer video")
     times = sorted(one.seconds for one in seen)
     print(f"    {camera.width} by {camera.height} at {camera.rate:g} frames a second: "
           f"{1 + len(seen)} frames seen, {camera.dropped} dropped")

@@ -24,7 +24,8 @@ def programs_of(asked: argparse.Namespace) -> Dict[str, bytes]:
     for kind, name in KINDS.items():
         path = vars(asked)[kind] or os.path.join(program.CRATE, "out", name)
         if not os.access(path, os.X_OK):
-            sys.exit(f"tools/package: {path} isn't there: build it by tools/build --cpu={kind}")
+            sys.exit(f"tools/package: {path} isn't a program that can be run: build it by "
+                     f"tools/build --cpu={kind}")
         if name in here:
             check_version(path)
         with open(path, "rb") as file:
@@ -36,7 +37,7 @@ def check_version(path: str) -> None:
     said = subprocess.run([path, "--version"], stdout=subprocess.PIPE, text=True, check=True).stdout
     if said.split()[1:] != [feqyldan.__version__]:
         sys.exit(f"tools/package: {path} is {said.strip()}, and the Python package "
-                 f"{feqyldan.__version__}")
+                 f"{feqyldan.__version__}: build the program anew by tools/build")
 
 
 def c_library(programs: Dict[str, bytes]) -> Tuple[int, int]:
@@ -56,9 +57,11 @@ def date() -> str:
 
 def main() -> None:
     parser = argparse.ArgumentParser(prog="tools/package")
-    parser.add_argument("folder", nargs="?", default=os.path.join(ROOT, "out"))
-    for kind in KINDS:
-        parser.add_argument(f"--{kind}", dest=kind, metavar="PROGRAM")
+    parser.add_argument("folder", nargs="?", default=os.path.join(ROOT, "out"),
+                        help="folder for the packages (default: out)")
+    for kind, name in KINDS.items():
+        parser.add_argument(f"--{kind}", dest=kind, metavar="PROGRAM",
+                            help=f"server's program for {kind} (default: {name} of tools/build)")
     asked = parser.parse_args()
     programs = programs_of(asked)
     oldest = c_library(programs)

@@ -92,7 +92,7 @@ def digests(stage: str, paths: Iterable[str]) -> str:
 def finish(stage: str, folder: str, scripts: Mapping[str, Data], **fields: str) -> str:
     """Packs a folder into a package of these fields, with the maintainer's scripts; its path."""
     if shutil.which("dpkg-deb") is None:
-        sys.exit("tools/package: there is no command dpkg-deb")
+        sys.exit("tools/package: there is no command dpkg-deb on the PATH: install dpkg")
     os.chmod(stage, 0o755)
     put(stage, documents(fields["name"]), 0o644)
     installed = [path for path in glob.glob(f"{stage}/usr/**", recursive=True)

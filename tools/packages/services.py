@@ -103,7 +103,8 @@ def unit(name: str) -> str:
     said = debian.text_of("deploy", name)
     for before, after in CHANGES.get(name, {}).items():
         if said.count(before) != 1:
-            sys.exit(f"tools/package: deploy/{name} has {before!r} not just once")
+            sys.exit(f"tools/package: deploy/{name} must have {before!r} once, not "
+                     f"{said.count(before)} times")
         said = said.replace(before, after)
     return said
 

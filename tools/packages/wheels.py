@@ -22,7 +22,8 @@ def python() -> str:
     for path in (sys.executable, "/usr/bin/python3"):
         if not subprocess.run([path, "-c", asked], check=False).returncode:
             return path
-    sys.exit("tools/package: Python's pip isn't installed")
+    sys.exit("tools/package: neither python3 nor /usr/bin/python3 has pip: install it (Debian's "
+             "python3-pip)")
 
 
 def pure(folder: str) -> str:

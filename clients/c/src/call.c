@@ -90,12 +90,14 @@ vx_status check_value(vx_reference about, const struct call *call, const struct 
         return refuse(about, call, status, "%s is NULL, and has to be %s", formal->name,
                       noun_of(formal->type));
     if (status == VX_ERROR_INVALID_SCOPE)
-        return refuse(about, call, status, "%s is of another context: make it in this one",
+        return refuse(about, call, status, "%s belongs to another context: make it in this one",
                       formal->name);
     if (check(context, value, VX_TYPE_ERROR) == VX_SUCCESS)
-        return refuse(about, call, status, "%s is an object that couldn't be made: status %d",
+        return refuse(about, call, status, "%s is an object that couldn't be made: status %d; see the log entry of the "
+                      "call that made it",
                       formal->name, value->status);
-    return refuse(about, call, status, "%s isn't %s", formal->name, noun_of(formal->type));
+    return refuse(about, call, status, "%s isn't %s: was it released, or is it of another type?",
+                  formal->name, noun_of(formal->type));
 }
 
 /* In immediate mode a scale or shift is a number, except that of AccumulateSquareImage. */
@@ -128,12 +130,14 @@ static vx_status check_scope(vx_reference about, const struct call *call,
         return VX_SUCCESS;
     if (image->is_uniform && formal->direction != VX_INPUT)
         return refuse(about, call, VX_ERROR_INVALID_PARAMETERS,
-                      "%s is a uniform image, which no node can write", formal->name);
+                      "%s is a uniform image, which no node can write: give one of vxCreateImage",
+                      formal->name);
     if (image->scope == 0 || image->scope == scope_of(about))
         return VX_SUCCESS;
     if (about->type == VX_TYPE_CONTEXT)
         return refuse(about, call, VX_ERROR_OPTIMIZED_AWAY,
-                      "%s is a virtual image, which only the nodes of its graph can use",
+                      "%s is a virtual image, which only the nodes of its graph can use: give one "
+                      "of vxCreateImage",
                       formal->name);
     return refuse(about, call, VX_ERROR_INVALID_SCOPE,
                   "%s is a virtual image of another graph: make it for this one", formal->name);
@@ -174,7 +178,9 @@ static vx_status check_policy(vx_reference about, const struct call *call,
         return VX_SUCCESS;
     if (is_rounding && value == VX_ROUND_POLICY_TO_NEAREST_EVEN)
         return refuse(about, call, VX_ERROR_NOT_SUPPORTED,
-                      "%s has to be VX_ROUND_POLICY_TO_ZERO", formal->name);
+                      "%s is VX_ROUND_POLICY_TO_NEAREST_EVEN, and has to be "
+                      "VX_ROUND_POLICY_TO_ZERO",
+                      formal->name);
     if (is_rounding ? value == VX_ROUND_POLICY_TO_ZERO
                     : value == VX_CONVERT_POLICY_WRAP || value == VX_CONVERT_POLICY_SATURATE)
         return VX_SUCCESS;
@@ -281,7 +287,7 @@ static vx_status send_limits(vx_reference about, const struct call *call) {
     vx_threshold threshold = (vx_threshold)call->operands[IN2];
     if (threshold->kind == VX_THRESHOLD_TYPE_RANGE && threshold->upper < threshold->lower)
         return refuse(about, call, VX_ERROR_INVALID_VALUE,
-                      "thresh has an upper limit of %d, below its lower one of %d",
+                      "thresh has an upper limit of %d, below its lower one of %d: set both anew",
                       threshold->upper, threshold->lower);
     return send_threshold(threshold);
 }

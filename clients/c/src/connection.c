@@ -253,12 +253,13 @@ bool connection_wait(struct connection *connection, struct request *request) {
 void connection_say_end(struct connection *connection, char *words, size_t room) {
     char said[256];
     if (connection->is_inherited) {
-        snprintf(words, room, "the server is the parent process's: make a context in the child");
+        snprintf(words, room, "the server is the parent process's: make a context in this process");
         return;
     }
     if (connection->has_timed_out) {
         snprintf(words, room,
-                 "the server didn't answer within the %g s that FEQYLDAN_TIMEOUT allows",
+                 "the server didn't answer within the %g s that FEQYLDAN_TIMEOUT allows: allow more, "
+                 "or see what keeps it busy",
                  connection->timeout / 1000.0);
         return;
     }

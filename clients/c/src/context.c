@@ -57,11 +57,20 @@ static vx_status lost(vx_context context) {
     return VX_FAILURE;
 }
 
+/* What to do after a refusal that is no mistake of the program; empty for others. */
+static const char *advice_on(vx_status status) {
+    if (status == VX_ERROR_NO_MEMORY)
+        return ": the machine had no memory; release objects, or try again";
+    if (status == VX_ERROR_NO_RESOURCES)
+        return ": release objects, or allow more bytes of images by FEQYLDAN_QUOTA";
+    return "";
+}
+
 static vx_status status_of(vx_context context, const struct request *request) {
     vx_status status = STATUS_OF_CODE[request->code];
     if (status != VX_SUCCESS && !request->is_quiet)
-        tell(REFERENCE(context), status, "the server refused %s: %s", OP_NAMES[request->op],
-             CODE_NAMES[request->code]);
+        tell(REFERENCE(context), status, "the server refused %s: %s%s", OP_NAMES[request->op],
+             CODE_NAMES[request->code], advice_on(status));
     return status;
 }
 
@@ -149,7 +158,9 @@ static bool open_server(vx_context context, char *why, size_t room) {
         connection_say_end(&context->connection, why, room);
     else
         snprintf(why, room, "the server refused OpenContext: %s%s", name_of_status(status),
-                 status == VX_ERROR_NO_RESOURCES ? ": it has too many connections" : "");
+                 status == VX_ERROR_NO_RESOURCES
+                     ? ": it has too many connections; close one, or allow more (--connections)"
+                     : "");
     return status == VX_SUCCESS;
 }
 

@@ -90,7 +90,8 @@ PUBLIC vx_node VX_API_CALL vxCreateGenericNode(vx_graph graph, vx_kernel kernel)
     if (check(context, kernel, VX_TYPE_KERNEL) == VX_SUCCESS)
         made = add_node(graph, (struct call){.function = kernel->function, .is_generic = true});
     else
-        made = add_missing_node(graph, "vxCreateGenericNode: kernel isn't a kernel");
+        made = add_missing_node(graph, "vxCreateGenericNode: kernel isn't a kernel: get one by "
+                                       "vxGetKernelByEnum or vxGetKernelByName");
     leave(context, VX_SUCCESS);
     return made;
 }

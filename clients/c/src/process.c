@@ -26,7 +26,9 @@ extern char **environ;
 enum { END_TIME = 1000, PIPE_BYTES = 1 << 19, GREATEST_TIMEOUT = 1000000 };
 
 static bool no_server(char *why, size_t room, const char *what, const char *path, int error) {
-    snprintf(why, room, "%s %s: %s", what, path, strerror(error));
+    snprintf(why, room, "can't %s %s: %s%s", what, path, strerror(error),
+             error == ENOENT ? "; set FEQYLDAN_PROGRAM to a server, or FEQYLDAN_SOCKET to a socket"
+                             : "");
     return false;
 }
 

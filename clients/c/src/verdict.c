@@ -175,8 +175,8 @@ static void tell_writers(vx_node node, const struct formal *formal, vx_node othe
     describe_node(node, first, sizeof first);
     describe_node(other, second, sizeof second);
     other->status = VX_ERROR_MULTIPLE_WRITERS;
-    tell(about_of(other), VX_ERROR_MULTIPLE_WRITERS, "%s writes %s, which %s writes too", first,
-         formal->name, second);
+    tell(about_of(other), VX_ERROR_MULTIPLE_WRITERS, "%s writes %s, which %s writes too: give "
+         "each an output of its own", first, formal->name, second);
 }
 
 vx_status check_writers(vx_graph graph) {
@@ -291,7 +291,9 @@ static bool explain_link(vx_graph graph) {
                 (formal->direction == VX_INPUT && is_written(graph, &image->base)))
                 continue;
             snprintf(words, sizeof words, "%s is a virtual image that %s", formal->name,
-                     formal->direction == VX_INPUT ? "no node writes" : "can't be added to");
+                     formal->direction == VX_INPUT
+                         ? "no node writes: add the node that does"
+                         : "can't be added to: give one of vxCreateImage");
             tell_node(node, VX_ERROR_INVALID_LINK, words);
             return true;
         }
@@ -311,7 +313,8 @@ bool explain_cycle(vx_graph graph) {
     vx_node node = find_cycle(graph);
     if (node != NULL)
         tell_node(node, VX_ERROR_INVALID_GRAPH,
-                  "it reads, directly or through other nodes, what it writes");
+                  "it reads, directly or through other nodes, what it writes: remove a node of this "
+                  "cycle, or let it read an older slot of a delay");
     return node != NULL;
 }
 

@@ -120,8 +120,8 @@ static void give_up(int is_long) {
     else
         status = vxProcessGraph(graph);
     EXPECT(VX_FAILURE, status);
-    CHECK(strcmp(said, "the server didn't answer within the 1.5 s that FEQYLDAN_TIMEOUT allows") ==
-          0);
+    CHECK(strcmp(said, "the server didn't answer within the 1.5 s that FEQYLDAN_TIMEOUT allows: "
+                       "allow more, or see what keeps it busy") == 0);
     EXPECT(VX_FAILURE, vxProcessGraph(graph));
     EXPECT(VX_SUCCESS, vxReleaseContext(&context));
     CHECK(kill(server, 0) != 0);

@@ -367,7 +367,8 @@ class Library(unittest.TestCase):
                                    stderr=subprocess.PIPE, text=True, check=False)
             self.assertEqual(ended.returncode, 3)
             self.assertIn("vxCreateContext: ", ended.stderr)
-            self.assertIn("/nowhere: No such file or directory", ended.stderr)
+            self.assertIn("/nowhere: No such file or directory; set FEQYLDAN_PROGRAM to a server, "
+                          "or FEQYLDAN_SOCKET to a socket", ended.stderr)
 
     def test_a_program_that_is_no_server_gives_no_context(self):
         path = build("ending")
@@ -458,8 +459,8 @@ class Library(unittest.TestCase):
         said = subprocess.run([build("crowd")], capture_output=True, text=True, check=True,
                               env={**os.environ, "FEQYLDAN_SOCKET": broker})
         self.assertEqual(said.stdout, "1\n")
-        self.assertIn("the server refused OpenContext: NO_RESOURCES: it has too many connections",
-                      said.stderr)
+        self.assertIn("the server refused OpenContext: NO_RESOURCES: it has too many connections; "
+                      "close one, or allow more (--connections)", said.stderr)
 
     def test_too_few_descriptors_are_told_from_too_little_memory(self):
         said = subprocess.run(["sh", "-c", f"ulimit -n 7; exec {build('crowd')}"],

@@ -207,7 +207,7 @@ static void log_entries(void) {
     EXPECT(VX_SUCCESS, STATUS(vxNotNode(graph, unwritten, v8)));
     EXPECT(VX_ERROR_INVALID_LINK, vxVerifyGraph(graph));
     CHECK(entries == 2 && strcmp(said, "node 0 (vxNotNode): input is a virtual image that no "
-                                        "node writes") == 0);
+                                        "node writes: add the node that does") == 0);
     EXPECT(VX_SUCCESS, vxReleaseGraph(&graph));
     vxAddLogEntry((vx_reference)u8, VX_FAILURE, "%d of %s", 3, "four");
     CHECK(entries == 3 && told == VX_FAILURE && strcmp(said, "3 of four") == 0);

@@ -34,7 +34,7 @@ static void refuse_holes(void) {
     EXPECT(VX_SUCCESS, STATUS(vxNotNode(graph, u8, v8)));
     EXPECT(VX_SUCCESS, vxVerifyGraph(graph));
     SAYS(VX_ERROR_INVALID_REFERENCE, STATUS(vxBox3x3Node(graph, error, v8)),
-         "vxBox3x3Node: input is an object that couldn't be made: status -3");
+         "vxBox3x3Node: input is an object that couldn't be made: status -3; see the log entry");
     CHECK(!vxIsGraphVerified(graph) && about == (vx_reference)graph);
     SAYS(VX_ERROR_INVALID_NODE, vxVerifyGraph(graph),
          "a node of the graph couldn't be made: make the graph anew");
@@ -67,7 +67,7 @@ static void tell_operands(void) {
     LACKS("vxConvertDepthNode: shift is a scalar of VX_TYPE_INT16, and has to be of VX_TYPE_INT32",
           VX_ERROR_INVALID_TYPE,
           vxConvertDepthNode(graph, u8, s16, VX_CONVERT_POLICY_WRAP, word));
-    LACKS("vxTableLookupNode: lut isn't a lookup table", VX_ERROR_INVALID_REFERENCE,
+    LACKS("vxTableLookupNode: lut isn't a lookup table: was it released, or ", VX_ERROR_INVALID_REFERENCE,
           vxTableLookupNode(graph, u8, (vx_lut)shift, v8));
     LACKS("vxMinMaxLocNode: minLoc is an array of VX_TYPE_UINT8, and has to be of "
           "VX_TYPE_COORDINATES2D", VX_ERROR_INVALID_TYPE,
@@ -94,7 +94,7 @@ static void tell_numbers(void) {
     EXPECT(VX_SUCCESS,
            vxCopyThresholdRange(range, &lower, &upper, VX_WRITE_ONLY, VX_MEMORY_TYPE_HOST));
     SAYS(VX_ERROR_INVALID_VALUE, vxuThreshold(context, u8, range, v8),
-         "vxuThreshold: thresh has an upper limit of 8, below its lower one of 9");
+         "vxuThreshold: thresh has an upper limit of 8, below its lower one of 9: set both anew");
     EXPECT(VX_SUCCESS, STATUS(vxMultiplyNode(graph, u8, u8, scale, VX_CONVERT_POLICY_WRAP,
                                              VX_ROUND_POLICY_TO_ZERO, v8)));
     SAYS(VX_ERROR_NOT_SUPPORTED, vxVerifyGraph(graph),
@@ -147,13 +147,16 @@ static void tell_links(void) {
     vx_image other = vxCreateVirtualImage(graph, 4, 4, VX_DF_IMAGE_U8);
     vx_node first = vxNotNode(graph, between, v8);
     SAYS(VX_ERROR_INVALID_LINK, vxVerifyGraph(graph),
-         "node 0 (vxNotNode): input is a virtual image that no node writes");
+         "node 0 (vxNotNode): input is a virtual image that no node writes: add the node that "
+         "does");
     vx_node second = vxNotNode(graph, v8, between);
     SAYS(VX_ERROR_INVALID_GRAPH, vxVerifyGraph(graph),
-         "node 0 (vxNotNode): it reads, directly or through other nodes, what it writes");
+         "node 0 (vxNotNode): it reads, directly or through other nodes, what it writes: remove a "
+         "node of this cycle");
     vx_node third = vxNotNode(graph, u8, v8);
     SAYS(VX_ERROR_MULTIPLE_WRITERS, vxVerifyGraph(graph),
-         "node 0 (vxNotNode) writes output, which node 2 (vxNotNode) writes too");
+         "node 0 (vxNotNode) writes output, which node 2 (vxNotNode) writes too: give each an "
+         "output of its own");
     CHECK(status_of(third) == VX_ERROR_MULTIPLE_WRITERS);
     EXPECT(VX_SUCCESS, vxRemoveNode(&first));
     EXPECT(VX_SUCCESS, vxRemoveNode(&second));
@@ -173,7 +176,8 @@ static void refuse_two_writers(void) {
     vx_graph graph = vxCreateGraph(context);
     vx_node node = vxMinMaxLocNode(graph, u8, one, one, NULL, NULL, NULL, NULL);
     SAYS(VX_ERROR_MULTIPLE_WRITERS, vxVerifyGraph(graph),
-         "node 0 (vxMinMaxLocNode) writes minVal, which node 0 (vxMinMaxLocNode) writes too");
+         "node 0 (vxMinMaxLocNode) writes minVal, which node 0 (vxMinMaxLocNode) writes too: give "
+         "each an output of its own");
     EXPECT(VX_SUCCESS, vxSetParameterByIndex(node, 2, (vx_reference)two));
     EXPECT(VX_SUCCESS, vxSetParameterByIndex(node, 3, (vx_reference)places));
     EXPECT(VX_SUCCESS, vxVerifyGraph(graph));

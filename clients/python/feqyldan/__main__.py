@@ -21,14 +21,14 @@ from typing import (
 from . import wire
 from .errors import FeqyldanError, Refused
 from .files import load
-from .graph_files import GraphFile, drawing_of_file, read_graph, told_by
+from .graph_files import GraphFile, Reader, drawing_of_file, told_by
 from .images import AnyImage
 from .objects import Distribution, MinMax
 from .pictures import write_npy, write_png
 from .samples import Format, numpy_module
 from .server import Server, connect
 
-DESCRIPTION = "Runs a graph that Graph.save() wrote on pictures, or draws it."
+DESCRIPTION = "Runs a graph file, as Graph.save() writes it, on pictures, or draws it."
 
 
 def arguments(words: Optional[Sequence[str]]) -> argparse.Namespace:
@@ -36,26 +36,28 @@ def arguments(words: Optional[Sequence[str]]) -> argparse.Namespace:
     commands = parser.add_subparsers(dest="command", required=True)
     run = commands.add_parser("run", help="run a graph on pictures", description=(
         "Writes each picture to the graph's input, runs the graph and saves its results. Images go "
-        "to a folder. Numbers go to a CSV file, a line for each picture: extremes, counts, and of "
-        "each image how many samples aren't 0. Without --out and --csv these lines go to standard "
-        "output."))
-    run.add_argument("graph", help="the JSON file of the graph")
+        "to a folder. Numbers go to a CSV file, one line for each picture: extremes, counts, and "
+        "for each image the number of samples that aren't 0. Without --out and --csv these lines "
+        "go to standard output."))
+    run.add_argument("graph", help="JSON file of the graph")
     run.add_argument("--in", dest="pictures", required=True, nargs="+", metavar="PATTERN",
-                     help="pictures, by names or by quoted patterns such as 'parts/*.png'; the "
-                     "files of a pattern come in natural order, part2 before part10, which "
-                     "matters to a graph with a delay")
-    run.add_argument("--out", metavar="FOLDER", help="the folder for images, which is made if it "
-                     "isn't there: PNG files with the names of the pictures, or NumPy's (.npy) for "
-                     "negative samples and for U32")
-    run.add_argument("--csv", metavar="FILE", help="the file for numbers, whose folder is made if "
-                     "it isn't there")
-    run.add_argument("--socket", metavar="PATH", help="use the broker at this socket, and start no "
-                     "server")
-    run.add_argument("--quiet", action="store_true", help="show no progress")
+                     help="names of pictures, or quoted patterns such as 'parts/*.png'; the files "
+                     "of a pattern come in natural order, part2 before part10, which matters to "
+                     "a graph with a delay")
+    run.add_argument("--out", metavar="FOLDER", help="folder for images (default: none are saved); "
+                     "the folder is made if it doesn't exist. Files are PNG with the names of the "
+                     "pictures, or NumPy's (.npy) for negative samples and for U32")
+    run.add_argument("--csv", metavar="FILE", help="file for numbers (default: standard output "
+                     "without --out); its folder is made if it doesn't exist")
+    run.add_argument("--socket", metavar="PATH", help="Unix socket of a broker or door (default: "
+                     "start a server)")
+    run.add_argument("--quiet", action="store_true",
+                     help="show no progress (default: shown at a terminal)")
     draw = commands.add_parser("draw", help="draw a graph as SVG", description=(
-        "Writes the graph as SVG to standard output: by Graphviz where it is installed."))
-    draw.add_argument("graph", help="the JSON file of the graph")
-    draw.add_argument("--dot", action="store_true", help="write Graphviz's language")
+        "Writes the graph as SVG to standard output, by Graphviz if it is installed."))
+    draw.add_argument("graph", help="JSON file of the graph")
+    draw.add_argument("--dot", action="store_true",
+                      help="write Graphviz's language (default: SVG)")
     return parser.parse_args(words)
 
 
@@ -83,9 +85,10 @@ def run(told: argparse.Namespace) -> int:
     with ExitStack() as ends:
         server = ends.enter_context(connect(told.socket, retry=10) if told.socket else Server())
         context = ends.enter_context(server.context())
-        station = read_graph(context, told.graph)
+        contents = told_by(told.graph)
+        station = Reader(context, told.graph).read(contents)
         camera = the_input(station, told.graph)
-        report = Report(told, paths, station, ends)
+        report = Report(told, paths, files_in(told.graph, contents), station, ends)
         frames = map(load, progress(paths, told.quiet))
         results = station.graph.stream(frames, camera, list(station.outputs.values()))
         for path in paths:
@@ -112,11 +115,11 @@ def paths_of(patterns: Sequence[str]) -> List[str]:
     for pattern in patterns:
         if os.path.isdir(pattern):
             inside = os.path.join(pattern, "*.png")
-            raise IsADirectoryError(f"{pattern} is a folder: name its pictures, as by '{inside}'")
+            raise IsADirectoryError(f"{pattern} is a folder: name its pictures, as in '{inside}'")
         paths = [pattern] if os.path.exists(pattern) else sorted(
             filter(os.path.isfile, glob.glob(pattern, recursive=True)), key=natural)
         if not paths:
-            raise FileNotFoundError(f"no file is {pattern}")
+            raise FileNotFoundError(f"no file matches {pattern}: check the name or the pattern")
         found += paths
     return found
 
@@ -129,8 +132,8 @@ def natural(path: str) -> Tuple[List[Union[str, int]], str]:
 
 def the_input(graph: GraphFile, path: str) -> AnyImage:
     if len(graph.inputs) != 1 or not graph.outputs:
-        raise ValueError(f"{path}: a graph that is run has one input, an image with \"input\": "
-                         f"true, and one output or more; this one has {len(graph.inputs)} and "
+        raise ValueError(f"{path}: the graph must have one input (an image with \"input\": true) "
+                         f"and at least one output, not {len(graph.inputs)} and "
                          f"{len(graph.outputs)}")
     return next(iter(graph.inputs.values()))
 
@@ -159,12 +162,12 @@ class Report:
     """The destination of the results: pictures go to a folder, numbers to a CSV file, or to
     standard output if neither is given."""
 
-    def __init__(self, told: argparse.Namespace, paths: Sequence[str], station: GraphFile,
-                 ends: ExitStack) -> None:
+    def __init__(self, told: argparse.Namespace, paths: Sequence[str], others: Sequence[str],
+                 station: GraphFile, ends: ExitStack) -> None:
         self._folder: Optional[str] = told.out
         self._images = {name: thing for name, thing in station.outputs.items()
                         if isinstance(thing, AnyImage)}
-        self._look_at_files(told, paths)
+        self._look_at_files(told, paths, others)
         if self._folder is not None:
             os.makedirs(self._folder, exist_ok=True)
         self._lines: Any = None
@@ -173,28 +176,30 @@ class Report:
             self._lines = csv.writer(file)
             self._lines.writerow(["picture", *columns_of(station.outputs)])
 
-    def _look_at_files(self, told: argparse.Namespace, paths: Sequence[str]) -> None:
-        """Refuses results that would overwrite an input, or one another."""
-        read = {identity(path): path for path in (*paths, told.graph, *files_in(told.graph))}
+    def _look_at_files(self, told: argparse.Namespace, paths: Sequence[str],
+                       others: Sequence[str]) -> None:
+        """Refuses results that would overwrite a picture, another file that is read, or one
+        another."""
+        read = {identity(path): path for path in (*paths, *others)}
         if told.csv is not None and identity(told.csv) in read:
-            raise ValueError(f"--csv {told.csv} would be written over what is read: name another "
-                             "file")
+            raise ValueError(f"--csv {told.csv} would overwrite {read[identity(told.csv)]}, which "
+                             "is read: name another file")
         if self._folder is None:
             return
         wrong = [name for name in self._images if "/" in name]
         if wrong and len(self._images) > 1:
-            raise ValueError(f'{told.graph}: "{wrong[0]}" would be a part of the name of a file in '
-                             '--out: name that image without "/"')
+            raise ValueError(f'{told.graph}: the name "{wrong[0]}" has a "/", and --out names '
+                             'files by images: rename the image')
         writers: Dict[str, str] = {}
         for path, file in self._files_of(paths):
             if identity(file) in read:
-                raise ValueError(f"--out {self._folder}: the image of {path} would be written over "
+                raise ValueError(f"--out {self._folder}: the image of {path} would overwrite "
                                  f"{read[identity(file)]}, which is read: name another folder")
             other = writers.setdefault(file, path)
             if identity(other) != identity(path):
                 raise ValueError(f"--out {self._folder}: the images of {other} and of {path} would "
-                                 "have the same name: run them one after the other, each with a "
-                                 "folder of its own")
+                                 f"both be {file}: run them one after the other, each with its own "
+                                 "folder")
 
     def _files_of(self, paths: Sequence[str]) -> Iterator[Tuple[str, str]]:
         """Returns each picture with each file that may be written for it."""
@@ -223,10 +228,10 @@ def opened(path: str) -> TextIO:
     return open(path, "w", newline="", encoding="utf-8")
 
 
-def files_in(path: str) -> List[str]:
-    """Returns the picture files that the file of a graph names."""
-    return [os.path.join(os.path.dirname(path), described["file"])
-            for described in told_by(path)["objects"].values() if "file" in described]
+def files_in(path: str, contents: Dict[str, Any]) -> List[str]:
+    """Returns the file of a graph with these contents, and the picture files that they name."""
+    return [path, *(os.path.join(os.path.dirname(path), described["file"])
+                    for described in contents["objects"].values() if "file" in described)]
 
 
 def identity(path: str) -> Tuple[Any, ...]:

@@ -56,7 +56,6 @@ LEAD = 3
 # No reply is longer: 9 bytes, and the samples of the greatest image, of 4 bytes each. It is told
 # without the four bytes of itself.
 GREATEST_REPLY = 9 + 4 * GREATEST_SIDE**2
-NO_LENGTH = "what was read is no reply frame: its length isn't allowed"
 # No request is longer, told likewise: the server ends where it reads a greater length.
 GREATEST_REQUEST = GREATEST_LENGTH
 
@@ -67,6 +66,12 @@ Part = Union[bytes, memoryview]
 # What of a request's objects is at fault, in words, for the code that the server refused it with;
 # empty if unknown.
 Explain = Callable[[int], str]
+
+
+def bad_length(size: int) -> UnexpectedReply:
+    """Returns the exception for a reply whose length isn't allowed."""
+    return UnexpectedReply(f"a reply has the length {size:,}, and 4 to {GREATEST_REPLY:,} are "
+                           "allowed: is the other end a Feqyldan server?")
 
 
 class Place(NamedTuple):
@@ -143,19 +148,23 @@ class Request:
     def look_at(self, length: int, client: int, op: int, code: int) -> None:
         """Raises UnexpectedReply if a reply that begins like this can't be for this request."""
         if client != self.client or op != self.op:
-            raise UnexpectedReply(f"{self.words}: the reply is to op {op} of client {client}")
+            raise UnexpectedReply(f"{self.words}: the reply is to op {op} of client {client}, not "
+                                  f"to op {self.op} of client {self.client}")
         if code >= len(CODES):
-            raise UnexpectedReply(f"{self.words}: the reply has the unknown code {code}")
+            raise UnexpectedReply(f"{self.words}: the reply has the unknown code {code}; the codes "
+                                  f"are 0 to {len(CODES) - 1}")
         size, wanted = length - 4, 0 if code else self.body.size
         if size != wanted:
             raise UnexpectedReply(f"{self.words}: the reply with code {CODES[code]} has a body of "
-                                  f"{size} bytes, and not of {wanted}")
+                                  f"{size} bytes, not of {wanted}")
 
     def arrive(self, reply: memoryview, end: int) -> None:
         """Takes the reply to this request, and the position where it ends among all replies."""
         code, begin = reply[7], self.body.begin
-        if begin and code == 0 and reply[HEAD.size : HEAD.size + len(begin)] != begin:
-            raise UnexpectedReply(f"{self.words}: the reply is of another object")
+        found = bytes(reply[HEAD.size : HEAD.size + len(begin)])
+        if begin and code == 0 and found != begin:
+            raise UnexpectedReply(f"{self.words}: the reply is of another object: its body begins "
+                                  f"with {found.hex(' ')}, not with {begin.hex(' ')}")
         if self.on_answer is not None:
             self.on_answer(reply)
         if self.on_refusal is not None and code != 0:
@@ -268,9 +277,10 @@ class Replies:
             return None
         size, client, op, code = HEAD.unpack_from(buffer, start)
         if not 4 <= size <= GREATEST_REPLY:
-            raise UnexpectedReply(NO_LENGTH)
+            raise bad_length(size)
         if request is None:
-            raise UnexpectedReply("there is a reply without a request")
+            raise UnexpectedReply(f"a reply to op {op} of client {client} came without a request: "
+                                  "is the other end a Feqyldan server?")
         # No memory is taken for what is no reply.
         request.look_at(size, client, op, code)
         length, end = 4 + size, at + 4 + size
@@ -311,8 +321,9 @@ class Replies:
     def _make_room(self, rest: memoryview, at: int) -> None:
         """Begins a new chunk with the rest, which is at most seven bytes of a frame whose head
         isn't known yet."""
-        if len(rest) >= 4 and not 4 <= int.from_bytes(rest[:4], "big") <= GREATEST_REPLY:
-            raise UnexpectedReply(NO_LENGTH)
+        size = int.from_bytes(rest[:4], "big")
+        if len(rest) >= 4 and not 4 <= size <= GREATEST_REPLY:
+            raise bad_length(size)
         if at > self._into[1]:
             chunk = memoryview(bytearray(CHUNK))
             chunk[: len(rest)] = rest
@@ -611,7 +622,7 @@ class Connection:
         waiting = next((request for request in self._line if request.answer is None), None)
         words = waiting.words if waiting else "the server's end"
         self._fault = TimedOut(f"{words}: no answer in {self._timeout:g} seconds, so the "
-                               "connection was closed")
+                               "connection was closed: allow more by timeout=")
         self._give_up()
         raise self._fault
 

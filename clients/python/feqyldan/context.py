@@ -25,7 +25,8 @@ from .images import AnyImage, Delay, Image
 from .objects import Convolution, Distribution, Lut, Made, MinMax, Named, Threshold, sides_of_frame
 from .pictures import Path, read_bytes, size_of_pgm
 from .pipeline import Pipeline
-from .samples import Format, Numbers, Rows, Samples, Size, entries_of, format_of, samples_of
+from .samples import (
+    Format, Numbers, Rows, Samples, Size, entries_of, format_of, lengths_in_words, samples_of)
 from .uncopied import Uncopied
 from .usage import Usage, Used, wanted_bytes
 from .verdicts import formats_in_words, parameter_for
@@ -155,8 +156,8 @@ class Context(Uncopied):
         given. No sample is copied."""
         self.look_at("image_like", exemplar)
         if not isinstance(exemplar, AnyImage):
-            raise TypeError(f"image_like takes an image, and no {type(exemplar).__name__}: give "
-                            "the format and the sides to context.image()")
+            raise TypeError(f"image_like takes an image, not {type(exemplar).__name__}: give the "
+                            "format and the size to context.image()")
         return self.image(exemplar.fmt if fmt is None else fmt, exemplar.width, exemplar.height,
                           name=name)
 
@@ -170,7 +171,8 @@ class Context(Uncopied):
             return self._image_of(samples_of(samples), name)
         given = samples_of(samples, Size(format_of(fmt), 0, 0))
         if given.fmt != fmt:
-            raise TypeError(f"these samples are {given.fmt}, and not {format_of(fmt)}")
+            raise TypeError(f"these samples are {given.fmt}, not {format_of(fmt)}: convert them, "
+                            f"or give the format vx.{given.fmt}")
         return self._image_of(given, name)
 
     def image_from_pgm(self, text: bytes, *, name: str = "") -> Image:
@@ -206,9 +208,9 @@ class Context(Uncopied):
         content = entries_of(entries, made)
         wanted = {Format.U8: 256, Format.S16: 2 * 65536}.get(made)
         if wanted is not None and len(content) != wanted:
-            raise ValueError(f"a table of {made} has an entry for each sample, "
-                             f"{65536 if made == Format.S16 else 256} of them, and not "
-                             f"{len(content) // made.sample_bytes}")
+            raise ValueError(f"a lookup table of {made} needs {wanted // made.sample_bytes:,} "
+                             "entries, one for each sample value, not "
+                             f"{len(content) // made.sample_bytes:,}")
         number = self.create(f"create a {made} lookup table", wire.create_lut_of, made, content)
         return Lut(self, Made(number, name), made, content)
 
@@ -222,12 +224,15 @@ class Context(Uncopied):
         255.
         """
         if (above is None) == (between is None):
-            raise TypeError("a threshold has either above=limit or between=(lower, upper)")
+            given = "neither" if above is None else "both"
+            raise TypeError("a threshold needs either above=limit or between=(lower, upper), and "
+                            f"{given} was given")
         limits = tuple(within(limit, "a threshold's limit", SIGNED,
                               "a whole number, a sample of its format")
                        for limit in ((above,) if between is None else between))
         if between is not None and len(limits) != 2:
-            raise TypeError("between has a lower and an upper limit")
+            raise TypeError("between must be two limits, (lower, upper), not "
+                            f"{len(limits)}")
         outputs = (within(true_value, *_AN_OUTPUT), within(false_value, *_AN_OUTPUT))
         made = format_of(fmt)
         kind = "above" if between is None else "between"
@@ -246,7 +251,7 @@ class Context(Uncopied):
         exponent = divisor.bit_length() - 1
         is_power = divisor >= 1 and divisor == 1 << exponent
         if not is_power or exponent > BYTE.greatest or len(rows) > BYTE.greatest:
-            raise ValueError("the scale of a convolution is a power of 2 up to 2^31, and not "
+            raise ValueError("the scale of a convolution must be a power of 2 up to 2^31, not "
                              f"{scale}")
         columns = len(rows[0]) if rows else 0
         flat = [value for row in rows for value in row]
@@ -319,7 +324,8 @@ class Context(Uncopied):
         """Opens a pipeline: calls without a result no longer wait for their replies."""
         self._look_at_thread("open a pipeline")
         if self._open_pipeline() is not None:
-            raise ValueError("a pipeline of this context is open already")
+            raise ValueError(f"{self} already has an open pipeline: make the calls in that one, or "
+                             "leave its 'with' first")
         if self._why_closed is not None:
             raise Closed(f"open a pipeline: {self._why_closed}")
         self._pipeline = weakref.ref(pipeline)
@@ -332,8 +338,8 @@ class Context(Uncopied):
 
     def _look_at_thread(self, words: str) -> None:
         if threading.get_ident() in self._barred:
-            raise ValueError(f"{words}: the iterator of a stream can't use the stream's context, "
-                             "which another thread uses: open a context for it by "
+            raise ValueError(f"{words}: the iterator of a stream runs in another thread, so it "
+                             "can't use the stream's context: open one for it by "
                              "server.context(), or give the stream a list")
 
     def _open_pipeline(self) -> Optional[Pipeline]:
@@ -451,14 +457,15 @@ class Context(Uncopied):
         """Raises if something isn't an object of this context."""
         for operand in operands:
             if not isinstance(operand, (AnyImage, Named, type(None))):
-                raise TypeError(f"{what} takes images and other objects of its context, and no "
+                raise TypeError(f"{what} takes images and other objects of its context, not "
                                 f"{type(operand).__name__}: context.image_from() makes an image of "
-                                "an array, context.threshold(), lut() and convolution() what "
-                                "functions take besides")
+                                "an array; context.threshold(), lut() and convolution() make the "
+                                "parameters")
             # Names count up from 1 in each context, so that this one has other objects by the same
             # names.
             if operand is not None and operand.context is not self:
-                raise InvalidScope(str(words or what), None, f"{operand} is of another context.")
+                advice = f"{operand} belongs to another context: create it in this one."
+                raise InvalidScope(str(words or what), None, advice)
 
     def _limit_for(self, size: int) -> Explain:
         """Returns which limit an object of this many bytes would exceed."""
@@ -472,8 +479,10 @@ class Context(Uncopied):
         except (struct.error, ValueError) as error:
             raise ValueError(f"{words}: {error}") from None
         # The server ends where it reads a greater length.
-        if len(frame) - 4 + content > GREATEST_REQUEST:
-            raise ValueError(f"{words}: a request has at most {GREATEST_REQUEST:,} bytes")
+        size = len(frame) - 4 + content
+        if size > GREATEST_REQUEST:
+            raise ValueError(f"{words}: the request has {size:,} bytes, and at most "
+                             f"{GREATEST_REQUEST:,} are allowed")
         return frame
 
     def _reply_to(self, request: Request) -> memoryview:
@@ -576,7 +585,8 @@ def rows_of_kernel(coefficients: Rows) -> Tuple[Tuple[int, ...], ...]:
     """Returns the coefficients of a convolution, row by row."""
     rows = tuple(tuple(coefficient_of(value) for value in row) for row in coefficients)
     if any(len(row) != len(rows[0]) for row in rows):
-        raise ValueError("rows of coefficients are of one length")
+        raise ValueError("a convolution must have rows of the same length, not "
+                         f"{lengths_in_words(rows)}")
     return rows
 
 
@@ -586,6 +596,6 @@ def coefficient_of(value: Any) -> int:
         return within(value, "a coefficient of a convolution", SIGNED,
                       "a whole number from -32768 to 32767")
     except TypeError as error:
-        raise TypeError(f"{error}: multiply all by a power of 2, round them, and give that as the "
-                        "scale, as in context.convolution((256 * kernel).round().astype(int), "
-                        "scale=256)") from None
+        raise TypeError(f"{error}: multiply all coefficients by a power of 2, round them, and give "
+                        "that power as the scale, as in context.convolution("
+                        "(256 * kernel).round().astype(int), scale=256)") from None

@@ -72,10 +72,11 @@ def map_pictures(client: Client, graph: Build, pictures: Iterable[Any], *,
     ServerEnded. A refusal would be the same each time.
     """
     if not callable(graph):
-        raise TypeError("the graph is a function of a context, a width and a height, not "
+        raise TypeError("the graph must be a function of a context, a width and a height, not "
                         f"{graph!r}")
     if is_array(pictures) and getattr(pictures, "ndim") == 2:
-        raise TypeError("map_pictures takes several pictures, and this is one: give it in a list")
+        raise TypeError("map_pictures takes several pictures, and this is one array of shape "
+                        f"{getattr(pictures, 'shape')}: pass [picture]")
     job = Job(uuid.uuid4().hex, graph, program, quota, work)
     send: Callable[..., List[Future]] = client.map
     # Impure, since equal pictures would share one future.
@@ -115,8 +116,8 @@ class Line(NamedTuple):
 def line_of(context: Context, built: Any) -> Line:
     """Builds the line of a job's function."""
     if not (isinstance(built, tuple) and len(built) == 3 and isinstance(built[0], Graph)):
-        raise TypeError("the function that builds the graph gives a graph, the image that a "
-                        f"picture is written to and the image that is read, and not {built!r}")
+        raise TypeError("the function that builds the graph must return a tuple of the graph, its "
+                        f"input image and its output image, not {built!r}")
     return Line(context, *built)
 
 

@@ -74,7 +74,7 @@ class Refused(FeqyldanError):
     """
 
     code = -1
-    advice = "Nobody knows this code."
+    advice = "This package doesn't know the code: use the package of the server's version."
 
     def __init__(self, request: str, op: Optional[int] = None, advice: Optional[str] = None,
                  place: str = "", fault: str = "") -> None:
@@ -93,64 +93,64 @@ class Refused(FeqyldanError):
 
 class NoMemory(Refused):
     code = wire.NO_MEMORY
-    advice = ("The machine had no memory for it; nothing has changed, so release something or send "
-              "it again.")
+    advice = ("The machine had no memory for it, and nothing has changed: close something, or try "
+              "again.")
 
 
 class InvalidParameters(Refused):
     code = wire.INVALID_PARAMETERS
-    advice = ("The server doesn't know this request or a field of it: is it of the version that "
-              "this package is for?")
+    advice = ("The server doesn't know this request, or a field of it: use the server and the "
+              "package of one version.")
 
 
 class InvalidReference(Refused, Closed):
     """An object is used after it was closed."""
 
     code = wire.INVALID_REFERENCE
-    advice = "An object that it names was closed: make another, or close it later."
+    advice = "An object that it uses was closed: create another, or close it later."
 
 
 class InvalidScope(Refused):
     code = wire.INVALID_SCOPE
-    advice = "A virtual image belongs to one graph: make one by this graph's virtual_image()."
+    advice = "A virtual image belongs to one graph: create one by this graph's virtual_image()."
 
 
 class InvalidFormat(Refused):
     code = wire.INVALID_FORMAT
-    advice = "The function doesn't take images of these formats together."
+    advice = "The function doesn't take this combination of formats."
 
 
 class InvalidDimension(Refused):
     code = wire.INVALID_DIMENSION
-    advice = "All images of one call have to be of one size."
+    advice = "All images of one call must have the same size."
 
 
 class InvalidValue(Refused):
     code = wire.INVALID_VALUE
-    advice = "A number is out of its range: the call's docstring has the range."
+    advice = "A number is out of range: the call's docstring gives the range."
 
 
 class InvalidType(Refused):
     code = wire.INVALID_TYPE
-    advice = ("An operand is of another kind than the call takes; of a delay name a slot, as in "
+    advice = ("An operand is of another kind than the call takes. For a delay, give a slot, as in "
               "delay[0].")
 
 
 class InvalidGraph(Refused):
     code = wire.INVALID_GRAPH
-    advice = ("The nodes go round in a cycle: remove one of them, or let it read an older slot of "
-              "a delay.")
+    advice = ("The nodes form a cycle: remove one of them, or let it read an older slot of a "
+              "delay.")
 
 
 class InvalidLink(Refused):
     code = wire.INVALID_LINK
-    advice = ("A node reads a virtual image that no node writes: add the node that does; or it "
-              "adds to one: have it add to an image.")
+    advice = ("A node reads a virtual image that no node writes, or accumulates into one: add the "
+              "node that writes it, or accumulate into an image.")
 
 
 class MultipleWriters(Refused):
     code = wire.MULTIPLE_WRITERS
-    advice = ("Two outputs are one object: give each an object of its own, a virtual image in "
+    advice = ("Two outputs are one object: give each its own, such as a virtual image in "
               "between.")
 
 
@@ -198,47 +198,48 @@ OWN_CLASSES: Dict[Tuple[int, Optional[int]], Type[Refused]] = {
 
 # What to do where a request has a reason of its own for a code.
 _SIDES = "An image has from 1 to {0} columns, and from 1 to {0} rows.".format(wire.GREATEST_SIDE)
-_OF_A_NODE = ("A node's images are not of one size; what is open in a virtual image is taken from "
-              "its writer's input.")
+_SIZE_OF_A_PICTURE = ("The picture must have the size of the image: write another one, or create "
+                      "an image of this size.")
+_OF_A_NODE = ("The images of a node differ in size. A virtual image without a size gets it from "
+              "the input of the node that writes it.")
 _FORMATS_OF_A_NODE = ("The function doesn't take these formats. A virtual image without a format "
                       "gets it from the node that writes it.")
-_OF_A_CALL = "A border is vx.UNDEFINED, vx.REPLICATE or vx.constant(value)."
-_SHIFTS = ("A shift is out of its range: multiply and accumulate_square have those from 0 to 15, "
-           "convert_depth those from 0 to 7.")
-_NO_NODES = ("The virtual images that the nodes write have more bytes than the graph's work bytes: "
-             "use smaller pictures, or start the server with more work bytes, as in "
-             "vx.Server(work=2**30).")
+_OF_A_CALL = "A border must be vx.UNDEFINED, vx.REPLICATE or vx.constant(value)."
+_SHIFTS = ("A shift is out of range: multiply and accumulate_square take 0 to 15, convert_depth 0 "
+           "to 7.")
+_NO_NODES = ("The graph's virtual images need more than the work bytes: use smaller pictures, or "
+             "start the server with more work bytes, as in vx.Server(work=2**30).")
 ADVICE: Dict[Tuple[int, Optional[int]], str] = {
     (wire.INVALID_VALUE, wire.OPEN_CONTEXT):
-        "Another program uses this client number: it has a context open.",
+        "Another program has a context open under this client number: use another server.",
     (wire.NO_RESOURCES, wire.OPEN_CONTEXT):
-        "The broker has as many connections as it allows, or as many of this process or user: "
-        "close one, or start it with more (--connections, --per-process, --per-user).",
+        "The broker has its limit of connections in all, of this process or of this user: close "
+        "one, or start it with a higher limit (--connections, --per-process, --per-user).",
     (wire.INVALID_REFERENCE, wire.REMOVE_NODE):
-        "The graph was closed, or has no such node any more.",
+        "The graph was closed, or the node was removed already.",
     (wire.INVALID_DIMENSION, wire.CREATE_IMAGE): _SIDES,
     (wire.INVALID_DIMENSION, wire.CREATE_VIRTUAL_IMAGE): _SIDES,
-    (wire.INVALID_DIMENSION, wire.WRITE_IMAGE): "The samples are of another size than the image.",
-    (wire.INVALID_DIMENSION, wire.WRITE_IMAGE_PGM):
-        "The picture is of another size than the image.",
+    (wire.INVALID_DIMENSION, wire.WRITE_IMAGE): _SIZE_OF_A_PICTURE,
+    (wire.INVALID_DIMENSION, wire.WRITE_IMAGE_PGM): _SIZE_OF_A_PICTURE,
     (wire.INVALID_DIMENSION, wire.CREATE_CONVOLUTION):
-        "A convolution has 3, 5, 7 or 9 columns and as many rows.",
+        "A convolution must have 3, 5, 7 or 9 rows, and 3, 5, 7 or 9 columns.",
     (wire.INVALID_FORMAT, wire.WRITE_IMAGE):
-        "The samples are of another format than the image: uint8 is for U8, int16 for S16, uint32 "
-        "for U32.",
+        "The samples must have the format of the image: uint8 for U8, int16 for S16, uint32 for "
+        "U32.",
     (wire.INVALID_FORMAT, wire.WRITE_IMAGE_PGM):
-        "The bytes are no PGM text, or one of another format: a maxval up to 255 is for U8, one up "
+        "The bytes aren't a PGM text of the image's format: a maxval up to 255 is for U8, one up "
         "to 32767 for S16.",
-    (wire.INVALID_VALUE, wire.WRITE_IMAGE_PGM): "A sample of the PGM text is above its maxval.",
+    (wire.INVALID_VALUE, wire.WRITE_IMAGE_PGM):
+        "A sample of the PGM text is above its maxval: correct the text.",
     (wire.INVALID_FORMAT, wire.READ_IMAGE_PGM):
-        "PGM texts are written of U8 images: convert_depth makes one of an S16 image.",
-    (wire.INVALID_FORMAT, wire.CREATE_LUT): "A table is of U8 or of S16.",
-    (wire.INVALID_FORMAT, wire.CREATE_THRESHOLD): "A threshold is of U8 or of S16.",
+        "Only U8 images can be read as PGM text: convert an S16 image by convert_depth.",
+    (wire.INVALID_FORMAT, wire.CREATE_LUT): "A lookup table must be of U8 or S16.",
+    (wire.INVALID_FORMAT, wire.CREATE_THRESHOLD): "A threshold must be of U8 or S16.",
     (wire.INVALID_VALUE, wire.CREATE_THRESHOLD):
-        "A limit is no sample of the format, or the upper one is below the lower.",
+        "Each limit must be a sample of the format, and the upper one at least the lower one.",
     (wire.INVALID_VALUE, wire.SET_VALID):
-        "A rectangle has its start below its end and within the image; four zeros are the empty "
-        "one.",
+        "A rectangle must have its start below its end, and lie within the image; the empty one is "
+        "four zeros.",
     (wire.INVALID_FORMAT, wire.VERIFY_GRAPH): _FORMATS_OF_A_NODE,
     (wire.INVALID_FORMAT, wire.PROCESS_GRAPH): _FORMATS_OF_A_NODE,
     (wire.INVALID_DIMENSION, wire.VERIFY_GRAPH): _OF_A_NODE,
@@ -249,7 +250,7 @@ ADVICE: Dict[Tuple[int, Optional[int]], str] = {
     (wire.INVALID_PARAMETERS, wire.IMMEDIATE): _OF_A_CALL,
     (wire.INVALID_VALUE, wire.ADD_NODE): _SHIFTS,
     (wire.INVALID_VALUE, wire.IMMEDIATE): _SHIFTS,
-    (wire.INVALID_VALUE, wire.CREATE_CONVOLUTION): "The scale is a power of 2 up to 2^31.",
+    (wire.INVALID_VALUE, wire.CREATE_CONVOLUTION): "The scale must be a power of 2 up to 2^31.",
     (wire.INVALID_VALUE, wire.CREATE_DELAY): "A delay has from 1 to 16 slots.",
     (wire.INVALID_VALUE, wire.CREATE_DISTRIBUTION):
         "There are from 1 to 256 bins, the offset is from 0 to 255 and the range from 1 to 256.",

@@ -26,23 +26,26 @@ def load(path: Path) -> Any:
         return needed_numpy(f"{path}: reading .npy").load(path)
     cv2, pil = _module("cv2"), _module("PIL.Image")
     if cv2 is None and pil is None and path.lower().endswith(".pgm"):
-        return pixels_of_pgm(read_bytes(path))
+        return pixels_of_pgm(path, read_bytes(path))
     if cv2 is None and pil is None:
-        raise ImportError(f"{path}: reading this needs OpenCV or PIL, and neither is installed; "
-                          "PGM and .npy are read without them")
+        raise ImportError(f"{path}: reading this needs OpenCV or PIL, and neither is installed: "
+                          "install one, or convert the file to PGM or .npy")
     return _narrowed(path, _by_cv2(cv2, path) if cv2 is not None else _by_pil(pil, path))
 
 
-def pixels_of_pgm(text: bytes) -> memoryview:
-    """Returns the samples of a PGM text with samples up to 255, in shape (height, width)."""
+def pixels_of_pgm(path: str, text: bytes) -> memoryview:
+    """Returns the samples of a PGM file with samples up to 255, in shape (height, width)."""
     fmt, width, height = size_of_pgm(text)
     header = HEADER.match(text)
     assert header is not None
     rest = text[header.end():]
     content = rest[1:] if text[:2] == b"P5" else bytes(map(int, rest.split()))
-    if fmt != Format.U8 or len(content) < width * height:
-        raise WrongPicture("this PGM text has samples above 255, or fewer than it says: "
-                           "context.read_pgm(path) takes all PGM texts")
+    if fmt != Format.U8:
+        raise WrongPicture(f"{path} is a PGM file with a maxval above 255: read it by "
+                           "context.read_pgm(path)")
+    if len(content) < width * height:
+        raise WrongPicture(f"{path} is cut off: {width} by {height} pixels are {width * height:,} "
+                           f"samples, and it has {len(content):,}; copy it again")
     return memoryview(content[: width * height]).cast("B", (height, width))
 
 
@@ -83,12 +86,13 @@ def unread(path: str, reader: str) -> WrongPicture:
     """Returns why a file has no picture."""
     content = read_bytes(path)
     if not content:
-        return WrongPicture(f"{path} is empty")
+        return WrongPicture(f"{path} is empty: copy it again")
     for begin, (end, kind) in ENDS.items():
         if content.startswith(begin) and end not in content[-64:]:
-            return WrongPicture(f"{path} is cut off: it begins as a {kind} file does, and after "
-                                f"{len(content):,} bytes its end is missing; copy it again")
-    return WrongPicture(f"{path} has no picture that {reader} reads")
+            return WrongPicture(f"{path} is a {kind} file without its end: it is cut off after "
+                                f"{len(content):,} bytes; copy it again")
+    return WrongPicture(f"{path} isn't a picture that {reader} can read: is it damaged, or another "
+                        "kind of file?")
 
 
 def _narrowed(path: str, pixels: Any) -> Any:
@@ -97,9 +101,9 @@ def _narrowed(path: str, pixels: Any) -> Any:
     if pixels.dtype.kind in "iu" and pixels.dtype.itemsize > 1:
         least, greatest = int(pixels.min()), int(pixels.max())
         if least < -32768 or greatest > 32767:
-            raise NotAPicture(f"{path} has samples from {least} to {greatest}, which S16 has no "
-                              "room for: read it by cv2.imread(path, cv2.IMREAD_UNCHANGED), and "
-                              "write (array >> 1).astype(numpy.int16)")
+            raise NotAPicture(f"{path} has samples from {least} to {greatest}, and S16 holds those "
+                              "from -32768 to 32767: read it by cv2.imread(path, "
+                              "cv2.IMREAD_UNCHANGED), and write (array >> 1).astype(numpy.int16)")
         return pixels.astype(numpy.int16)
     return pixels
 
@@ -123,13 +127,13 @@ def _save_by_others(path: str, ending: str, pixels: Any) -> None:
     cv2, pil = _module("cv2"), _module("PIL.Image")
     if cv2 is None and pil is None:
         raise ImportError(f"{path}: writing {ending or 'a file without an ending'} needs OpenCV or "
-                          "PIL, and neither is installed; .pgm, .png and .npy are written without")
+                          "PIL, and neither is installed: install one, or write .pgm, .png or .npy")
     if cv2 is None:
         pil.fromarray(pixels).save(path)
         return
     try:
         done = cv2.imwrite(path, pixels)
     except cv2.error as error:
-        raise ValueError(f"{path}: OpenCV doesn't write this: {error}") from None
+        raise ValueError(f"{path}: OpenCV can't write this picture: {error}") from None
     if not done:
-        raise OSError(f"{path}: OpenCV couldn't write it")
+        raise OSError(f"{path}: OpenCV couldn't write it: is the folder there, and writable?")

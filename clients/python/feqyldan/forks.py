@@ -11,7 +11,7 @@ import threading
 import weakref
 
 # Why nothing can be asked in the child.
-FORKED = "its server was opened before this process was forked; open a server here, in this process"
+FORKED = "its server was opened before this process was forked: open a server in this process"
 
 
 class Forked:

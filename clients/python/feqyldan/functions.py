@@ -104,7 +104,7 @@ def telling_order(method: Method) -> Method:
             words = str(error)
         if not any(isinstance(value, POLICIES) for value in (*arguments, *named.values())):
             words += "; none of them is a policy, vx.WRAP or vx.SATURATE"
-        raise TypeError(f"{words}. It is {order_of(method.__name__)}")
+        raise TypeError(f"{words}. Call it as {order_of(method.__name__)}")
 
     return cast(Method, called)
 
@@ -163,16 +163,17 @@ def call_of(name: str, operands: Tuple[Optional[Union[Operand, Named]], ...], po
     """Returns a call, or raises if a frame can't express it."""
     for at, what in enumerate(("its input", BINARY.get(name, ""))):
         if what and operands[at] is None:
-            raise InvalidParameters(name, None, f"{what[0].upper()}{what[1:]} is None.")
+            words = f"{what[0].upper()}{what[1:]} is None: give an object."
+            raise InvalidParameters(name, None, words)
     if operands[2] is None and operands[3] is None:
-        raise InvalidParameters(name, None, "It has no output: None is no object to write to.")
+        raise InvalidParameters(name, None, "Its output is None: give an object to write to.")
     if not isinstance(border, Border):
-        raise TypeError(f"{name}: a border is vx.UNDEFINED, vx.REPLICATE or vx.constant(value), "
-                        f"and not {border!r}")
+        raise TypeError(f"{name}: a border must be vx.UNDEFINED, vx.REPLICATE or "
+                        f"vx.constant(value), not {border!r}")
     if not isinstance(policy, POLICIES):
         raise not_a_policy(name, policy)
     if isinstance(amount, POLICIES):
-        raise TypeError(f"{name}: a shift is a whole number, and not the policy vx.{amount.name}; "
+        raise TypeError(f"{name}: a shift must be a whole number, not the policy vx.{amount.name}; "
                         f"{place_of(name, 'shift')}")
     return Call(name, operands, policy,
                 within(amount, f"{name}: a shift", BYTE,
@@ -181,7 +182,7 @@ def call_of(name: str, operands: Tuple[Optional[Union[Operand, Named]], ...], po
 
 def not_a_policy(name: str, value: Any) -> Exception:
     """Returns the exception for an argument that should be a policy: a number may be a shift."""
-    words = f"a policy is vx.WRAP or vx.SATURATE, and not {value!r}; {place_of(name, 'policy')}"
+    words = f"a policy must be vx.WRAP or vx.SATURATE, not {value!r}; {place_of(name, 'policy')}"
     if isinstance(value, int):
         return InvalidParameters(name, None, f"{words[0].upper()}{words[1:]}.")
     return TypeError(f"{name}: {words}")

@@ -94,13 +94,13 @@ def _inputs_of(graph: Graph, written: Any,
 def _checked_inputs(graph: Graph, inputs: Any) -> Sequence[AnyImage]:
     """Returns the input images, after checking that a run reads each of them unchanged."""
     if isinstance(inputs, str) or not hasattr(inputs, "__iter__"):
-        raise TypeError("inputs is a list of images, as in save(path, inputs=[camera]), and not "
+        raise TypeError("inputs must be a list of images, as in save(path, inputs=[camera]), not "
                         f"{inputs}")
     images = list(inputs)
     for image in images:
         fault = fault_of_input(graph, image)
         if fault:
-            raise ValueError(f"{image} is no input of {graph}: {fault}")
+            raise ValueError(f"{image} can't be an input of {graph}: {fault}")
     return images
 
 
@@ -111,7 +111,7 @@ def fault_of_input(graph: Graph, image: Any) -> str:
         return ("a slot of a delay gets its picture from a node: let graph.max(camera, camera, "
                 "slot) copy it from an image, which is the input")
     if not isinstance(image, Image) or image.context is not graph.context:
-        return "an input is an image of its context"
+        return "an input must be an image of the graph's context"
     for member in graph.members:
         if any(cell.reference == image.reference for cell in member.outputs):
             return f"{member}, writes it"
@@ -217,6 +217,11 @@ def parameters_of(function: str) -> List[str]:
     return [*inspect.signature(getattr(Functions, function)).parameters][1:]
 
 
+def unknown_function(name: Any) -> str:
+    """Returns the words for a function that doesn't exist."""
+    return f"there is no function {name!r}; the functions are {', '.join(FUNCTIONS)}"
+
+
 # ---- drawing
 
 def drawing_of_file(path: Path) -> Drawing:
@@ -226,7 +231,7 @@ def drawing_of_file(path: Path) -> Drawing:
     for number, node in enumerate(told["nodes"], 1):
         function = node.get("function") if isinstance(node, dict) else None
         if function not in FUNCTIONS:
-            raise GraphFileError(f"{path}: node {number}: there is no function {function!r}")
+            raise GraphFileError(f"{path}: node {number}: {unknown_function(function)}")
         key = f"node{number}"
         drawing.boxes[key] = Box(key, function, f"node {number}", "node")
         for parameter in parameters_of(function):
@@ -258,11 +263,13 @@ def told_by(path: Path) -> Dict[str, Any]:
     try:
         told = json.loads(text)
     except ValueError as error:
-        raise GraphFileError(f"{path}: no JSON: {error}") from None
+        raise GraphFileError(f"{path}: the file isn't JSON: {error}") from None
     if not isinstance(told, dict) or told.get("feqyldan") != VERSION:
-        raise GraphFileError(f'{path}: it has no "feqyldan": {VERSION}')
+        raise GraphFileError(f'{path}: this isn\'t a graph file of version {VERSION}: it lacks '
+                             f'"feqyldan": {VERSION}; Graph.save() writes it')
     if not isinstance(told.get("objects"), dict) or not isinstance(told.get("nodes"), list):
-        raise GraphFileError(f'{path}: it has no "objects", by their names, or no "nodes", a list')
+        raise GraphFileError(f'{path}: a graph file needs "objects", by their names, and '
+                             '"nodes", a list')
     return told
 
 
@@ -304,7 +311,7 @@ class Reader:
         for name, thing in inputs.items():
             fault = fault_of_input(self._graph, thing)
             if fault:
-                raise self._fault(f'object "{name}": it is no input: {fault}')
+                raise self._fault(f'object "{name}": it can\'t be an input: {fault}')
         return GraphFile(self._graph, inputs, self._outputs(), self._things)
 
     def _outputs(self) -> Dict[str, Any]:
@@ -326,7 +333,7 @@ class Reader:
 
     def _make(self, name: str, told: Any) -> None:
         if not isinstance(told, dict):
-            raise ValueError(f"an object is described by its kind and more, and not by {told!r}")
+            raise ValueError(f"an object must be a JSON object with a \"kind\", not {told!r}")
         makers: Dict[str, Any] = {
             "image": self._image, "virtual image": self._virtual_image, "delay": self._delay,
             "threshold": self._threshold, "lookup table": self._lut,
@@ -334,10 +341,10 @@ class Reader:
             "extremes": lambda name, told: self._context.min_max(name=name)}
         kind = told["kind"]
         if kind not in makers:
-            raise ValueError(f"a kind is one of {', '.join(makers)}, and not {kind!r}")
+            raise ValueError(f"a kind must be one of {', '.join(makers)}, not {kind!r}")
         unknown = [field for field in told if field not in ("kind", *FIELDS[kind])]
         if unknown:
-            raise ValueError(f"the kind {kind!r} has no {unknown[0]!r}; it has "
+            raise ValueError(f"the kind {kind!r} has no field {unknown[0]!r}; it has "
                              f"{', '.join(FIELDS[kind]) or 'nothing more'}")
         self._things[name] = makers[kind](name, told)
 
@@ -356,7 +363,8 @@ class Reader:
         if "samples" in told:
             content = zlib.decompress(base64.b64decode(told["samples"]))
             if len(content) != image.size * image.fmt.sample_bytes:
-                raise ValueError(f"its samples have {len(content)} bytes")
+                raise ValueError(f"its samples have {len(content)} bytes, and {image} needs "
+                                 f"{image.size * image.fmt.sample_bytes}")
             self._context.tell(f"write samples to {image}", wire.write_image_head, image.reference,
                                image.fmt, image.width, image.height, content=content)
         return image
@@ -388,14 +396,15 @@ class Reader:
 
     def _add(self, told: Any) -> None:
         if not isinstance(told, dict):
-            raise ValueError(f"a node has a function and its operands, and isn't {told!r}")
+            raise ValueError(f"a node must be a JSON object with a \"function\", not {told!r}")
         function = told["function"]
         if function not in FUNCTIONS:
-            raise ValueError(f"there is no function {function!r}; those are {', '.join(FUNCTIONS)}")
+            raise ValueError(unknown_function(function))
         parameters = parameters_of(function)
         unknown = [name for name in told if name not in ("function", *parameters)]
         if unknown:
-            raise ValueError(f"{function} has no {unknown[0]!r}; it has {', '.join(parameters)}")
+            raise ValueError(f"{function} has no parameter {unknown[0]!r}; it has "
+                             f"{', '.join(parameters)}")
         arguments = [self._argument(name, told.get(name) if name in ("border", "output_x",
                                                                      "output_y") else told[name])
                      for name in parameters]
@@ -412,10 +421,11 @@ class Reader:
         slot = SLOT.fullmatch(str(name))
         thing = self._things.get(slot[1] if slot else str(name))
         if thing is None:
-            raise ValueError(f"there is no object {name!r}")
+            raise ValueError(f'there is no object {name!r}: add it to "objects"')
         if slot:
             if not isinstance(thing, Delay):
-                raise ValueError(f"{slot[1]!r} is no delay, so it has no slots")
+                raise ValueError(f"{slot[1]!r} isn't a delay, so it has no slots: leave out "
+                                 f"[{slot[2]}]")
             try:
                 return thing[int(slot[2])]
             except IndexError as error:
@@ -434,7 +444,7 @@ def one_of(kind: Any, name: Any, what: str) -> Any:
         return kind[name]
     except KeyError:
         names = ", ".join(member.name for member in kind)
-        raise ValueError(f"{what} is one of {names}, and not {name!r}") from None
+        raise ValueError(f"{what} must be one of {names}, not {name!r}") from None
 
 
 def border_named(value: Any) -> Border:
@@ -444,5 +454,5 @@ def border_named(value: Any) -> Border:
     if value == "REPLICATE":
         return REPLICATE
     if isinstance(value, str):
-        raise ValueError(f"a border is UNDEFINED, REPLICATE or a number, and not {value!r}")
+        raise ValueError(f"a border must be UNDEFINED, REPLICATE or a number, not {value!r}")
     return constant(value)

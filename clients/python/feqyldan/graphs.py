@@ -285,7 +285,7 @@ class Graph(Named, Functions[Node]):
         which ages it. A delay that is closed still ages as long as a node uses it.
         """
         if not isinstance(delay, Delay):
-            raise TypeError(f"register_auto_aging takes a delay, and no {type(delay).__name__}")
+            raise TypeError(f"register_auto_aging takes a delay, not {type(delay).__name__}")
         words = f"register {delay} for auto-aging with {self}"
         self._context.look_at(words, delay)
         self._context.tell(words, wire.register_auto_aging, self.name, delay.name)

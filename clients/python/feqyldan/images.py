@@ -147,8 +147,8 @@ class AnyImage(Readable):
         """Returns the samples for numpy.asarray(image). They come from the server, so they are a
         copy."""
         if copy is False:
-            raise ValueError(f"the samples of {self} come from its server, so they can't be there "
-                             "without a copy")
+            raise ValueError(f"the samples of {self} are on its server, so NumPy only gets a copy: "
+                             "leave out copy=False")
         pixels: numpy.ndarray[Any, Any] = needed_numpy(f"{self} as an array").asarray(self.read(),
                                                                                       dtype)
         return pixels
@@ -212,7 +212,7 @@ class AnyImage(Readable):
                              f"a whole number up to {wire.GREATEST_SIDE}")
                       for side in rectangle)
         if len(sides) != 4:
-            raise ValueError(f"a rectangle is x0, y0, x1, y1, and not {rectangle!r}")
+            raise ValueError(f"a rectangle must be (x0, y0, x1, y1), not {rectangle!r}")
         self.context.tell(f"make {sides} the valid rectangle of "
                           f"{self}", wire.set_valid, self.reference, sides)
 
@@ -299,8 +299,8 @@ class Delay(Named):
     def __getitem__(self, number: int) -> Slot:
         number = whole(number, "the number of a slot")
         if not -self._slots < number <= 0:
-            raise IndexError(f"a delay of {self._slots} slots has those from 0 down to "
-                             f"{1 - self._slots}")
+            raise IndexError(f"{self} has {self._slots} slots, from 0 down to {1 - self._slots}, "
+                             f"and no slot {number}")
         return Slot(self, number)
 
     def __iter__(self) -> Iterator[Slot]:

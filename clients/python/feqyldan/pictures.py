@@ -10,7 +10,8 @@ from typing import Any, List, NamedTuple, Sequence, Tuple, Union
 
 from .errors import WrongPicture
 from .samples import (
-    Format, Picture, Readable, Samples, Size, is_array, numbers_of, numpy_module, samples_of)
+    Format, Picture, Readable, Samples, Size, is_array, lengths_in_words, numbers_of, numpy_module,
+    samples_of)
 
 Path = Union[str, "os.PathLike[str]"]
 
@@ -19,7 +20,7 @@ HEADER = re.compile(rb"P[25]" + 3 * (GAP + rb"0*([0-9]{1,9})"))
 # Kinds of pixels in PNG (its chapter 11.2.2).
 GREY, COLOURED = 0, 2
 RED = 230, 30, 30
-_NO_COLOURS = "a coloured picture has rows of one length, of three numbers a pixel"
+_SHAPE_OF_COLOURS = "a coloured picture must have the shape (height, width, 3)"
 
 
 class Raster(NamedTuple):
@@ -43,7 +44,7 @@ def size_of_pgm(text: bytes) -> Size:
     """
     header = HEADER.match(text)
     if not header:
-        raise WrongPicture("these bytes don't begin with the header of a PGM text, P5 or P2"
+        raise WrongPicture("these bytes don't begin as a PGM text does, with the header of P5 or P2"
                            f"{_hint_at(bytes(text[:4]))}")
     width, height, maxval = map(int, header.groups())
     return Size(Format.U8 if maxval < 256 else Format.S16, width, height)
@@ -56,14 +57,15 @@ def _hint_at(begin: bytes) -> str:
     for start, kind in kinds:
         if begin.startswith(start):
             return f": they are those of {kind}, which context.load(path) reads by OpenCV or PIL"
-    return f": they begin with {begin.hex(' ')}" if begin else ": there are none"
+    return f": they begin with {begin.hex(' ')}" if begin else ": there are no bytes"
 
 
 def write_pgm(path: Path, picture: Any) -> None:
     """Writes a PGM file (P5) of a U8 image, array of shape (height, width) or rows of numbers."""
     samples = _samples(picture)
     if samples.fmt != Format.U8:
-        raise ValueError(f"PGM files are written of U8 samples, and not of {samples.fmt}")
+        raise ValueError(f"a PGM file has U8 samples, and this picture is {samples.fmt}: save it "
+                         "as .npy, or convert_depth it to U8")
     with open(path, "wb") as file:
         file.write(b"P5\n%d %d\n255\n" % (samples.width, samples.height))
         file.write(samples.content)
@@ -194,17 +196,23 @@ def _coloured(picture: Any) -> Raster:
         return _of_coloured_array(numpy_module().asarray(picture))
     rows = picture.tolist() if hasattr(picture, "tolist") else picture
     height, width = len(rows), len(rows[0])
-    content = bytes(value for row in rows for pixel in row for value in pixel)
+    numbers = [value for row in rows for pixel in row for value in pixel]
+    wrong = [value for value in numbers if not 0 <= value <= 255]
+    if wrong:
+        raise ValueError(f"coloured pixels must be from 0 to 255, not {wrong[0]!r}")
+    content = bytes(numbers)
     if any(len(row) != width for row in rows) or len(content) != 3 * width * height:
-        raise ValueError(_NO_COLOURS)
+        raise ValueError(f"{_SHAPE_OF_COLOURS}, not {len(content)} numbers in "
+                         f"{lengths_in_words(rows)}")
     return Raster(width, height, 3, memoryview(content))
 
 
 def _of_coloured_array(pixels: Any) -> Raster:
     if pixels.dtype != "uint8":
-        raise TypeError(f"coloured pixels are uint8, and not {pixels.dtype}")
+        raise TypeError(f"coloured pixels must be uint8, not {pixels.dtype}: scale and round them "
+                        "first")
     if pixels.shape[2] != 3 or pixels.size == 0:
-        raise ValueError(f"{_NO_COLOURS}, and not the shape {pixels.shape}")
+        raise ValueError(f"{_SHAPE_OF_COLOURS}, not {pixels.shape}")
     height, width, _ = pixels.shape
     return Raster(width, height, 3,
                   memoryview(numpy_module().ascontiguousarray(pixels).reshape(-1)))

@@ -114,8 +114,8 @@ class Result(Uncopied, Generic[Value]):
 
     def _await(self, timeout: Optional[float]) -> None:
         if not self._connection.wait(self._request, timeout):
-            raise NotYet(f"{self._request.words}: no reply in {timeout:g} seconds; it is still "
-                         "awaited")
+            raise NotYet(f"{self._request.words}: no reply in {timeout:g} seconds; call value() "
+                         "again to wait longer")
 
 
 class Pipeline(Uncopied):

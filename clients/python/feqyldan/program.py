@@ -29,19 +29,20 @@ def find() -> str:
     told = os.environ.get(VARIABLE)
     if told:
         if not os.path.isfile(told):
-            raise ProgramNotFound(f"the server's program isn't at {told}, which {VARIABLE} says")
+            raise ProgramNotFound(f"{VARIABLE} is {told}, and there is no such file: set it to "
+                                  "the server's program, or unset it")
         return told
     on_path = (shutil.which(name) for name in NAMES)
     found = next((path for path in (*on_path, *inside(), *built())
                   if path and os.access(path, os.X_OK)), None)
     if found is None:
-        checkout = "this package stands in no checkout"
+        checkout = "this package isn't in a checkout"
         if built():
             checkout = f"there is no {' and no '.join(built())}"
         raise ProgramNotFound(f"the server's program wasn't found: {VARIABLE} isn't set, "
-                              f"{' and '.join(NAMES)} aren't on PATH, this package has none "
-                              f"inside, {checkout}. Install the wheel that has it, build it by "
-                              "tools/build, or give its path, as in vx.Server(path)")
+                              f"{' and '.join(NAMES)} aren't on PATH, the package has none "
+                              f"inside, and {checkout}. Install the wheel with the server, build "
+                              "it by tools/build, or give its path, as in vx.Server(path)")
     return found
 
 

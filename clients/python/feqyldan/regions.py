@@ -44,9 +44,9 @@ def _pixels_of(numpy: Any, marks: Any) -> Any:
     try:
         pixels = numpy.asarray(marks)
     except ValueError:
-        raise WrongPicture("marks have rows of one length") from None
+        raise WrongPicture("the rows of marks must all have the same length") from None
     if pixels.dtype.kind not in "buifc":
-        raise NotAPicture("marks are an image, an array or rows of numbers, and no "
+        raise NotAPicture("marks must be an image, an array or rows of numbers, not "
                           f"{type(marks).__name__} of the type {pixels.dtype}")
     return of_two_sides(pixels)
 
@@ -62,7 +62,8 @@ def _by_scipy(numpy: Any, pixels: Any) -> List[Region]:
     try:
         from scipy import ndimage
     except ImportError:
-        raise ImportError("regions() needs OpenCV or SciPy, and neither is installed") from None
+        raise ImportError("regions() needs OpenCV or SciPy, and neither is installed: install "
+                          "one of them") from None
     labels, count = ndimage.label(pixels, numpy.ones((3, 3)))
     numbers = range(1, count + 1)
     sizes = numpy.bincount(labels.ravel(), minlength=count + 1)

@@ -60,7 +60,7 @@ def format_of(value: Any) -> Format:
     try:
         return Format(whole(value, "a format"))
     except (TypeError, ValueError) as error:
-        raise type(error)(f"a format is vx.U8, vx.S16 or vx.U32, and not {value!r}") from None
+        raise type(error)(f"a format must be vx.U8, vx.S16 or vx.U32, not {value!r}") from None
 
 
 # The letter of a format in array.array and memoryview.
@@ -113,7 +113,7 @@ def needed_numpy(what: str) -> Any:
     """Returns NumPy, or raises if it isn't installed."""
     there = numpy_module()
     if there is None:
-        raise ImportError(f"{what} needs NumPy, which isn't installed")
+        raise ImportError(f"{what} needs NumPy, which isn't installed: install it")
     return there
 
 
@@ -160,7 +160,7 @@ def _unmasked(value: Any) -> Any:
         return value
     if isinstance(value, numpy.ma.MaskedArray) and numpy.ma.is_masked(value):
         raise WrongPicture("a picture has no mask, and some of these samples are masked: write "
-                           "array.filled(0), and the mask as a picture of its own")
+                           "array.filled(0), and the mask as another picture")
     return numpy.asarray(value)
 
 
@@ -176,7 +176,7 @@ def _of_array(pixels: Any, size: Optional[Size]) -> Samples:
     numpy = numpy_module()
     fmt = DTYPES.get((pixels.dtype.kind, pixels.dtype.itemsize))
     if fmt is None:
-        raise NotAPicture(f"samples are uint8, int16 or uint32, and not {pixels.dtype}: "
+        raise NotAPicture(f"samples must be uint8, int16 or uint32, not {pixels.dtype}: "
                           f"{_conversion_of(pixels.dtype)}")
     if pixels.ndim == 1 and size is not None and pixels.size == size.width * size.height:
         pixels = pixels.reshape(size.height, size.width)
@@ -233,7 +233,7 @@ def _conversion_of(dtype: Any) -> str:
     if dtype.kind in "iu":
         return ("numpy.clip(array, 0, 255).astype(numpy.uint8), or -32768, 32767 and numpy.int16; "
                 "astype() alone would wrap numbers that are out of range")
-    return "it has to be an array of whole numbers"
+    return "give an array of whole numbers"
 
 
 def _of_buffer(view: memoryview, size: Optional[Size]) -> Samples:
@@ -246,15 +246,17 @@ def _of_buffer(view: memoryview, size: Optional[Size]) -> Samples:
         return Samples(fmt, view.shape[1], view.shape[0], _reordered(_line_of(view), fmt))
     if size is None:
         if fmt is None:
-            raise NotAPicture(f"samples of the type {view.format!r} are no U8, S16 or U32: those "
-                              "are 'B', 'h' and 'I'")
-        raise WrongPicture("these samples have no width and height: use an array of shape (height, "
-                           "width), or rows")
+            raise NotAPicture(f"samples must have the type 'B' (U8), 'h' (S16) or 'I' (U32), not "
+                              f"{view.format!r}")
+        raise WrongPicture(f"{view.nbytes} bytes in one line have no width and height: give an "
+                           "array of shape (height, width), or rows")
     if fmt not in (size.fmt, Format.U8):
-        raise NotAPicture(f"samples of the type {view.format!r} aren't {size.fmt}")
+        raise NotAPicture(f"samples of {size.fmt} must have the type {LETTERS[size.fmt]!r}, or be "
+                          f"bytes, not {view.format!r}")
     if view.ndim != 1 or view.nbytes != size.width * size.height * size.fmt.sample_bytes:
-        raise WrongPicture(f"{view.nbytes} bytes aren't the {size.fmt} samples of {size.width} by "
-                           f"{size.height}")
+        raise WrongPicture(f"{size.width} by {size.height} {size.fmt} samples have "
+                           f"{size.width * size.height * size.fmt.sample_bytes} bytes, not "
+                           f"{view.nbytes}")
     return Samples(size.fmt, size.width, size.height, _reordered(_line_of(view), size.fmt))
 
 
@@ -263,7 +265,8 @@ def _of_rows(value: Any, size: Optional[Size]) -> Samples:
     rows = _rows_in(value)
     width = len(rows[0]) if rows else 0
     if width == 0 or any(len(row) != width for row in rows):
-        raise WrongPicture("a picture has rows of one length, and at least one sample")
+        raise WrongPicture("a picture must have rows of the same length, and at least one "
+                           f"sample, not {lengths_in_words(rows)}")
     flat = [sample for row in rows for sample in row]
     try:
         content = _ordered(_packed(flat, fmt, "a sample"))
@@ -275,13 +278,20 @@ def _of_rows(value: Any, size: Optional[Size]) -> Samples:
     return Samples(fmt, width, len(rows), content)
 
 
+def lengths_in_words(rows: Sequence[Sequence[Any]]) -> str:
+    """Returns the different lengths of rows, in words."""
+    lengths = sorted({len(row) for row in rows})
+    return f"rows of {' and '.join(map(str, lengths))}" if lengths else "no rows"
+
+
 def refuse_none_and_paths(value: Any) -> None:
     """Raises BadPicture for None and for a path, which are often passed by mistake."""
     if value is None:
-        raise NotAPicture("None is no picture: cv2.imread() gives it where it can't read a file")
+        raise NotAPicture("None is no picture: cv2.imread() returns it if it can't read a file, so "
+                          "check the path")
     if isinstance(value, (str, os.PathLike)):
         raise NotAPicture(f"a path is no picture, and this is {os.fspath(value)!r}: "
-                          "context.load(path) makes an image of a file")
+                          "context.load(path) reads the file")
 
 
 def of_two_sides(pixels: Any) -> Any:
@@ -289,7 +299,7 @@ def of_two_sides(pixels: Any) -> Any:
     if pixels.ndim == 3 and pixels.shape[2] == 1:
         pixels = pixels.reshape(pixels.shape[:2])
     if pixels.ndim != 2 or pixels.size == 0:
-        raise WrongPicture("a grey picture has the shape (height, width), and not "
+        raise WrongPicture("a grey picture must have the shape (height, width), not "
                            f"{pixels.shape}{_hint_at(pixels.shape)}")
     return pixels
 
@@ -300,7 +310,7 @@ def _rows_in(value: Any) -> Sequence[Sequence[int]]:
     try:
         return [list(row) for row in value]
     except TypeError:
-        raise NotAPicture("a picture is an array, a buffer or rows of numbers, and no "
+        raise NotAPicture("a picture must be an array, a buffer or rows of numbers, not "
                           f"{type(value).__name__}") from None
 
 
@@ -320,12 +330,12 @@ def _packed(numbers: Sequence[int], fmt: Format, what: str) -> Any:
     except OverflowError:
         least, greatest = RANGES[fmt]
         wrong = numbers[first_outside(numbers, fmt)]
-        raise ValueError(f"{what} of {fmt} is a number from {least} to {greatest}, and not "
+        raise ValueError(f"{what} of {fmt} must be from {least} to {greatest}, not "
                          f"{wrong}") from None
     except TypeError:
         wrong = first_that_is_none(numbers)
-        raise TypeError(f"{what} of {fmt} is a whole number, and not {wrong!r}: scale and round it "
-                        "first") from None
+        raise TypeError(f"{what} of {fmt} must be a whole number, not {wrong!r}: scale and round "
+                        "it first") from None
 
 
 def _line_of(view: memoryview) -> memoryview:
@@ -363,11 +373,11 @@ def place_in(out: Any, described: Size) -> Optional[memoryview]:
     fmt, width, height = described
     numpy = needed_numpy("an array to read into")
     if not isinstance(out, numpy.ndarray):
-        raise NotAPicture(f"a picture is read into an array, and not a {type(out).__name__}")
+        raise NotAPicture(f"a picture is read into a NumPy array, not {type(out).__name__}")
     if out.dtype != dtype_of(fmt) or out.shape != (height, width) or not out.flags.writeable:
         kind = "" if out.flags.writeable else ", which can't be written to"
-        raise WrongPicture(f"a {fmt} picture of {width} by {height} is read into an array of shape "
-                           f"{(height, width)} and dtype {dtype_of(fmt)}, and not one of "
+        raise WrongPicture(f"a {fmt} picture of {width} by {height} is read into a NumPy array of "
+                           f"shape {(height, width)} and dtype {dtype_of(fmt)}, not one of "
                            f"{out.shape} and {out.dtype}{kind}")
     return memoryview(out).cast("B") if out.flags.c_contiguous else None
 

@@ -186,7 +186,8 @@ class Server(Forked, Uncopied):
             if self._free_numbers:
                 return self._free_numbers.pop()
             if self._next_number == CLIENTS:
-                raise FeqyldanError(f"open a context: {CLIENTS} are open on this server")
+                raise FeqyldanError(f"open a context: this server has {CLIENTS:,} already, the "
+                                    "most: close one, or start another server")
             self._next_number += 1
             return self._next_number - 1
 
@@ -216,7 +217,8 @@ class Server(Forked, Uncopied):
     def _ended(self, is_within_frame: bool) -> ServerEnded:
         """Returns how the server ended, after it has closed its output."""
         if not self._has_ended():
-            return ServerEnded("the server closed its output, and runs on")
+            return ServerEnded("the server closed its output but is still running: is the program "
+                               "a Feqyldan server?")
         status = self._process.returncode
         self._said.seek(0)
         said = self._said.read()[-SAID_BYTES:].decode(errors="replace").strip()
@@ -343,7 +345,8 @@ class SocketServer(Server):
             self._drop(stream)
             if isinstance(error, BlockingIOError):
                 raise TimedOut(f"connect to {self._path}: not accepted in {self._timeout:g} "
-                               "seconds") from None
+                               "seconds: give a longer timeout, or see why the broker is "
+                               "busy") from None
             if isinstance(error, OSError):
                 raise type(error)(error.errno, error.strerror or str(error), self._path) from None
             raise
@@ -356,8 +359,8 @@ class SocketServer(Server):
         credentials = stream.getsockopt(socket.SOL_SOCKET, socket.SO_PEERCRED, 12)
         _process, user, _group = struct.unpack("iII", credentials)
         if user != self._owner:
-            raise PermissionError(errno.EPERM, f"user {user} listens there, and not user "
-                                               f"{self._owner}, who is to be its owner")
+            raise PermissionError(errno.EPERM, f"user {user} listens there, not the owner that was "
+                                               f"given, user {self._owner}")
 
     def _drop(self, stream: socket.socket) -> None:
         self._streams.discard(stream)
@@ -396,7 +399,8 @@ def status(path: Path, *, timeout: float = 10.0) -> Dict[str, Any]:
 def seconds_of(timeout: Optional[float]) -> Optional[float]:
     """Returns a timeout in seconds after checking it; None for no timeout."""
     if timeout is not None and not 0 < timeout <= 1e6:
-        raise ValueError(f"a timeout is a number of seconds above 0, or None, and not {timeout}")
+        raise ValueError(f"a timeout must be a number of seconds above 0 and up to 1,000,000, or "
+                         f"None, not {timeout}")
     return None if timeout is None else float(timeout)
 
 
@@ -412,7 +416,7 @@ def socket_ended(is_within_frame: bool) -> ServerEnded:
     """Returns why a connection ended, as far as this end knows. A broker knows more, for example
     that a connection was idle for too long, and tells its operator."""
     where = " in the middle of a reply" if is_within_frame else ""
-    return ServerEnded(f"the server closed the connection{where}; where that was a broker, its "
+    return ServerEnded(f"the server closed the connection{where}; a broker's or a door's "
                        "standard error says why")
 
 

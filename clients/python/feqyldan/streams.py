@@ -51,9 +51,9 @@ def stream(frames: Iterable[Frame], stations: Sequence[Station],
     time. Up to `ahead` further frames are sent.
     """
     if ahead < 0:
-        raise ValueError(f"ahead is how many frames are sent ahead, 0 or more, and not {ahead}")
+        raise ValueError(f"ahead, the number of frames sent ahead, must be 0 or more, not {ahead}")
     if not stations:
-        raise ValueError("a stream has one station or more")
+        raise ValueError("a stream needs at least one station, and the list is empty")
     turns = [Turn(station) for station in stations]
     look_at_frames(frames, stations[0].camera)
     return _run(frames, turns, ahead + len(stations))
@@ -187,9 +187,10 @@ def several(out: Any) -> Tuple[Any, ...]:
     try:
         things = tuple(out)
     except TypeError:
-        raise TypeError(f"{_READ}, or a list of them, and no {type(out).__name__}") from None
+        raise TypeError(f"{_READ}, or a list of them, not {type(out).__name__}") from None
     if not things:
-        raise ValueError("a stream reads one thing or more after each run")
+        raise ValueError("a stream must read at least one object after each run, and the list is "
+                         "empty")
     return things
 
 
@@ -198,7 +199,7 @@ def look_at_camera(camera: Any) -> None:
     if isinstance(camera, VirtualImage):
         camera.write(None)
     if not isinstance(camera, AnyImage):
-        raise TypeError("a stream writes frames to an image or to a slot of a delay, and to no "
+        raise TypeError("a stream writes frames to an image or to a slot of a delay, not to "
                         f"{type(camera).__name__}")
 
 
@@ -207,7 +208,7 @@ def look_at_output(thing: Any) -> None:
     if isinstance(thing, VirtualImage):
         thing.read()
     if not isinstance(thing, (AnyImage, Distribution, MinMax)):
-        raise TypeError(f"{_READ}, and no {type(thing).__name__}")
+        raise TypeError(f"{_READ}, not {type(thing).__name__}")
 
 
 def look_at_nodes(graph: Graph, camera: AnyImage, out: Sequence[Any]) -> None:
@@ -216,11 +217,11 @@ def look_at_nodes(graph: Graph, camera: AnyImage, out: Sequence[Any]) -> None:
     read, written = graph.reads | graph.aging, graph.writes
     if name_of(camera) not in read:
         raise ValueError(f"the frames of a stream go to {camera}, which no node of {graph} reads: "
-                         "call stream(frames, camera, out)")
+                         "are camera and out in the order of stream(frames, camera, out)?")
     unused = [thing for thing in out if name_of(thing) not in read | written]
     if unused or not any(name_of(thing) in written for thing in out):
         raise ValueError(f"a stream reads {(unused or out)[0]}, which no node of {graph} writes: "
-                         "call stream(frames, camera, out)")
+                         "are camera and out in the order of stream(frames, camera, out)?")
 
 
 _READ = "a stream reads images, distributions and extremes"
@@ -323,9 +324,8 @@ class Prints:
         if is_pixels(frame):
             start, found = start_of(frame), print_of(frame)
             if self._prints.get(start, found) != found:
-                self._fault = ("the iterator of a stream filled an array again before the result "
-                               "of the frame in it was there, so that two frames were mixed: yield "
-                               "array.copy()")
+                self._fault = ("the iterator of a stream overwrote an array before the result of "
+                               "its frame had come, so two frames were mixed: yield array.copy()")
             self._prints[start] = found
 
     def let_go(self, frame: Any) -> None:

@@ -21,6 +21,6 @@ class Uncopied:
                 if name not in self._inner and (name[:1] != "_" or name[:2] == "__")]
 
     def __reduce_ex__(self, protocol: Any) -> NoReturn:
-        raise TypeError(f"{self!r} is on its server, so it is neither copied nor pickled. read() "
-                        "gives what an image has, context.image_like() another image; another "
-                        "process opens a context of its own")
+        raise TypeError(f"{self!r} is on its server, so it can't be copied or pickled. Take an "
+                        "image's samples by read(), or another image by context.image_like(); "
+                        "in another process, open a context")

@@ -53,10 +53,10 @@ class Used:
         """Returns which limit one more object of this many bytes would exceed."""
         used = self.usage(quota)
         if used.objects >= MOST_OBJECTS:
-            return f"The client has {used.objects:,} objects, which is the most."
+            return f"The context has {used.objects:,} objects, the most that are allowed."
         of_quota = f"{used.image_bytes:,} are used" if quota is None else (
             f"{used.image_bytes:,} of {quota:,} are used")
-        return f"It wants {size:,} bytes of the quota, and {of_quota}."
+        return f"The object needs {size:,} bytes of the quota, and {of_quota}."
 
     def _drop(self) -> None:
         """Drops the objects that were released and that no graph uses."""

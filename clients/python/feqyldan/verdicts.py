@@ -148,7 +148,8 @@ def verdict_on(members: Sequence[Member], refused_with: int = wire.SUCCESS,
         return Verdict(wire.MULTIPLE_WRITERS, fault)
     ordered, cycle = _ordered(members)
     if cycle:
-        return Verdict(wire.INVALID_GRAPH, f"These nodes go round: {'; '.join(map(str, cycle))}.")
+        return Verdict(wire.INVALID_GRAPH,
+                       f"These nodes form a cycle: {'; '.join(map(str, cycle))}.")
     fault = _loose_end(members)
     if fault:
         return Verdict(wire.INVALID_LINK, fault)
@@ -160,7 +161,7 @@ def verdict_on(members: Sequence[Member], refused_with: int = wire.SUCCESS,
     if refused_with == wire.NO_RESOURCES:
         limit = "more than its work bytes" if work is None else f"and its work bytes are {work:,}"
         return Verdict(wire.NO_RESOURCES,
-                       f"Its virtual images have {_virtual_bytes(known):,} bytes, {limit}.")
+                       f"Its virtual images need {_virtual_bytes(known):,} bytes, {limit}.")
     return None
 
 
@@ -221,10 +222,10 @@ def _loose_end(members: Sequence[Member]) -> str:
     """Returns which virtual image is read but not written, or is added to, in words; empty if none
     is."""
     written = {cell.reference for member in members for cell in member.outputs}
-    unwritten = (f"{cell.words} is read by {member}, and written by none."
+    unwritten = (f"{cell.words} is read by {member}, and written by no node."
                  for member in members for cell in member.inputs
                  if cell.is_virtual and cell.reference not in written)
-    sums = (f"{cell.words} holds nothing to which {member}, could add."
+    sums = (f"{cell.words} has no samples before a run, so {member}, has nothing to add to."
             for member in members for cell in member.outputs
             if cell.is_virtual and member.function in ADDING)
     return next((fault for faults in (unwritten, sums) for fault in faults), "")
@@ -267,7 +268,7 @@ def _fault_of(member: Member, known: Dict[bytes, Cell],
             return Verdict(wire.INVALID_FORMAT, f"{node}: {takes}.{found}")
     if any((cell.width, cell.height) != (in1.width, in1.height)
            for cell in others if cell.is_image):
-        return Verdict(wire.INVALID_DIMENSION, f"{node}, has images of several sizes.{found}")
+        return Verdict(wire.INVALID_DIMENSION, f"{node}, has images of different sizes.{found}")
     return None
 
 

@@ -22,7 +22,7 @@ def whole(value: Any, what: str, allowed: str = "a whole number") -> int:
     try:
         return operator.index(value)
     except TypeError:
-        raise TypeError(f"{what} is {allowed}, and not {value!r}") from None
+        raise TypeError(f"{what} must be {allowed}, not {value!r}") from None
 
 
 def within(value: Any, what: str, field: Field, allowed: str) -> int:
@@ -30,7 +30,7 @@ def within(value: Any, what: str, field: Field, allowed: str) -> int:
     to check."""
     number: int = value if value.__class__ is int else whole(value, what, allowed)
     if not field.least <= number <= field.greatest:
-        raise ValueError(f"{what} is {allowed}, and not {number}")
+        raise ValueError(f"{what} must be {allowed}, not {number}")
     return number
 
 

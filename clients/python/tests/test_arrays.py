@@ -58,7 +58,7 @@ class TestArrays(ProgramTest):
         fixed.flags.writeable = False
         for out in (numpy.zeros((2, 1), "uint8"), numpy.zeros((1, 2), "int16"), fixed,
                     bytearray(2)):
-            with self.assertRaisesRegex(vx.BadPicture, "read into an array"):
+            with self.assertRaisesRegex(vx.BadPicture, "read into a NumPy array"):
                 image.read(out)
         self.assertEqual(image.read().tolist(), [[1, 2]])
 
@@ -70,7 +70,7 @@ class TestArrays(ProgramTest):
                        image.__array__(dtype=None, copy=None)):
             self.assertEqual(pixels.tolist(), [[1, 2]])
         self.assertEqual(image.__array__("int32").dtype, numpy.dtype("int32"))
-        with self.assertRaisesRegex(ValueError, r"image 1 \(U8, 2 by 1\) come from its server"):
+        with self.assertRaisesRegex(ValueError, r"image 1 \(U8, 2 by 1\) are on its server"):
             image.__array__(copy=False)
         if int(numpy.__version__.split(".")[0]) >= 2:
             self.assertRaises(ValueError, numpy.asarray, image, copy=False)
@@ -160,8 +160,7 @@ class TestCopies(ProgramTest):
             for call in (copy.copy, copy.deepcopy, pickle.dumps,
                          lambda thing: copy.deepcopy([thing])):
                 with self.assertRaisesRegex(TypeError,
-                                            "is on its server, so it is neither copied nor "
-                                            "pickled"):
+                                            "is on its server, so it can't be copied or pickled"):
                     call(thing)
         del thing, things
         # A copy's end would have released it.

@@ -135,13 +135,14 @@ class TestUsage(ProgramTest):
 
     def test_which_limit(self):
         kept = self.context.image(vx.U8, 600, 1)
-        with self.assertRaisesRegex(vx.NoResources, "It wants 500 bytes of the quota, and 600 of "
-                                    "1,000 are used. The client's"):
+        with self.assertRaisesRegex(vx.NoResources, "The object needs 500 bytes of the quota, and "
+                                    "600 of 1,000 are used. The client's"):
             self.context.image(vx.U8, 50, 10)
-        with self.assertRaisesRegex(vx.NoResources, "It wants 1,200 bytes of the quota, and 600"):
+        with self.assertRaisesRegex(vx.NoResources, "The object needs 1,200 bytes of the quota, "
+                                                    "and 600"):
             self.context.delay(kept, 2)
         many = [self.context.min_max() for _ in range(1023)]
-        with self.assertRaisesRegex(vx.NoResources, "The client has 1,024 objects, which is the"):
+        with self.assertRaisesRegex(vx.NoResources, "The context has 1,024 objects, the most that"):
             many.append(self.context.min_max())
 
 

@@ -114,7 +114,7 @@ class Ends(BrokerTest):
             with broker.program() as program:
                 self.assertEqual(program.ask(plain(1)), success(1))
                 program.send(plain(50, b"abc")[:size])
-        self.assertTrue(broker.says("its end within a frame"))
+        self.assertTrue(broker.says("it ended within a frame"))
         self.assertTrue(self.asked_released(broker, 5))
 
     def asked_released(self, broker: Broker, times: int) -> bool:
@@ -229,7 +229,7 @@ class Ends(BrokerTest):
         self.assertEqual([first.ask(plain(1)), second.ask(plain(1))], [success(1)] * 2)
         for _ in range(3):
             self.assertTrue(self.connect(broker).is_turned_away())
-        self.assertTrue(broker.says("2 connections are there"))
+        self.assertTrue(broker.says("all have 2 connections, the limit (--connections)"))
         self.assertEqual(first.ask(plain(50)), success(50))
         second.sock.close()
         self.assertTrue(broker.wait_for(lambda: self.is_let_in(broker)))
@@ -244,7 +244,7 @@ class Ends(BrokerTest):
         self.assertEqual([program.ask(plain(1)) for program in programs[:2]], [success(1)] * 2)
         self.assertTrue(programs[2].is_turned_away())
         self.assertTrue(broker.says(f"process {os.getpid()} of user {os.getuid()} is turned away: "
-                                    "it has 2 connections (--per-process)"))
+                                    "it has 2 connections, the limit (--per-process)"))
         other = subprocess.run([sys.executable, "-c", ASK_ONCE, broker.path],
                                stdout=subprocess.PIPE, timeout=LATE)
         self.assertEqual(other.stdout, success(1))
@@ -256,7 +256,7 @@ class Ends(BrokerTest):
         programs = [self.connect(broker) for _ in range(3)]
         self.assertEqual([program.ask(plain(1)) for program in programs[:2]], [success(1)] * 2)
         self.assertTrue(programs[2].is_turned_away())
-        self.assertTrue(broker.says("its user has 2 connections (--per-user)"))
+        self.assertTrue(broker.says("its user has 2 connections, the limit (--per-user)"))
 
     def test_who_is_turned_away_is_told_though_its_frame_is_long(self) -> None:
         broker = self.begin("--connections", "1")

@@ -377,7 +377,8 @@ class Beginning(BrokerTest):
                 is_over.set()
                 for process in begun:
                     process.join()
-                self.assertEqual(said, [f"another program listens at {path}"] * 2 + ["listens"])
+                refused = f"another program listens at {path}: end it, or choose another path"
+                self.assertEqual(said, [refused] * 2 + ["listens"])
             self.assertEqual(os.listdir(folder), [])
 
     def test_a_lock_that_is_held(self) -> None:
@@ -386,7 +387,7 @@ class Beginning(BrokerTest):
             with open(f"{path}.lock", "w") as file, mock.patch.object(listener, "LOCK_SECONDS",
                                                                       0.1):
                 fcntl.flock(file, fcntl.LOCK_EX)
-                with self.assertRaisesRegex(Unusable, "another program begins at"):
+                with self.assertRaisesRegex(Unusable, "another program has been starting at"):
                     listener.listen_at(path, 0o600)
 
     def test_an_empty_path(self) -> None:

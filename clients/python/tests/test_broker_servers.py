@@ -41,7 +41,7 @@ class TheServer(BrokerTest):
                 self.assertEqual(program.ask(plain(1)), success(1))
             programs[0].send(plain(EXIT, bytes([status])))
             self.assertTrue(all(program.has_ended() for program in programs))
-            self.assertTrue(broker.says(f"has ended with status {status}"))
+            self.assertTrue(broker.says(f"ended with status {status}"))
         self.assertEqual(self.connect(broker).ask(plain(1)), success(1))
         self.assertEqual(broker.stop(), 0)
         self.assertFalse(os.path.exists(broker.path))
@@ -57,7 +57,7 @@ class TheServer(BrokerTest):
             self.assertEqual(programs[k].ask(plain(50)), success(50))
         # The new one has no connection yet, so it gets the next two.
         newcomers = [self.connect(broker) for _ in range(2)]
-        self.assertTrue(broker.says("has ended with status 3"))
+        self.assertTrue(broker.says("ended with status 3"))
         self.assertEqual([program.ask(plain(1)) for program in newcomers], [success(1)] * 2)
         self.assertEqual([op for _, op in newcomers[0].who_asked()], [1, 1, WHO_ASKED])
 
@@ -96,7 +96,7 @@ class TheServer(BrokerTest):
     def test_servers_that_cant_be_kept_up_are_the_broker_s_end(self) -> None:
         broker = self.begin("--servers", "2", command=["/bin/sh", "-c", "exit 7"])
         self.assertEqual(broker.status(), 7)
-        self.assertIn("has ended with status 7", broker.words())
+        self.assertIn("ended with status 7", broker.words())
 
     def test_new_servers_by_a_signal(self) -> None:
         broker = self.begin("--servers", "2")
@@ -104,7 +104,7 @@ class TheServer(BrokerTest):
         for program in before:
             self.assertEqual(program.ask(plain(1)), success(1))
         broker.process.send_signal(signal.SIGHUP)
-        self.assertTrue(broker.says("by SIGHUP"))
+        self.assertTrue(broker.says("after SIGHUP"))
         after = self.connect(broker)
         self.assertEqual(after.ask(plain(51)), success(51))
         self.assertEqual([op for _, op in after.who_asked()], [51, WHO_ASKED])
@@ -115,7 +115,7 @@ class TheServer(BrokerTest):
         for program in before:
             program.sock.close()
         self.assertTrue(broker.wait_for(lambda: self.servers_of(broker) == 2))
-        self.assertNotIn("has ended", broker.words())
+        self.assertNotIn("ended with status", broker.words())
         self.assertEqual(after.ask(plain(51)), success(51))
         self.assertEqual(broker.stop(), 0)
 
@@ -129,7 +129,7 @@ class TheServer(BrokerTest):
             self.write_script(path, "sleep 0.3; exit 7")
             broker.process.send_signal(signal.SIGHUP)
             self.assertTrue(
-                broker.wait_for(lambda: broker.words().count("has ended with status 7") >= 3))
+                broker.wait_for(lambda: broker.words().count("ended with status 7") >= 3))
             self.assertEqual(program.ask(plain(50)), success(50))
             other = self.connect(broker)
             self.assertEqual(other.ask(plain(50)), success(50))
@@ -159,14 +159,14 @@ class TheServer(BrokerTest):
         self.assertEqual(other.ask(plain(1)), success(1))
         program.send(plain(MISTAKE))
         self.assertTrue(program.has_ended() and other.has_ended())
-        self.assertTrue(broker.says("a reply to another request than the next"))
+        self.assertTrue(broker.says("is killed, because it wrote a reply of length 4 to op"))
         self.assertEqual(self.connect(broker).ask(plain(1)), success(1))
 
     def test_one_that_writes_unasked_is_ended(self) -> None:
         broker = self.begin(command=["/bin/sh", "-c",
                                      "printf '\\0\\0\\0\\4\\0\\0\\1\\0'; cat >/dev/null"])
         self.assertNotEqual(broker.status(), 0)
-        self.assertIn("a reply that nobody is owed", broker.words())
+        self.assertIn("is killed, because it wrote a reply without a request", broker.words())
 
     def test_one_that_reads_no_more(self) -> None:
         with tempfile.TemporaryDirectory() as folder:
@@ -180,7 +180,7 @@ class TheServer(BrokerTest):
             self.assertTrue(broker.has_passed_on(7))
             gate.let_go()
             self.assertTrue(program.has_ended())
-            self.assertTrue(broker.says("has ended with status 0"))
+            self.assertTrue(broker.says("ended with status 0"))
             self.assertEqual(broker.stop(), 0)
 
     def test_signals_end_it_after_what_was_asked(self) -> None:
@@ -193,7 +193,7 @@ class TheServer(BrokerTest):
             busy.send(gate.frame + plain(50))
             self.assertTrue(broker.wait_for(gate.is_reached))
             os.killpg(broker.process.pid, which)
-            self.assertTrue(broker.says(f"ends by {which.name}"))
+            self.assertTrue(broker.says(f"ends because of {which.name}"))
             gate.let_go()
             self.assertEqual(busy.reply(), success(HOLD))
             self.assertTrue(busy.has_ended() and idle.has_ended())
@@ -210,7 +210,8 @@ class TheServer(BrokerTest):
             great.send(frame)
             self.assertTrue(broker.has_passed_on(len(frame)))
             broker.process.terminate()
-            self.assertTrue(broker.says("ends by SIGTERM") and broker.wait_for(gate.is_reached))
+            self.assertTrue(broker.says("ends because of SIGTERM")
+                            and broker.wait_for(gate.is_reached))
             gate.let_go()
             self.assertEqual(great.reply(), success(50))
             self.assertEqual(broker.status(), 0)
@@ -234,7 +235,7 @@ class TheServer(BrokerTest):
         self.connect(broker).send(gate.frame)
         self.assertTrue(broker.wait_for(gate.is_reached))
         broker.process.send_signal(signal.SIGINT)
-        self.assertTrue(broker.says("ends by SIGINT"))
+        self.assertTrue(broker.says("ends because of SIGINT"))
         broker.process.send_signal(signal.SIGINT)
         self.assertEqual(broker.status(), 0)
         self.assertIn("is killed: the broker was told twice to end", broker.words())
@@ -484,14 +485,14 @@ class Status(BrokerTest):
         cut.sock.shutdown(socket.SHUT_WR)
         said = ("connection {} of {} is ended: ", (
             (0, "sent nothing of the rest of a frame for 1 s"), (1, "bytes of replies wait for it"),
-            (2, "a frame of 1007 bytes"), (3, "its end within a frame"),
+            (2, "a frame of 1007 bytes"), (3, "it ended within a frame"),
             (4, "asked nothing for 5 s")))
         for number, words in said[1]:
             begin = said[0].format(number, OWNER)
             self.assertTrue(broker.wait_for(lambda: any(
                 begin in line and words in line for line in broker.words().splitlines())),
                 (begin, words, broker.words()))
-        self.assertIn(f"{OWNER} is turned away: it has 5 connections (--per-process)",
+        self.assertIn(f"{OWNER} is turned away: it has 5 connections, the limit ",
                       broker.words())
 
 
@@ -526,7 +527,7 @@ class Beginning(BrokerTest):
         with tempfile.NamedTemporaryFile() as file:
             broker = self.begin_any(path=file.name)
             self.assertEqual(broker.status(), 2)
-            self.assertIn("is no socket", broker.words())
+            self.assertIn("exists and isn't a socket: remove it", broker.words())
             self.assertTrue(os.path.exists(file.name))
 
     def test_what_cant_begin_ends_with_status_2(self) -> None:

@@ -102,7 +102,7 @@ class TestMistakes(unittest.TestCase):
             import numpy
         except ImportError:
             return
-        with self.assertRaisesRegex(TypeError, "give it in a list"):
+        with self.assertRaisesRegex(TypeError, r"one array of shape \(2, 2\): pass \[picture\]"):
             map_pictures(NoClient(), inverse, numpy.zeros((2, 2), numpy.uint8), program="vx_main")
 
 
@@ -176,7 +176,8 @@ class TestCluster(unittest.TestCase):
         with self.assertRaisesRegex(FileNotFoundError, "on the worker's machine"):
             map_pictures(self.client, inverse, [picture(1)], program="/no/such/program")[0].result()
         with self.assertRaisesRegex(TypeError,
-                                    "gives a graph, the image that a picture is written to"):
+                                    "must return a tuple of the graph, its input image and its "
+                                    "output image"):
             self.map(lambda *given: inverse(*given)[1:], [picture(1)])[0].result()
 
     def test_a_server_is_killed(self):

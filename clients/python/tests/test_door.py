@@ -72,15 +72,15 @@ class Connections(DoorTest):
         one, other = self.connect(door), self.connect(door)
         for asker in (one, other):
             self.assertEqual(asker.ask(plain(1)), success(1))
-        for op, words in ((plain(EXIT, b"\3"), "has ended with status 3: its connection's frames"),
-                          (plain(EXIT, b"\x63"), "has ended with status 99")):
+        for op, words in ((plain(EXIT, b"\3"), "ended with status 3: its connection's frames"),
+                          (plain(EXIT, b"\x63"), "ended with status 99")):
             one.send(op)
             self.assertTrue(one.has_ended())
             self.assertTrue(door.says(words))
             one = self.connect(door)
             self.assertEqual(one.who_asked(), [(CLIENT, WHO_ASKED)])
         self.assertEqual(other.ask(plain(50)), success(50))
-        self.assertIn(f"for process {os.getpid()} of user {os.getuid()} has ended", door.words())
+        self.assertIn(f"for process {os.getpid()} of user {os.getuid()} ended", door.words())
 
     def test_one_that_hangs_or_is_killed_is_nobody_else_s_affair(self) -> None:
         door = self.begin(tells_state=True)
@@ -93,7 +93,7 @@ class Connections(DoorTest):
         self.assertEqual(self.connect(door).ask(plain(1)), success(1))
         os.kill(self.server_of(door, 0), signal.SIGKILL)
         self.assertTrue(one.has_ended())
-        self.assertTrue(door.says("has been ended by signal 9"))
+        self.assertTrue(door.says("was ended by signal 9"))
         self.assertEqual(other.ask(plain(50)), success(50))
 
     def test_who_lies_about_its_replies_lies_to_its_own_program(self) -> None:
@@ -174,7 +174,7 @@ class Ends(DoorTest):
             self.assertTrue(door.wait_for(gate.is_reached))
             # As a terminal does.
             os.killpg(door.process.pid, which)
-            self.assertTrue(door.says(f"ends by {which.name}"))
+            self.assertTrue(door.says(f"ends because of {which.name}"))
             self.assertTrue(idle.has_ended())
             gate.let_go()
             self.assertEqual([busy.reply(), busy.reply(), busy.reply()],
@@ -192,7 +192,7 @@ class Ends(DoorTest):
             server = self.server_of(door)
             for _ in range(signals):
                 door.process.terminate()
-                self.assertTrue(door.says("ends by SIGTERM"))
+                self.assertTrue(door.says("ends because of SIGTERM"))
             self.assertEqual(door.status(), 0)
             self.assertIn(words, door.words())
             self.assertTrue(busy.has_ended())
@@ -219,11 +219,14 @@ class Limits(DoorTest):
     """Connections and memory."""
 
     def test_more_connections_than_allowed_are_turned_away(self) -> None:
-        for options, words in ((("--connections", "2"), "2 connections are there (--connections)"),
-                               (("--per-process", "2"), "it has 2 connections (--per-process)"),
-                               (("--per-user", "2"), "its user has 2 connections (--per-user)"),
+        for options, words in ((("--connections", "2"),
+                                "all have 2 connections, the limit (--connections)"),
+                               (("--per-process", "2"),
+                                "it has 2 connections, the limit (--per-process)"),
+                               (("--per-user", "2"),
+                                "its user has 2 connections, the limit (--per-user)"),
                                (("--memory", "100000000", "--total-memory", "250000000"),
-                                "2 servers may have 200000000 bytes, and one more would pass "
+                                "2 servers may take 200000000 bytes, and one more would exceed "
                                 "250000000 (--total-memory)")):
             door = self.begin(*options)
             askers = [self.connect(door) for _ in range(2)]
@@ -299,7 +302,8 @@ class Limits(DoorTest):
         low = ("prlimit", "--nofile=300:300")
         door = self.begin_any(before=low)
         self.assertEqual(door.status(), 2)
-        self.assertIn("64 connections need 320 open files, and 300 are allowed (ulimit -Hn)",
+        self.assertIn("64 connections need 320 open files, and 300 are allowed: allow more (ulimit "
+                      "-Hn), or lower --connections",
                       door.words())
         door = self.begin("--connections", "44", before=low, tells_state=True)
         askers = [self.connect(door) for _ in range(44)]
@@ -329,13 +333,13 @@ class Programs(DoorTest):
             self.assertEqual(before.ask(plain(1)), success(1))
             os.unlink(link)
             door.process.send_signal(signal.SIGHUP)
-            self.assertTrue(door.says(f"goes on with {link}: {link} isn't there"))
+            self.assertTrue(door.says(f"keeps {link} after SIGHUP: there is no program {link} "))
             self.write(link, "#!/bin/sh\nexit 7\n")
             door.process.send_signal(signal.SIGHUP)
-            self.assertTrue(door.says(f"{link} ends with status 7 where its input is empty"))
+            self.assertTrue(door.says(f"{link} ended with status 7 on empty input, not with 0: "))
             self.write(link, f"#!/bin/sh\nexec {' '.join(PLAIN)}\n")
             door.process.send_signal(signal.SIGHUP)
-            self.assertTrue(door.says("from now on, by SIGHUP"))
+            self.assertTrue(door.says("for new connections after SIGHUP"))
             self.assertEqual(self.connect(door).ask(plain(1)), success(1))
             self.assertEqual(before.ask(plain(50)), success(50))
 
@@ -346,7 +350,7 @@ class Programs(DoorTest):
             door = self.begin(command=[path])
             os.unlink(path)
             self.assertTrue(self.connect(door).is_turned_away())
-            self.assertTrue(door.says("is turned away: no server is started"))
+            self.assertTrue(door.says("is turned away: no server could be started"))
             self.write(path, f"#!/bin/sh\nexec {' '.join(PLAIN)}\n")
             self.assertEqual(self.connect(door).ask(plain(1)), success(1))
 
@@ -365,7 +369,8 @@ class Programs(DoorTest):
                 self.assertIn(os.path.relpath(path, os.path.realpath(folder)),
                               [os.path.relpath(each, folder) for each in program.in_folder(
                                   os.path.join(folder, "lib", "feqyldan"))][:1])
-            with self.assertRaisesRegex(Unusable, "no/such/program isn't there"):
+            with self.assertRaisesRegex(Unusable,
+                                        "there is no program /no/such/program that can be run"):
                 chosen(["/no/such/program"])
 
     def test_what_cant_begin_ends_with_status_2(self) -> None:

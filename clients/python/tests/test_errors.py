@@ -68,7 +68,7 @@ class TestRefusals(ProgramTest):
         request = "absdiff(image 1 (U8, 2 by 1), image 1 (U8, 2 by 1), image 2 (U8, 1 by 2))"
         self.assertEqual(caught.exception.request, request)
         self.assertEqual(str(caught.exception),
-                         f"{request}: INVALID_DIMENSION. All images of one call have to be of one "
+                         f"{request}: INVALID_DIMENSION. All images of one call must have the same "
                          "size.")
 
     def test_what_an_operand_is(self):
@@ -86,7 +86,7 @@ class TestRefusals(ProgramTest):
                                     r"write 3 by 1 U8 samples to image 1 \(U8, 2 by 1\)"):
             image.write([[1, 2, 3]])
         with self.assertRaisesRegex(TypeError,
-                                    "takes images and other objects of its context, and no int"):
+                                    "takes images and other objects of its context, not int"):
             self.context.vxu.threshold(image, 24, image)
 
     def test_each_request_on_an_image_says_its_format_and_size(self):
@@ -143,23 +143,23 @@ class TestRefusals(ProgramTest):
             self.context.vxu.add(image, image, 2, deep)
         for wrong in (deep, "SATURATE", None, 0.0):
             with self.assertRaisesRegex(TypeError,
-                                        "add: a policy is vx.WRAP or vx.SATURATE, and not"):
+                                        "add: a policy must be vx.WRAP or vx.SATURATE, not"):
                 self.context.vxu.add(image, image, wrong, deep)
         for wrong in (2, None, "REPLICATE", (2, 0), vx.constant):
             with self.assertRaisesRegex(TypeError,
-                                        r"box3x3: a border is vx.UNDEFINED, "
-                                        r".*vx.constant\(value\), and not"):
+                                        r"box3x3: a border must be vx.UNDEFINED, "
+                                        r".*vx.constant\(value\), not"):
                 self.context.graph().box3x3(image, image, border=wrong)
         with self.assertRaisesRegex(ValueError,
-                                    "an image's width is a whole number from 1 to 8192, and not "
+                                    "an image's width must be a whole number from 1 to 8192, not "
                                     "70000"):
             self.context.image(vx.U8, 70000, 1)
         for sides in ((8193, 1), (1, 8193)):
             with self.assertRaisesRegex(vx.InvalidDimension, "from 1 to 8192 columns, and from 1"):
                 self.context.image(vx.U8, *sides)
         with self.assertRaisesRegex(vx.InvalidValue,
-                                    "multiply and accumulate_square have those from 0 to 15, "
-                                    "convert_depth those from 0 to 7"):
+                                    "multiply and accumulate_square take 0 to 15, "
+                                    "convert_depth 0 to 7"):
             self.context.vxu.multiply(image, image, 16, vx.WRAP, deep)
 
     def test_codes_of_the_program(self):

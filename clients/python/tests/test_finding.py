@@ -59,8 +59,8 @@ class TestFinding(unittest.TestCase):
             vx.Server()
         self.assertIsInstance(caught.exception, FileNotFoundError)
         for words in ("FEQYLDAN_PROGRAM isn't set", "feqyldan and vx_main aren't on PATH",
-                      "has none inside", "in no checkout", "the wheel that has it", "tools/build",
-                      "vx.Server(path)"):
+                      "has none inside", "isn't in a checkout", "the wheel with the server",
+                      "tools/build", "vx.Server(path)"):
             self.assertIn(words, str(caught.exception))
         os.makedirs(self.crate)
         with self.assertRaisesRegex(vx.ProgramNotFound, r"there is no .*crate/out/vx_main-default"):
@@ -70,7 +70,7 @@ class TestFinding(unittest.TestCase):
         self.put("bin", "vx_main")
         with mock.patch.dict(os.environ, {program.VARIABLE: os.path.join(self.folder, "gone")}):
             with self.assertRaisesRegex(vx.ProgramNotFound,
-                                        "isn't at .*/gone, which FEQYLDAN_PROGRAM says"):
+                                        "FEQYLDAN_PROGRAM is .*/gone, and there is no such file"):
                 vx.Server()
 
     @needs_program

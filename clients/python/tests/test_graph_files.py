@@ -112,22 +112,23 @@ class TestFiles(FolderTest, ProgramTest):
         graph.not_(camera, virtual)
         graph.max(virtual, delay[0], out)
         for inputs, kind, words in (
-                ([camera, out], ValueError, r'"out" .* is no input of graph 4: node 2, max\(.*\), '
-                                            "writes it"),
+                ([camera, out], ValueError, r"\"out\" .* can't be an input of graph 4: node 2, "
+                                            r"max\(.*\), writes it"),
                 ([other], ValueError, '"other" .* no node reads it'),
                 ([delay[0]], ValueError, "slot 0 of .*: a slot of a delay gets its picture from a "
                                          r"node: let graph.max\(camera, camera, slot\)"),
-                ([virtual], ValueError, "virtual image 6 .* an input is an image"),
-                (["camera"], ValueError, "camera is no input .* an input is an image"),
-                (camera, TypeError, r"a list of images, as in save\(path, inputs=\[camera\]\), and "
+                ([virtual], ValueError, "virtual image 6 .* an input must be an image"),
+                (["camera"], ValueError, "camera can't be an input .* an input must be an image"),
+                (camera, TypeError, r"a list of images, as in save\(path, inputs=\[camera\]\), "
                                     'not image 1 "camera"'),
-                ("camera", TypeError, "a list of images, .*, and not camera")):
+                ("camera", TypeError, "a list of images, .*, not camera")):
             with self.subTest(words), self.assertRaisesRegex(kind, words):
                 graph.save(self.path("a.json"), inputs=inputs)
         self.assertEqual(os.listdir(self.folder), [])
         with self.server.context() as stranger:
             foreign = stranger.image(vx.U8, 2, 1)
-            with self.assertRaisesRegex(ValueError, "an input is an image of its context"):
+            with self.assertRaisesRegex(ValueError,
+                                        "an input must be an image of the graph's context"):
                 graph.save(self.path("a.json"), inputs=[foreign])
         for inputs in ((camera,), {"camera": camera}.values(), iter([camera])):
             graph.save(self.path("a.json"), inputs=inputs)
@@ -184,49 +185,53 @@ class TestFiles(FolderTest, ProgramTest):
         image = {"kind": "image", "format": "U8", "width": 2, "height": 1}
         both = {"a": image, "b": image}
         for objects, nodes, words in (
-                ({"a": {**image, "format": "U9"}}, [], 'object "a": a format is one of U8, S16, '
-                                                       "U32, and not 'U9'"),
+                ({"a": {**image, "format": "U9"}}, [], 'object "a": a format must be one of U8, '
+                                                       "S16, U32, not 'U9'"),
                 ({"a": {"kind": "image", "format": "U8"}}, [], "object \"a\": 'width' is missing"),
                 ({"a": {**image, "width": 9000}}, [], 'object "a": create a U8 image of 9000 by 1'),
                 ({"a": {**image, "valid": [0, 0, 3, 1]}}, [], 'object "a": make .* the valid rect'),
                 ({"a": {**image, "valid": 3}}, [], 'object "a": .*int.* not iterable'),
-                ({"a": {"kind": "film"}}, [], 'object "a": a kind is one of image, .*\'film\''),
-                ({"a": 7}, [], 'object "a": an object is described by'),
+                ({"a": {"kind": "film"}}, [],
+                 'object "a": a kind must be one of image, .*\'film\''),
+                ({"a": 7}, [], 'object "a": an object must be .* a "kind", not 7'),
                 ({"a": {"kind": "image", "file": "none.pgm"}}, [], 'object "a": .*none.pgm'),
-                (both, [{"function": "not"}], "node 1: there is no function 'not'; those are and_"),
+                (both, [{"function": "not"}],
+                 "node 1: there is no function 'not'; the functions are and_"),
                 (both, [{"function": "not_", "input": "a", "output": "b"},
                         {"function": "not_", "input": "a"}], "node 2: 'output' is missing"),
                 (both, [{"function": "not_", "input": "a", "output": "c"}],
-                 "node 1: there is no object 'c'"),
+                 "node 1: there is no object 'c': add it to \"objects\""),
                 (both, [{"function": "not_", "input": "a[-1]", "output": "b"}],
-                 "node 1: 'a' is no delay"),
+                 r"node 1: 'a' isn't a delay, so it has no slots: leave out \[-1\]"),
                 (both, [{"function": "not_", "input": "a", "output": "b", "policy": "WRAP"}],
-                 "node 1: not_ has no 'policy'; it has input, output"),
+                 "node 1: not_ has no parameter 'policy'; it has input, output"),
                 (both, [{"function": "add", "in1": "a", "in2": "a", "output": "b", "policy": "X"}],
-                 "node 1: a policy is one of WRAP, SATURATE, and not 'X'"),
+                 "node 1: a policy must be one of WRAP, SATURATE, not 'X'"),
                 ({**both, "b": {**image, "input": True}},
                  [{"function": "not_", "input": "a", "output": "b"}],
-                 'object "b": it is no input: node 1, not_.*, writes it'),
+                 "object \"b\": it can't be an input: node 1, not_.*, writes it"),
                 ({**both, "old": {**image, "kind": "delay", "slots": 2}},
                  [{"function": "not_", "input": "old[-2]", "output": "b"}],
-                 r"node 1: there is no slot 'old\[-2\]': a delay of 2 slots has those from 0 down "
-                 "to -1"),
+                 r"node 1: there is no slot 'old\[-2\]': delay .* \"old\" .* has 2 slots, from 0 "
+                 "down to -1, and no slot -2"),
                 ({"a": {**image, "samples": "AAAA"}}, [], 'object "a": Error -3 while decomp'),
                 ({"a": {"kind": "threshold", "format": "U8", "above": 9, "true_valeu": 0}}, [],
-                 "object \"a\": the kind 'threshold' has no 'true_valeu'; it has format, above, "
-                 "between, true_value, false_value$"),
+                 "object \"a\": the kind 'threshold' has no field 'true_valeu'; it has format, "
+                 "above, between, true_value, false_value$"),
                 ({"a": {"kind": "extremes", "bins": 3}}, [],
-                 "object \"a\": the kind 'extremes' has no 'bins'; it has nothing more$"),
-                ({"a": {**image, "slots": 3}}, [], "object \"a\": the kind 'image' has no 'slots'"),
-                ({"a": {**image, "input": True}}, [], 'object "a": it is no input: no node reads'),
+                 "object \"a\": the kind 'extremes' has no field 'bins'; it has nothing more$"),
+                ({"a": {**image, "slots": 3}}, [],
+                 "object \"a\": the kind 'image' has no field 'slots'"),
+                ({"a": {**image, "input": True}}, [],
+                 "object \"a\": it can't be an input: no node reads"),
                 (both, [{"function": "box3x3", "input": "a", "output": "b", "border": "X"}],
-                 "node 1: a border is UNDEFINED, REPLICATE or a number")):
+                 "node 1: a border must be UNDEFINED, REPLICATE or a number, not 'X'")):
             path = self.put("a.json", {"feqyldan": 1, "objects": objects, "nodes": nodes})
             with self.subTest(words), self.assertRaisesRegex(vx.GraphFileError,
                                                              f"{path}: {words}"):
                 self.context.load_graph(path)
-        for text, words in (("{", "no JSON: "), ("[]", 'no "feqyldan": 1'),
-                            ('{"feqyldan": 1}', 'no "objects"')):
+        for text, words in (("{", "the file isn't JSON: "), ("[]", 'it lacks "feqyldan": 1; '),
+                            ('{"feqyldan": 1}', 'needs "objects"')):
             with self.assertRaisesRegex(vx.GraphFileError, words):
                 self.context.load_graph(self.put("a.json", text))
 
@@ -328,10 +333,11 @@ class TestHelpers(FolderTest, ProgramTest):
                 wanted = cv2.cvtColor(colours, cv2.COLOR_BGR2GRAY).astype(int)
                 self.assertLessEqual(abs(grey.read().astype(int) - wanted).max(), 1)
                 self.holds(self.context.load(self.path("wide.png")), [[0, 32767, 5]])
-                with self.assertRaisesRegex(vx.BadPicture, r"0 to 65534, which S16 has no"):
+                with self.assertRaisesRegex(vx.BadPicture, "0 to 65534, and S16 holds those from"):
                     self.context.load(self.path("wider.png"))
-                for name, fault in (("text", "has no picture"), ("empty", "is empty"),
-                                    ("cut", "is cut off: it begins as a PNG file does, and after")):
+                for name, fault in (
+                        ("text", "isn't a picture"), ("empty", "is empty"),
+                        ("cut", "is a PNG file without its end: it is cut off after")):
                     with self.assertRaisesRegex(vx.BadPicture, f"{name}.png {fault}"):
                         self.context.load(self.path(f"{name}.png"))
         with mock.patch.object(files, "_module", return_value=None):
@@ -366,8 +372,8 @@ class TestHelpers(FolderTest, ProgramTest):
                 ("marks.png", "this is 'marks.png': context.load"), (None, "None is no picture"),
                 (numpy.zeros((4, 5, 3), "uint8"), r"\(4, 5, 3\): make a grey one of it"),
                 (numpy.zeros((0, 5), "uint8"), r"not \(0, 5\)"), (pixels[0], r"not \(30,\)"),
-                (numpy.array([["a"]]), "no ndarray of the type <U1"),
-                (self.context.min_max(), "no MinMax"), ([[1], [2, 3]], "marks")):
+                (numpy.array([["a"]]), "not ndarray of the type <U1"),
+                (self.context.min_max(), "not MinMax"), ([[1], [2, 3]], "marks")):
             with self.subTest(words), self.assertRaisesRegex(vx.BadPicture, words):
                 vx.regions(wrong)
         with self.assertRaisesRegex(vx.OptimizedAway, "virtual image"):
@@ -420,7 +426,7 @@ class TestCommandLine(FolderTest):
     def test_faults(self):
         vx.write_pgm(self.path("short.pgm"), [[1, 2]])
         for words, fault in (
-                (("run", "station.json", "--in", "none*.pgm"), "no file is none*.pgm"),
+                (("run", "station.json", "--in", "none*.pgm"), "no file matches none*.pgm"),
                 (("run", "none.json", "--in", "part1.pgm"), "none.json"),
                 (("run", "part1.pgm", "--in", "part1.pgm"), "part1.pgm"),
                 (("run", "station.json", "--in", "."), "feqyldan: . is a folder: name its pic"),
@@ -461,7 +467,7 @@ class TestCommandLine(FolderTest):
                       ("--csv", "plain.json"), ("--csv", "clean.pgm")):
             with self.subTest(words):
                 _, said = self.run_command("run", "plain.json", "--in", "a/*.png", *words, status=1)
-                self.assertIn("written over", said)
+                self.assertRegex(said, "would overwrite .*, which is read: name another")
         self.assertEqual(self.contents("a"), before)
         # Of other names they may be where the pictures are.
         self.run_command("run", "plain.json", "--in", "b/f1.pgm", "--out", "b", "--csv", "b/b.csv")
@@ -471,7 +477,7 @@ class TestCommandLine(FolderTest):
         self.plain("marks")
         _, said = self.run_command("run", "plain.json", "--in", "a/*.pgm", "b/*.pgm", "--out",
                                    "marks", status=1)
-        self.assertIn("the images of a/f0.pgm and of b/f0.pgm would have the same name", said)
+        self.assertIn("the images of a/f0.pgm and of b/f0.pgm would both be marks/f0.png", said)
         self.assertFalse(os.path.exists(self.path("marks")))
         # One picture several times is no fault.
         self.run_command("run", "plain.json", "--in", "a/*.pgm", "a/f1.pgm", "--out", "marks")
@@ -481,7 +487,7 @@ class TestCommandLine(FolderTest):
         self.plain("marks", "../evil")
         words = "run", "plain.json", "--in", "a/f1.pgm"
         _, said = self.run_command(*words, "--out", "marks", status=1)
-        self.assertIn('plain.json: "../evil" would be a part of the name of a file', said)
+        self.assertIn('plain.json: the name "../evil" has a "/"', said)
         self.run_command(*words)
 
     def test_natural_order(self):

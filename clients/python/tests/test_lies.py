@@ -39,19 +39,20 @@ class TestLies(unittest.TestCase):
             for other in {0, 1, size - 1, size + 1, size + 1000} - {size, -1}:
                 with self.subTest(op=op, size=other):
                     self.is_unexpected(ask, before, wire.reply_frame(0, op, 0, bytes(other)),
-                                       f"has a body of {other} bytes, and not of {size}")
+                                       f"has a body of {other} bytes, not of {size}")
 
     def test_a_refusal_with_a_body(self):
         for op, (before, _, ask) in ASKS.items():
             self.is_unexpected(ask, before, wire.reply_frame(0, op, wire.NO_MEMORY, b"\0"),
-                               "with code NO_MEMORY has a body of 1 bytes, and not of 0")
+                               "with code NO_MEMORY has a body of 1 bytes, not of 0")
 
     def test_what_is_of_another_object(self):
         before, _, ask = ASKS[wire.READ_IMAGE]
         for words in (">BHH", 1, 2, 3), (">BHH", 2, 3, 1):
             body = struct.pack(*words) + bytes(6)
             self.is_unexpected(ask, before, wire.reply_frame(0, wire.READ_IMAGE, 0, body),
-                               "the reply is of another object")
+                               "the reply is of another object: its body begins with 0.*, not with "
+                               "01 00 03 00 02")
         before, _, ask = ASKS[wire.READ_DISTRIBUTION]
         lie = wire.reply_frame(0, wire.READ_DISTRIBUTION, 0, b"\0\6" + bytes(20))
         self.is_unexpected(ask, before, lie, "the reply is of another object")
@@ -70,7 +71,7 @@ class TestLies(unittest.TestCase):
         before, _, ask = ASKS[wire.READ_IMAGE]
         head = struct.pack(">IHBB", 4 + 5 + 4 * 8192 * 8192, 0, wire.READ_IMAGE, 0)
         peak = resource.getrusage(resource.RUSAGE_SELF).ru_maxrss
-        self.is_unexpected(ask, before, head, "has a body of 268435461 bytes, and not of 11")
+        self.is_unexpected(ask, before, head, "has a body of 268435461 bytes, not of 11")
         self.assertLess(resource.getrusage(resource.RUSAGE_SELF).ru_maxrss - peak, 50_000)
 
 
@@ -103,8 +104,8 @@ class TestOwner(unittest.TestCase):
 
     def test_another_user(self):
         for owner in (os.getuid() + 1, "nobody" if os.getuid() != 65534 else "root"):
-            with self.assertRaisesRegex(PermissionError, f"user {os.getuid()} listens there, and "
-                                        "not user"):
+            with self.assertRaisesRegex(PermissionError, f"user {os.getuid()} listens there, "
+                                        "not the owner that was given, user "):
                 vx.connect(self.path, owner=owner)
             # It was told nothing.
             sock, _ = self.listener.accept()

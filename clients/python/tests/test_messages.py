@@ -29,19 +29,19 @@ class TestPictures(ProgramTest):
                 call(given)
 
     def test_what_is_no_picture(self):
-        self.says(None, r"None is no picture: cv2.imread\(\) gives it where it can't read a file",
+        self.says(None, r"None is no picture: cv2.imread\(\) returns it if it can't read a file",
                   TypeError)
         for path in ("part.png", pathlib.Path("part.png")):
             self.says(path, r"a path is no picture, and this is 'part.png': context.load\(path\)",
                       TypeError)
-        self.says(7, "rows of numbers, and no int", TypeError)
-        self.says([[1, 2], [3, 256]], "from 0 to 255, and not 256; it is in row 1, column 1",
+        self.says(7, "rows of numbers, not int", TypeError)
+        self.says([[1, 2], [3, 256]], "from 0 to 255, not 256; it is in row 1, column 1",
                   ValueError)
-        self.says([[1, 2, -1]], "and not -1; it is in row 0, column 2", ValueError)
-        self.says([[1, 1.5]], "a whole number, and not 1.5: scale and round it first", TypeError)
-        self.says([[1], [2, 3]], "rows of one length", ValueError)
+        self.says([[1, 2, -1]], "not -1; it is in row 0, column 2", ValueError)
+        self.says([[1, 1.5]], "a whole number, not 1.5: scale and round it first", TypeError)
+        self.says([[1], [2, 3]], "rows of the same length, .*, not rows of 1 and 2", ValueError)
         self.says(memoryview(array.array("f", [1] * 12)).cast("B").cast("f", [3, 4]),
-                  "samples of the type 'f' ", TypeError)
+                  "samples .* the type 'B'.*, not 'f'", TypeError)
 
     @needs_numpy
     def test_arrays_of_other_types(self):
@@ -52,7 +52,7 @@ class TestPictures(ProgramTest):
                 ("float32", r"\(255 \* array\).round\(\).astype\(numpy.uint8\)"),
                 ("int32", r"numpy.clip\(array, 0, 255\).astype\(numpy.uint8\)"),
                 ("int64", r"astype\(\) alone would wrap"), ("complex64", "array of whole numbers")):
-            self.says(zeros.astype(dtype), f"uint8, int16 or uint32, and not {dtype}: .*{words}",
+            self.says(zeros.astype(dtype), f"uint8, int16 or uint32, not {dtype}: .*{words}",
                       TypeError)
         self.says(numpy.zeros((3, 4, 3), numpy.uint8), r"\(3, 4, 3\): make a grey one", ValueError)
         self.says(zeros[None], r"\(1, 3, 4\): that is a batch of one picture, which is array\[0\]",
@@ -102,7 +102,7 @@ class TestPictures(ProgramTest):
     def test_texts(self):
         for begin, words in ((b"\xff\xd8\xff", "a JPEG, which context.load"),
                              (b"\x89PNG\r\n", "a PNG"), (b"P6 1 1", "a colour picture, PPM"),
-                             (b"", "there are none"), (b"abcd", "they begin with 61 62 63 64")):
+                             (b"", "there are no bytes"), (b"abcd", "they begin with 61 62 63 64")):
             with self.assertRaisesRegex(vx.BadPicture, words):
                 self.context.image_from_pgm(begin)
 
@@ -171,26 +171,26 @@ class TestCalls(ProgramTest):
         for functions in (self.context.vxu, self.context.graph()):
             for call, kind, words in (
                     (lambda: functions.convert_depth(wide, byte, 0, vx.SATURATE),
-                     vx.InvalidParameters, "convert_depth: INVALID_PARAMETERS. A policy is vx.WRAP "
-                     f"or vx.SATURATE, and not 0; it is argument 3 of {order}"),
+                     vx.InvalidParameters, "convert_depth: INVALID_PARAMETERS. A policy must be "
+                     f"vx.WRAP or vx.SATURATE, not 0; it is argument 3 of {order}"),
                     (lambda: functions.convert_depth(wide, byte, vx.WRAP, vx.SATURATE), TypeError,
-                     "a shift is a whole number, and not the policy vx.SATURATE; it is argument 4 "
+                     "a shift must be a whole number, not the policy vx.SATURATE; it is argument 4 "
                      f"of {order}"),
                     (lambda: functions.multiply(byte, byte, vx.SATURATE, 0, byte),
-                     vx.InvalidParameters, r"and not 0; it is argument 4 of multiply\(in1, in2, "
+                     vx.InvalidParameters, r"not 0; it is argument 4 of multiply\(in1, in2, "
                                            r"shift, policy, output\)"),
                     (lambda: functions.add(byte, byte, True, wide), vx.InvalidParameters, "True"),
                     (lambda: functions.subtract(byte, byte, "WRAP", wide), TypeError,
-                     r"and not 'WRAP'; it is argument 3 of subtract\(in1, in2, policy, output\)"),
+                     r"not 'WRAP'; it is argument 3 of subtract\(in1, in2, policy, output\)"),
                     (lambda: functions.subtract(byte, byte, wide), TypeError,
                      "missing 1 required positional argument: 'output'; none of them is a policy, "
-                     r"vx.WRAP or vx.SATURATE. It is subtract\(in1, in2, policy, output\)$"),
+                     r"vx.WRAP or vx.SATURATE. Call it as subtract\(in1, in2, policy, output\)$"),
                     (lambda: functions.add(byte, byte, vx.WRAP), TypeError,
-                     r"missing 1 .*: 'output'. It is add\(in1, in2, policy, output\)$"),
+                     r"missing 1 .*: 'output'. Call it as add\(in1, in2, policy, output\)$"),
                     (lambda: functions.multiply(byte, byte, 16, vx.WRAP, wide), vx.InvalidValue,
-                     "Its shift is 16. A shift is out of its range"),
+                     "Its shift is 16. A shift is out of range"),
                     (lambda: functions.box3x3(byte, byte, vx.Border(9)), vx.InvalidParameters,
-                     r"Its border is Border\(mode=9, value=0\). A border is")):
+                     r"Its border is Border\(mode=9, value=0\). A border must be")):
                 with self.subTest(words), self.assertRaisesRegex(kind, words):
                     call()
         wide.fill(300)
@@ -202,8 +202,10 @@ class TestCalls(ProgramTest):
         for call, words in ((lambda f: f.not_(None, out), "not_: .*Its input is None."),
                             (lambda f: f.min(out, None, out), "min: .*Its second input is None."),
                             (lambda f: f.threshold(out, None, out), "Its threshold is None."),
-                            (lambda f: f.not_(out, None), "not_: .*It has no output"),
-                            (lambda f: f.sobel3x3(out, None, None), "sobel3x3: .*no output")):
+                            (lambda f: f.not_(out, None),
+                             "not_: .*Its output is None: give an object"),
+                            (lambda f: f.sobel3x3(out, None, None),
+                             "sobel3x3: .*Its output is None")):
             for functions in (self.context.vxu, self.context.graph()):
                 with self.assertRaisesRegex(vx.InvalidParameters, words):
                     call(functions)

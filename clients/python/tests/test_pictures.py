@@ -63,8 +63,11 @@ class TestPng(unittest.TestCase):
         wanted = 2, 3, 8, 2, [bytes(sum(row, ())) for row in rows]
         for given in [rows] + ([numpy.array(rows, "uint8")] if numpy else []):
             self.assertEqual(decoded(vx.png(given)), wanted)
-        for wrong in ([[(1, 2)]], [[(1, 2, 3)], [(1, 2, 3), (4, 5, 6)]], [[(1, 2, 256)]]):
-            self.assertRaises(ValueError, vx.png, wrong)
+        for wrong, words in (([[(1, 2)]], "not 2 numbers in rows of 1"),
+                             ([[(1, 2, 3)], [(1, 2, 3), (4, 5, 6)]], "in rows of 1 and 2"),
+                             ([[(1, 2, 256)]], "must be from 0 to 255, not 256")):
+            with self.assertRaisesRegex(ValueError, words):
+                vx.png(wrong)
 
     def test_what_is_no_picture(self):
         for wrong in ([], [[]], [[1], [1, 2]], b"123", [[256]]):

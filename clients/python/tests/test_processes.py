@@ -210,8 +210,8 @@ class TestForks(ProcessTest):
         for words in ("read image 1 (U8, 2 by "
                       "1)", "create a graph", "open a context", "open a pipeline"):
             self.assertEqual(" ".join(self.line_of(client)),
-                             f"{words}: its server was opened before this process was forked; open "
-                             "a server here, in this process")
+                             f"{words}: its server was opened before this process was forked: open "
+                             "a server in this process")
         self.assertEqual("".join(self.line_of(client)), "[[5,6]][[1,2]]")
         self.assertEqual([self.line_of(client) for _ in range(2)], [["0"], ["closed"]])
         self.assertEqual(client.wait(PATIENCE), 0)

@@ -126,8 +126,8 @@ class TestSockets(unittest.TestCase):
             self.assertEqual([result.value()[1023, 1023] for result in results], list(range(8)))
 
     def test_a_server_that_ends(self):
-        with self.assertRaisesRegex(vx.ServerEnded, "closed the connection; where that "
-                                                    "was a broker"):
+        with self.assertRaisesRegex(vx.ServerEnded, "closed the connection; a broker's or a "
+                                                    "door's standard error says why"):
             with vx.connect(self.path) as server, server.context() as context:
                 program = self.programs.get(timeout=10)
                 program.kill()

@@ -188,7 +188,7 @@ class TestStreams(StationTest):
 
     def test_what_is_no_picture_says_which_frame(self):
         for wrong, kind, fault in ((None, TypeError, "None is no picture"),
-                                   ([[1, 256]], ValueError, "a sample of U8 is")):
+                                   ([[1, 256]], ValueError, "a sample of U8 must be")):
             with self.assertRaisesRegex(vx.BadPicture, f"frame 2 of the stream: {fault}") as caught:
                 [*self.graph.stream([self.picture(0), wrong], self.part, self.out)]
             self.assertIsInstance(caught.exception, kind)
@@ -266,7 +266,7 @@ class TestStreams(StationTest):
                 buffer[3] = number
                 yield buffer
 
-        with self.assertRaisesRegex(vx.BadPicture, "filled an array again .*: yield array.copy()"):
+        with self.assertRaisesRegex(vx.BadPicture, "overwrote an array .*: yield array.copy()"):
             [*self.graph.stream(camera(100), self.part, self.out)]
         shades = []
         for _, out in self.graph.stream(camera(9, waits=True), self.part, self.out):
@@ -350,7 +350,7 @@ class TestStreams(StationTest):
                      lambda: vx.stream([], []),
                      lambda: [*self.graph.stream([], self.part, [])]):
             self.assertRaises(ValueError, call)
-        self.assertRaisesRegex(TypeError, "a list of them, and no int", self.graph.stream, [],
+        self.assertRaisesRegex(TypeError, "a list of them, not int", self.graph.stream, [],
                                self.part, 5)
         for wrong in (None, "out", self.context.delay(self.part, 2), [self.out, None]):
             with self.subTest(wrong):

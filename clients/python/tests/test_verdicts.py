@@ -50,27 +50,27 @@ class TestWords(ProgramTest):
         self.graph.and_(self.source, other, one)
         self.graph.not_(one, other)
         self.says(vx.InvalidGraph,
-                  "These nodes go round: node 2, and_(image 1 (U8, 3 by 1), virtual image 5 (U8, "
-                  "open by open), virtual image 4 (open)); node 3, not_(virtual image 4 (open), "
-                  "virtual image 5 (U8, open by open)).")
+                  "These nodes form a cycle: node 2, and_(image 1 (U8, 3 by 1), virtual image 5 "
+                  "(U8, open by open), virtual image 4 (open)); node 3, not_(virtual image 4 "
+                  "(open), virtual image 5 (U8, open by open)).")
 
     def test_a_loose_end(self):
         self.graph.not_(self.graph.virtual_image(), self.target)
         self.says(vx.InvalidLink,
                   "virtual image 4 (open) is read by node 1, not_(virtual image 4 (open), image 2 "
-                  "(U8, 3 by 1)), and written by none.")
+                  "(U8, 3 by 1)), and written by no node.")
 
     def test_a_sum_that_nothing_holds(self):
         """A virtual image that is read but not written is reported first."""
         self.graph.accumulate(self.source, self.graph.virtual_image(S16))
         self.says(vx.InvalidLink,
-                  "virtual image 4 (S16, open by open) holds nothing to which node 1, "
-                  "accumulate(image 1 (U8, 3 by 1), virtual image 4 (S16, open by open)), could "
-                  "add.")
+                  "virtual image 4 (S16, open by open) has no samples before a run, so node 1, "
+                  "accumulate(image 1 (U8, 3 by 1), virtual image 4 (S16, open by open)), has "
+                  "nothing to add to.")
         self.graph.not_(self.graph.virtual_image(), self.target)
         self.says(vx.InvalidLink,
                   "virtual image 5 (open) is read by node 2, not_(virtual image 5 (open), image 2 "
-                  "(U8, 3 by 1)), and written by none.")
+                  "(U8, 3 by 1)), and written by no node.")
 
     def test_formats_that_were_open(self):
         between = self.graph.virtual_image()
@@ -86,16 +86,16 @@ class TestWords(ProgramTest):
         self.graph.not_(self.source, self.target)
         self.graph.not_(self.source, wide)
         self.says(vx.InvalidDimension,
-                  "Node 2, not_(image 1 (U8, 3 by 1), image 4 (U8, 4 by 1)), has images of several "
-                  "sizes.")
+                  "Node 2, not_(image 1 (U8, 3 by 1), image 4 (U8, 4 by 1)), has images of "
+                  "different sizes.")
 
     def test_work_bytes(self):
         self.graph.convert_depth(self.context.image(U8, 10, 6), self.graph.virtual_image(), vx.WRAP,
                                  0)
-        self.says(vx.NoResources, "Its virtual images have 120 bytes, and its work bytes are 100.")
+        self.says(vx.NoResources, "Its virtual images need 120 bytes, and its work bytes are 100.")
         verdict = verdicts.verdict_on(self.graph.members, wire.NO_RESOURCES)
         self.assertEqual(verdict.fault,
-                         "Its virtual images have 120 bytes, more than its work bytes.")
+                         "Its virtual images need 120 bytes, more than its work bytes.")
 
     def test_work_bytes_that_nobody_said(self):
         with vx.Server() as server, server.context() as context:
@@ -113,7 +113,7 @@ class TestWords(ProgramTest):
         node.remove()
         self.says(vx.InvalidLink,
                   "virtual image 4 (open) is read by node 2, not_(virtual image 4 (open), image 2 "
-                  "(U8, 3 by 1)), and written by none.")
+                  "(U8, 3 by 1)), and written by no node.")
 
     def test_in_a_pipeline(self):
         """The graph has changed when the reply comes."""
@@ -123,7 +123,7 @@ class TestWords(ProgramTest):
                 self.graph.verify()
                 node.remove()
                 self.graph.verify()
-        self.assertIn("These nodes go round: node 1, not_(image 1", caught.exception.fault)
+        self.assertIn("These nodes form a cycle: node 1, not_(image 1", caught.exception.fault)
         self.assertIn("call 1 of the pipeline, test_verdicts.py", caught.exception.place)
 
     def test_in_a_pipeline_of_several_faults(self):
@@ -143,11 +143,11 @@ class TestWords(ProgramTest):
         for refused, call, words in (
                 (first, 2, "process graph 3 (call 2 of the pipeline, test_verdicts.py:{}): "
                            "INVALID_DIMENSION. Node 1, not_(image 1 (U8, 3 by 1), image 6 (U8, 4 "
-                           "by 1)), has images of several sizes."),
+                           "by 1)), has images of different sizes."),
                 (second, 3, "process graph 4 (call 3 of the pipeline, test_verdicts.py:{}): "
                             "INVALID_LINK. virtual image 5 (U8, open by open) is read by node 1, "
                             "not_(virtual image 5 (U8, open by open), image 2 (U8, 3 by 1)), and "
-                            "written by none.")):
+                            "written by no node.")):
             self.assertTrue(str(refused).startswith(words.format(line + 6 + call)), refused)
         self.assertRaises(vx.InvalidDimension, result.value)
         self.assertEqual(result.raw().tolist(), [[0, 0, 0]])
@@ -167,7 +167,8 @@ class TestWords(ProgramTest):
         self.assertRaises(vx.InvalidGraph, self.graph.verify)
         self.assertEqual([node.number for node in self.graph.nodes], [1])
         self.says(vx.InvalidGraph,
-                  "These nodes go round: node 1, not_(image 1 (U8, 3 by 1), image 1 (U8, 3 by 1)).")
+                  "These nodes form a cycle: node 1, not_(image 1 (U8, 3 by 1), image 1 (U8, 3 by "
+                  "1)).")
 
 
 class Maker:

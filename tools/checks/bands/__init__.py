@@ -11,12 +11,15 @@ from checks.bands.planted import check_faults
 def main() -> None:
     parser = argparse.ArgumentParser(prog="tools/check_bands")
     parser.add_argument("program", metavar="PROGRAM")
-    parser.add_argument("--seconds", type=float, default=20, help="for so long graphs are begun")
-    parser.add_argument("--graphs", type=int, help="so many graphs, whatever the time")
+    parser.add_argument("--seconds", type=float, default=20,
+                        help="seconds for which graphs are begun (default: 20)")
+    parser.add_argument("--graphs", type=int,
+                        help="number of graphs, whatever the time (default: no limit)")
     parser.add_argument("--seed", type=int,
-                        help="the seed of the first graph; the others count up from it")
+                        help="seed of the first graph; the others count up from it (default: "
+                        "random)")
     parser.add_argument("--faults", action="store_true",
-                        help="that the graphs find servers that run in bands wrongly")
+                        help="check that the graphs find servers that run in bands wrongly")
     asked = parser.parse_args()
     program = os.path.abspath(asked.program)
     if asked.faults:

@@ -28,7 +28,7 @@ class Server:
         except BrokenPipeError:
             with contextlib.suppress(BrokenPipeError):
                 self.process.stdin.close()
-            raise Wrong("the server ended") from None
+            raise Wrong(f"the server ended before {wire.Op(request[6]).name}") from None
         head = self.process.stdout.read(4)
         reply = head + self.process.stdout.read(int.from_bytes(head, "big"))
         if len(reply) < 8:
@@ -58,6 +58,6 @@ def serving(program: str, kind: Type[Server] = Server) -> Iterator[Server]:
             assert process.stdin
             process.stdin.close()
             if process.wait() != 0:
-                raise Wrong(f"the server ended with status {process.returncode}")
+                raise Wrong(f"the server ended with status {process.returncode}, not with 0")
     finally:
         watch.cancel()

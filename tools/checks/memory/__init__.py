@@ -15,9 +15,9 @@ def main() -> None:
     parser = argparse.ArgumentParser(prog="tools/check_memory")
     parser.add_argument("program", metavar="PROGRAM")
     parser.add_argument("--requests", type=int, default=REQUESTS,
-                        help="about so many requests at random")
+                        help=f"number of random requests, about (default: {REQUESTS})")
     parser.add_argument("--faults", action="store_true",
-                        help="that wrong servers and readings are found")
+                        help="check that wrong servers and readings are found")
     asked = parser.parse_args()
     program = Program(os.path.abspath(asked.program))
     if asked.faults:

@@ -86,7 +86,8 @@ def written_in(program: Program, fmt: wire.Format) -> str:
         for sample in b"\1", b"\2":
             server.ask(wire.write_image(1, name, fmt, *size, sample * GREAT))
         if server.ask(wire.read_image(1, name))[13:] != b"\2" * GREAT:
-            raise WrongAnswer(f"an image of format {fmt} isn't what was written last")
+            raise WrongAnswer(f"an image of {fmt.name}, {width} by {size[1]}, isn't what was "
+                              "written last, bytes of 2")
         taken = server.memory("VmHWM") - at_first
     bound = 2 * GREAT + BESIDE
     told = (f"at most {in_mib(taken)} while an image of {in_mib(GREAT)} was written and read, for "

@@ -63,7 +63,7 @@ class Server:
         self.asked += 1
         reply = self.answer(request)
         if wire.code_of(reply) != wire.SUCCESS:
-            raise WrongAnswer(f"request {self.asked}: {wire.say(reply)}")
+            raise WrongAnswer(f"request {self.asked} is refused: {wire.say(reply)}")
         return reply
 
     def create(self, request: bytes) -> int:
@@ -105,6 +105,6 @@ def serving(program: Program, quota: int, patience: float = PATIENCE) -> Iterato
             assert process.stdin
             process.stdin.close()
             if process.wait() != 0:
-                raise WrongAnswer(f"the server ended with status {process.returncode}")
+                raise WrongAnswer(f"the server ended with status {process.returncode}, not with 0")
     finally:
         watch.cancel()

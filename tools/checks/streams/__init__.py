@@ -11,12 +11,15 @@ from checks.streams.planted import check_faults
 def main():
     parser = argparse.ArgumentParser(prog="tools/check_streams")
     parser.add_argument("program", metavar="PROGRAM")
-    parser.add_argument("--seconds", type=float, default=20, help="for so long streams are begun")
-    parser.add_argument("--streams", type=int, help="so many streams, whatever the time")
+    parser.add_argument("--seconds", type=float, default=20,
+                        help="seconds for which streams are begun (default: 20)")
+    parser.add_argument("--streams", type=int,
+                        help="number of streams, whatever the time (default: no limit)")
     parser.add_argument("--seed", type=int,
-                        help="the seed of the first stream; the others count up from it")
+                        help="seed of the first stream; the others count up from it (default: "
+                        "random)")
     parser.add_argument("--faults", action="store_true",
-                        help="that the streams find wrong readings of the protocol")
+                        help="check that the streams find wrong readings of the protocol")
     asked = parser.parse_args()
     program = os.path.abspath(asked.program)
     if asked.faults:

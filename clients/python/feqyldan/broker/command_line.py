@@ -64,9 +64,9 @@ def parser() -> argparse.ArgumentParser:
                           "connection to a Unix socket is a client of its own.", USAGE)
     add = made.add_argument
     add("--servers", type=partial(number_from, 1, MOST_SERVERS), metavar="N",
-        help="how many servers are started (as many as there are processors, and at most "
-        f"{MOST_SERVERS_UNLESS_TOLD})")
-    options.add_admission(made, ", those among them whose context is still being released")
+        help=f"number of servers, 1 to {MOST_SERVERS} (default: one for each processor, at most "
+             f"{MOST_SERVERS_UNLESS_TOLD})")
+    options.add_admission(made, ", with those whose context is still being released")
     add_memory(made)
     add_times(made)
     return made
@@ -75,33 +75,34 @@ def parser() -> argparse.ArgumentParser:
 def add_memory(made: argparse.ArgumentParser) -> None:
     add = made.add_argument
     add("--memory", type=memory_from, default=0, metavar="BYTES",
-        help="how much memory each server may have, by its address space: what is above that it "
-             "answers NO_MEMORY; or 'unlimited' (all together three quarters of what the machine "
-             "has, or this program's control group)")
+        help="most bytes of address space of each server, which answers NO_MEMORY beyond it, or "
+             "'unlimited' (default: all servers together three quarters of the memory of the "
+             "machine, or of this program's control group)")
     add("--own-memory", type=memory_from, default=0, metavar="BYTES",
-        help="how much memory the broker itself may have, by its address space, or 'unlimited' (a "
-             "quarter)")
+        help="most bytes of address space of the broker itself, or 'unlimited' (default: a "
+             "quarter of that memory)")
     add("--bytes-held", type=partial(number_from, 7, GREATEST_LENGTH + 4), default=BYTES_HELD,
-        metavar="BYTES", help="the longest request frame, and the longest reply "
-                              f"({BYTES_HELD}: those of an image of 8192x8192 U32 fit)")
+        metavar="BYTES", help="most bytes of a request frame, and of a reply (default: "
+                              f"{BYTES_HELD}, enough for an image of 8192x8192 U32)")
     add("--total-held", type=partial(number_from, 1, options.MOST_MEMORY), metavar="BYTES",
-        help="how many bytes of long frames and of replies wait at most, of all connections (an "
-             "eighth)")
+        help="most bytes of long frames and of waiting replies, of all connections together "
+             "(default: an eighth of that memory)")
 
 
 def add_times(made: argparse.ArgumentParser) -> None:
     add = made.add_argument
     add("--patience", type=seconds_from, default=options.PATIENCE, metavar="SECONDS",
-        help="a connection is ended that sends nothing of a frame that it began, or takes nothing "
-             f"of its replies, for so long ({options.PATIENCE:g}); between frames it may wait as "
-             "long as it likes")
+        help="seconds after which a connection is ended that sends no more of a frame, or takes "
+             f"none of its replies (default: {options.PATIENCE:g}); between frames it may wait "
+             "without limit")
     add("--idle", type=seconds_from, metavar="SECONDS",
-        help="a connection is ended that asks nothing for so long (none is)")
+        help="seconds without a request after which a connection is ended (default: never)")
     add("--longest", type=seconds_from, metavar="SECONDS",
-        help="a server that takes longer for a request is killed, and started again (none is)")
+        help="seconds for one request after which its server is killed and started again "
+             "(default: never)")
     add("--grace", type=seconds_from, default=options.GRACE, metavar="SECONDS",
-        help="how long what the servers were asked may take once the broker is told to end; then "
-             f"they are killed ({options.GRACE:g})")
+        help="seconds for pending requests once the broker is told to end; then the servers are "
+             f"killed (default: {options.GRACE:g})")
 
 
 def limits_of(told: argparse.Namespace) -> Limits:
@@ -140,5 +141,6 @@ def main(words: Optional[List[str]] = None) -> int:
         return broker.run()
     except OSError as error:
         broker.finish()
-        print(f"feqyldan broker: {told.command[0]}: {error.strerror or error}", file=sys.stderr)
+        print(f"feqyldan broker: {told.command[0]} can't be started: {error.strerror or error}; "
+              "give the server's path after --", file=sys.stderr)
         return 2

@@ -101,7 +101,7 @@ class Connection:
     def fault(self) -> Optional[str]:
         """Returns what is wrong with its last bytes, in words."""
         is_cut_short = not self.reads and self.incoming.has_part
-        return self.incoming.fault or ("its end within a frame" if is_cut_short else None)
+        return self.incoming.fault or ("it ended within a frame" if is_cut_short else None)
 
     # ---- what it is sent
 
@@ -139,11 +139,12 @@ class Connection:
         """Returns what the connection has delayed for too long, in words."""
         patience, idle = self.limits.patience, self.limits.idle
         if self.outgoing and now - self.taken_at > patience:
-            return f"took none of its {len(self.outgoing)} bytes of replies for {patience:g} s"
+            return (f"it took none of its {len(self.outgoing)} bytes of replies for "
+                    f"{patience:g} s (--patience)")
         if self.interest & READ and self.incoming.has_part and now - self.received_at > patience:
-            return f"sent nothing of the rest of a frame for {patience:g} s"
+            return f"it sent nothing of the rest of a frame for {patience:g} s (--patience)"
         if idle is not None and self.is_idle() and now - self.served_at > idle:
-            return f"asked nothing for {idle:g} s"
+            return f"it asked nothing for {idle:g} s (--idle)"
         return None
 
     def is_idle(self) -> bool:

@@ -142,10 +142,10 @@ class Incoming:
             return
         length = int.from_bytes(self.held[:4], "big")
         if not LEAST_LENGTH <= length <= GREATEST_LENGTH:
-            self.fault = f"bad length {length}"
+            self.fault = f"bad length {length}: {LEAST_LENGTH} to {GREATEST_LENGTH} are allowed"
         elif 4 + length > self.most:
-            self.fault = (f"a frame of {4 + length} bytes, and at most {self.most} are held "
-                          "(--bytes-held)")
+            self.fault = (f"it sent a frame of {4 + length} bytes, and at most {self.most} are "
+                          "held (--bytes-held)")
         else:
             self.size = 4 + length
             if self.size > AHEAD and len(self.held) >= LEAST_FRAME:

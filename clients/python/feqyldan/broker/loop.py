@@ -118,7 +118,7 @@ class Broker(Front):
 
     def reason_against(self, owner: Owner) -> Optional[str]:
         if not self.numbers:
-            return f"{len(self.open)} connections are there (--connections)"
+            return f"all have {len(self.open)} connections, the limit (--connections)"
         return self.admission.reason_against(owner)
 
     def free(self, connection: Connection) -> None:
@@ -273,7 +273,7 @@ class Broker(Front):
         except EOFError:
             self.lose(server)
         except ServerFault as fault:
-            self.lines.say(f"{server} wrote {fault}")
+            self.lines.say(f"{server} is killed, because it wrote {fault}")
             server.process.kill()
             self.lose(server)
 
@@ -319,7 +319,7 @@ class Broker(Front):
         try:
             self.begin_servers()
         except OSError as error:
-            self.lines.say(f"no server is started for {ACCEPT_PAUSE:g} s: {error}")
+            self.lines.say(f"can't start a server: {error}; tries again in {ACCEPT_PAUSE:g} s")
             self.starts_from = self.now + ACCEPT_PAUSE
 
     def reload(self) -> None:
@@ -331,7 +331,7 @@ class Broker(Front):
         try:
             self.begin_servers()
         except OSError as error:
-            self.lines.say(f"the servers that are there go on: {error}")
+            self.lines.say(f"keeps the present servers after SIGHUP: {error}")
             for server in before:
                 server.is_retiring = False
             return
@@ -392,7 +392,7 @@ class Broker(Front):
     def note_end(self, server: Server, status: int) -> None:
         if server.is_told and status == 0:
             return
-        self.lines.say(f"{server} has ended with status {status}")
+        self.lines.say(f"{server} ended with status {status}")
         self.counts.servers_ended += 1
         self.failure = status or 1
         has_failed = self.is_untried(server)
@@ -478,13 +478,13 @@ class Broker(Front):
                 self.bury()
             elif which == signal.SIGHUP:
                 if self.stops_at is None:
-                    self.lines.say("begins with new servers by SIGHUP")
+                    self.lines.say("starts new servers for new connections after SIGHUP")
                     self.reload()
             elif self.was_told:
                 # Whoever asks twice doesn't wait.
                 self.was_told_twice, self.stops_at = True, self.now
             else:
-                self.lines.say(f"ends by {which.name}")
+                self.lines.say(f"ends because of {which.name}")
                 self.was_told = True
                 self.stop()
 

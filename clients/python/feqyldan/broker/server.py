@@ -272,7 +272,7 @@ class Server:
         """Fills in the clients that the connection sent in the replies to the first turn, as far as
         they have come. Returns where the last reply that has begun ends."""
         if not self.owed:
-            raise ServerFault("a reply that nobody is owed")
+            raise ServerFault("a reply without a request")
         turn, buffer = self.owed[0], self.buffer
         counts = self.counts_of(turn)
         number, asked, answered = turn.connection.number, turn.asked, turn.answered
@@ -281,7 +281,8 @@ class Server:
                 break
             length, client, op, code = REPLY.unpack_from(buffer, at)
             if client != number or op != sent & 0xFF or length < LEAST_REPLY:
-                raise ServerFault("a reply to another request than the next")
+                raise ServerFault(f"a reply of length {length} to op {op} of client {client}, not "
+                                  f"to op {sent & 0xFF} of client {number}, which is next")
             CLIENT.pack_into(buffer, at + 4, sent >> 8)
             if code:
                 counts.refusals[code] += 1

@@ -38,15 +38,16 @@ def parser() -> argparse.ArgumentParser:
     options.add_admission(made, "")
     add = made.add_argument
     add("--memory", type=memory_from, default=0, metavar="BYTES",
-        help="how much memory each server may have, by its address space, or 'unlimited' "
-             "(--total-memory by the number of connections)")
+        help="most bytes of address space of each server, or 'unlimited' (default: --total-memory "
+             "divided by --connections)")
     add("--total-memory", type=memory_from, default=0, metavar="BYTES",
-        help="how much memory the limits of all servers may come to, or 'unlimited' (three "
-             "quarters of what the machine has, or this program's control group)")
+        help="most bytes that the limits of all servers may add up to, or 'unlimited' (default: "
+             "three quarters of the memory of the machine, or of this program's control group)")
     add("--nice", type=partial(number_from, 0, 19), default=0, metavar="N",
-        help="how much less of the processors the servers get than others (0)")
+        help="nice value of the servers, 0 to 19 (default: 0)")
     add("--user-of-peer", action="store_true",
-        help="each server runs as the user of its connection's process; for root alone")
+        help="run each server as the user of its connection's process; needs root (default: as "
+             "this user)")
     add_times(made)
     return made
 
@@ -54,14 +55,14 @@ def parser() -> argparse.ArgumentParser:
 def add_times(made: argparse.ArgumentParser) -> None:
     add = made.add_argument
     add("--patience", type=seconds_from, default=options.PATIENCE, metavar="SECONDS",
-        help="a connection is ended that takes nothing of its replies for so long "
-             f"({options.PATIENCE:g})")
+        help="seconds after which a connection is ended that takes none of its replies (default: "
+             f"{options.PATIENCE:g})")
     add("--idle", type=seconds_from, metavar="SECONDS",
-        help="a connection is ended that sends nothing for so long while its server waits for it, "
-             "also within a frame (none is)")
+        help="seconds after which a connection is ended that sends nothing while its server waits "
+             "for it, also within a frame (default: never)")
     add("--grace", type=seconds_from, default=options.GRACE, metavar="SECONDS",
-        help="how long what a server was asked may take once its connection has ended, or the door "
-             f"is told to; then it is killed ({options.GRACE:g})")
+        help="seconds for pending requests once a connection has ended, or the door is told to "
+             f"end; then the server is killed (default: {options.GRACE:g})")
 
 
 def plan_of(told: argparse.Namespace) -> Plan:
@@ -71,7 +72,8 @@ def plan_of(told: argparse.Namespace) -> Plan:
     if memory == 0:
         memory = None if total is None else max(options.LEAST_MEMORY, total // told.connections)
     if told.user_of_peer and os.geteuid() != 0:
-        raise Unusable("--user-of-peer needs to run as root")
+        raise Unusable(f"--user-of-peer needs root, and this is user {os.geteuid()}: start the "
+                       "door as root, or leave it out")
     return Plan(told.command, memory, total, told.nice, told.user_of_peer, told.patience, told.idle)
 
 

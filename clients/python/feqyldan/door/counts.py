@@ -8,7 +8,7 @@ from ..service.metrics import ACCEPTED, MEMORY, metric, metrics_of, metrics_of_s
 # What a server's status says (docs/wire.md). Its own words go nowhere: most would be of programs
 # that went before their replies came.
 MEANINGS = {
-    2: "its words are refused", 3: "its connection's frames have a fault, or ended within one",
+    2: "its arguments are refused", 3: "its connection's frames have a fault, or ended within one",
     5: "there was no memory to start with"}
 # The statuses of servers whose connection ended, between two frames or otherwise.
 USUAL = (0, 4)
@@ -34,9 +34,9 @@ class Counts(Accepted):
 
 def meaning_of(status: int) -> str:
     if status < 0:
-        return f"has been ended by signal {-status}"
+        return f"was ended by signal {-status}"
     words = MEANINGS.get(status)
-    return f"has ended with status {status}{': ' if words else ''}{words or ''}"
+    return f"ended with status {status}{': ' if words else ''}{words or ''}"
 
 
 METRICS = (

@@ -96,9 +96,9 @@ class Door(Front):
     def reason_against(self, owner: Owner) -> Optional[str]:
         count, memory, total = len(self.servers), self.plan.memory, self.plan.total
         if count >= self.limits.connections:
-            return f"{count} connections are there (--connections)"
+            return f"all have {count} connections, the limit (--connections)"
         if memory is not None and total is not None and (count + 1) * memory > total:
-            return (f"{count} servers may have {count * memory} bytes, and one more would pass "
+            return (f"{count} servers may take {count * memory} bytes, and one more would exceed "
                     f"{total} (--total-memory)")
         return self.admission.reason_against(owner)
 
@@ -112,7 +112,7 @@ class Door(Front):
         try:
             server = Server(sock, owner, self.words, self.plan, self.now)
         except (OSError, ValueError) as error:
-            self.admission.turn_away(sock, owner, f"no server is started: {error}")
+            self.admission.turn_away(sock, owner, f"no server could be started: {error}")
             return
         self.admission.let_in(owner)
         self.servers[server.process] = server
@@ -193,7 +193,7 @@ class Door(Front):
                 # Whoever asks twice doesn't wait.
                 self.was_told_twice, self.stops_at = True, self.now
             else:
-                self.lines.say(f"ends by {which.name}")
+                self.lines.say(f"ends because of {which.name}")
                 self.stop()
 
     def reload(self) -> None:
@@ -201,9 +201,9 @@ class Door(Front):
         try:
             self.words = chosen(self.plan.command)
         except (Unusable, OSError) as reason:
-            self.lines.say(f"goes on with {self.words[0]}: {reason}")
+            self.lines.say(f"keeps {self.words[0]} after SIGHUP: {reason}")
         else:
-            self.lines.say(f"starts {self.words[0]} from now on, by SIGHUP")
+            self.lines.say(f"starts {self.words[0]} for new connections after SIGHUP")
 
     def stop(self) -> None:
         """Accepts nothing more, and closes the servers' inputs."""

@@ -45,7 +45,8 @@ def chosen(command: List[str]) -> List[str]:
     Unusable if the program doesn't exist, or doesn't serve."""
     path = shutil.which(command[0])
     if path is None:
-        raise Unusable(f"{command[0]} isn't there, or can't be run")
+        raise Unusable(f"there is no program {command[0]} that can be run: give the server's path "
+                       "after --")
     path = os.path.abspath(path)
     folder = os.path.join(os.path.dirname(os.path.realpath(path)), PROGRAMS)
     with open(path, "rb") as file:
@@ -63,11 +64,14 @@ def check(words: List[str]) -> None:
         status = subprocess.run(words, stdin=subprocess.DEVNULL, stdout=subprocess.DEVNULL,
                                 timeout=TRIAL_SECONDS, check=False).returncode
     except OSError as error:
-        raise Unusable(f"{words[0]}: {error.strerror}") from error
+        raise Unusable(f"{words[0]} can't be started: {error.strerror}; give the server's path "
+                       "after --") from error
     except subprocess.TimeoutExpired:
-        raise Unusable(f"{words[0]} doesn't end where its input does") from None
+        raise Unusable(f"{' '.join(words)} still runs {TRIAL_SECONDS:g} s after the end of its "
+                       "input: is it a Feqyldan server?") from None
     if status != 0:
-        raise Unusable(f"{' '.join(words)} ends with status {status} where its input is empty")
+        raise Unusable(f"{' '.join(words)} ended with status {status} on empty input, not with 0: "
+                       "is it a Feqyldan server, and are its arguments right?")
 
 
 def set_time(sock: socket.socket, option: int, seconds: float) -> None:

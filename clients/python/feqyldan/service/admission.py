@@ -73,9 +73,9 @@ class Admission:
     def reason_against(self, owner: Owner) -> Optional[str]:
         """Returns why a process gets no connection, in words."""
         if self.processes[owner] >= self.per_process:
-            return f"it has {self.processes[owner]} connections (--per-process)"
+            return f"it has {self.processes[owner]} connections, the limit (--per-process)"
         if self.users[owner.user] >= self.per_user:
-            return f"its user has {self.users[owner.user]} connections (--per-user)"
+            return f"its user has {self.users[owner.user]} connections, the limit (--per-user)"
         return None
 
     def let_in(self, owner: Owner) -> None:

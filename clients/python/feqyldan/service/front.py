@@ -50,7 +50,8 @@ class Front:
             try:
                 newcomer = self.admission.accept(self.listener)
             except OSError as error:
-                self.lines.say(f"no connection is accepted for {ACCEPT_PAUSE:g} s: {error}")
+                self.lines.say(f"can't accept a connection: {error}; tries again in "
+                               f"{ACCEPT_PAUSE:g} s")
                 self.accepts_from = self.now + ACCEPT_PAUSE
                 return
             if newcomer is None:

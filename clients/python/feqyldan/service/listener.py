@@ -42,7 +42,7 @@ class Listener:
 def listen_at(path: str, mode: int) -> Listener:
     """Returns a socket of this program's own, whose file has this mode."""
     if not path:
-        raise Unusable("the path of a socket is empty")
+        raise Unusable("the path of a socket is empty: give one by --socket PATH or --status PATH")
     with locked(path):
         return bind(path, mode)
 
@@ -55,7 +55,8 @@ def locked(path: str) -> Iterator[None]:
     file = None
     while file is None:
         if time.monotonic() > until:
-            raise Unusable(f"another program begins at {path}: it holds {name}")
+            raise Unusable(f"another program has been starting at {path} for "
+                           f"{LOCK_SECONDS:g} s, and locks {name}: end it, or choose another path")
         file = lock(name)
     try:
         yield
@@ -71,7 +72,7 @@ def lock(name: str) -> Optional[int]:
     try:
         file = os.open(name, os.O_RDWR | os.O_CREAT | os.O_NOFOLLOW | os.O_CLOEXEC, 0o600)
     except OSError as error:
-        raise Unusable(f"{name}: {error.strerror}") from error
+        raise Unusable(f"can't open the lock file {name}: {error.strerror}") from error
     with contextlib.suppress(BlockingIOError):
         fcntl.flock(file, fcntl.LOCK_EX | fcntl.LOCK_NB)
         # Who had the lock before may have removed the file.
@@ -91,7 +92,7 @@ def bind(path: str, mode: int) -> Listener:
         sock.bind(path)
     except OSError as error:
         sock.close()
-        raise Unusable(f"{path}: {error.strerror or error}") from error
+        raise Unusable(f"can't listen at {path}: {error.strerror or error}") from error
     finally:
         os.umask(mask)
     sock.listen(socket.SOMAXCONN)
@@ -112,12 +113,12 @@ def handed(descriptor: int) -> Listener:
     try:
         sock = socket.socket(fileno=descriptor)
     except OSError as error:
-        raise Unusable(f"descriptor {descriptor}, which was handed over: "
-                       f"{error.strerror}") from error
+        raise Unusable(f"descriptor {descriptor}, which was handed over (LISTEN_FDS), can't be "
+                       f"used: {error.strerror}") from error
     listens = sock.getsockopt(socket.SOL_SOCKET, socket.SO_ACCEPTCONN)
     if sock.family != socket.AF_UNIX or sock.type != socket.SOCK_STREAM or not listens:
-        raise Unusable(f"descriptor {descriptor}, which was handed over, is no Unix socket that "
-                       "listens for streams")
+        raise Unusable(f"descriptor {descriptor}, which was handed over (LISTEN_FDS), isn't a "
+                       "listening Unix stream socket: use ListenStream= with a path")
     return Listener(sock, sock.getsockname() or "a socket that was handed over")
 
 
@@ -140,9 +141,9 @@ def remove_stale(path: str) -> None:
     except FileNotFoundError:
         return
     except OSError as error:
-        raise Unusable(f"{path}: {error.strerror}") from error
+        raise Unusable(f"can't listen at {path}: {error.strerror}") from error
     if not is_socket:
-        raise Unusable(f"{path} is there, and is no socket")
+        raise Unusable(f"{path} exists and isn't a socket: remove it, or choose another path")
     with socket.socket(socket.AF_UNIX, socket.SOCK_STREAM) as probe:
         probe.setblocking(False)
         try:
@@ -151,5 +152,5 @@ def remove_stale(path: str) -> None:
             os.unlink(path)
             return
         except OSError as error:
-            raise Unusable(f"{path}: {error.strerror}") from error
-    raise Unusable(f"another program listens at {path}")
+            raise Unusable(f"can't listen at {path}: {error.strerror}") from error
+    raise Unusable(f"another program listens at {path}: end it, or choose another path")

@@ -61,7 +61,8 @@ def raise_file_limit(whose: str, files: int) -> None:
     wanted = files + OWN_FILES
     soft, hard = resource.getrlimit(resource.RLIMIT_NOFILE)
     if hard != resource.RLIM_INFINITY and hard < wanted:
-        raise Unusable(f"{whose} need {wanted} open files, and {hard} are allowed (ulimit -Hn)")
+        raise Unusable(f"{whose} need {wanted} open files, and {hard} are allowed: allow more "
+                       "(ulimit -Hn), or lower --connections")
     if soft != resource.RLIM_INFINITY and soft < wanted:
         resource.setrlimit(resource.RLIMIT_NOFILE, (wanted, hard))
 

@@ -18,14 +18,15 @@ PATIENCE, GRACE, REPORT = 30.0, 10.0, 60.0
 
 def number_from(least: int, greatest: int, words: str) -> int:
     if not (words.isascii() and words.isdigit() and least <= int(words) <= greatest):
-        raise argparse.ArgumentTypeError(f"a number from {least} to {greatest}, not {words!r}")
+        raise argparse.ArgumentTypeError(
+            f"must be a number from {least} to {greatest}, not {words!r}")
     return int(words)
 
 
 def mode_from(words: str) -> int:
     is_octal = words.isascii() and words.isdigit() and set(words) <= set("01234567")
     if not (is_octal and int(words, 8) <= 0o777):
-        raise argparse.ArgumentTypeError(f"an octal number up to 0777, not {words!r}")
+        raise argparse.ArgumentTypeError(f"must be an octal number up to 0777, not {words!r}")
     return int(words, 8)
 
 
@@ -35,7 +36,8 @@ def seconds_from(words: str) -> float:
     except ValueError:
         seconds = 0.0
     if not 0 < seconds <= 1e6:
-        raise argparse.ArgumentTypeError(f"a number of seconds above 0, not {words!r}")
+        raise argparse.ArgumentTypeError(f"must be a number of seconds above 0 and up to "
+                                         f"1000000, not {words!r}")
     return seconds
 
 
@@ -55,17 +57,19 @@ def parser(name: str, description: str, epilog: str) -> argparse.ArgumentParser:
         usage="%(prog)s --socket PATH [OPTION ..] -- PROGRAM serve [WORD ..]",
         description=description, epilog=epilog)
     add = made.add_argument
-    add("--socket", metavar="PATH", help="where to listen")
+    add("--socket", metavar="PATH", help="path of the Unix socket that programs connect to")
     add("--mode", type=mode_from, default=0o600, metavar="OCTAL",
-        help="who may connect: the mode of the sockets' files (0600, their owner alone)")
+        help="mode of the sockets' files, which says who may connect (default: 0600, their owner "
+             "alone)")
     add("--status", metavar="PATH",
-        help="a second socket, which tells the state: a line of JSON to who sends a line or ends "
-             "its writing; by HTTP, the same at GET /status, and Prometheus' text at GET /metrics")
+        help="path of a second socket that reports the state (default: none): a line of JSON to "
+             "anyone who sends a line or ends its writing; by HTTP the same at GET /status, and "
+             "Prometheus' text at GET /metrics")
     add("--report", type=seconds_from, default=REPORT, metavar="SECONDS",
-        help="how often a line on standard error says what has happened since the last one, where "
-             f"something has ({REPORT:g})")
+        help="seconds between two lines of counts on standard error (default: "
+             f"{REPORT:g}); there is no line if nothing has happened")
     add("command", nargs="+", metavar="PROGRAM serve ..",
-        help="the server's program, with its words")
+        help="the server's program and its arguments")
     return made
 
 
@@ -74,11 +78,11 @@ def add_admission(made: argparse.ArgumentParser, among: str) -> None:
     connections = partial(number_from, 1, MOST_CONNECTIONS)
     add = made.add_argument
     add("--connections", type=connections, default=CONNECTIONS, metavar="N",
-        help=f"how many at once{among} ({CONNECTIONS})")
+        help=f"most connections at once{among} (default: {CONNECTIONS})")
     add("--per-process", type=connections, default=PER_PROCESS, metavar="N",
-        help=f"how many of them one process may have ({PER_PROCESS})")
+        help=f"most connections of one process (default: {PER_PROCESS})")
     add("--per-user", type=connections, default=PER_USER, metavar="N",
-        help="how many of them the processes of one user may have (all)")
+        help="most connections of all processes of one user (default: as many as --connections)")
 
 
 def listeners(told: argparse.Namespace) -> Tuple[Listener, Optional[Listener]]:
@@ -86,7 +90,8 @@ def listeners(told: argparse.Namespace) -> Tuple[Listener, Optional[Listener]]:
     then the one for the state."""
     handed = handed_over()
     if not handed and told.socket is None:
-        raise Unusable("where to listen isn't told (--socket), and no socket was handed over")
+        raise Unusable("there is no socket to listen at: give --socket PATH, or hand one over "
+                       "(LISTEN_FDS)")
     listener = handed[0] if handed else listen_at(told.socket, told.mode)
     if len(handed) > 1:
         return listener, handed[1]
