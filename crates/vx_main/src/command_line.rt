@@ -6,7 +6,6 @@ use clap::error::ErrorKind;
 use clap::{Arg, ArgAction, ArgMatches, Command, Error};
 use client_model::{GREATEST_LIMIT, Limits};
 use std::alloc::{AllocError, Global};
-use vx_base::Border;
 
 /// The server's version.
 const VERSION: &str = "0.1.0";
@@ -63,12 +62,12 @@ fn serve_command<'a>(alloc: Global) -> Result<Command<'a>, AllocError> {
     let quota = bytes_option(
         alloc,
         "quota",
-        "Sample bytes for each client's images, 1 to 1099511627776 [default: 268435456]",
+        "Most sample bytes of each client's images, 1 to 1099511627776 [default: 268435456]",
     );
     let work = bytes_option(
         alloc,
         "work",
-        "Sample bytes for each graph's virtual images, 1 to 1099511627776 [default: 268435456]",
+        "Most sample bytes of each graph's virtual images, 1 to 1099511627776 [default: 268435456]",
     );
     Command::new(alloc, "serve")
         .about("Reads request frames from standard input and writes a reply frame for each")
@@ -93,13 +92,16 @@ fn read_limits(alloc: Global, serve: &ArgMatches<'_>) -> Result<Limits, Error> {
     if let Some(limits) = parse_limits(quota, work) {
         return Ok(limits);
     }
-    let text = if parse_bytes(quota).is_none() {
-        "the value of '--quota <BYTES>' isn't a decimal number from 1 to 1099511627776"
+    let (option, word) = if parse_bytes(quota).is_none() {
+        ("--quota", quota)
     } else {
-        "the value of '--work <BYTES>' isn't a decimal number from 1 to 1099511627776"
+        ("--work", work)
     };
+    let text = format!(in alloc;
+        "invalid value '{word}' for '{option} <BYTES>': it must be a decimal number from 1 to 1099511627776"
+    )?;
     let mut serve = serve_command(alloc)?.bin_name("vx_main serve")?;
-    Err(serve.error(ErrorKind::ValueValidation, text)?)
+    Err(serve.error(ErrorKind::ValueValidation, text.as_str())?)
 }
 
 /// Returns the subcommand `apply`.
@@ -113,31 +115,31 @@ fn apply_command<'a>(alloc: Global) -> Result<Command<'a>, AllocError> {
         .long("border")
         .value_name("BORDER")
         .action(ArgAction::Set)
-        .help("What a filter sees past the edges, undefined or replicate [default: undefined]");
+        .help("Pixels past the edges, undefined or replicate [default: undefined]");
     Command::new(alloc, "apply")
-        .about("Reads one PGM picture from standard input and writes what a function makes of it")
+        .about("Applies a function to one PGM picture, from standard input to standard output")
         .arg(function)?
         .arg(border)
 }
 
 /// Returns the job of the words after `apply`.
 fn read_job(alloc: Global, apply: &ArgMatches<'_>) -> Result<Job, Error> {
-    let Some(operation) = parse_operation(apply.get_str("function").unwrap_or("")) else {
-        return Err(no_word(
-            alloc,
-            "the value of '<FUNCTION>' is none of not, box, gaussian, median, erode and dilate",
-        )?);
+    let function = apply.get_str("function").unwrap_or("");
+    let Some(operation) = parse_operation(function) else {
+        let text = format!(in alloc;
+            "invalid value '{function}' for '<FUNCTION>': it must be not, box, gaussian, median, erode or dilate"
+        )?;
+        return Err(no_word(alloc, text.as_str())?);
     };
-    let border = match apply.get_str("border") {
-        Some(word) => parse_border(word),
-        None => Some(Border::Undefined),
-    };
-    match border {
+    let border = apply.get_str("border").unwrap_or("undefined");
+    match parse_border(border) {
         Some(border) => Ok(Job { operation, border }),
-        None => Err(no_word(
-            alloc,
-            "the value of '--border <BORDER>' is neither undefined nor replicate",
-        )?),
+        None => {
+            let text = format!(in alloc;
+                "invalid value '{border}' for '--border <BORDER>': it must be undefined or replicate"
+            )?;
+            Err(no_word(alloc, text.as_str())?)
+        }
     }
 }
 

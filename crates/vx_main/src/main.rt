@@ -29,7 +29,7 @@ fn words(rt: &HostRuntime) -> Result<Vec<String>, Ended> {
     match env::args(rt) {
         Ok(args) => Ok(args.skip(1).collect(rt.alloc())?),
         Err(error) if error.kind() == io::ErrorKind::InvalidData => Err(Ended::CommandLine(
-            "error: a word is not UTF-8".to_string(rt.alloc())?,
+            "error: the command line has a word that isn't UTF-8".to_string(rt.alloc())?,
         )),
         Err(_) => Err(Ended::Refused(Code::NoMemory)),
     }

@@ -203,11 +203,11 @@ fn refuses_other_numbers_of_bytes(rt: HostRuntime) {
     for (option, text) in [
         (
             "--quota",
-            "'--quota <BYTES>' isn't a decimal number from 1 to",
+            "invalid value '0' for '--quota <BYTES>': it must be a decimal number",
         ),
         (
             "--work",
-            "'--work <BYTES>' isn't a decimal number from 1 to",
+            "invalid value '0' for '--work <BYTES>': it must be a decimal number",
         ),
         ("--quota", "1099511627776\n\nUsage: vx_main serve"),
         ("--work", "1099511627776\n\nUsage: vx_main serve"),
@@ -268,7 +268,7 @@ fn reads_the_command_line(rt: HostRuntime) {
     for (words, text) in [
         (&["--help"][..], &b"An OpenVX server"[..]),
         (&["serve", "--help"], b"Reads request frames"),
-        (&["apply", "--help"], b"Reads one PGM picture"),
+        (&["apply", "--help"], b"Applies a function"),
         (&["--version"], b"vx_main 0.1.0\n"),
     ] {
         let mut written = Vec::new(rt.alloc());

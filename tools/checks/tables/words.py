@@ -72,7 +72,7 @@ WORDS: Tuple[Tuple[Tuple[Word, ...], int, bytes, bytes], ...] = (
     (("--help",), 0, b"Usage: vx_main", b""),
     (("serve", "--help"), 0, b"Usage: vx_main serve", b""),
     (("serve", "--help"), 0,
-     b"--quota <BYTES>  Sample bytes for each client's images, 1 to 1099511627776 "
+     b"--quota <BYTES>  Most sample bytes of each client's images, 1 to 1099511627776 "
      b"[default: 268435456]", b""),
     (("serve", "--help"), 0, b"--work <BYTES> ", b""),
     (("serve", "--help"), 0, b"\n  kept graphs  ", b""),
@@ -81,14 +81,17 @@ WORDS: Tuple[Tuple[Tuple[Word, ...], int, bytes, bytes], ...] = (
     (("apply",), 2, b"", b"Usage: vx_main"),
     (("apply", "box", "--border"), 2, b"", b"--border"),
     (("serve", "now"), 2, b"", b"Usage: vx_main"),
-    (("serve", "--quota", "0"), 2, b"", b"Usage: vx_main serve"),
+    (("serve", "--quota", "0"), 2, b"", b"invalid value '0' for '--quota <BYTES>': it must be"),
+    (("apply", "blur"), 2, b"", b"invalid value 'blur' for '<FUNCTION>': it must be not, box"),
+    (("apply", "box", "--border", "wrap"), 2, b"",
+     b"invalid value 'wrap' for '--border <BORDER>': it must be undefined or replicate"),
     (("serve", "--quota"), 2, b"", b"'--quota <BYTES>'"),
     (("serve", "--quota", "8", "--quota", "8"), 2, b"", b"Usage: vx_main serve"),
     (("serve", "--work", "0"), 2, b"", b"Usage: vx_main serve"),
     (("serve", "--work"), 2, b"", b"'--work <BYTES>'"),
     (("serve", "--work", "8", "--work", "8"), 2, b"", b"Usage: vx_main serve"),
     (("--work", "8", "serve"), 2, b"", b"Usage: vx_main"),
-    ((b"\xff",), 2, b"", b"error: a word is not UTF-8\n"),
+    ((b"\xff",), 2, b"", b"error: the command line has a word that isn't UTF-8\n"),
 )
 
 
