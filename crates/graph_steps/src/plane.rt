@@ -11,7 +11,7 @@ ghost use Rattle.graph_steps.specs.Planes.{block_image, IsReadable, IsWhole};
 ghost use Rattle.graph_steps.specs.Steps.{CanMake, kernel_image, scan_image};
 
 use crate::kernel::Kernel;
-use crate::rows::{write_bytes, write_shorts, write_sums, write_words};
+use crate::rows::{write_rows, write_sums};
 use image_core::{Band, Image};
 use std::marker::Model;
 use vx_base::{Desc, Rect, Samples};
@@ -181,13 +181,13 @@ impl Plane {
         self.rows = rows;
         self.valid = match &mut self.samples {
             Samples::U8(samples) => {
-                write_bytes(desc, top, rows, valid, samples.as_mut_slice(), kernel)
+                write_rows(desc, top, rows, valid, samples.as_mut_slice(), kernel)
             }
             Samples::S16(samples) => {
-                write_shorts(desc, top, rows, valid, samples.as_mut_slice(), kernel)
+                write_rows(desc, top, rows, valid, samples.as_mut_slice(), kernel)
             }
             Samples::U32(samples) => {
-                write_words(desc, top, rows, valid, samples.as_mut_slice(), kernel)
+                write_rows(desc, top, rows, valid, samples.as_mut_slice(), kernel)
             }
         };
     }
