@@ -1,7 +1,7 @@
-//! Writes rows in a block of samples.
+//! Reads and writes rows in a block of samples.
 ghost use Rattle.std.specs.Prelude.{◌≡◌, ◌+◌, ◌-◌, ◌*◌, ◌≤◌, length, map, pos};
 ghost use Rattle.vx_base.specs.declared.format.Format.TheVariants.{U8, U32};
-ghost use Rattle.vx_base.specs.Image.{image_from};
+ghost use Rattle.vx_base.specs.Image.{image_from, IsImage};
 ghost use Rattle.vx_base.specs.Rectangle.{IsWithin};
 ghost use Rattle.image_core.specs.Bands.{IsInRows, image_over_rows, rows_in};
 ghost use Rattle.image_core.specs.Second.{second_object};
@@ -13,6 +13,29 @@ use crate::kernel::Kernel;
 use image_core::{Band, Image, ImageMut, Sample};
 use stat_kernels::{integral_on, row_above};
 use vx_base::{Desc, Rect};
+
+/// Returns the image with these rows of a block that begins with row `top`, and 0 in all others.
+pub fn read_rows<T: Sample>(
+    desc: Desc,
+    valid: Rect,
+    top: u16,
+    rows: Band,
+    samples: &[T],
+) -> Image<'_>
+    requires format { desc.format ≡ T.format }
+    requires rows { IsInRows desc.height rows }
+    requires top { top ≤ rows.start }
+    requires room { (rows.start - top + rows.count) * desc.width ≤ length samples.now }
+    requires image { IsImage (image_over_rows desc valid rows
+        (rows_of_block desc.width top rows (map T.value samples.now))) }
+    ensures { result ≡ image_over_rows desc valid rows
+        (rows_of_block desc.width top rows (map T.value samples.now)) }
+{
+    let width = usize::from(desc.width());
+    let start = usize::from(rows.start - top) * width;
+    let count = usize::from(rows.count) * width;
+    Image::of_rows(desc, valid, rows, &samples[start..start + count])
+}
 
 /// Writes a kernel's rows to the samples of these rows, and returns the valid rectangle. The check
 /// follows an output's samples only at a known type, so each impl of `RowSample` has this body.
