@@ -37,7 +37,7 @@ pub fn read_rows<T: Sample>(
     Image::of_rows(desc, valid, rows, &samples[start..start + count])
 }
 
-/// Writes a kernel's rows to the samples of these rows, and returns the valid rectangle. The check
+/// Writes a kernel's rows to the samples of these rows, and returns the valid rectangle. The prover
 /// follows an output's samples only at a known type, so each impl of `RowSample` has this body.
 macro_rules! make_rows {
     ($desc:expr, $rows:expr, $valid:expr, $samples:expr, $kernel:expr) => {{
