@@ -358,7 +358,7 @@ module _ (tables : List SecondInput) (high : ℕ) (halos : List ℕ) (band : Ban
         scans_agree out.desc.format (read_images planes s.first) (whole s.first) rows.start (sums_above out.desc.width out.top rows.start out.samples) first last
         (agree_fewer (first - s.radius) first last (last + s.radius) (read_images planes s.first) (whole s.first) (omega arith) (omega arith) (near s.first (inl refl)))
         (λ y from low. starts (plane planes s.output).desc.height y from (omega (arith, sides.1)))
-        (λ x across zero_start. at_top x (omega (arith, is.top)))
+        (λ x across zero_start. at_top x (omega (arith, is.output.top)))
         (λ x across some. elim (above_is scans) [
           | inl none ↦ absurd (let z = no_more (plane planes s.output).desc.height none in omega arith)
           | inr (none, above) ↦ row_above x (omega (arith, sides.0)) some none above

@@ -35,8 +35,8 @@ use Rattle.node_rows.specs.Radius.{matrix_in}
 use Rattle.graph_steps.specs.declared.step.Step.{Step}
 use Rattle.graph_steps.specs.declared.step.Source.{Source}
 use Rattle.graph_steps.specs.declared.step.Source.TheVariants.{Nothing, Plane, Table}
-use Rattle.graph_steps.specs.Planes.{PlaneValue, plane, no_plane, read_images, plane_image, block_image, with_read_rows, with_rows, with_block, without_block, written_among, IsReadable, IsWhole}
-use Rattle.graph_steps.specs.Steps.{ReadsPlane, second_in, image_from_inputs, is_integral, rows_image, scan_image, step_image, sums_above, CanMake, Suits, CanStep, blank_image, second_plane, with_moved_block, with_output_block, after_step, capacities, capacity, blocks_with_move, blocks_after_step}
+use Rattle.graph_steps.specs.Planes.{PlaneValue, plane, no_plane, read_images, plane_image, block_image, with_read_rows, with_rows, with_block, without_block, written_among, IsReadable, IsWhole, TakesRows}
+use Rattle.graph_steps.specs.Steps.{ReadsPlane, second_in, image_from_inputs, is_integral, rows_image, scan_image, step_image, sums_above, CanMake, Suits, CanStep, CanWrite, blank_image, second_plane, with_moved_block, with_output_block, after_step, capacities, capacity, blocks_with_move, blocks_after_step}
 use Rattle.graph_steps.proofs.KernelLaws.{integral_formats, made_description, scan_description}
 use Rattle.graph_steps.proofs.PlaneLaws.{written_plane, written_size, written_beside}
 
@@ -266,10 +266,7 @@ pub record IsReady (s : Step) (rows : Band) (planes ready : List PlaneValue) : T
   pub others : (k : ℕ) → k ≢ s.output → s.takes ≢ Some k → plane ready k ≡ plane planes k
   pub own : s.takes ≡ None → plane ready s.output ≡ plane planes s.output
   pub capacities : capacities ready ≡ blocks_after_step s (capacities planes)
-  pub format : (plane ready s.output).format ≡ (plane ready s.output).desc.format
-  pub within : IsWithin (plane ready s.output).valid (plane ready s.output).desc.width (plane ready s.output).desc.height
-  pub top : (plane ready s.output).top ≤ rows.start
-  pub room : (rows.start - (plane ready s.output).top + rows.count) * (plane ready s.output).desc.width ≤ length (plane ready s.output).samples
+  pub output : TakesRows rows (plane ready s.output)
 
 pub not_more : (a b c : ℕ) → a ≤ b → a * c ≤ b * c
 not_more a b c h = grind arith
@@ -284,13 +281,16 @@ module _ (tables : List SecondInput) (high : ℕ) (s : Step) (rows : Band) (plan
         others = λ k a b. refl;
         own = λ e. refl;
         capacities = ap (λ o. blocks_with_move o s.output (capacities planes)) (sym none);
-        format = w.format;
-        within = w.valid;
-        top = (let t = w.top in omega arith);
-        room = (let t = w.top in
-            let l = w.size in
-            let m = not_more (rows.start - (plane planes s.output).top + rows.count) (plane planes s.output).desc.height (plane planes s.output).desc.width (let r = fits.within in omega arith) in
-            omega arith);
+        output = record {
+          format = w.format;
+          within = fits.within;
+          valid = w.valid;
+          top = (let t = w.top in omega arith);
+          room = (let t = w.top in
+              let l = w.size in
+              let m = not_more (rows.start - (plane planes s.output).top + rows.count) (plane planes s.output).desc.height (plane planes s.output).desc.width (let r = fits.within in omega arith) in
+              omega arith);
+        };
       }
 
   taken_ready : (t : ℕ) → s.takes ≡ Some t → IsReady s rows planes (with_moved_block t s.output rows.start planes)
@@ -306,17 +306,20 @@ module _ (tables : List SecondInput) (high : ℕ) (s : Step) (rows : Band) (plan
         others = λ k a untaken. claimed_same t s.output rows.start planes b.0 to k a (λ e. untaken (some ∙ ap Some (sym e)));
         own = λ none. absurd (none_not_some s.takes t none some);
         capacities = claimed_capacities t s.output rows.start planes b.0 to ∙ ap (λ o. blocks_with_move o s.output (capacities planes)) (sym some);
-        format = ap (λ (p : PlaneValue). p.format) at_output ∙ b.1 ∙ sym (ap (λ (d : Description). d.format) desc);
-        within = subst (λ (p : PlaneValue). IsWithin p.valid p.desc.width p.desc.height) (sym at_output) (record { columns = omega arith; rows = omega arith });
-        top = (let e : (plane ready s.output).top ≡ rows.start = ap (λ (p : PlaneValue). p.top) at_output in omega arith);
-        room =
-            (let e : (plane ready s.output).top ≡ rows.start = ap (λ (p : PlaneValue). p.top) at_output in
-            let l : length (plane ready s.output).samples ≡ length (plane planes t).samples = ap (λ (p : PlaneValue). length p.samples) at_output in
-            let w : (plane planes s.output).desc.width ≡ (plane ready s.output).desc.width = sym (ap (λ (d : Description). d.width) desc) in
-            let r : rows.count * (plane ready s.output).desc.width ≤ length (plane planes t).samples = subst (λ n. rows.count * n ≤ length (plane planes t).samples) w b.2 in
-            let n : rows.start - (plane ready s.output).top + rows.count ≡ rows.count = omega arith in
-            let m : (rows.start - (plane ready s.output).top + rows.count) * (plane ready s.output).desc.width ≡ rows.count * (plane ready s.output).desc.width = ap (λ k. k * (plane ready s.output).desc.width) n in
-            omega (arith, m, r, l));
+        output = record {
+          format = ap (λ (p : PlaneValue). p.format) at_output ∙ b.1 ∙ sym (ap (λ (d : Description). d.format) desc);
+          within = subst (λ (d : Description). IsInRows d.height rows) (sym desc) fits.within;
+          valid = subst (λ (p : PlaneValue). IsWithin p.valid p.desc.width p.desc.height) (sym at_output) (record { columns = omega arith; rows = omega arith });
+          top = (let e : (plane ready s.output).top ≡ rows.start = ap (λ (p : PlaneValue). p.top) at_output in omega arith);
+          room =
+              (let e : (plane ready s.output).top ≡ rows.start = ap (λ (p : PlaneValue). p.top) at_output in
+              let l : length (plane ready s.output).samples ≡ length (plane planes t).samples = ap (λ (p : PlaneValue). length p.samples) at_output in
+              let w : (plane planes s.output).desc.width ≡ (plane ready s.output).desc.width = sym (ap (λ (d : Description). d.width) desc) in
+              let r : rows.count * (plane ready s.output).desc.width ≤ length (plane planes t).samples = subst (λ n. rows.count * n ≤ length (plane planes t).samples) w b.2 in
+              let n : rows.start - (plane ready s.output).top + rows.count ≡ rows.count = omega arith in
+              let m : (rows.start - (plane ready s.output).top + rows.count) * (plane ready s.output).desc.width ≡ rows.count * (plane ready s.output).desc.width = ap (λ k. k * (plane ready s.output).desc.width) n in
+              omega (arith, m, r, l));
+        };
       }
 
   pub ready_is : IsReady s rows planes (with_output_block s.takes s.output rows.start planes)
@@ -324,6 +327,19 @@ module _ (tables : List SecondInput) (high : ℕ) (s : Step) (rows : Band) (plan
     | inl none ↦ subst (λ o. IsReady s rows planes (with_output_block o s.output rows.start planes)) (sym none) (own_ready none)
     | inr (t, some) ↦ subst (λ o. IsReady s rows planes (with_output_block o s.output rows.start planes)) (sym some) (taken_ready t some)
   ]
+
+-- a step can write its output after it is taken out of the planes
+pub can_write_apart : (tables : List SecondInput) (s : Step) (rows : Band) (planes left : List PlaneValue) (out own : PlaneValue) → length left ≡ length planes → ((c : ℕ) → ReadsPlane s c → plane left c ≡ plane planes c) → own ≡ out
+    → CanWrite tables s rows planes out → CanWrite tables s rows left own
+can_write_apart tables s rows planes left out own count same took can =
+    let first : read_images left s.first ≡ read_images planes s.first = ap plane_image (same s.first (inl refl)) in
+    let second = second_same tables s.second (read_images left) (read_images planes) (λ c e. ap plane_image (same c (inr e))) in
+    subst (CanWrite tables s rows left) (sym took) (record {
+      reads = (λ c reads. let r = can.reads c reads in (subst (λ n. c < n) (sym count) r.0, subst IsReadable (sym (same c reads)) r.1));
+      table = can.table;
+      makes = can_read s _ _ _ _ out.desc first second can.makes;
+      output = can.output;
+    })
 
 -- ---- after the step
 
@@ -352,6 +368,15 @@ module _ (tables : List SecondInput) (high : ℕ) (s : Step) (rows : Band) (plan
   can_before =
       can_make tables (plane planes (second_plane s.second)).desc (read_images before) s high (plane planes s.first).desc out.desc (read_images before s.first)
       (subst (Suits tables high s (plane planes s.first).desc (plane planes (second_plane s.second)).desc) (sym (is.desc s.output)) fits.suits) (is.desc s.first) (is.desc (second_plane s.second))
+
+  -- so it can write its output
+  pub can_write : CanWrite tables s rows before out
+  can_write = record {
+    reads = (λ c reads. let r = fits.reads c reads in let k = is.count in (omega arith, subst IsReadable (sym (input_same c reads)) r.3));
+    table = (λ k e. (fits.suits.table k e).0);
+    makes = can_before;
+    output = is.output;
+  }
 
   can_after : CanMake s (read_images planes s.first) (second_in tables (read_images planes) s.second) out.desc
   can_after =
@@ -385,7 +410,7 @@ module _ (tables : List SecondInput) (high : ℕ) (s : Step) (rows : Band) (plan
   ]
 
   size_same : length (written_among out.top rows (rows_image tables s rows (read_images before) out) out.samples) ≡ length out.samples
-  size_same = written_size out rows (rows_image tables s rows (read_images before) out) (sym (ap description_of image_same ∙ image_desc)) is.room
+  size_same = written_size out rows (rows_image tables s rows (read_images before) out) (sym (ap description_of image_same ∙ image_desc)) is.output.room
 
   pub after_capacities : capacities after ≡ blocks_after_step s (capacities planes)
   after_capacities =
@@ -397,22 +422,19 @@ module _ (tables : List SecondInput) (high : ℕ) (s : Step) (rows : Band) (plan
 
   -- the rows that are written can be read
   pub after_image : read_images after s.output ≡ zero_outside_rows rows (rows_image tables s rows (read_images planes) out)
-  after_image = ap plane_image after_output ∙ written_plane out rows (rows_image tables s rows (read_images planes) out) (sym image_desc) is.room
+  after_image = ap plane_image after_output ∙ written_plane out rows (rows_image tables s rows (read_images planes) out) (sym image_desc) is.output.room
 
   pub after_readable : IsReadable (plane after s.output)
   after_readable = subst IsReadable (sym after_output) (record {
-    format = is.format;
-    rows = in_rows;
-    top = is.top;
-    room = (let l = written_size out rows (rows_image tables s rows (read_images planes) out) (sym image_desc) is.room in let r = is.room in omega arith);
-    image = subst IsImage (sym (written_plane out rows (rows_image tables s rows (read_images planes) out) (sym image_desc) is.room)) (held_in_is (rows_image tables s rows (read_images planes) out) rows image_rows image_is);
+    format = is.output.format;
+    rows = is.output.within;
+    top = is.output.top;
+    room = (let l = written_size out rows (rows_image tables s rows (read_images planes) out) (sym image_desc) is.output.room in let r = is.output.room in omega arith);
+    image = subst IsImage (sym (written_plane out rows (rows_image tables s rows (read_images planes) out) (sym image_desc) is.output.room)) (held_in_is (rows_image tables s rows (read_images planes) out) rows image_rows image_is);
   })
     where
-      in_rows : IsInRows out.desc.height rows
-      in_rows = subst (λ (d : Description). IsInRows d.height rows) (sym (is.desc s.output)) fits.within
-
       image_rows : IsInRows (rows_image tables s rows (read_images planes) out).height rows
-      image_rows = subst (λ (d : Description). IsInRows d.height rows) (sym image_desc) in_rows
+      image_rows = subst (λ (d : Description). IsInRows d.height rows) (sym image_desc) is.output.within
 
   -- an output that takes no block still has all its rows
   pub after_whole : s.takes ≡ None → IsWhole (plane after s.output)
@@ -421,7 +443,7 @@ module _ (tables : List SecondInput) (high : ℕ) (s : Step) (rows : Band) (plan
       subst IsWhole (sym after_output) (record {
         format = w.format;
         top = w.top;
-        size = written_size out rows (rows_image tables s rows (read_images planes) out) (sym image_desc) is.room ∙ w.size;
+        size = written_size out rows (rows_image tables s rows (read_images planes) out) (sym image_desc) is.output.room ∙ w.size;
         valid = subst (λ (d : Description). IsWithin (rows_image tables s rows (read_images planes) out).valid d.width d.height) image_desc image_is.room;
       })
 

@@ -96,6 +96,14 @@ pub record IsWhole (p : PlaneValue) : Type 0 where
   pub size : length p.samples ≡ p.desc.height * p.desc.width
   pub valid : IsWithin p.valid p.desc.width p.desc.height
 
+-- these rows can be written to the plane
+pub record TakesRows (rows : Band) (p : PlaneValue) : Type 0 where
+  pub format : p.format ≡ p.desc.format
+  pub within : IsInRows p.desc.height rows
+  pub valid : IsWithin p.valid p.desc.width p.desc.height
+  pub top : p.top ≤ rows.start
+  pub room : (rows.start - p.top + rows.count) * p.desc.width ≤ length p.samples
+
 -- ---- bands
 
 -- a band with a halo above and below it, clipped to an image of this height

@@ -29,7 +29,7 @@ use Rattle.graph_steps.specs.declared.kernel.Kernel.{Kernel}
 use Rattle.graph_steps.specs.declared.step.Step.{Step}
 use Rattle.graph_steps.specs.declared.step.Source.{Source}
 use Rattle.graph_steps.specs.declared.step.Source.TheVariants.{Nothing, Plane, Table}
-use Rattle.graph_steps.specs.Planes.{PlaneValue, plane, read_images, plane_image, with_read_rows, with_rows, with_block, without_block, IsReadable, IsWhole}
+use Rattle.graph_steps.specs.Planes.{PlaneValue, plane, read_images, plane_image, with_read_rows, with_rows, with_block, without_block, IsReadable, IsWhole, TakesRows}
 
 -- ---- images of steps
 
@@ -137,6 +137,13 @@ pub record CanStep (tables : List SecondInput) (high : ℕ) (s : Step) (rows : B
       (t < length planes) × ((plane planes t).format ≡ (plane planes s.output).desc.format) × (rows.count * (plane planes s.output).desc.width ≤ length (plane planes t).samples)
   -- an output that takes no block has all rows
   pub whole : s.takes ≡ None → IsWhole (plane planes s.output)
+
+-- a step that reads these planes can write rows of this output
+pub record CanWrite (tables : List SecondInput) (s : Step) (rows : Band) (planes : List PlaneValue) (out : PlaneValue) : Type 0 where
+  pub reads : (c : ℕ) → ReadsPlane s c → (c < length planes) × IsReadable (plane planes c)
+  pub table : (k : ℕ) → s.second ≡ Table k → k < length tables
+  pub makes : CanMake s (read_images planes s.first) (second_in tables (read_images planes) s.second) out.desc
+  pub output : TakesRows rows out
 
 -- ---- effect on planes
 

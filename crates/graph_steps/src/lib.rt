@@ -18,7 +18,7 @@
 //! - `step`: steps and reductions
 //! - `plane`: planes
 //! - `kernel`: runs the kernel of a step's function
-//! - `rows`: writes rows in a block of samples
+//! - `rows`: reads and writes rows in a block of samples
 //! - `one_step`: runs one step on some rows
 //! - `tally`: histograms and extremes, band by band
 //! - `halos`: finds the halos

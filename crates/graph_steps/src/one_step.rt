@@ -1,16 +1,12 @@
 //! Runs one step on some rows.
-ghost use Rattle.std.specs.Prelude.{◌≡◌, ◌≢◌, ◌<◌, ◌≤◌, ◌+◌, ◌-◌, ◌*◌, ℕ, length};
-ghost use Rattle.std.specs.Prelude.{Option, Some, IsTrue, true};
+ghost use Rattle.std.specs.Prelude.{◌≡◌, ◌≢◌, ◌<◌, ℕ, length, Option, Some, true};
 ghost use Rattle.vx_base.specs.Object.{ObjectValue};
-ghost use Rattle.vx_base.specs.Rectangle.{IsWithin};
-ghost use Rattle.image_core.specs.Bands.{IsInRows};
-ghost use Rattle.graph_steps.specs.declared.step.Source.TheVariants.{Plane as AtPlane, Table};
 ghost use Rattle.graph_steps.specs.Planes.{plane, plane_image, read_images, with_read_rows};
-ghost use Rattle.graph_steps.specs.Planes.{with_rows, IsReadable};
-ghost use Rattle.graph_steps.specs.Steps.{ReadsPlane, CanMake, CanStep, with_moved_block};
-ghost use Rattle.graph_steps.specs.Steps.{with_output_block, second_in};
-ghost use Rattle.graph_steps.specs.Steps.{step_image, rows_image, scan_image, is_integral};
-ghost use Rattle.graph_steps.specs.Steps.{with_output, after_step};
+ghost use Rattle.graph_steps.specs.Planes.{with_rows, IsReadable, TakesRows};
+ghost use Rattle.graph_steps.specs.Steps.{ReadsPlane, CanMake, CanStep, CanWrite};
+ghost use Rattle.graph_steps.specs.Steps.{with_moved_block, with_output_block, step_image};
+ghost use Rattle.graph_steps.specs.Steps.{rows_image, scan_image, is_integral, with_output};
+ghost use Rattle.graph_steps.specs.Steps.{after_step};
 
 use crate::kernel::Kernel;
 use crate::plane::Plane;
@@ -48,17 +44,7 @@ fn write_made(
     planes: &[Plane],
     output: &mut Plane,
 )
-    requires reads { (c : ℕ) → ReadsPlane step.now c →
-        (c < length planes.now) × IsReadable (plane planes.now c) }
-    requires table { (k : ℕ) → step.now.second ≡ Table k → k < length tables.now }
-    requires can { CanMake step.now (read_images planes.now step.now.first)
-        (second_in tables.now (read_images planes.now) step.now.second) output.old.desc }
-    requires format { output.old.format ≡ output.old.desc.format }
-    requires rows { IsInRows output.old.desc.height rows }
-    requires within { IsWithin output.old.valid output.old.desc.width output.old.desc.height }
-    requires top { output.old.top ≤ rows.start }
-    requires room { (rows.start - output.old.top + rows.count) * output.old.desc.width
-        ≤ length output.old.samples }
+    requires { CanWrite tables.now step.now rows planes.now output.old }
     ensures { output.new ≡ with_rows rows (step_image tables.now step.now (read_images planes.now)
         (plane_image (with_read_rows rows output.old))) output.old }
 {
@@ -100,11 +86,7 @@ fn write_integral(step: &Step, rows: Band, planes: &[Plane], output: &mut Plane)
         × IsReadable (plane planes.now step.now.first) }
     requires can { (second : Option ObjectValue) ×
         CanMake step.now (read_images planes.now step.now.first) second output.old.desc }
-    requires format { output.old.format ≡ output.old.desc.format }
-    requires rows { IsInRows output.old.desc.height rows }
-    requires top { output.old.top ≤ rows.start }
-    requires room { (rows.start - output.old.top + rows.count) * output.old.desc.width
-        ≤ length output.old.samples }
+    requires output { TakesRows rows output.old }
     ensures { output.new ≡ with_rows rows (scan_image rows.start
         (read_images planes.now step.now.first) output.old) output.old }
 {
@@ -119,17 +101,7 @@ fn write_rows(
     planes: &[Plane],
     output: &mut Plane,
 )
-    requires reads { (c : ℕ) → ReadsPlane step.now c →
-        (c < length planes.now) × IsReadable (plane planes.now c) }
-    requires table { (k : ℕ) → step.now.second ≡ Table k → k < length tables.now }
-    requires can { CanMake step.now (read_images planes.now step.now.first)
-        (second_in tables.now (read_images planes.now) step.now.second) output.old.desc }
-    requires format { output.old.format ≡ output.old.desc.format }
-    requires rows { IsInRows output.old.desc.height rows }
-    requires within { IsWithin output.old.valid output.old.desc.width output.old.desc.height }
-    requires top { output.old.top ≤ rows.start }
-    requires room { (rows.start - output.old.top + rows.count) * output.old.desc.width
-        ≤ length output.old.samples }
+    requires { CanWrite tables.now step.now rows planes.now output.old }
     ensures { output.new ≡ with_rows rows (rows_image tables.now step.now rows
         (read_images planes.now) output.old) output.old }
 {
@@ -142,23 +114,10 @@ fn write_rows(
 
 /// Writes rows of the step's output.
 fn write_output(tables: &[SecondInput<'_>], step: &Step, rows: Band, planes: &mut [Plane])
-    requires reads { (c : ℕ) → ReadsPlane step.now c →
-        (c < length planes.old) × (c ≢ step.now.output) × IsReadable (plane planes.old c) }
-    requires table { (k : ℕ) → step.now.second ≡ Table k → k < length tables.now }
     requires output { step.now.output < length planes.old }
-    requires can { CanMake step.now (read_images planes.old step.now.first)
-        (second_in tables.now (read_images planes.old) step.now.second)
-        (plane planes.old step.now.output).desc }
-    requires format { (plane planes.old step.now.output).format
-        ≡ (plane planes.old step.now.output).desc.format }
-    requires rows { IsInRows (plane planes.old step.now.output).desc.height rows }
-    requires within { IsWithin (plane planes.old step.now.output).valid
-        (plane planes.old step.now.output).desc.width
-        (plane planes.old step.now.output).desc.height }
-    requires top { (plane planes.old step.now.output).top ≤ rows.start }
-    requires room { (rows.start - (plane planes.old step.now.output).top + rows.count)
-        * (plane planes.old step.now.output).desc.width
-        ≤ length (plane planes.old step.now.output).samples }
+    requires apart { (c : ℕ) → ReadsPlane step.now c → c ≢ step.now.output }
+    requires can { CanWrite tables.now step.now rows planes.old
+        (plane planes.old step.now.output) }
     ensures { planes.new ≡ with_output tables.now step.now rows planes.old }
 {
     let mut output = planes[step.output].take_out();

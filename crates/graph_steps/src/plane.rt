@@ -11,7 +11,7 @@ ghost use Rattle.graph_steps.specs.Planes.{block_image, IsReadable, IsWhole};
 ghost use Rattle.graph_steps.specs.Steps.{CanMake, kernel_image, scan_image};
 
 use crate::kernel::Kernel;
-use crate::rows::{write_bytes, write_shorts, write_sums, write_words};
+use crate::rows::{read_rows, write_rows, write_sums};
 use image_core::{Band, Image};
 use std::marker::Model;
 use vx_base::{Desc, Rect, Samples};
@@ -137,29 +137,11 @@ impl Plane {
         requires { IsReadable self.now }
         ensures { result ≡ plane_image self.now }
     {
-        let width = usize::from(self.desc.width());
-        let start = usize::from(self.rows.start - self.top) * width;
-        let count = usize::from(self.rows.count) * width;
-        let (desc, valid, rows) = (self.desc, self.valid, self.rows);
+        let (desc, valid, top, rows) = (self.desc, self.valid, self.top, self.rows);
         match &self.samples {
-            Samples::U8(samples) => Image::of_rows(
-                desc,
-                valid,
-                rows,
-                &samples[start..start + count],
-            ),
-            Samples::S16(samples) => Image::of_rows(
-                desc,
-                valid,
-                rows,
-                &samples[start..start + count],
-            ),
-            Samples::U32(samples) => Image::of_rows(
-                desc,
-                valid,
-                rows,
-                &samples[start..start + count],
-            ),
+            Samples::U8(samples) => read_rows(desc, valid, top, rows, samples),
+            Samples::S16(samples) => read_rows(desc, valid, top, rows, samples),
+            Samples::U32(samples) => read_rows(desc, valid, top, rows, samples),
         }
     }
 
@@ -181,13 +163,13 @@ impl Plane {
         self.rows = rows;
         self.valid = match &mut self.samples {
             Samples::U8(samples) => {
-                write_bytes(desc, top, rows, valid, samples.as_mut_slice(), kernel)
+                write_rows(desc, top, rows, valid, samples.as_mut_slice(), kernel)
             }
             Samples::S16(samples) => {
-                write_shorts(desc, top, rows, valid, samples.as_mut_slice(), kernel)
+                write_rows(desc, top, rows, valid, samples.as_mut_slice(), kernel)
             }
             Samples::U32(samples) => {
-                write_words(desc, top, rows, valid, samples.as_mut_slice(), kernel)
+                write_rows(desc, top, rows, valid, samples.as_mut_slice(), kernel)
             }
         };
     }

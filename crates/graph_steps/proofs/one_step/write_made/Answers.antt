@@ -9,14 +9,14 @@ write-requires-in-Plane-clause-can c =
     let planes = c.args.planes.now in
     let s = c.args.step.now in
     can_read s _ _ _ _ c.args.output.now.desc (image_read planes s.first _ _ (c.requires.reads s.first (inl refl)).0 c.index-planes-step.is c.image-first.ensures)
-    (plane_lent planes c.args.tables.now s.second c.in-Plane.at _ _ c.in-Plane.is (c.requires.reads c.in-Plane.at (inr c.in-Plane.is)).0 c.index-planes-at.is c.image.ensures) c.requires.can
+    (plane_lent planes c.args.tables.now s.second c.in-Plane.at _ _ c.in-Plane.is (c.requires.reads c.in-Plane.at (inr c.in-Plane.is)).0 c.index-planes-at.is c.image.ensures) c.requires.makes
 
 pub write-requires-in-Table-clause-can : goal.write-requires-in-Table-clause-can
 write-requires-in-Table-clause-can c =
     let planes = c.args.planes.now in
     let s = c.args.step.now in
     can_read s _ _ _ _ c.args.output.now.desc (image_read planes s.first _ _ (c.requires.reads s.first (inl refl)).0 c.index-planes-step.is c.image-first.ensures)
-    (table_lent c.args.tables.now (read_images planes) s.second c.in-Table.at _ c.in-Table.is (c.requires.table c.in-Table.at c.in-Table.is) c.index-tables-at.is) c.requires.can
+    (table_lent c.args.tables.now (read_images planes) s.second c.in-Table.at _ c.in-Table.is (c.requires.table c.in-Table.at c.in-Table.is) c.index-tables-at.is) c.requires.makes
 
 pub returns-in-Nothing : goal.returns-in-Nothing
 returns-in-Nothing c =

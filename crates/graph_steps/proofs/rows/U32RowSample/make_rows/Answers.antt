@@ -1,7 +1,7 @@
 use Rattle.std.proofs.Common.{◌≡◌, ◌∙◌, pos, map, rules}
 use Rattle.vx_base.specs.declared.format.Format.TheVariants.{U32}
 use Rattle.graph_steps.proofs.KernelLaws.{rows_made}
-use Rattle.graph_steps.proofs.rows.make_words.Goals as goal
+use Rattle.graph_steps.proofs.rows.U32RowSample.make_rows.Goals as goal
 
 pub returns-clause-samples : goal.returns-clause-samples
 returns-clause-samples c =

@@ -1,7 +1,7 @@
 use Rattle.std.proofs.Common.{◌≡◌, ◌∙◌, pos, map, rules}
 use Rattle.vx_base.specs.declared.format.Format.TheVariants.{U8}
 use Rattle.graph_steps.proofs.KernelLaws.{rows_made}
-use Rattle.graph_steps.proofs.rows.make_bytes.Goals as goal
+use Rattle.graph_steps.proofs.rows.U8RowSample.make_rows.Goals as goal
 
 pub returns-clause-samples : goal.returns-clause-samples
 returns-clause-samples c =
