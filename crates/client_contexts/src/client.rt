@@ -38,6 +38,7 @@ use crate::source::{FillsSamples, WriteFault};
 use crate::statistics::{create_distribution, create_min_max, read_distribution, read_min_max};
 use crate::tables::{create_convolution, create_lut, create_threshold};
 use client_model::{Limits, Refusal, Reply, Request};
+use graph_run::Workspace;
 use object_table::{Stored, Table};
 use pixel_pool::Pool;
 use std::alloc::Global;
@@ -94,9 +95,10 @@ impl Client {
     }
 
     /// Answers a request, other than one that opens or releases the context. A verified graph is
-    /// forgotten when its nodes change or its name ends.
+    /// forgotten when its nodes change or its name ends. A graph runs with the lists of `lists`.
     pub fn answer(
         &mut self,
+        lists: &mut Workspace,
         pool: &mut Pool,
         limits: Limits,
         alloc: Global,
@@ -121,6 +123,7 @@ impl Client {
             Request::ProcessGraph(graph) => process_graph(
                 &mut self.table,
                 &mut self.kept,
+                lists,
                 pool,
                 limits,
                 alloc,

@@ -17,7 +17,7 @@ use crate::lookup::{find_graph_for, find_named};
 use crate::room::{hold, look_for_room};
 use buffer_plan::Plan;
 use client_model::{Limits, Refusal, Reply};
-use graph_run::{run_scheduled, schedule_of, verify_in};
+use graph_run::{Workspace, run_scheduled, schedule_of, verify_in};
 use graph_verify::Graph;
 use object_table::{Content, Object, Table};
 use pixel_pool::Pool;
@@ -144,10 +144,12 @@ fn is_kept(kept: &BTreeMap<u32, Kept>, graph: u32, work: u64) -> bool
 }
 
 /// Runs a graph, and then ages the delays that are registered with it. OpenVX 1.3, "Object: Graph",
-/// vxProcessGraph. It is refused as by `verify_graph` if it can't run.
+/// vxProcessGraph. It is refused as by `verify_graph` if it can't run. The lists are those of a run;
+/// the next one of any graph may have them.
 pub fn process_graph(
     table: &mut Table,
     kept: &mut BTreeMap<u32, Kept>,
+    lists: &mut Workspace,
     pool: &mut Pool,
     limits: Limits,
     alloc: Global,
@@ -167,7 +169,7 @@ pub fn process_graph(
     let Some(kept) = kept.get(&graph) else {
         unreachable!()
     };
-    run_scheduled(alloc, &kept.verified, &kept.schedule, table, pool)?;
+    run_scheduled(alloc, &kept.verified, &kept.schedule, lists, table, pool)?;
     table.age_registered(graph);
     Ok(Reply::Empty)
 }

@@ -26,6 +26,7 @@ use crate::kept::Kept;
 use crate::memory::NoMemory;
 use crate::source::{FillsSamples, WriteFault};
 use client_model::{Limits, Reply, Request};
+use graph_run::Workspace;
 use object_table::Stored;
 use pixel_pool::Pool;
 use std::alloc::Global;
@@ -33,14 +34,15 @@ use std::collections::BTreeMap;
 use std::marker::Model;
 use vx_base::{Code, Desc, Format, ObjRef};
 
-/// The contexts of the clients, at most one each, and the pool whose blocks hold the samples of
-/// their images.
+/// The contexts of the clients, at most one each, the pool whose blocks hold the samples of their
+/// images, and the lists with which their graphs run.
 #[derive(Drop)]
 pub struct Runtime {
     alloc: Global,
     limits: Limits,
     contexts: BTreeMap<u16, Client>,
     pool: Pool,
+    lists: Workspace,
 }
 
 impl Model for Runtime {
@@ -64,6 +66,7 @@ impl Runtime {
             limits,
             contexts: BTreeMap::new(alloc),
             pool: Pool::new(alloc),
+            lists: Workspace::new(alloc),
         }
     }
 
@@ -178,11 +181,14 @@ impl Runtime {
             return Ok(self.release_context(client));
         }
         match self.contexts.get_mut(&client) {
-            Some(held) => match held.answer(&mut self.pool, limits, alloc, request) {
-                Ok(reply) => Ok(reply),
-                Err(RequestFault::Refused(refusal)) => Ok(Reply::Refused(refusal.code())),
-                Err(RequestFault::NoMemory) => Err(NoMemory),
-            },
+            Some(held) => {
+                let (lists, pool) = (&mut self.lists, &mut self.pool);
+                match held.answer(lists, pool, limits, alloc, request) {
+                    Ok(reply) => Ok(reply),
+                    Err(RequestFault::Refused(refusal)) => Ok(Reply::Refused(refusal.code())),
+                    Err(RequestFault::NoMemory) => Err(NoMemory),
+                }
+            }
             None => self.answer_without(client, request),
         }
     }

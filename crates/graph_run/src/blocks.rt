@@ -145,22 +145,24 @@ fn slot_place(plan: &Plan, format: Format, slot: usize) -> usize
 
 // ---- blocks
 
-/// Takes a block of each of these formats and sizes. On an error, those taken are given back.
-pub fn blocks_for(
-    alloc: Global,
+/// Makes the list one of blocks, of each of these formats and sizes. On an error, those taken are
+/// given back.
+pub fn take_blocks(
+    blocks: &mut Vec<Block>,
     pool: &mut Pool,
     rooms: &[(Format, usize)],
-) -> Result<Vec<Block>, AllocError>
-    ensures rooms { IfOk result (λ blocks. map block_size blocks.items ≡ rooms.now) }
-    ensures lends { IfOk result (λ blocks.
-        LendsMore pool.old pool.new (blocks_of_format blocks.items)) }
+) -> Result<(), AllocError>
+    ensures rooms { OnOk result (map block_size blocks.new.items ≡ rooms.now) }
+    ensures lends { OnOk result
+        (LendsMore pool.old pool.new (blocks_of_format blocks.new.items)) }
     ensures err { OnErr result (KeepsLent pool.old pool.new) }
     ensures adds { (format : SampleFormat) → blocks_of pool.new format
         ≤ blocks_of pool.old format + room_count rooms.now format }
 {
-    let mut blocks = Vec::with_capacity(alloc, rooms.len())?;
-    match add_blocks(&mut blocks, pool, rooms) {
-        Ok(()) => Ok(blocks),
+    blocks.clear();
+    blocks.reserve(rooms.len())?;
+    match add_blocks(blocks, pool, rooms) {
+        Ok(()) => Ok(()),
         Err(fault) => {
             give_back(blocks, pool);
             Err(fault)
@@ -189,13 +191,13 @@ fn add_blocks(
     Ok(())
 }
 
-/// Gives blocks back to the pool.
-pub fn give_back(blocks: Vec<Block>, pool: &mut Pool)
-    requires { LendsAtLeast pool.old (blocks_of_format blocks.items) }
-    ensures lent { LendsLess pool.old pool.new (blocks_of_format blocks.items) }
+/// Gives all blocks back to the pool.
+pub fn give_back(blocks: &mut Vec<Block>, pool: &mut Pool)
+    requires { LendsAtLeast pool.old (blocks_of_format blocks.old.items) }
+    ensures lent { LendsLess pool.old pool.new (blocks_of_format blocks.old.items) }
     ensures blocks { KeepsBlockCounts pool.old pool.new }
 {
-    for block in blocks {
+    while let Some(block) = blocks.pop() {
         pool.give_back(block);
     }
 }

@@ -4,7 +4,7 @@
 //! - `verify_in` verifies a graph.
 //! - `run` runs a verified graph.
 //! - `schedule_of` makes the schedule of a verified graph, and `run_scheduled` runs it any number of
-//!   times.
+//!   times, with the lists of a `Workspace`.
 //!
 //! The definition of a run has rounds, in each of which all nodes write at the same time. The code
 //! runs a graph as tasks over planes (`graph_steps`).
@@ -14,6 +14,7 @@
 //! - `verify`: the verdict on a graph, and an order in which its nodes can run
 //! - `runs`: runs a graph
 //! - `schedule`: the planes, slots, tasks, halos and bands of a run
+//! - `workspace`: lists of planes, blocks and tallies, for any number of runs
 //! - `cells`: references to the images behind the planes, and their indices
 //! - `task_list`: the tasks of a graph
 //! - `sizes`: the halos of the planes, and the number of rows of a band
@@ -41,9 +42,11 @@ mod tallies;
 mod task_list;
 mod verify;
 mod virtual_planes;
+mod workspace;
 
 pub use once::run_once;
 pub use operand::{operand_in, operand_of};
 pub use runs::{run, run_scheduled};
 pub use schedule::{Schedule, schedule_of};
 pub use verify::verify_in;
+pub use workspace::Workspace;

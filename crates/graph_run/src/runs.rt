@@ -35,11 +35,12 @@ ghost use Rattle.graph_run.specs.Slots.{planned_capacities};
 ghost use Rattle.graph_run.specs.Tasks.{last_in};
 
 use crate::bind::{put_back, take_out};
-use crate::blocks::{blocks_for, give_back};
+use crate::blocks::{give_back, take_blocks};
 use crate::schedule::{Schedule, clients_of, schedule_of};
 use crate::tables::add_tables;
-use crate::tallies::{set_tallies, tallies_of};
+use crate::tallies::{begin_tallies, set_tallies};
 use crate::virtual_planes::{add_virtual, return_blocks};
+use crate::workspace::Workspace;
 use buffer_plan::Plan;
 use graph_steps::{Plane, Tally};
 use graph_verify::{Verified, VirtualOutput};
@@ -84,15 +85,20 @@ pub fn run(
         (plan_view plan.now).slot_count format ≤ free_count (free_of pool.new format)) }
 {
     let schedule = schedule_of(alloc, table, verified, plan)?;
-    run_scheduled(alloc, verified, &schedule, table, pool)
+    let mut lists = Workspace::new(alloc);
+    run_scheduled(alloc, verified, &schedule, &mut lists, table, pool)
 }
 
 /// Runs a verified graph as `run` does, by a schedule that was made for it before. The schedule
 /// holds as long as the images that the nodes name have the same sizes, and the matrices too.
+///
+/// The lists may be from a run of any graph. If they are large enough and the pool has free blocks
+/// that fit, it allocates only the list of tables.
 pub fn run_scheduled(
     alloc: Global,
     verified: &Verified,
     schedule: &Schedule,
+    lists: &mut Workspace,
     table: &mut Table,
     pool: &mut Pool,
 ) -> Result<(), AllocError>
@@ -117,17 +123,19 @@ pub fn run_scheduled(
     ensures free { OnOk result ((format : SampleFormat) →
         room_count schedule.now.rooms.items format ≤ free_count (free_of pool.new format)) }
 {
-    let mut tallies = tallies_of(alloc, table, &verified.steps)?;
-    let mut planes = Vec::with_capacity(alloc, schedule.cells.len())?;
-    let mut blocks = blocks_for(alloc, pool, &schedule.rooms)?;
+    let (planes, blocks) = (&mut lists.planes, &mut lists.blocks);
+    begin_tallies(&mut lists.tallies, table, &verified.steps)?;
+    planes.clear();
+    planes.reserve(schedule.cells.len())?;
+    take_blocks(blocks, pool, &schedule.rooms)?;
     let done = run_over(
         alloc,
         verified,
         schedule,
         table,
-        &mut blocks,
-        &mut planes,
-        &mut tallies,
+        blocks,
+        planes,
+        &mut lists.tallies,
     );
     give_back(blocks, pool);
     done

@@ -42,17 +42,20 @@ fn add_cell(cells: &mut Vec<ObjRef>, node: &Node) -> Result<(), AllocError>
     }
 }
 
-/// Returns an empty tally for each node that writes a histogram or extremes.
-pub fn tallies_of(alloc: Global, table: &Table, steps: &[Node]) -> Result<Vec<Tally>, AllocError>
+/// Makes the list one of empty tallies, for each node that writes a histogram or extremes.
+pub fn begin_tallies(
+    tallies: &mut Vec<Tally>,
+    table: &Table,
+    steps: &[Node],
+) -> Result<(), AllocError>
     requires { KeepTallies table.now.objects steps.now }
-    ensures { IfOk result (λ tallies.
-        tallies.items ≡ tallies_of table.now.objects steps.now) }
+    ensures { OnOk result (tallies.new.items ≡ tallies_of table.now.objects steps.now) }
 {
-    let mut tallies = Vec::new(alloc);
+    tallies.clear();
     for at in 0..steps.len() {
-        add_tally(&mut tallies, table, &steps[at])?;
+        add_tally(tallies, table, &steps[at])?;
     }
-    Ok(tallies)
+    Ok(())
 }
 
 /// Adds an empty tally for a node that writes a histogram or extremes.

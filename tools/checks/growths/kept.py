@@ -6,8 +6,8 @@ from feqyldan import wire
 from checks.growths.refusing import Refusing, check
 
 CLIENT, TIMES = 7, 20
-# How often a run of the graph below takes memory: for the lists of its planes, blocks and tables.
-OF_A_RUN = 3
+# How often a run of the graph below takes memory: for the list of its tables.
+OF_A_RUN = 1
 SAMPLES = bytes(range(256))
 # Images 1 and 2, graph 3 with virtual image 4, delay 5, extremes 6 and image 7 of S16. The graph
 # has run, so that it is known how it runs, and there are free blocks for its virtual image.
@@ -64,7 +64,7 @@ def changed_graphs() -> List[bytes]:
 
 
 def check_kept(program: Refusing) -> str:
-    """That what takes no memory takes none, that a run takes it for its own lists alone, and that a
+    """That what takes no memory takes none, that a run takes it for its own list alone, and that a
     graph that has changed takes it again for how it runs."""
     def more(asked: List[bytes], first: int = 1) -> int:
         """How much more often it asks for memory than with the first of these requests alone."""

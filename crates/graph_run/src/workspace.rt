@@ -1,0 +1,25 @@
+//! Lists that a run of a graph fills, for the next run too.
+use graph_steps::{Plane, Tally};
+use pixel_pool::Block;
+use std::alloc::Global;
+
+/// The lists of a run: its planes, the blocks of the slots, and its tallies. A run empties them
+/// first and leaves their memory, so that a later run with no longer lists allocates none. Between
+/// runs they hold no samples, and no block of the pool.
+#[derive(Drop)]
+pub struct Workspace {
+    pub(crate) planes: Vec<Plane>,
+    pub(crate) blocks: Vec<Block>,
+    pub(crate) tallies: Vec<Tally>,
+}
+
+impl Workspace {
+    /// Returns empty lists. Allocates nothing.
+    pub fn new(alloc: Global) -> Workspace {
+        Workspace {
+            planes: Vec::new(alloc),
+            blocks: Vec::new(alloc),
+            tallies: Vec::new(alloc),
+        }
+    }
+}
