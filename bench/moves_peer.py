@@ -2,10 +2,13 @@
 memory, and the calls write to arrays that are there already. Prints the least time of 60 in
 microseconds, in two ways: with both gradients by one call (six calls), and by one each (seven)."""
 
-import time
+import sys
 
 import cv2
 import numpy
+
+sys.dont_write_bytecode = True
+from shared import ROUNDS, best_seconds  # noqa: E402
 
 cv2.setNumThreads(1)
 REPLICATE, SHAPE = cv2.BORDER_REPLICATE, (1080, 1920)
@@ -40,12 +43,7 @@ def find_edges(find_gradients):
 
 
 def least_time(find_gradients):
-    least = float("inf")
-    for _ in range(60):
-        start = time.perf_counter()
-        find_edges(find_gradients)
-        least = min(least, time.perf_counter() - start)
-    return 1e6 * least
+    return 1e6 * min(best_seconds(lambda: find_edges(find_gradients)) for _ in range(60 // ROUNDS))
 
 
 print(f"six calls {least_time(by_one_call):.0f}, seven {least_time(by_one_each):.0f}")

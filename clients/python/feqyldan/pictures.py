@@ -11,7 +11,7 @@ from typing import Any, List, NamedTuple, Sequence, Tuple, Union
 from .errors import WrongPicture
 from .samples import (
     Format, Picture, Readable, Samples, Size, is_array, lengths_in_words, numbers_of, numpy_module,
-    samples_of)
+    packed, samples_of)
 
 Path = Union[str, "os.PathLike[str]"]
 
@@ -197,10 +197,7 @@ def _coloured(picture: Any) -> Raster:
     rows = picture.tolist() if hasattr(picture, "tolist") else picture
     height, width = len(rows), len(rows[0])
     numbers = [value for row in rows for pixel in row for value in pixel]
-    wrong = [value for value in numbers if not 0 <= value <= 255]
-    if wrong:
-        raise ValueError(f"coloured pixels must be from 0 to 255, not {wrong[0]!r}")
-    content = bytes(numbers)
+    content = packed(numbers, Format.U8, "a coloured sample").tobytes()
     if any(len(row) != width for row in rows) or len(content) != 3 * width * height:
         raise ValueError(f"{_SHAPE_OF_COLOURS}, not {len(content)} numbers in "
                          f"{lengths_in_words(rows)}")

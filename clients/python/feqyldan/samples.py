@@ -169,7 +169,7 @@ def entries_of(value: Any, fmt: Format) -> bytes:
     column too."""
     if is_array(value):
         value = numpy_module().asarray(value).reshape(-1).tolist()
-    return _ordered(_packed(list(value), fmt, "an entry")).tobytes()
+    return _ordered(packed(list(value), fmt, "an entry")).tobytes()
 
 
 def _of_array(pixels: Any, size: Optional[Size]) -> Samples:
@@ -269,7 +269,7 @@ def _of_rows(value: Any, size: Optional[Size]) -> Samples:
                            f"sample, not {lengths_in_words(rows)}")
     flat = [sample for row in rows for sample in row]
     try:
-        content = _ordered(_packed(flat, fmt, "a sample"))
+        content = _ordered(packed(flat, fmt, "a sample"))
     except TypeError as error:
         raise NotAPicture(error) from None
     except ValueError as error:
@@ -324,7 +324,9 @@ def first_outside(numbers: Sequence[int], fmt: Format) -> int:
     return next(at for at, number in enumerate(numbers) if not least <= number <= greatest)
 
 
-def _packed(numbers: Sequence[int], fmt: Format, what: str) -> Any:
+def packed(numbers: Sequence[int], fmt: Format, what: str) -> Any:
+    """Returns the numbers as an array.array of a format's samples. An error names the first that
+    isn't one; `what` is what it calls a number."""
     try:
         return array.array(LETTERS[fmt], numbers)
     except OverflowError:

@@ -1,5 +1,6 @@
 """Comments of the code and of definitions, which are held to the style of the documents."""
 
+import os
 import re
 from typing import Iterator, Tuple
 
@@ -10,15 +11,19 @@ MARKS = {".rt": r"//[/!]?", ".antt": "--"}
 FOLDERS = ("src", "specs")
 
 
+def ending(path: str) -> str:
+    return os.path.splitext(path)[1]
+
+
 def is_read(path: str) -> bool:
     """Whether it is a crate's code or definitions."""
     parts = path.split("/")
-    return parts[0] == "crates" and parts[2] in FOLDERS and path.endswith(tuple(MARKS))
+    return parts[0] == "crates" and parts[2] in FOLDERS and ending(path) in MARKS
 
 
 def comments(path: str, text: str) -> str:
     """The text with its comments alone, each on its line; one ends with the code that follows."""
-    mark = next(mark for ending, mark in MARKS.items() if path.endswith(ending))
+    mark = MARKS[ending(path)]
     lines = (re.match(rf"\s*{mark}(?: (.*))?$", line) for line in text.split("\n"))
     return "\n".join(line[1] or "" if line else "" for line in lines)
 
