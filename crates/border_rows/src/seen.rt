@@ -151,7 +151,8 @@ pub fn row_in_place<'a>(
     requires off_rows { map pos off_rows.now
         ≡ replicate (length off_rows.now) (border_value border (pos 0)) }
     requires room { count ≤ length off_rows.now }
-    ensures value { map pos result.now ≡ run x count (λ c. sample_or_border image.now border (pos c) y) }
+    ensures value { map pos result.now
+        ≡ run x count (λ c. sample_or_border image.now border (pos c) y) }
     ensures len { length result.now ≡ count }
 {
     match row_seen(image.valid(), border, y) {

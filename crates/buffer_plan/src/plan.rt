@@ -70,7 +70,8 @@ impl Plan {
     pub fn slot_count(&self, format: Format) -> usize
         ensures value { result ≡ (plan_view self.now).slot_count format }
         ensures least { (steps : List NodeFields) (images : List Image) →
-            IsPlan steps images (plan_view self.now) → (slot : Reference → ℕ) → IsValid steps images slot →
+            IsPlan steps images (plan_view self.now) → (slot : Reference → ℕ) →
+            IsValid steps images slot →
             (slots : List ℕ) → AreSlotsOf slot format images slots → result ≤ length slots }
     {
         self.places(format).samples.len()

@@ -1,5 +1,6 @@
 //! A client's context: its objects, and the graphs that are kept as verified.
-ghost use Rattle.std.specs.Prelude.{◌≡◌, ◌≢◌, false, [], Some, Ok, Err, IfSome, IfOk, IfErr, OnOk, OnErr};
+ghost use Rattle.std.specs.Prelude.{◌≡◌, ◌≢◌, false, [], Some, Ok, Err, IfSome, IfOk, IfErr, OnOk};
+ghost use Rattle.std.specs.Prelude.{OnErr};
 ghost use Rattle.std.specs.BTreeMap.{is_at};
 ghost use Rattle.std.specs.Map.{lookup};
 ghost use Rattle.std.specs.Option.{option_map};
@@ -19,7 +20,8 @@ ghost use Rattle.object_table.specs.Blocks.{blocks_in, LendsAtLeast, LendsLess, 
 ghost use Rattle.object_table.specs.Context.{new_context};
 ghost use Rattle.client_contexts.specs.Kept.{IsKept, KeepsVerified, runs_graph};
 ghost use Rattle.client_contexts.specs.Incoming.{IsRead, SaysWhyUnwritten, IsRefusedFor};
-ghost use Rattle.client_contexts.specs.Steps.{MayComeTo, WantsMemory, IsContext, Keeps, client_result};
+ghost use Rattle.client_contexts.specs.Steps.{MayComeTo, WantsMemory, IsContext, Keeps};
+ghost use Rattle.client_contexts.specs.Steps.{client_result};
 
 use crate::delays::{age_delay, create_delay, register_auto_aging};
 use crate::fault::RequestFault;

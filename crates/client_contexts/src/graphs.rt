@@ -144,8 +144,8 @@ fn is_kept(kept: &BTreeMap<u32, Kept>, graph: u32, work: u64) -> bool
 }
 
 /// Runs a graph, and then ages the delays that are registered with it. OpenVX 1.3, "Object: Graph",
-/// vxProcessGraph. It is refused as by `verify_graph` if it can't run. The lists are those of a run;
-/// the next one of any graph may have them.
+/// vxProcessGraph. A graph that can't run is refused as by `verify_graph`. `lists` may come from a
+/// run of any graph.
 pub fn process_graph(
     table: &mut Table,
     kept: &mut BTreeMap<u32, Kept>,

@@ -9,9 +9,9 @@ use graph_run::Schedule;
 use graph_verify::Verified;
 use std::collections::BTreeMap;
 
-/// A verified graph: its nodes in order, the slots of its virtual images, and the schedule of a run.
-/// `work` is the quota of work bytes with which it was verified. It holds until the graph's nodes
-/// change.
+/// A verified graph: its nodes in order, the slots of its virtual images, and the schedule of a
+/// run. `work` is the quota of work bytes with which it was verified. It is valid until the graph's
+/// nodes change.
 #[derive(Drop)]
 pub struct Kept {
     pub work: u64,

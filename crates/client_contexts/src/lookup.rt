@@ -218,7 +218,8 @@ pub fn find_operands(table: &Table, node: &Node, scope: Option<u32>) -> Result<O
 pub fn find_graph_for(table: &Table, graph: u32, node: &Node) -> Result<(), Refusal>
     ensures ok { OnOk result (IsTrue (is_some (object_named table.now.objects graph)) ×
         IsUnder table.now.objects kind.Graph graph) }
-    ensures operands { OnOk result (All (λ operand. IsTrue (holds_operand table.now.objects graph operand))
+    ensures operands { OnOk result
+        (All (λ operand. IsTrue (holds_operand table.now.objects graph operand))
         (operands node.now)) }
     ensures err { refusal_in result ≡ operands_refusal (Some graph) table.now.objects
         ((reference_to graph, kind.Graph) ∷ operands node.now) }

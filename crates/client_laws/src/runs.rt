@@ -64,7 +64,8 @@ pub fn what_a_run_leaves()
         graph_named c.objects name ≡ Ok graph → is_written (nodes_of graph) cell ≡ false →
         kind_in c.objects cell ≢ Some kind.Delay → is_registered graph cell.name ≡ false →
         object_at later.objects cell ≡ object_at c.objects cell }
-    ensures virtual_images { (limits : LimitsValue) (c later : Context) (name : ℕ) (cell : Reference) →
+    ensures virtual_images { (limits : LimitsValue) (c later : Context) (name : ℕ)
+        (cell : Reference) →
         KeepsLimits limits c →
         answer_to limits (Some c) (ProcessGraph name) ≡ (Empty, Some later) →
         kind_in c.objects cell ≡ Some kind.VirtualImage →

@@ -52,7 +52,8 @@ pub fn what_is_held_stays()
     ensures skeletons { (limits : LimitsValue) (c later : Context) (requests : List Request)
         (name : ℕ) → IsLater limits c requests later →
         name < c.next → Stays skeleton c.objects later.objects name }
-    ensures nodes { (limits : LimitsValue) (c later : Context) (requests : List Request) (name : ℕ) →
+    ensures nodes { (limits : LimitsValue) (c later : Context) (requests : List Request)
+        (name : ℕ) →
         IsLater limits c requests later →
         All (λ request. changes_nodes request name ≡ false) requests →
         name < c.next → Stays nodes_in c.objects later.objects name }

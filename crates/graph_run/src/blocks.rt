@@ -32,7 +32,8 @@ pub struct Demand<'a> {
 
 /// Returns the slots of the virtual images that a graph writes, as indices among all slots.
 pub fn slots_of(alloc: Global, plan: &Plan, verified: &Verified) -> Result<Vec<usize>, AllocError>
-    requires { IsPlan verified.now.steps.items verified.now.virtual_outputs.items (plan_view plan.now) }
+    requires { IsPlan verified.now.steps.items verified.now.virtual_outputs.items
+        (plan_view plan.now) }
     ensures { IfOk result (λ slots. slots.items
         ≡ map (place_of (plan_view plan.now)) verified.now.virtual_outputs.items) }
 {

@@ -15,7 +15,8 @@ ghost use Rattle.graph_verify.specs.Operand.{operands_of};
 ghost use Rattle.graph_verify.specs.Order.{IsOrder};
 ghost use Rattle.graph_verify.specs.PartialDescriptions.{resolved_operand};
 ghost use Rattle.graph_verify.specs.Verdict.{two_writers, verdict, verdict_on};
-ghost use Rattle.graph_run.specs.Graph.{named_at_start, objects_at_end, rounds_of_nodes, one_by_one};
+ghost use Rattle.graph_run.specs.Graph.{named_at_start, objects_at_end, rounds_of_nodes};
+ghost use Rattle.graph_run.specs.Graph.{one_by_one};
 ghost use Rattle.graph_run.specs.Graph.{run_of_graph};
 ghost use Rattle.graph_run.specs.Operands.{CellsStand};
 ghost use Rattle.graph_run.specs.Solution.{WritesNo, ReadImages, Solves};
@@ -36,7 +37,8 @@ pub fn rounds_solve()
         has_cycle feeds nodes ≡ false →
         WritesNo kind.Delay nodes before →
         Solves nodes before (rounds_of_nodes nodes (length nodes) before) }
-    ensures only { (nodes : List Node) (before after : List NamedObject) → two_writers nodes ≡ false →
+    ensures only { (nodes : List Node) (before after : List NamedObject) →
+        two_writers nodes ≡ false →
         has_cycle feeds nodes ≡ false →
         AllPairs (λ a b. a.name < b.name) before → WritesNo kind.Delay nodes before →
         ReadImages nodes before →
@@ -77,10 +79,12 @@ pub fn each_at_its_turn()
 /// A run of a graph that nothing refuses is its nodes in an order in which they can run, each once.
 /// Virtual images are restored at the end.
 pub fn runs_in_order()
-    ensures { (work : ℕ) (is : Reference → Operand) (nodes steps : List Node) (objects : List NamedObject) →
+    ensures { (work : ℕ) (is : Reference → Operand) (nodes steps : List Node)
+        (objects : List NamedObject) →
         verdict work is nodes ≡ None →
         CellsStand is nodes objects → AllPairs (λ a b. a.name < b.name) objects →
         IsOrder feeds nodes steps →
         run_of_graph (resolved_operand is nodes) nodes objects
-        ≡ objects_at_end objects (one_by_one steps (map (named_at_start (resolved_operand is nodes) nodes) objects)) }
+        ≡ objects_at_end objects
+        (one_by_one steps (map (named_at_start (resolved_operand is nodes) nodes) objects)) }
 {}

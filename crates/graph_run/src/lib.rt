@@ -3,7 +3,7 @@
 //! - `run_once` runs a single node.
 //! - `verify_in` verifies a graph.
 //! - `run` runs a verified graph.
-//! - `schedule_of` makes the schedule of a verified graph, and `run_scheduled` runs it any number of
+//! - `schedule_of` makes the schedule of a verified graph. `run_scheduled` runs it any number of
 //!   times, with the lists of a `Workspace`.
 //!
 //! The definition of a run has rounds, in each of which all nodes write at the same time. The code

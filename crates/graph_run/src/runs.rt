@@ -73,7 +73,8 @@ pub fn run(
     ensures value { OnOk result ((nodes : List NodeFields) →
         IsReady table.old.objects nodes verified.now →
         table.new ≡ with_objects table.old
-        (run_of_graph (resolved_operand (operand_held table.old.objects) nodes) nodes table.old.objects)) }
+        (run_of_graph (resolved_operand (operand_held table.old.objects) nodes) nodes
+        table.old.objects)) }
     ensures lasts { Lasts table.old.objects table.new.objects }
     ensures lent { KeepsLent pool.old pool.new }
     ensures err { OnErr result (table.new ≡ table.old) }
@@ -112,7 +113,8 @@ pub fn run_scheduled(
     ensures value { OnOk result ((nodes : List NodeFields) →
         IsReady table.old.objects nodes verified.now →
         table.new ≡ with_objects table.old
-        (run_of_graph (resolved_operand (operand_held table.old.objects) nodes) nodes table.old.objects)) }
+        (run_of_graph (resolved_operand (operand_held table.old.objects) nodes) nodes
+        table.old.objects)) }
     ensures lasts { Lasts table.old.objects table.new.objects }
     ensures lent { KeepsLent pool.old pool.new }
     ensures err { OnErr result (table.new ≡ table.old) }
@@ -167,7 +169,8 @@ fn run_over(
     ensures value { OnOk result ((nodes : List NodeFields) →
         IsReady table.old.objects nodes verified.now →
         table.new ≡ with_objects table.old
-        (run_of_graph (resolved_operand (operand_held table.old.objects) nodes) nodes table.old.objects)) }
+        (run_of_graph (resolved_operand (operand_held table.old.objects) nodes) nodes
+        table.old.objects)) }
     ensures lasts { Lasts table.old.objects table.new.objects }
     ensures err { OnErr result (table.new ≡ table.old) }
     ensures formats { map samples_format blocks.new.items ≡ map samples_format blocks.old.items }

@@ -8,7 +8,8 @@ ghost use Rattle.node_rows.specs.Radius.{matrix_in};
 ghost use Rattle.graph_run.specs.Cells.{index_of};
 ghost use Rattle.graph_run.specs.Blocks.{step_tasks};
 ghost use Rattle.graph_run.specs.Program.{radius_of};
-ghost use Rattle.graph_run.specs.Tasks.{holder, last_in, source, step_for, previous_holder, tally_after};
+ghost use Rattle.graph_run.specs.Tasks.{holder, last_in, source, step_for, previous_holder};
+ghost use Rattle.graph_run.specs.Tasks.{tally_after};
 ghost use Rattle.graph_run.specs.Tasks.{tasks_by, tasks_of, write_given};
 
 use crate::cells::index_of;

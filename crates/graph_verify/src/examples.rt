@@ -16,7 +16,8 @@ ghost use Rattle.graph_verify.specs.PartialDescriptions.{resolved_operand};
 ghost use Rattle.graph_verify.specs.Verdict.{verdict_on, node_fault, verdict};
 ghost use Rattle.vx_base.specs.Reference.{reference_to};
 ghost use Rattle.graph_verify.specs.Examples.{not_to, and_to, adds, convert_to, image_operand};
-ghost use Rattle.graph_verify.specs.Examples.{accumulate_to, virtual_of, example_operand, operand_except};
+ghost use Rattle.graph_verify.specs.Examples.{accumulate_to, virtual_of, example_operand};
+ghost use Rattle.graph_verify.specs.Examples.{operand_except};
 
 /// A node that reads its own output is a cycle, and a node can't write both outputs to one object.
 pub fn cells()
@@ -115,13 +116,16 @@ pub fn operands()
 /// A graph for each verdict on links, formats and sizes. A graph with all their nodes is refused
 /// for its two writers. A graph without nodes can run.
 pub fn graphs()
-    ensures writers { verdict 9 example_operand (not_to 1 2 ∷ not_to 3 2 ∷ []) ≡ Some MultipleWriters }
+    ensures writers { verdict 9 example_operand (not_to 1 2 ∷ not_to 3 2 ∷ [])
+        ≡ Some MultipleWriters }
     ensures itself { verdict 9 example_operand (not_to 1 1 ∷ []) ≡ Some InvalidGraph }
-    ensures ring { verdict 9 example_operand (not_to 6 7 ∷ not_to 7 8 ∷ not_to 8 6 ∷ []) ≡ Some InvalidGraph }
+    ensures ring { verdict 9 example_operand (not_to 6 7 ∷ not_to 7 8 ∷ not_to 8 6 ∷ [])
+        ≡ Some InvalidGraph }
     ensures link { verdict 9 example_operand (not_to 6 2 ∷ []) ≡ Some InvalidLink }
     ensures format { verdict 9 example_operand (not_to 4 2 ∷ []) ≡ Some InvalidFormat }
     ensures size { verdict 9 example_operand (and_to 1 5 2 ∷ []) ≡ Some InvalidDimension }
-    ensures all { verdict 9 example_operand (not_to 1 2 ∷ not_to 3 2 ∷ not_to 1 1 ∷ not_to 6 7 ∷ not_to 7 8
+    ensures all { verdict 9 example_operand (not_to 1 2 ∷ not_to 3 2 ∷ not_to 1 1 ∷ not_to 6 7
+        ∷ not_to 7 8
         ∷ not_to 8 6 ∷ not_to 6 2 ∷ not_to 4 2 ∷ and_to 1 5 2 ∷ []) ≡ Some MultipleWriters }
     ensures none { verdict 9 example_operand [] ≡ None }
 {}
@@ -155,8 +159,8 @@ pub fn work()
 /// The sum in a virtual image with an open format is S16. A declared U8 stays, and Convert Bit
 /// Depth can't take it.
 pub fn open_formats()
-    ensures found { resolved_operand (operand_except (virtual_of None) 1 1) (adds 1 3 2 ∷ convert_to 2 4 ∷ [])
-        (reference_to 2) ≡ image_operand 1 1 S16 }
+    ensures found { resolved_operand (operand_except (virtual_of None) 1 1)
+        (adds 1 3 2 ∷ convert_to 2 4 ∷ []) (reference_to 2) ≡ image_operand 1 1 S16 }
     ensures opened { verdict 9 (operand_except (virtual_of None) 1 1)
         (adds 1 3 2 ∷ convert_to 2 4 ∷ []) ≡ None }
     ensures declared { verdict 9 (operand_except (virtual_of (Some U8)) 1 1)

@@ -11,8 +11,10 @@ ghost use Rattle.graph_verify.specs.Linked.{linked_nodes, AreOperands};
 ghost use Rattle.graph_verify.specs.Links.{feeds};
 ghost use Rattle.graph_verify.specs.Order.{InTurn};
 ghost use Rattle.graph_verify.specs.Verdict.{two_writers};
-ghost use Rattle.graph_verify.specs.PartialDescriptions.{all_unknown, given_partial_desc, virtual_or_image};
-ghost use Rattle.graph_verify.specs.ResolvedOutputs.{known_of, known_partial_desc, resolved_output, resolved_by};
+ghost use Rattle.graph_verify.specs.PartialDescriptions.{all_unknown, given_partial_desc};
+ghost use Rattle.graph_verify.specs.PartialDescriptions.{virtual_or_image};
+ghost use Rattle.graph_verify.specs.ResolvedOutputs.{known_of, known_partial_desc, resolved_output};
+ghost use Rattle.graph_verify.specs.ResolvedOutputs.{resolved_by};
 ghost use Rattle.graph_verify.specs.ResolvedOutputs.{known_operand, known_given, known_operands};
 ghost use Rattle.graph_verify.specs.ResolvedOutputs.{described_output, AreResolved};
 
@@ -115,7 +117,8 @@ fn learn_output(
     operand: Option<Operand>,
     given: PartialDesc,
 ) -> Result<(), AllocError>
-    ensures learnt { OnOk result (known.new.items ≡ known.old.items ++ resolved_output cell operand given) }
+    ensures learnt { OnOk result (known.new.items ≡ known.old.items
+        ++ resolved_output cell operand given) }
     ensures limit { OnOk result (length known.new.items ≤ length known.old.items + 1) }
 {
     match (cell, operand) {

@@ -54,7 +54,8 @@ impl Verified {
     /// Returns the description of a virtual image that the nodes write, or `None` for any other
     /// object.
     pub fn desc_of(&self, cell: ObjRef) -> Option<Desc>
-        ensures { (is : Reference → Operand) (nodes : List NodeFields) → IsVerified is nodes self.now →
+        ensures { (is : Reference → Operand) (nodes : List NodeFields) →
+            IsVerified is nodes self.now →
             result ≡ written_description is nodes cell }
     {
         let output = self.find(cell)?;
@@ -74,7 +75,8 @@ impl Verified {
 
 /// The fault of the earliest added node that has one, by the resolved operands.
 fn first_fault(nodes: &[Linked], known: &[ResolvedOutput]) -> Option<Verdict>
-    ensures { (is : Reference → Operand) → All (λ l. known_operands known.now l ≡ operands_of is l.node)
+    ensures { (is : Reference → Operand) →
+        All (λ l. known_operands known.now l ≡ operands_of is l.node)
         nodes.now → result ≡ first_fault is (linked_nodes nodes.now) }
 {
     for linked in nodes {

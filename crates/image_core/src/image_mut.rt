@@ -39,7 +39,8 @@ impl<'a> ImageMut<'a> {
         requires format { desc.format ≡ T.format }
         requires size { length samples.old ≡ sample_count desc }
         ensures target { IsTarget result }
-        ensures value { target_image result ≡ image_over desc empty_rectangle (map T.value samples.old) }
+        ensures value { target_image result ≡ image_over desc empty_rectangle
+            (map T.value samples.old) }
         ensures same_slice { T.slice_name result ≡ samples.entry.ghost_name }
         ensures rows { result.rows ≡ all_rows desc.height }
     {
@@ -53,7 +54,8 @@ impl<'a> ImageMut<'a> {
         requires rows { IsInRows desc.height rows }
         requires size { length samples.old ≡ rows.count * desc.width }
         ensures target { IsTarget result }
-        ensures value { target_image result ≡ image_over desc empty_rectangle (map T.value samples.old) }
+        ensures value { target_image result ≡ image_over desc empty_rectangle
+            (map T.value samples.old) }
         ensures same_slice { T.slice_name result ≡ samples.entry.ghost_name }
         ensures rows { result.rows ≡ rows }
     {
@@ -84,7 +86,8 @@ impl<'a> ImageMut<'a> {
     /// Sets the valid rectangle; the samples stay as they are.
     pub fn set_valid(&mut self, valid: Rect)
         requires target { IsTarget self.old }
-        requires room { IsWithin valid (target_image self.old).width (target_image self.old).height }
+        requires room { IsWithin valid (target_image self.old).width
+            (target_image self.old).height }
         ensures value { target_image self.new
             ≡ image_over self.old.desc valid (target_image self.old).samples }
         ensures target { IsTarget self.new }
@@ -119,24 +122,24 @@ impl<'a> ImageMut<'a> {
         requires format { (target_image self.old).format ≡ T.format }
         requires room { IsWithin (U.area update.now) (target_image self.old).width
             (target_image self.old).height }
-        ensures { Writes (image_from (target_image self.old).width (target_image self.old).height T.format
-            (U.area update.now) (λ x y. U.next update.now x y
-            (sample_from self.old.desc.width self.old.rows.start (target_image self.old).samples x y)))
-            self.old self.new }
+        ensures { Writes (image_from (target_image self.old).width (target_image self.old).height
+            T.format (U.area update.now) (λ x y. U.next update.now x y
+            (sample_from self.old.desc.width self.old.rows.start (target_image self.old).samples x
+            y))) self.old self.new }
     {
         self.valid = update.area();
         T::change_samples(self, &Updated { update }, &mut []);
     }
 
-    /// Writes a whole image: the formula's samples in its area, 0 elsewhere. The area becomes the
-    /// valid rectangle.
+    /// Writes the whole image: the formula's samples inside the formula's area, 0 elsewhere. The
+    /// area becomes the valid rectangle.
     pub fn write<T: Sample, F: Formula<T>>(&mut self, formula: &F)
         requires target { IsTarget self.old }
         requires format { (target_image self.old).format ≡ T.format }
         requires room { IsWithin (F.area formula.now) (target_image self.old).width
             (target_image self.old).height }
-        ensures { Writes (image_from (target_image self.old).width (target_image self.old).height T.format
-            (F.area formula.now) (F.at formula.now)) self.old self.new }
+        ensures { Writes (image_from (target_image self.old).width (target_image self.old).height
+            T.format (F.area formula.now) (F.at formula.now)) self.old self.new }
     {
         self.write_by_rows::<T, u8, _>(&Unaided { formula }, &mut []);
     }
@@ -153,8 +156,8 @@ impl<'a> ImageMut<'a> {
         requires room { IsWithin (F.area formula.now) (target_image self.old).width
             (target_image self.old).height }
         requires scratch { F.room formula.now ≤ length scratch.old }
-        ensures { Writes (image_from (target_image self.old).width (target_image self.old).height T.format
-            (F.area formula.now) (F.at formula.now)) self.old self.new }
+        ensures { Writes (image_from (target_image self.old).width (target_image self.old).height
+            T.format (F.area formula.now) (F.at formula.now)) self.old self.new }
     {
         self.valid = formula.area();
         T::change_samples(self, &Written { formula }, scratch);

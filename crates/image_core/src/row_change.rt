@@ -9,8 +9,8 @@ use crate::row_formula::RowFormula;
 use crate::row_update::RowUpdate;
 use vx_base::Rect;
 
-/// A new value for each sample of a rectangle, computed from the old one, with scratch memory for a
-/// row.
+/// An update in place: computes each sample of a rectangle from its old value. It gets scratch
+/// memory for one row.
 pub trait RowChange<T: Number, S> {
     /// The new sample in a column of a row, from the old one.
     ghost next: { Self → ℕ → ℕ → ℤ → ℤ };

@@ -50,7 +50,8 @@ pub trait Sample: Number {
         requires size { length samples.old ≡ rows.count * desc.width }
         ensures target { IsTarget result }
         ensures rows { result.rows ≡ rows }
-        ensures value { target_image result ≡ image_over desc empty_rectangle (map Self.value samples.old) }
+        ensures value { target_image result ≡ image_over desc empty_rectangle
+            (map Self.value samples.old) }
         ensures same_slice { slice_name result ≡ samples.entry.ghost_name };
 
     /// Changes the samples of an output's band within the change's area, and sets the others to 0.

@@ -37,7 +37,7 @@ fn scaled_square(a: u8, amount: u8) -> u16
     (u16::from(a) * u16::from(a)) >> amount
 }
 
-/// The sum plus the byte's square over 2^amount, rounded down; at most 32,767.
+/// The sum plus (the byte's square / 2^amount, rounded down); at most 32,767.
 #[derive(Drop)]
 pub struct Squared {
     pub amount: u8,

@@ -19,7 +19,8 @@ pub fn bytes_above(row: u8x32, limit: u8, true_value: u8, false_value: u8) -> u8
 /// Returns `true_value` where a byte is between the limits or equal to one, and `false_value`
 /// elsewhere.
 pub fn bytes_between(row: u8x32, lower: u8, upper: u8, true_value: u8, false_value: u8) -> u8x32
-    ensures { map pos result ≡ map (threshold_choice (Range (pos lower) (pos upper)) true_value false_value)
+    ensures { map pos result
+        ≡ map (threshold_choice (Range (pos lower) (pos upper)) true_value false_value)
         (map pos row) }
 {
     let up_to = row
@@ -45,7 +46,8 @@ pub fn shorts_above(row: i16x32, limit: i16, true_value: u8, false_value: u8) ->
 pub fn shorts_between(row: i16x32, lower: i16, upper: i16, true_value: u8, false_value: u8) -> u8x32
     requires len { length row ≡ 32 }
     requires fits { Each1 (FitsSigned w16) row }
-    ensures { map pos result ≡ map (threshold_choice (Range lower upper) true_value false_value) row }
+    ensures { map pos result ≡ map (threshold_choice (Range lower upper) true_value false_value)
+        row }
 {
     let up_to = row
         .simd_gt(i16x32::splat(upper))

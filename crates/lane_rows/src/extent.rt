@@ -7,7 +7,7 @@ ghost use Rattle.vx_base.specs.Statistics.{best_of, count_of};
 use crate::compared::Compared;
 use crate::occurrences::count_of;
 
-/// Returns the least item of a row, which isn't empty.
+/// Returns the least item of a non-empty row.
 pub fn least_of<T: Compared>(row: &[T]) -> T
     requires { 0 < length row.now }
     ensures { T.value result ≡ best_of int_min (map T.value row.now) }
@@ -19,7 +19,7 @@ pub fn least_of<T: Compared>(row: &[T]) -> T
     least
 }
 
-/// Returns the greatest item of a row, which isn't empty.
+/// Returns the greatest item of a non-empty row.
 pub fn greatest_of<T: Compared>(row: &[T]) -> T
     requires { 0 < length row.now }
     ensures { T.value result ≡ best_of int_max (map T.value row.now) }
@@ -67,7 +67,8 @@ pub fn extremes_u8(row: &[u8]) -> RowExtremes<u8>
     ensures least { pos result.least ≡ best_of int_min (map pos row.now) }
     ensures greatest { pos result.greatest ≡ best_of int_max (map pos row.now) }
     ensures least_count { result.least_count ≡ count_of (pos result.least) (map pos row.now) }
-    ensures greatest_count { result.greatest_count ≡ count_of (pos result.greatest) (map pos row.now) }
+    ensures greatest_count { result.greatest_count ≡ count_of (pos result.greatest)
+        (map pos row.now) }
 {
     extremes_of(row)
 }

@@ -38,7 +38,8 @@ pub trait Tested: Item {
     /// Returns `true_value` where an item of 32 is above the limit, and `false_value` elsewhere.
     fn above(row: &[Self], limit: Self, true_value: u8, false_value: u8) -> u8x32
         requires { length row.now ≡ 32 }
-        ensures { map pos result ≡ map (threshold_choice (Binary (Self.value limit)) true_value false_value)
+        ensures { map pos result
+            ≡ map (threshold_choice (Binary (Self.value limit)) true_value false_value)
             (map Self.value row.now) };
 
     /// Returns `true_value` where an item of 32 is between the limits or equal to one, and

@@ -28,10 +28,10 @@ pub fn box_of_a_column()
 /// Convolution with five rows: if row 2 differs, row 0 of the output does, two rows above it.
 pub fn convolved_column()
     ensures window_radius { window_radius Convolve (Some upper_row) ≡ Some 2 }
-    ensures first { node_samples Convolve U8 (column 10 20 30 40) (Some (ConvolutionObject upper_row))
-        ≡ pos 30 ∷ pos 40 ∷ pos 40 ∷ pos 40 ∷ [] }
-    ensures other { node_samples Convolve U8 (column 10 20 90 40) (Some (ConvolutionObject upper_row))
-        ≡ pos 90 ∷ pos 40 ∷ pos 40 ∷ pos 40 ∷ [] }
+    ensures first { node_samples Convolve U8 (column 10 20 30 40)
+        (Some (ConvolutionObject upper_row)) ≡ pos 30 ∷ pos 40 ∷ pos 40 ∷ pos 40 ∷ [] }
+    ensures other { node_samples Convolve U8 (column 10 20 90 40)
+        (Some (ConvolutionObject upper_row)) ≡ pos 90 ∷ pos 40 ∷ pos 40 ∷ pos 40 ∷ [] }
 {}
 
 /// Accumulation: if row 2 of the accumulator differs, row 2 of the output does.
@@ -43,7 +43,7 @@ pub fn accumulated_column()
         (record (column 1 2 5 4) { format = S16 }))) ≡ pos 11 ∷ pos 22 ∷ pos 35 ∷ pos 44 ∷ [] }
 {}
 
-/// Integral image: if row 0 differs, all rows of the output do.
+/// Integral image: changing input row 0 changes every output row.
 pub fn integral_of_a_column()
     ensures window_radius { window_radius Integral None ≡ None }
     ensures first { node_samples Integral U32 (column 10 20 30 40) None

@@ -40,7 +40,8 @@ pub fn rows_in_radius_decide()
         window_radius n.function (matrix_in second) ≡ Some rows →
         AgreeInRows (y - rows) (y + rows) a b → SecondsAgree y y second other →
         x < a.width → y < a.height →
-        pixel_at (node_image n output format a second) x y ≡ pixel_at (node_image n output format b other) x y }
+        pixel_at (node_image n output format a second) x y
+        ≡ pixel_at (node_image n output format b other) x y }
 {}
 
 /// Therefore a band of the inputs with its halo decides the same band of the output. The halo is

@@ -160,7 +160,8 @@ impl Object {
         requires object { IsObject self.old }
         requires same { description_of (image_value (object_in slot self.old))
             ≡ picture.now.description }
-        ensures value { self.new ≡ with_slot slot (ImageObject (picture_image picture.now)) self.old }
+        ensures value { self.new ≡ with_slot slot (ImageObject (picture_image picture.now))
+            self.old }
         ensures bytes { object_bytes self.new ≡ object_bytes self.old }
         ensures image { IsImage (picture_image picture.now) }
     {

@@ -3,7 +3,8 @@ ghost use Rattle.std.specs.Prelude.{◌≡◌, ◌∷◌, IfSome, IfNone, None, 
 ghost use Rattle.std.specs.Prelude.{◌+◌, ◌*◌, ◌-◌, ◌%◌, nat_lt, if◌then◌else◌, ℕ, List};
 ghost use Rattle.std.specs.Char.{is_ascii_digit};
 ghost use Rattle.pgm_images.specs.Marks.{ends_line, is_space, begins_gap, past_blanks};
-ghost use Rattle.pgm_images.specs.Marks.{digits_after, take_number, take_next, ends, TakesNumber, Tells};
+ghost use Rattle.pgm_images.specs.Marks.{digits_after, take_number, take_next, ends, TakesNumber};
+ghost use Rattle.pgm_images.specs.Marks.{Tells};
 
 /// Returns whether a byte is CR or LF.
 fn ends_line(byte: u8) -> bool

@@ -4,7 +4,8 @@ ghost use Rattle.std.specs.Prelude.{length, map, pos, ◌||◌, Bool, List, Opti
 ghost use Rattle.vx_base.specs.Picture.{values, samples_format};
 ghost use Rattle.pgm_images.specs.Header.{is_maxval, format_up_to};
 ghost use Rattle.pgm_images.specs.Marks.{TakesNumber, take_next, ends};
-ghost use Rattle.pgm_images.specs.Raster.{Reads, all_up_to, numbers_in, take_count, take_short_sample};
+ghost use Rattle.pgm_images.specs.Raster.{Reads, all_up_to, numbers_in, take_count};
+ghost use Rattle.pgm_images.specs.Raster.{take_short_sample};
 ghost use Rattle.pgm_images.specs.Raster.{take_long_sample, nothing_left, samples_up_to, PlainUpTo};
 
 use crate::block::Block;
@@ -55,7 +56,8 @@ fn read_plain<T: TextSample>(maxval: u16, text: &[u8], samples: &mut [T]) -> Res
     requires limit { maxval ≤ T.limit }
     requires maxval { maxval ≤ 32767 }
     ensures { Reads (samples_up_to maxval
-        (take_count take_next ends (length samples.old) text.now)) (map T.value samples.new) result }
+        (take_count take_next ends (length samples.old) text.now)) (map T.value samples.new)
+        result }
 {
     let mut block = Block::new();
     let (mut rest, mut index) = (text, 0);
@@ -118,7 +120,8 @@ fn read_bytes(maxval: u16, bytes: &[u8], samples: &mut [u8]) -> Result<(), PgmFa
 
 /// Returns the number of two bytes at the front, and the bytes after it.
 fn take_pair(bytes: &[u8]) -> Option<(u16, &[u8])>
-    ensures some { IfSome result (λ taken. TakesNumber (take_long_sample bytes.now) taken.0 taken.1.now) }
+    ensures some { IfSome result
+        (λ taken. TakesNumber (take_long_sample bytes.now) taken.0 taken.1.now) }
     ensures none { IfNone result (take_long_sample bytes.now ≡ None) }
 {
     let (high, rest) = bytes.split_first()?;

@@ -11,8 +11,8 @@ use crate::raster::read_samples;
 use std::alloc::Global;
 use vx_base::{Desc, Picture, Samples};
 
-/// Returns the description of the picture that a text encodes, if it encodes one. Only the header
-/// is read.
+/// Returns the description that a text's header gives. Only the header is read, so `Ok` doesn't
+/// mean that the whole text is valid.
 ///
 /// The fault is the first of these:
 ///
@@ -52,7 +52,7 @@ pub fn read_into(text: &[u8], samples: &mut Samples) -> Result<(), PgmFault>
 }
 
 /// Returns the picture that a PGM text encodes (Netpbm, pgm(5)). The text is P2 or P5. The samples
-/// are U8 where the maxval is below 256, else S16, with the values of the text.
+/// are U8 if the maxval is below 256, else S16, and aren't rescaled.
 ///
 /// The fault is the first of these:
 ///

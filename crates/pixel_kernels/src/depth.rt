@@ -18,7 +18,8 @@ fn narrow_depth(image: &Image<'_>, output: &mut ImageMut<'_>, policy: Policy, am
     requires input_format { image.now.format ≡ S16 }
     requires format { (target_image output.old).format ≡ U8 }
     requires amount { amount ≤ 7 }
-    ensures { Writes (from_one U8 (depth_conversion U8 policy amount) image.now) output.old output.new }
+    ensures { Writes (from_one U8 (depth_conversion U8 policy amount) image.now) output.old
+        output.new }
 {
     match policy {
         Policy::Wrap => {
@@ -38,7 +39,8 @@ pub fn convert_depth(image: &Image<'_>, output: &mut ImageMut<'_>, policy: Polic
     requires fits { Fits ConvertDepth image.now None output.old }
     requires amount { amount ≤ 7 }
     ensures { Writes (from_one (target_image output.old).format
-        (depth_conversion (target_image output.old).format policy amount) image.now) output.old output.new }
+        (depth_conversion (target_image output.old).format policy amount) image.now) output.old
+        output.new }
 {
     match image.desc().format() {
         Format::U8 => write_one::<u8, i16, _>(&ShiftedUp { amount }, image, output),

@@ -15,8 +15,8 @@ use vx_base::Policy;
 /// and U8 to U8, or U8 or S16 inputs to S16.
 pub fn add(first: &Image<'_>, second: &Image<'_>, output: &mut ImageMut<'_>, policy: Policy)
     requires { Fits Add first.now (Some (ImageObject second.now)) output.old }
-    ensures { Writes (from_two (target_image output.old).format (sum (target_image output.old).format policy)
-        first.now second.now) output.old output.new }
+    ensures { Writes (from_two (target_image output.old).format
+        (sum (target_image output.old).format policy) first.now second.now) output.old output.new }
 {
     match policy {
         Policy::Wrap => write_arithmetic(&Sum(Wrapped), first, second, output),

@@ -20,7 +20,8 @@ struct ByteTable<'a> {
 }
 
 impl OfItem<u8, u8> for ByteTable<'_> {
-    ghost formula = { λ s. lookup_result (record { format = U8; entries = map pos s.entries.now }) };
+    ghost formula = { λ s.
+        lookup_result (record { format = U8; entries = map pos s.entries.now }) };
 
     fn item(&self, a: u8) -> u8 {
         self.entries[usize::from(a)]

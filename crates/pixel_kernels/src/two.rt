@@ -27,7 +27,8 @@ struct FromTwo<'a, 'b, A: Pixel, B: Pixel, K> {
 }
 
 impl<A: Pixel, B: Pixel, T: Pixel, K: OfPair<A, B, T>> Formula<T> for FromTwo<'_, '_, A, B, K> {
-    ghost at = { λ s x y. K.formula s.kernel.now (pixel_at s.first.now x y) (pixel_at s.second.now x y) };
+    ghost at = { λ s x y. K.formula s.kernel.now (pixel_at s.first.now x y)
+        (pixel_at s.second.now x y) };
 
     ghost area = { λ s. s.area };
 

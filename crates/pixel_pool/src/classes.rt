@@ -1,6 +1,7 @@
 //! The size classes of blocks.
 ghost use Rattle.std.specs.Prelude.{◌≡◌, ◌<◌, ◌≤◌, ◌^◌};
-ghost use Rattle.pixel_pool.specs.Classes.{class_count, class_capacity, class_step, IsClassOf, FitsIn};
+ghost use Rattle.pixel_pool.specs.Classes.{class_count, class_capacity, class_step, IsClassOf};
+ghost use Rattle.pixel_pool.specs.Classes.{FitsIn};
 
 /// The number of classes. The last has a capacity of 67,108,864 samples, as many as the largest
 /// image has.

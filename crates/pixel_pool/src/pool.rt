@@ -3,7 +3,8 @@ ghost use Rattle.std.specs.Prelude.{◌≡◌, ◌≤◌, ◌+◌, length, pos, 
 ghost use Rattle.std.specs.Prelude.{IfOk, IsOk, OnErr, OnOk};
 ghost use Rattle.vx_base.specs.Picture.{values, samples_format};
 ghost use Rattle.pixel_pool.specs.Classes.{class_count, FitsIn};
-ghost use Rattle.pixel_pool.specs.Free.{HasCapacity, UsesSmallest, IsTrim, IsFewer, GetsFree, free_count};
+ghost use Rattle.pixel_pool.specs.Free.{HasCapacity, UsesSmallest, IsTrim, IsFewer, GetsFree};
+ghost use Rattle.pixel_pool.specs.Free.{free_count};
 ghost use Rattle.pixel_pool.specs.Pool.{lent_of, free_of, blocks_of, capacity_of, HasLent, Lends};
 ghost use Rattle.pixel_pool.specs.Pool.{GetsBack, KeepsLent, KeepsBlockCounts, KeepsOtherFree};
 

@@ -1,8 +1,10 @@
 //! The blocks of one format.
-ghost use Rattle.std.specs.Prelude.{◌≡◌, ℕ, ◌+◌, ◌≤◌, ◌<◌, [], length, replicate, IfOk, OnErr, OnOk};
+ghost use Rattle.std.specs.Prelude.{◌≡◌, ℕ, ◌+◌, ◌≤◌, ◌<◌, [], length, replicate, IfOk, OnErr};
+ghost use Rattle.std.specs.Prelude.{OnOk};
 ghost use Rattle.std.specs.Prelude.{IsOk, IsTrue, ◌↔◌, IfSome, IfNone, vec_capacity, slice_index};
 ghost use Rattle.pixel_pool.specs.Classes.{class_count, class_capacity, FitsIn};
-ghost use Rattle.pixel_pool.specs.Free.{HasFree, HasCapacity, UsesSmallest, IsTrim, IsFewer, free_count};
+ghost use Rattle.pixel_pool.specs.Free.{HasFree, HasCapacity, UsesSmallest, IsTrim, IsFewer};
+ghost use Rattle.pixel_pool.specs.Free.{free_count};
 ghost use Rattle.pixel_pool.specs.Free.{without_one, GetsFree};
 ghost use Rattle.pixel_pool.specs.Shelf.{block_count};
 
@@ -105,7 +107,8 @@ impl<T: Copy + Drop> Shelf<T> {
             UsesSmallest count self.old.free self.new.free) }
         ensures added { (HasCapacity self.old.free count → ⊥) → self.new.free ≡ self.old.free }
         ensures most { block_count self.new ≤ block_count self.old + 1 }
-        ensures none { HasCapacity self.old.free count → block_count self.new ≡ block_count self.old }
+        ensures none { HasCapacity self.old.free count →
+            block_count self.new ≡ block_count self.old }
         ensures fits { HasCapacity self.old.free count → IsOk result }
         ensures err { OnErr result (self.new ≡ self.old) }
     {

@@ -1,7 +1,8 @@
 //! Worked examples: the definitions evaluated on numbers.
 ghost use Rattle.std.specs.Prelude.{◌≡◌, [], ◌∷◌, Some, None, pos, negsuc};
 ghost use Rattle.vx_base.specs.declared.format.Format.TheVariants.{U8, S16, U32};
-ghost use Rattle.vx_base.specs.Statistics.{rectangle_pixels, bins_of, histogram, integral, extremes};
+ghost use Rattle.vx_base.specs.Statistics.{rectangle_pixels, bins_of, histogram, integral};
+ghost use Rattle.vx_base.specs.Statistics.{extremes};
 
 /// The pixels of a rectangle, in row-major order.
 pub fn places_in_order()

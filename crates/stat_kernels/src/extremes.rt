@@ -40,7 +40,8 @@ fn with_row(found: Found, image: &Image<'_>, part: Part, y: u16) -> Found
 fn found_in(image: &Image<'_>, rows: Band) -> Found
     requires format { image.now.format ≢ U32 }
     requires rows { IsInRows image.now.height rows }
-    ensures { result ≡ found_in (pixel_at image.now) (rectangle_pixels (valid_in rows image.now).valid) }
+    ensures { result ≡ found_in (pixel_at image.now)
+        (rectangle_pixels (valid_in rows image.now).valid) }
 {
     let _limits = image.desc().height();
     let part = Part::of(image).in_rows(rows);

@@ -90,7 +90,8 @@ fn write_row_across_part(
     requires above_len { IfSome above (λ row. length row.now ≡ image.now.width) }
     requires out_len { length out.old ≡ image.now.width }
     ensures sums { map pos out.new ≡ run 0 image.now.width
-        (λ x. zero_outside image.now.valid (sum_on image.now y (row_sums (option_copied above.entry))) x y) }
+        (λ x. zero_outside image.now.valid
+        (sum_on image.now y (row_sums (option_copied above.entry))) x y) }
     ensures whole { (whole : ImageValue) (line : ℕ) → IsImage whole →
         IsRowOf image.now y whole line → IsRowAbove whole line (option_copied above.entry) →
         map pos out.new ≡ sums_row whole line }
@@ -113,7 +114,8 @@ fn write_integral_row(image: &Image<'_>, part: Part, y: u16, above: Option<&[u32
     requires above_len { IfSome above (λ row. length row.now ≡ image.now.width) }
     requires out_len { length out.old ≡ image.now.width }
     ensures sums { map pos out.new ≡ run 0 image.now.width
-        (λ x. zero_outside image.now.valid (sum_on image.now y (row_sums (option_copied above.entry))) x y) }
+        (λ x. zero_outside image.now.valid
+        (sum_on image.now y (row_sums (option_copied above.entry))) x y) }
     ensures whole { (whole : ImageValue) (line : ℕ) → IsImage whole →
         IsRowOf image.now y whole line → IsRowAbove whole line (option_copied above.entry) →
         map pos out.new ≡ sums_row whole line }

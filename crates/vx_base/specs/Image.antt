@@ -10,7 +10,7 @@ use Rattle.vx_base.specs.Description.{Description, IsDescription}
 abbrev pub run : ℕ → ℕ → (ℕ → ℤ) → List ℤ
 run x n f = map f (range_with_len x n)
 
--- f at the pixels of count rows from row start on, row by row
+-- the values of f at the pixels of `count` rows, from row `start`, in row-major order
 abbrev pub band : ℕ → ℕ → ℕ → (ℕ → ℕ → ℤ) → List ℤ
 band width start count f = flat_map (λ y. run 0 width (λ x. f x y)) (range_with_len start count)
 

@@ -10,9 +10,11 @@ ghost use Rattle.vx_base.specs.declared.function.Function.TheVariants.{ConvertDe
 ghost use Rattle.vx_base.specs.declared.threshold.ThresholdKind.TheVariants.{Binary, Range};
 ghost use Rattle.vx_base.specs.declared.code.Code.TheVariants.{InvalidFormat};
 ghost use Rattle.vx_base.specs.Sample.{narrow};
-ghost use Rattle.vx_base.specs.Rectangle.{Rectangle, rectangle, empty_rectangle, meet_of, shrink_of, has_pixel};
+ghost use Rattle.vx_base.specs.Rectangle.{Rectangle, rectangle, empty_rectangle, meet_of};
+ghost use Rattle.vx_base.specs.Rectangle.{shrink_of, has_pixel};
 ghost use Rattle.vx_base.specs.Description.{description, byte_count};
-ghost use Rattle.vx_base.specs.PartialDescription.{partial_description, partial_desc_of, with_defaults, full_description};
+ghost use Rattle.vx_base.specs.PartialDescription.{partial_description, partial_desc_of};
+ghost use Rattle.vx_base.specs.PartialDescription.{with_defaults, full_description};
 ghost use Rattle.vx_base.specs.declared.node.Node.{Node};
 ghost use Rattle.vx_base.specs.Graph.{new_graph, nodes_of, with_node, without_node, can_add};
 ghost use Rattle.vx_base.specs.Image.{ImageValue, image_from, pixel_at, new_image};
@@ -22,7 +24,8 @@ ghost use Rattle.vx_base.specs.Formats.{takes_formats, open_format};
 ghost use Rattle.vx_base.specs.Function.{parameters};
 ghost use Rattle.vx_base.specs.declared.kind.Kind.TheVariants.{Image};
 ghost use Rattle.vx_base.specs.Pixelwise.{and_bits, or_bits, xor_bits, not_bits, sum, difference};
-ghost use Rattle.vx_base.specs.Pixelwise.{product, absolute_difference, threshold_result, depth_conversion};
+ghost use Rattle.vx_base.specs.Pixelwise.{product, absolute_difference, threshold_result};
+ghost use Rattle.vx_base.specs.Pixelwise.{depth_conversion};
 ghost use Rattle.vx_base.specs.Pixelwise.{accumulated_sum, accumulated_square, from_one, from_two};
 ghost use Rattle.vx_base.specs.declared.output.Output.TheVariants.{First};
 ghost use Rattle.vx_base.specs.Outputs.{node_image};
@@ -53,7 +56,8 @@ pub fn rectangles()
         (record { x0 = 2; y0 = 0; x1 = 4; y1 = 1 }) ≡ empty_rectangle }
     ensures inner { shrink_of (record { x0 = 0; y0 = 0; x1 = 8; y1 = 7 }) 3 3
         ≡ record { x0 = 3; y0 = 3; x1 = 5; y1 = 4 } }
-    ensures too_small { shrink_of (record { x0 = 0; y0 = 0; x1 = 2; y1 = 2 }) 1 1 ≡ empty_rectangle }
+    ensures too_small { shrink_of (record { x0 = 0; y0 = 0; x1 = 2; y1 = 2 }) 1 1
+        ≡ empty_rectangle }
 {}
 
 /// Descriptions within the limits and beyond them.
@@ -311,8 +315,10 @@ pub fn partial_descs()
     ensures filled { with_defaults (record { width = Some 4; height = None; format = None })
         (record { width = Some 8; height = Some 2; format = Some U8 })
         ≡ record { width = Some 4; height = Some 2; format = Some U8 } }
-    ensures open { full_description (record { width = Some 4; height = None; format = Some U8 }) ≡ None }
-    ensures closed { full_description (partial_desc_of (record { width = 4; height = 2; format = S16 }))
+    ensures open { full_description (record { width = Some 4; height = None; format = Some U8 })
+        ≡ None }
+    ensures closed { full_description
+        (partial_desc_of (record { width = 4; height = 2; format = S16 }))
         ≡ Some (record { width = 4; height = 2; format = S16 }) }
     ensures side { partial_description (Some 8193) None None ≡ None }
     ensures sums { open_format Add U8 ≡ S16 }

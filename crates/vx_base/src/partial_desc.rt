@@ -1,6 +1,8 @@
 //! Partial descriptions of images.
 ghost use Rattle.std.specs.Prelude.{◌≡◌, IsTrue, ◌&&◌};
-ghost use Rattle.vx_base.specs.PartialDescription.{partial_description, may_be_side, partial_desc_of, with_defaults, full_description};
+ghost use Rattle.vx_base.specs.PartialDescription.{partial_description, may_be_side};
+ghost use Rattle.vx_base.specs.PartialDescription.{partial_desc_of, with_defaults};
+ghost use Rattle.vx_base.specs.PartialDescription.{full_description};
 ghost use Rattle.vx_base.specs.PartialDescription.{IsPartialDescription};
 
 use crate::desc::{Desc, GREATEST_SIDE};

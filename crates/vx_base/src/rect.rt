@@ -1,6 +1,7 @@
 //! Rectangles of pixels.
 ghost use Rattle.std.specs.Prelude.{◌≡◌};
-ghost use Rattle.vx_base.specs.Rectangle.{rectangle, empty_rectangle, meet_of, shrink_of, IsRectangle, IsOrdered};
+ghost use Rattle.vx_base.specs.Rectangle.{rectangle, empty_rectangle, meet_of, shrink_of};
+ghost use Rattle.vx_base.specs.Rectangle.{IsRectangle, IsOrdered};
 
 use std::marker::Model;
 

@@ -13,6 +13,12 @@ const VERSION: &str = "0.1.0";
 /// The default of the limits in bytes, as a word of the command line.
 const DEFAULT_BYTES: &str = "268435456";
 
+/// The values of `<FUNCTION>`, as the help and the errors list them.
+const FUNCTIONS: &str = "not, box, gaussian, median, erode or dilate";
+
+/// The values of `--border`, as the errors list them.
+const BORDERS: &str = "undefined or replicate";
+
 /// The help text on memory that the options do not limit.
 const MEMORY_TAKEN: &str = "\
 Images may take up to twice their quota, and a graph that runs up to twice its work bytes. No client
@@ -21,6 +27,7 @@ is charged for:
                   and 67108864 samples, 469762048 bytes in all
   kept graphs     each graph that was verified or has run, until its nodes change or it is
                   released: up to 150000 bytes with its nodes
+  lists of a run  kept for the next run of any graph: up to 450000 bytes in all
   next picture    the picture that is being read: up to 268435456 bytes
   frames          the request and the reply in progress
 If memory is refused, the server gives up its free blocks and tries again. A request that still gets
@@ -98,7 +105,7 @@ fn read_limits(alloc: Global, serve: &ArgMatches<'_>) -> Result<Limits, Error> {
         ("--work", work)
     };
     let text = format!(in alloc;
-        "invalid value '{word}' for '{option} <BYTES>': it must be a decimal number from 1 to 1099511627776"
+        "invalid value '{word}' for '{option} <BYTES>': it must be a number from 1 to 1099511627776"
     )?;
     let mut serve = serve_command(alloc)?.bin_name("vx_main serve")?;
     Err(serve.error(ErrorKind::ValueValidation, text.as_str())?)
@@ -110,7 +117,7 @@ fn apply_command<'a>(alloc: Global) -> Result<Command<'a>, AllocError> {
         .value_name("FUNCTION")
         .required(true)
         .action(ArgAction::Set)
-        .help("not, box, gaussian, median, erode or dilate");
+        .help(FUNCTIONS);
     let border = Arg::new(alloc, "border")
         .long("border")
         .value_name("BORDER")
@@ -127,7 +134,7 @@ fn read_job(alloc: Global, apply: &ArgMatches<'_>) -> Result<Job, Error> {
     let function = apply.get_str("function").unwrap_or("");
     let Some(operation) = parse_operation(function) else {
         let text = format!(in alloc;
-            "invalid value '{function}' for '<FUNCTION>': it must be not, box, gaussian, median, erode or dilate"
+            "invalid value '{function}' for '<FUNCTION>': it must be {FUNCTIONS}"
         )?;
         return Err(no_word(alloc, text.as_str())?);
     };
@@ -136,7 +143,7 @@ fn read_job(alloc: Global, apply: &ArgMatches<'_>) -> Result<Job, Error> {
         Some(border) => Ok(Job { operation, border }),
         None => {
             let text = format!(in alloc;
-                "invalid value '{border}' for '--border <BORDER>': it must be undefined or replicate"
+                "invalid value '{border}' for '--border <BORDER>': it must be {BORDERS}"
             )?;
             Err(no_word(alloc, text.as_str())?)
         }

@@ -164,8 +164,8 @@ impl FromMatrix<'_, '_> {
 }
 
 impl<T: Convolved> RowFormula<T, i16> for FromMatrix<'_, '_> {
-    ghost at = { λ s x y. convolution_result s.convolution.now T.Sample.format (sample_or_border s.image.now s.border)
-        (pos x) (pos y) };
+    ghost at = { λ s x y. convolution_result s.convolution.now T.Sample.format
+        (sample_or_border s.image.now s.border) (pos x) (pos y) };
 
     ghost area = { λ s. s.area };
 

@@ -10,7 +10,8 @@ ghost use Rattle.vx_base.specs.Rectangle.{has_pixel};
 ghost use Rattle.vx_base.specs.Convolution.{ConvolutionValue};
 ghost use Rattle.vx_base.specs.Image.{ImageValue, IsImage, pixel_at};
 ghost use Rattle.vx_base.specs.Node.{IsBorder};
-ghost use Rattle.vx_base.specs.Window.{clamp_coordinate, sample_or_border, box_mean, gaussian_mean, median, least_of};
+ghost use Rattle.vx_base.specs.Window.{clamp_coordinate, sample_or_border, box_mean, gaussian_mean};
+ghost use Rattle.vx_base.specs.Window.{median, least_of};
 ghost use Rattle.vx_base.specs.Window.{greatest_of, gradient_x, gradient_y, from_nine, from_matrix};
 
 /// At a valid pixel a window reads the image's sample, under every border mode.
@@ -19,7 +20,7 @@ pub fn valid_places()
         sample_or_border image border (pos x) (pos y) ≡ pixel_at image x y }
 {}
 
-/// `clamp_coordinate` gives one of the numbers from `low` to `high - 1`, and none of them is nearer.
+/// `clamp_coordinate` gives the number from `low` to `high - 1` that is nearest.
 pub fn nearest_number()
     ensures within { (low high : ℕ) (v : ℤ) → low < high → (low ≤ clamp_coordinate low high v) ×
         (clamp_coordinate low high v < high) }

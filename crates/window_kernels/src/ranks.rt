@@ -3,7 +3,8 @@ ghost use Rattle.vx_base.specs.declared.format.Format.TheVariants.{U8};
 ghost use Rattle.vx_base.specs.Window.{least_of, greatest_of, median, from_nine};
 ghost use Rattle.image_core.specs.Target.{Writes};
 ghost use Rattle.window_kernels.specs.Fits.{WindowFits};
-ghost use Rattle.window_kernels.specs.ByColumns.{all_taken, column_least_is_least, column_greatest_is_greatest};
+ghost use Rattle.window_kernels.specs.ByColumns.{all_taken, column_least_is_least};
+ghost use Rattle.window_kernels.specs.ByColumns.{column_greatest_is_greatest};
 
 use crate::columns::{Across, ByColumns};
 use crate::windows::{OfWindow, SIDE, with_scratch, write_windows};

@@ -86,7 +86,8 @@ impl<K> FromNine<'_, '_, K> {
             (x < self.now.window.now.image.now.valid.x1) }
         requires one { length out.old ≡ 1 }
         ensures { map T.value out.new ≡ run x 1 (λ k. K.formula self.now.kernel.now (nine_around
-            (sample_or_border self.now.window.now.image.now self.now.window.now.border) (pos k) (pos y))) }
+            (sample_or_border self.now.window.now.image.now self.now.window.now.border) (pos k)
+            (pos y))) }
     {
         let (image, border, line) = (self.window.image, self.window.border, i32::from(y));
         let above = seen_around(image, x, line - 1, border);
@@ -107,7 +108,8 @@ impl<K> FromNine<'_, '_, K> {
         requires scratch { K.room * (length out.old + 2) ≤ length scratch.old }
         ensures { map T.value out.new ≡ run (x + 1) (length out.old)
             (λ k. K.formula self.now.kernel.now (nine_around
-            (sample_or_border self.now.window.now.image.now self.now.window.now.border) (pos k) (pos y))) }
+            (sample_or_border self.now.window.now.image.now self.now.window.now.border) (pos k)
+            (pos y))) }
     {
         let (image, border, off_rows) = (
             self.window.image,
@@ -125,7 +127,8 @@ impl<K> FromNine<'_, '_, K> {
 
 impl<T: Sample, S, K: OfWindow<T, S>> RowFormula<T, S> for FromNine<'_, '_, K> {
     ghost at = { λ s x y. K.formula s.kernel.now
-        (nine_around (sample_or_border s.window.now.image.now s.window.now.border) (pos x) (pos y)) };
+        (nine_around (sample_or_border s.window.now.image.now s.window.now.border) (pos x)
+        (pos y)) };
 
     ghost area = { λ s. s.window.now.area };
 

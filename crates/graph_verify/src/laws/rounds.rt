@@ -11,7 +11,8 @@ ghost use Rattle.graph_verify.specs.Verdict.{two_writers, verdict};
 /// Running the nodes one after another, in an order, gives the same values as the rounds, provided
 /// that no object has two writers and a node's values depend only on what it reads.
 pub fn once_through_an_order<V>()
-    ensures { (value : Node → (Reference → V) → Reference → V) (nodes steps : List Node) (held : Reference → V) →
+    ensures { (value : Node → (Reference → V) → Reference → V) (nodes steps : List Node)
+        (held : Reference → V) →
         ReadsAlone reads value → two_writers nodes ≡ false →
         IsOrder feeds nodes steps → (cell : Reference) →
         one_pass writes value steps held cell ≡ rounds writes value nodes (length nodes) held cell }
@@ -20,11 +21,13 @@ pub fn once_through_an_order<V>()
 /// The rounds of a graph that can run give its only solution: each written object has its node's
 /// value, and every other object is unchanged.
 pub fn only_solution<V>()
-    ensures solves { (value : Node → (Reference → V) → Reference → V) (work : ℕ) (is : Reference → Operand)
+    ensures solves { (value : Node → (Reference → V) → Reference → V) (work : ℕ)
+        (is : Reference → Operand)
         (nodes : List Node) (held : Reference → V) → ReadsAlone reads value →
         verdict work is nodes ≡ None →
         IsSolution writes value nodes held (rounds writes value nodes (length nodes) held) }
-    ensures only { (value : Node → (Reference → V) → Reference → V) (work : ℕ) (is : Reference → Operand)
+    ensures only { (value : Node → (Reference → V) → Reference → V) (work : ℕ)
+        (is : Reference → Operand)
         (nodes : List Node) (held after : Reference → V) → ReadsAlone reads value →
         verdict work is nodes ≡ None →
         IsSolution writes value nodes held after → (cell : Reference) →

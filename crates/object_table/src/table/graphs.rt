@@ -179,7 +179,8 @@ fn end_use(
     requires charge { charge ≡ charge_of (map entry_object entries.old.entries) }
     requires owns { LendsAtLeast pool.old (blocks_in (map entry_object entries.old.entries)) }
     ensures entries { entries.new.entries
-        ≡ kept_entries (used_less (map (λ cell. cell.name) (optional_cells operand)) entries.old.entries) }
+        ≡ kept_entries (used_less (map (λ cell. cell.name) (optional_cells operand))
+        entries.old.entries) }
     ensures charge { result ≡ charge_of (map entry_object entries.new.entries) }
     ensures balances { Balances pool.old pool.new
         (map entry_object entries.old.entries) (map entry_object entries.new.entries) }
@@ -229,7 +230,8 @@ fn end_name(entries: &mut BTreeMap<u32, Entry>, charge: u64, name: u32, pool: &m
     requires held { All (λ e. IsTrue (is_kept e)) entries.old.entries }
     requires charge { charge ≡ charge_of (map entry_object entries.old.entries) }
     requires owns { LendsAtLeast pool.old (blocks_in (map entry_object entries.old.entries)) }
-    ensures entries { entries.new.entries ≡ kept_entries (entries_without_name name entries.old.entries) }
+    ensures entries { entries.new.entries ≡ kept_entries
+        (entries_without_name name entries.old.entries) }
     ensures charge { result ≡ charge_of (map entry_object entries.new.entries) }
     ensures balances { Balances pool.old pool.new
         (map entry_object entries.old.entries) (map entry_object entries.new.entries) }

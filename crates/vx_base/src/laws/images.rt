@@ -1,5 +1,6 @@
 //! Laws of image values.
-ghost use Rattle.std.specs.Prelude.{◌≡◌, ◌<◌, ◌*◌, ◌+◌, ◌++◌, ℕ, ℤ, pos, true, false, length, IsTrue};
+ghost use Rattle.std.specs.Prelude.{◌≡◌, ◌<◌, ◌*◌, ◌+◌, ◌++◌, ℕ, ℤ, pos, true, false, length};
+ghost use Rattle.std.specs.Prelude.{IsTrue};
 ghost use Rattle.vx_base.specs.Sample.{IsSample};
 ghost use Rattle.vx_base.specs.declared.format.Format.{Format};
 ghost use Rattle.vx_base.specs.Rectangle.{Rectangle, has_pixel, IsCanonical, IsWithin};
@@ -16,7 +17,8 @@ pub fn table_size()
 /// An image's samples are the band of all its rows. Two adjacent bands, one after the other, are
 /// the band of the rows of both.
 pub fn bands()
-    ensures whole { (a : ImageValue) → IsImage a → band a.width 0 a.height (pixel_at a) ≡ a.samples }
+    ensures whole { (a : ImageValue) → IsImage a → band a.width 0 a.height (pixel_at a)
+        ≡ a.samples }
     ensures joined { (width start above below : ℕ) (f : ℕ → ℕ → ℤ) →
         band width start (above + below) f
         ≡ band width start above f ++ band width (start + above) below f }
@@ -55,7 +57,8 @@ pub fn places_decide()
 
 /// An image equals the one made from its own samples.
 pub fn made_of_itself()
-    ensures { (a : ImageValue) → IsImage a → image_from a.width a.height a.format a.valid (pixel_at a) ≡ a }
+    ensures { (a : ImageValue) → IsImage a →
+        image_from a.width a.height a.format a.valid (pixel_at a) ≡ a }
 {}
 
 /// A new image is well-formed, and 0 at each pixel.

@@ -102,7 +102,8 @@ pub fn from_two_samples()
         ((y z : ℤ) → IsSample a.format y → IsSample b.format z → IsSample format (f y z)) →
         IsImage (from_two format f a b) }
     ensures rectangle { (format : Format) (f : ℤ → ℤ → ℤ) (a b : ImageValue) (x y : ℕ) →
-        has_pixel (from_two format f a b).valid x y ≡ (has_pixel a.valid x y && has_pixel b.valid x y) }
+        has_pixel (from_two format f a b).valid x y
+        ≡ (has_pixel a.valid x y && has_pixel b.valid x y) }
     ensures valid { (format : Format) (f : ℤ → ℤ → ℤ) (a b : ImageValue) (x y : ℕ) →
         IsImage a → IsImage b →
         has_pixel a.valid x y ≡ true → has_pixel b.valid x y ≡ true →

@@ -1,6 +1,7 @@
 //! Laws of rectangles as sets of pixels.
 ghost use Rattle.std.specs.Prelude.{◌≡◌, ◌≤◌, ◌+◌, ◌↔◌, ℕ, IsTrue, ◌&&◌, nat_le, nat_lt};
-ghost use Rattle.vx_base.specs.Rectangle.{Rectangle, has_pixel, is_rectangle, rectangle_or_empty, whole_rectangle, meet_of};
+ghost use Rattle.vx_base.specs.Rectangle.{Rectangle, has_pixel, is_rectangle, rectangle_or_empty};
+ghost use Rattle.vx_base.specs.Rectangle.{whole_rectangle, meet_of};
 ghost use Rattle.vx_base.specs.Rectangle.{shrink_of};
 
 /// Two rectangles with the same pixels are equal.

@@ -84,7 +84,8 @@ pub fn write_image_reply<K: Sink>(
     requires failures_fit { K.failures sink.old < 2 ^ 62 }
     requires image { IsImage image.now }
     ensures { Sends K.taken K.failures sink.old sink.new
-        (reply_bytes (spelled_frame client op (said_of (PictureReply (picture_of image.now))))) result }
+        (reply_bytes (spelled_frame client op (said_of (PictureReply (picture_of image.now)))))
+        result }
 {
     write_picture_reply(sink, client, op, image.desc(), image.samples())
 }
@@ -101,8 +102,8 @@ pub fn write_image_text_reply<K: Sink>(
     requires image { IsImage image.now }
     requires format { image.now.format ≡ FormatU8 }
     ensures { Sends K.taken K.failures sink.old sink.new
-        (reply_bytes (spelled_frame client op (said_of (TextReply (pgm_text (picture_of image.now))))))
-        result }
+        (reply_bytes (spelled_frame client op
+        (said_of (TextReply (pgm_text (picture_of image.now)))))) result }
 {
     let mut head = [0; TEXT_HEAD];
     let end = put_text_head(&mut head, client, op, image.desc());

@@ -10,7 +10,8 @@ ghost use Rattle.client_model.specs.States.{KeepsLimits};
 ghost use Rattle.vx_requests.specs.declared.stream.fault.StreamFault.{StreamFault};
 ghost use Rattle.vx_requests.specs.declared.serving.summary.Summary.{Summary};
 ghost use Rattle.vx_requests.specs.Frame.Frames.{Frame, IsFrame, frame_bytes, Splits};
-ghost use Rattle.vx_requests.specs.Serving.Clients.{ReceivedFrame, mine, sent_to, kept_replies, alone};
+ghost use Rattle.vx_requests.specs.Serving.Clients.{ReceivedFrame, mine, sent_to, kept_replies};
+ghost use Rattle.vx_requests.specs.Serving.Clients.{alone};
 ghost use Rattle.vx_requests.specs.Serving.Clients.{after, served, frames_of};
 ghost use Rattle.vx_requests.specs.Serving.Answer.{answer};
 ghost use Rattle.vx_requests.specs.Serving.Ends.{ReadsToARest};
@@ -36,14 +37,16 @@ pub fn one_split()
 
 /// The replies to a client's kept frames are those that it would get as the only client.
 pub fn each_alone()
-    ensures { (limits : LimitsValue) (start : ℕ → State) (marked : List ReceivedFrame) (client : ℕ) →
+    ensures { (limits : LimitsValue) (start : ℕ → State) (marked : List ReceivedFrame)
+        (client : ℕ) →
         kept_replies client marked (served (answer limits) start marked)
         ≡ alone (answer limits) (start client) (mine client marked) }
 {}
 
 /// If all frames are of one client and none was lost, the replies are those of that client alone.
 pub fn one_client()
-    ensures { (limits : LimitsValue) (start : ℕ → State) (marked : List ReceivedFrame) (client : ℕ) →
+    ensures { (limits : LimitsValue) (start : ℕ → State) (marked : List ReceivedFrame)
+        (client : ℕ) →
         All (λ m. (m.frame.client ≡ client) × (m.lost ≡ false)) marked →
         served (answer limits) start marked
         ≡ alone (answer limits) (start client) (frames_of marked) }
@@ -91,7 +94,8 @@ pub fn states_keep()
     ensures limits { (limits : LimitsValue) (state : State) (frames : List Frame) →
         All IsFrame frames → IfSome state (KeepsLimits limits) →
         IfSome (after (answer limits) state frames) (KeepsLimits limits) }
-    ensures images { (limits : LimitsValue) (state : State) (frames : List Frame) (cell : Reference) →
+    ensures images { (limits : LimitsValue) (state : State) (frames : List Frame)
+        (cell : Reference) →
         All IsFrame frames → IfSome state (KeepsLimits limits) →
         IfSome (after (answer limits) state frames)
         (λ c. IfOk (image_of c.objects cell) IsImage) }

@@ -3,7 +3,8 @@
 ghost use Rattle.std.specs.Prelude.{◌≡◌, IfOk, IsTrue};
 ghost use Rattle.vx_base.specs.PartialDescription.{may_be_side};
 ghost use Rattle.vx_wire.specs.Fields.{Takes};
-ghost use Rattle.vx_wire.specs.PartialDescription.{take_open_side, take_partial_desc, partial_desc_bytes};
+ghost use Rattle.vx_wire.specs.PartialDescription.{take_open_side, take_partial_desc};
+ghost use Rattle.vx_wire.specs.PartialDescription.{partial_desc_bytes};
 
 use crate::body_fault::BodyFault;
 use crate::fields::Fields;

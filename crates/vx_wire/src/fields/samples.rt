@@ -7,7 +7,8 @@ ghost use Rattle.vx_base.specs.declared.format.Format.TheVariants.{S16 as Format
 ghost use Rattle.vx_base.specs.declared.format.Format.TheVariants.{U32 as FormatU32};
 ghost use Rattle.vx_base.specs.Sample.{sample_bytes};
 ghost use Rattle.vx_base.specs.Picture.{values, samples_format};
-ghost use Rattle.vx_wire.specs.Samples.{decoded_sample, encoded_sample, decoded_samples, take_samples};
+ghost use Rattle.vx_wire.specs.Samples.{decoded_sample, encoded_sample, decoded_samples};
+ghost use Rattle.vx_wire.specs.Samples.{take_samples};
 
 use crate::body_fault::BodyFault;
 use crate::fields::Fields;
@@ -103,7 +104,8 @@ pub fn decode(
     bytes: &[u8],
 ) -> Result<Samples, AllocError>
     requires { length bytes.now ≡ count * sample_bytes format }
-    ensures value { IfOk result (λ samples. values samples ≡ decoded_samples format count bytes.now) }
+    ensures value { IfOk result (λ samples. values samples
+        ≡ decoded_samples format count bytes.now) }
     ensures format { IfOk result (λ samples. samples_format samples ≡ format) }
     ensures size { IfOk result (λ samples. length (values samples) ≡ count) }
 {
