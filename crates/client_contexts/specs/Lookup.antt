@@ -52,6 +52,6 @@ abbrev pub refusal_for : Result ImageValue Refusal → Description → Option Re
 refusal_for (Err refusal) d = Some refusal
 refusal_for (Ok image) d = picture_refusal (description_of image) d
 
--- the reference in a node names an object of the kind that its function has there; a virtual image counts as an image
+-- the operand's reference names an object of the operand's kind; a virtual image counts as an image
 abbrev pub IsFound : List NamedObject → Reference × Kind → Type 0
 IsFound objects operand = (object : ObjectValue) × (object_at objects operand.0 ≡ Some object) × IsTrue (stands_for (object_kind object) operand.1)

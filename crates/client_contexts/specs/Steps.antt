@@ -47,7 +47,7 @@ pub record ComesTo (outcome : Outcome) (old new : Context) (result : Result Repl
   pub refused : IfErr result (λ refusal. outcome ≡ Err refusal)
   pub kept : OnErr result (new ≡ old)
 
--- a fault is that of this outcome, or that there is no memory
+-- the fault is this outcome's refusal, or there is no memory
 abbrev pub SaysWhy : Outcome → RequestFault → Type 0
 SaysWhy outcome (Refused refusal) = outcome ≡ Err refusal
 SaysWhy outcome NoMemory = ⊤
@@ -92,7 +92,7 @@ abbrev pub verify_fault : VerifyFault → RequestFault
 verify_fault verified.NoMemory = NoMemory
 verify_fault (verified.Refused verdict) = Refused (Rejected verdict)
 
--- a property of the verdict, if the fault is the refusal by a verdict; no other refusal is possible
+-- there is no memory, or the fault is the refusal by a verdict that has this property
 abbrev pub IfRejected : RequestFault → (Verdict → Type 0) → Type 0
 IfRejected NoMemory P = ⊤
 IfRejected (Refused (Rejected verdict)) P = P verdict
@@ -122,7 +122,7 @@ slot_refusal wanted scope slot object =
     else (if is_outside scope (in_slot slot object) then Some InvalidScope
     else (if is_none (in_slot slot object) then Some InvalidValue else None))
 
--- the first of two refusals of operands, by class: first those of names, then of kinds, scopes and slots
+-- of two refusals of operands, the one of the earlier class; the classes in order are names, kinds, scopes and slots
 abbrev pub first_class : Option Refusal → Option Refusal → Option Refusal
 first_class None other = other
 first_class one None = one

@@ -96,8 +96,8 @@ impl Client {
         self.table.end(pool);
     }
 
-    /// Answers a request, other than one that opens or releases the context. A verified graph is
-    /// forgotten when its nodes change or its name ends. A graph runs with the lists of `lists`.
+    /// Answers a request other than ReleaseContext. A verified graph is forgotten when its nodes
+    /// change or its name is released. A run reuses the memory of `lists`.
     pub fn answer(
         &mut self,
         lists: &mut Workspace,
@@ -215,7 +215,7 @@ impl Client {
     }
 }
 
-/// Answers a request for which the objects of the client suffice.
+/// Answers a request other than ReleaseContext, VerifyGraph and ProcessGraph.
 fn answer(
     table: &mut Table,
     pool: &mut Pool,

@@ -91,8 +91,8 @@ pub fn remove_node(
 /// Verifies a graph. OpenVX 1.3, "Object: Graph", vxVerifyGraph. The verdict is a refusal if the
 /// graph can't run.
 ///
-/// The data of a verified graph are kept until its nodes change. So long, it isn't verified again,
-/// and the request takes no memory.
+/// The data of a verified graph are kept until its nodes change. Until then it isn't verified
+/// again, and the request takes no memory.
 pub fn verify_graph(
     table: &Table,
     kept: &mut BTreeMap<u32, Kept>,

@@ -122,8 +122,8 @@ pub fn find_image(table: &Table, reference: ObjRef) -> Result<&Stored, Refusal>
     }
 }
 
-/// Returns the operand that a reference in a node names, of the kind that the node's function has
-/// there.
+/// Returns the operand that a reference of a node names. `kind` is the kind that the node's
+/// function takes there.
 fn find_operand(
     table: &Table,
     cell: ObjRef,
@@ -160,7 +160,7 @@ fn find_if_given(
     }
 }
 
-/// Returns the first of two refusals, by class: first those of names, then of kinds, scopes and
+/// Returns the refusal of the earlier class. The classes in order are names, kinds, scopes and
 /// slots.
 fn first_class(one: Refusal, other: Refusal) -> Refusal
     ensures { Some result ≡ first_class (Some one) (Some other) }
@@ -175,7 +175,7 @@ fn first_class(one: Refusal, other: Refusal) -> Refusal
     }
 }
 
-/// Returns both results, or the first refusal by class.
+/// Returns both results, or the refusal of the earlier class.
 fn both<A: Drop, B: Drop>(
     one: Result<A, Refusal>,
     other: Result<B, Refusal>,
@@ -190,7 +190,7 @@ fn both<A: Drop, B: Drop>(
     }
 }
 
-/// Returns a node's operands, each of the kind that the node's function has there. The scope is
+/// Returns a node's operands, each of the kind that the node's function takes there. The scope is
 /// that of the node's graph, if it has one.
 pub fn find_operands(table: &Table, node: &Node, scope: Option<u32>) -> Result<Operands, Refusal>
     ensures ok { IfOk result (λ found. found
@@ -214,7 +214,7 @@ pub fn find_operands(table: &Table, node: &Node, scope: Option<u32>) -> Result<O
 }
 
 /// Checks that a node with these operands can be added to a graph: each of them is found in the
-/// graph's scope. A refusal is the first by class among those of the graph's name and the operands.
+/// graph's scope. Of several refusals, the one of the earliest class is returned.
 pub fn find_graph_for(table: &Table, graph: u32, node: &Node) -> Result<(), Refusal>
     ensures ok { OnOk result (IsTrue (is_some (object_named table.now.objects graph)) ×
         IsUnder table.now.objects kind.Graph graph) }

@@ -28,7 +28,7 @@ pub record IsTheRun (nodes : List Node) (before later : List NamedObject) : Type
   pub in_order : (steps : List Node) → IsOrder feeds nodes steps → one_by_one steps (at_begin nodes before) ≡ at_end
   pub left : later ≡ objects_at_end before at_end
 
--- the context after a run of the graph of this name: the objects after the run, with each registered delay aged; no name is given
+-- the context after a run of the graph with this name: the objects after the run, with each registered delay aged; the next name is unchanged
 pub record IsRunOf (name : ℕ) (c later : Context) : Type 0 where
   pub graph : GraphValue
   pub named : graph_named c.objects name ≡ Ok graph

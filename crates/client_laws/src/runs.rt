@@ -42,9 +42,9 @@ pub fn a_run_is_the_only_solution()
 
 /// What each reference names after a successful ProcessGraph:
 ///
-/// - `written`: the outputs of a node are the results of its function. It applies to the node's
-///   inputs after the run and, where the function adds to an output, to that output before the run.
-///   The law covers nodes that name no virtual image and no delay that ages with the graph.
+/// - `written`: the outputs of a node are the results of its function. The function's arguments are
+///   the node's inputs after the run and, if it adds to an output, that output before the run. The
+///   law covers nodes that name no virtual image and no delay that ages with the graph.
 /// - `others`: an object that no node writes is unchanged. The law covers slots of delays that
 ///   don't age with the graph; a delay as a whole changes when one of its slots is written.
 /// - `virtual_images`: a virtual image is unchanged.

@@ -35,10 +35,10 @@ pub fn limits_are_kept()
         IfSome (state_after limits None requests) (KeepsLimits limits) }
 {}
 
-/// An object keeps its skeleton as long as it is held, whatever requests its client makes, except
-/// ReleaseContext. The skeleton is its kind, sizes, formats, slots and bins, and the whole of a
-/// table, a threshold, a matrix or a virtual image's description. A graph keeps its nodes until one
-/// is added or removed. It follows that:
+/// As long as an object is held, no request of its client except ReleaseContext changes its
+/// skeleton: its kind, sizes, formats, slots and bins. The skeleton of a table, a threshold, a
+/// matrix or a virtual image is the whole object. A graph keeps its nodes until one is added or
+/// removed. It follows that:
 ///
 /// - while an object is held under a name, references to that name denote the same operand
 /// - the verdict on a graph is the same until a node is added to it or removed from it

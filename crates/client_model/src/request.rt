@@ -60,8 +60,8 @@ pub enum Request {
     ProcessGraph(u32),
     /// Runs one node by itself (immediate mode).
     Immediate(NodeSpec),
-    /// Creates a delay with this number of slots. Its images are new, and have the size and format
-    /// of an image.
+    /// Creates a delay with this number of slots. Its images are new, with the size and format of
+    /// the referenced image.
     CreateDelay(ObjRef, SlotCount),
     /// Ages the delay with this name: each image moves to the next slot, the last one to slot 0.
     AgeDelay(u32),

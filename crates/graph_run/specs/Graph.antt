@@ -31,17 +31,17 @@ named_at_start is nodes o =
     let cell : Reference = record { name = o.name; slot = None } in
     if is_written nodes cell then record o { object = object_at_start o.object (is cell) } else o
 
--- virtual images are restored at the end of a run
+-- whether an object is a virtual image, which is restored at the end of a run
 abbrev pub is_virtual_object : ObjectValue → Bool
 is_virtual_object (VirtualObject image) = true
 is_virtual_object other = false
 
--- the objects after a run, with the virtual images of before
+-- the objects after a run, with the virtual images as they were before it
 abbrev pub objects_at_end : List NamedObject → List NamedObject → List NamedObject
 objects_at_end (o ∷ before) (p ∷ after) = (if is_virtual_object o.object then o else p) ∷ objects_at_end before after
 objects_at_end before after = after
 
--- a run of a graph, whose references have these resolved operands: as many rounds as there are nodes
+-- the objects after a run of a graph whose references resolve to these operands: as many rounds as there are nodes
 abbrev pub run_of_graph : (Reference → Operand) → List Node → List NamedObject → List NamedObject
 run_of_graph is nodes objects = objects_at_end objects (rounds_of_nodes nodes (length nodes) (map (named_at_start is nodes) objects))
 

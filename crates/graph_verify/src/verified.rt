@@ -99,7 +99,8 @@ fn nodes_of(alloc: Global, linked: &[Linked]) -> Result<Vec<Node>, AllocError>
     Ok(nodes)
 }
 
-/// Verifies a graph without two writers of an object, whose nodes are also given in an order.
+/// Verifies a graph in which no object has two writers. `steps` has the same nodes, each after all
+/// that feed it.
 fn verify_ordered(
     alloc: Global,
     nodes: &[Linked],

@@ -35,7 +35,7 @@ pub trait Sample: Number {
         requires { slice_format samples ≡ format }
         ensures { map Self.value result.now ≡ slice_values samples.entry };
 
-    /// Returns `count` samples that are 0, at most as many as the widest image has columns.
+    /// Returns `count` samples that are 0; `count` is at most the greatest width of an image.
     fn zeros<'a>(count: usize) -> &'a [Self]
         requires { count ≤ GREATEST_SIDE }
         ensures { map Self.value result.now ≡ replicate count (pos 0) };

@@ -129,8 +129,8 @@ fn windows(rows: &[[u8; LONGEST]; 9], count: usize) -> Nine<'_>
     }
 }
 
-/// Returns whether the first `count` numbers are the function of nine rows, and the others still
-/// 77.
+/// Returns whether the first `count` numbers are the function of nine rows, and the others are
+/// still 77.
 fn are_of_nine<T: Copy + Into<i32>>(
     function: Function,
     rows: &[[u8; LONGEST]; 9],
@@ -250,7 +250,7 @@ fn write_to_s16(function: Function, image: &Image<'_>, output: &mut ImageMut<'_>
     }
 }
 
-/// Returns the samples of the case's image; smaller images use the first of them.
+/// Returns the samples of the largest image; a smaller image uses the front of them.
 fn samples() -> [u8; SAMPLES] {
     let mut samples = [0; SAMPLES];
     for (i, sample) in samples.iter_mut().enumerate() {

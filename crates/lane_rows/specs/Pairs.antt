@@ -2,8 +2,8 @@
 use Rattle.std.specs.Prelude.{ℕ, zero, suc, ℤ, pos, ◌≡◌, ◌+◌, ◌*◌, ◌≤◌, ◌<◌, ◌+ℤ◌, ◌*ℤ◌, List, [], ◌∷◌, slice_index_or, unsigned_abs}
 use Rattle.std.specs.Simd.Lanes.{chunk}
 
--- at most the limit from 0. A U8 sample times an S16 coefficient is at most 255 * 32768 = 8355840 from 0, a pair of them 16711680, and 45
--- such pairs 752025600, below 2^31. The nine rows of a matrix have no more pairs
+-- the absolute value is at most the limit: 8355840 (255 * 32768) for a U8 sample times an S16 coefficient, twice that for a pair of
+-- products, and 752025600, below 2^31, for the sum of 45 pairs. The nine rows of a matrix have at most 45 pairs
 abbrev pub IsNear : ℕ → ℤ → Type 0
 IsNear limit z = unsigned_abs z ≤ limit
 

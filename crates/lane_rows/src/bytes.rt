@@ -9,7 +9,7 @@ ghost use Rattle.vx_base.specs.Pixelwise.{smaller, greater, not_bits};
 use std::simd::prelude::*;
 use vx_base::Policy;
 
-/// Returns the products over 2^amount, rounded down.
+/// Returns the products divided by 2^amount, rounded down.
 pub fn byte_products(a: u8x32, b: u8x32, amount: u8) -> u16x32
     requires { amount ≤ 15 }
     ensures { result ≡ zip2 (λ x y. x * y / 2 ^ amount) a b }

@@ -17,7 +17,7 @@ pub fn shifted_up(row: u8x32, amount: u8) -> i16x32
     row.cast::<i16>() << i16::from(amount)
 }
 
-/// Returns the numbers over 2^amount, rounded down and narrowed by the policy.
+/// Returns the numbers divided by 2^amount, rounded down and narrowed by the policy.
 pub fn shifted_down(row: i16x32, amount: u8, policy: Policy) -> u8x32
     requires amount { amount ≤ 7 }
     requires len { length row ≡ 32 }

@@ -79,7 +79,7 @@ pub fn shift_up(row: &[u8], amount: u8, out: &mut [i16])
     map_row(&ShiftedUp { amount }, row, out);
 }
 
-/// Writes the items over 2^amount, rounded down and narrowed by the policy.
+/// Writes the items divided by 2^amount, rounded down and narrowed by the policy.
 pub fn narrow(row: &[i16], amount: u8, policy: Policy, out: &mut [u8])
     requires len { length row.now ≡ length out.old }
     requires amount { amount ≤ 7 }

@@ -102,8 +102,8 @@ impl MatrixRows<'_> {
         }
     }
 
-    /// Writes the sums over 2^exponent, rounded toward zero and clamped. The rows are 48 items
-    /// longer than `out`, since a block reads beyond the items that it writes.
+    /// Writes the sums divided by 2^exponent, rounded toward zero and clamped. The rows are 48
+    /// items longer than `out`, since a block reads beyond the items that it writes.
     pub fn write<T: Clamped>(&self, out: &mut [T])
         requires { length out.old + 48 ≤ self.now.line }
         ensures { map T.value out.new ≡ run 0 (length out.old) (λ i.

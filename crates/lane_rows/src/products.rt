@@ -54,7 +54,8 @@ impl<P: Overflow> Arithmetic for Product<P> {
     }
 }
 
-/// Writes the products of the items over 2^amount, rounded toward zero and narrowed by the policy.
+/// Writes the products of the items divided by 2^amount, rounded toward zero and narrowed by the
+/// policy.
 pub fn mul_u8(first: &[u8], second: &[u8], amount: u8, policy: Policy, out: &mut [u8])
     requires first_len { length first.now ≡ length out.old }
     requires second_len { length second.now ≡ length out.old }
@@ -67,7 +68,7 @@ pub fn mul_u8(first: &[u8], second: &[u8], amount: u8, policy: Policy, out: &mut
     })
 }
 
-/// Writes the products of the items, each U8 or S16, over 2^amount, rounded toward zero and
+/// Writes the products of the items, each U8 or S16, divided by 2^amount, rounded toward zero and
 /// narrowed by the policy.
 pub fn mul_s16<A: Short, B: Short>(
     first: &[A],

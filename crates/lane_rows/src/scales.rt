@@ -15,8 +15,8 @@ use crate::shorts::clamped;
 use std::simd::prelude::*;
 use vx_base::{Policy, narrow_s16, narrow_u8};
 
-/// Returns the number over 2^exponent, rounded toward zero. A shift rounds down, so 2^exponent - 1
-/// is added to a negative number first.
+/// Returns the number divided by 2^exponent, rounded toward zero. A shift rounds down, so
+/// 2^exponent - 1 is added to a negative number first.
 pub fn scaled(number: i32, exponent: u8) -> i32
     requires { exponent ≤ 31 }
     ensures { result ≡ int_div number (pos (2 ^ exponent)) }
@@ -29,7 +29,7 @@ pub fn scaled(number: i32, exponent: u8) -> i32
     }
 }
 
-/// Returns the numbers over 2^exponent, rounded toward zero.
+/// Returns the numbers divided by 2^exponent, rounded toward zero.
 pub fn scaled_lanes(numbers: i32x16, exponent: u8) -> i32x16
     requires exponent { exponent ≤ 31 }
     requires len { length numbers ≡ 16 }
@@ -100,7 +100,7 @@ impl Clamped for i16 {
     }
 }
 
-/// A number over 2^exponent, rounded toward zero and clamped.
+/// A number divided by 2^exponent, rounded toward zero and clamped.
 #[derive(Drop)]
 pub struct Scale {
     pub exponent: u8,
@@ -136,7 +136,7 @@ impl<T: Clamped> LanesOfItem<i32, T> for Scale {
     }
 }
 
-/// Writes the numbers over 2^exponent, rounded toward zero and clamped to U8.
+/// Writes the numbers divided by 2^exponent, rounded toward zero and clamped to U8.
 pub fn scale_u8(acc: &[i32], exponent: u8, out: &mut [u8])
     requires len { length acc.now ≡ length out.old }
     requires exponent { exponent ≤ 31 }
@@ -145,7 +145,7 @@ pub fn scale_u8(acc: &[i32], exponent: u8, out: &mut [u8])
     map_row(&Scale { exponent }, acc, out);
 }
 
-/// Writes the numbers over 2^exponent, rounded toward zero and clamped to S16.
+/// Writes the numbers divided by 2^exponent, rounded toward zero and clamped to S16.
 pub fn scale_s16(acc: &[i32], exponent: u8, out: &mut [i16])
     requires len { length acc.now ≡ length out.old }
     requires exponent { exponent ≤ 31 }

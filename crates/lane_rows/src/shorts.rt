@@ -142,7 +142,7 @@ fn quarters_exchanged(numbers: i16x16) -> i16x16
     i16x16::from_le_bytes(quarters.swizzle([0, 2, 1, 3]).to_le_bytes())
 }
 
-/// Returns the products over 2^amount, rounded toward zero and narrowed by the policy.
+/// Returns the products divided by 2^amount, rounded toward zero and narrowed by the policy.
 pub fn multiplied(a: i16x16, b: i16x16, amount: u8, policy: Policy) -> i16x16
     requires amount { amount ≤ 15 }
     requires a_len { length a ≡ 16 }
@@ -154,7 +154,7 @@ pub fn multiplied(a: i16x16, b: i16x16, amount: u8, policy: Policy) -> i16x16
     quarters_exchanged(narrowed(scaled_lanes(products(a, b), amount), policy))
 }
 
-/// Returns the squares of bytes over 2^amount, rounded down.
+/// Returns the squares of bytes divided by 2^amount, rounded down.
 pub fn scaled_squares(row: u8x16, amount: u8) -> u16x16
     requires { amount ≤ 15 }
     ensures { map pos result ≡ map (λ a. int_div_euclid (a *ℤ a) (pos (2 ^ amount))) (map pos row) }

@@ -27,6 +27,6 @@ is_held objects o = o.live || is_used objects o.name
 abbrev pub still_held : List NamedObject → List NamedObject
 still_held objects = filter (is_held objects) objects
 
--- the objects after a name is no longer live
+-- the objects once this name is no longer live
 abbrev pub without_name : List NamedObject → ℕ → List NamedObject
 without_name objects name = map {A = NamedObject} {B = NamedObject} (λ o. if o.name == name then record o { live = false } else o) objects

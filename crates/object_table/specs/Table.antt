@@ -66,7 +66,7 @@ used_more names entries = map {A = ℕ × Entry} {B = ℕ × Entry} (λ e. let n
 abbrev pub used_less : List ℕ → List (ℕ × Entry) → List (ℕ × Entry)
 used_less names entries = map {A = ℕ × Entry} {B = ℕ × Entry} (λ e. let n : Entry = e.1 in (e.0, record n { uses = n.uses - name_count e.0 names })) entries
 
--- the entries after a name is no longer live
+-- the entries once this name is no longer live
 abbrev pub entries_without_name : ℕ → List (ℕ × Entry) → List (ℕ × Entry)
 entries_without_name name entries = map {A = ℕ × Entry} {B = ℕ × Entry} (λ e. let n : Entry = e.1 in if e.0 == name then (e.0, record n { live = false }) else e) entries
 

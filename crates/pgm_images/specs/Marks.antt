@@ -39,7 +39,7 @@ abbrev pub digits_after : ℕ → List ℕ → ℕ × List ℕ
 digits_after n [] = (n, [])
 digits_after n (b ∷ text) = if is_ascii_digit b then digits_after (n * 10 + (b - 48)) text else (n, b ∷ text)
 
--- a number: one digit or more, up to the end or to a byte that isn't a digit
+-- a number: one or more digits, up to the end or to a byte that isn't a digit
 abbrev pub take_number : List ℕ → BeginsWith ℕ
 take_number [] = None
 take_number (b ∷ text) = if is_ascii_digit b then Some (digits_after 0 (b ∷ text)) else None

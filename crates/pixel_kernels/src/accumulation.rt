@@ -14,7 +14,7 @@ use image_core::{Image, ImageMut, RowUpdate};
 use lane_rows::{Accumulated, OfSum, Squared, update_row};
 use vx_base::Rect;
 
-/// The update of sums by a lane kernel from an image of their size, in an area where the image is
+/// A lane kernel's update of sums with an image of the same size, in an area where the image is
 /// valid.
 #[derive(Drop)]
 struct Added<'a, 'b, K> {
@@ -40,8 +40,8 @@ impl<K: OfSum<u8, i16>> RowUpdate<i16> for Added<'_, '_, K> {
     }
 }
 
-/// Updates sums by a lane kernel from an image of their size, where both are valid; the other sums
-/// become 0.
+/// Updates sums with an image of the same size, where both are valid: `kernel` computes each new
+/// sum. The other sums become 0.
 fn add_to_sums<K: OfSum<u8, i16>>(kernel: &K, image: &Image<'_>, sums: &mut ImageMut<'_>)
     requires target { IsTarget sums.old }
     requires size { HaveSameSize (target_image sums.old) image.now }

@@ -11,7 +11,8 @@ use image_core::{Image, ImageMut};
 use lane_rows::{Narrowed, Saturated, ShiftedUp, Wrapped};
 use vx_base::{Format, Policy};
 
-/// Writes the samples of an S16 image over 2^amount, rounded down and narrowed to U8 by the policy.
+/// Writes the samples of an S16 image divided by 2^amount, rounded down and narrowed to U8 by the
+/// policy.
 fn narrow_depth(image: &Image<'_>, output: &mut ImageMut<'_>, policy: Policy, amount: u8)
     requires target { IsTarget output.old }
     requires size { HaveSameSize (target_image output.old) image.now }
@@ -33,8 +34,8 @@ fn narrow_depth(image: &Image<'_>, output: &mut ImageMut<'_>, policy: Policy, am
     }
 }
 
-/// Writes the samples in another format (OpenVX 1.3, "Convert Bit Depth"): U8 to S16 times
-/// 2^amount; S16 to U8 over 2^amount, rounded down and narrowed by the policy.
+/// Writes the samples in another format (OpenVX 1.3, "Convert Bit Depth"): U8 to S16, multiplied by
+/// 2^amount; S16 to U8, divided by 2^amount, rounded down and narrowed by the policy.
 pub fn convert_depth(image: &Image<'_>, output: &mut ImageMut<'_>, policy: Policy, amount: u8)
     requires fits { Fits ConvertDepth image.now None output.old }
     requires amount { amount ≤ 7 }

@@ -11,8 +11,8 @@ use image_core::{Image, ImageMut};
 use lane_rows::{Product, Saturated, Wrapped};
 use vx_base::Policy;
 
-/// Writes the products of the samples over 2^amount, rounded to zero and narrowed by the policy
-/// (OpenVX 1.3, "Pixel-wise Multiplication"): U8 and U8 to U8, or U8 or S16 inputs to S16.
+/// Writes the products of the samples divided by 2^amount, rounded toward zero and narrowed by the
+/// policy (OpenVX 1.3, "Pixel-wise Multiplication"): U8 and U8 to U8, or U8 or S16 inputs to S16.
 pub fn multiply(
     first: &Image<'_>,
     second: &Image<'_>,

@@ -14,11 +14,11 @@ HasFree free class = 0 < slice_index free class
 abbrev pub HasCapacity : List ℕ → ℕ → Type 0
 HasCapacity free count = (class : ℕ) × HasFree free class × (count ≤ class_capacity class)
 
--- one free block of the class less
+-- one fewer free block of the class
 abbrev pub without_one : List ℕ → ℕ → List ℕ
 without_one free class = slice_set free class (slice_index free class - 1)
 
--- one free block of the class more
+-- one more free block of the class
 abbrev pub with_one : List ℕ → ℕ → List ℕ
 with_one free class = slice_set free class (slice_index free class + 1)
 

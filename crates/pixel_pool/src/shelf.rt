@@ -235,8 +235,8 @@ fn new_samples<T: Copy + Drop>(alloc: Global, zero: T, count: usize) -> Result<V
     Ok(samples)
 }
 
-/// The same memory with `count` samples, which fit. Memory that is far too large is shrunk, so that
-/// few samples don't keep much of it; if the system refuses, it stays as it is.
+/// The same memory with `count` samples, which fit. Memory that is far too large is shrunk to the
+/// capacity of their class; if the system refuses, it stays as it is.
 fn resized<T: Copy + Drop>(mut samples: Vec<T>, zero: T, count: usize) -> Vec<T>
     requires { count ≤ vec_capacity samples }
     ensures count { length result.items ≡ count }

@@ -26,7 +26,7 @@ fn write(alloc: Global, request: &Request, good_writes: u64) -> (Result<(), Stre
     (result, sink.bytes)
 }
 
-/// Returns the request of a number, which has its frame in the test.
+/// Returns the request with this number, which is the index of its bytes in `FRAMES`.
 fn request(alloc: Global, number: u8) -> Option<Request> {
     match number {
         0 => Some(Request::OpenContext),
@@ -64,7 +64,7 @@ fn request(alloc: Global, number: u8) -> Option<Request> {
     }
 }
 
-/// Returns the request of a number, of those on graphs.
+/// Returns the request with this number, if it is one of those on graphs.
 fn request_on_graphs(number: u8) -> Option<Request> {
     match number {
         19 => Some(Request::CreateGraph),
@@ -153,8 +153,8 @@ fn written_as_bytes(rt: HostRuntime) {
     }
 }
 
-/// Writes a request, which has to end in these bytes, and returns the request that they are parsed
-/// as.
+/// Writes a request, and returns the request that is parsed from its bytes; `None` if the bytes
+/// don't end in `end`.
 fn there_and_back(alloc: Global, request: &Request, end: &[u8]) -> Option<Request> {
     let (result, taken) = write(alloc, request, NEVER);
     if result.is_err() || !taken.as_slice().ends_with(end) {
@@ -166,8 +166,8 @@ fn there_and_back(alloc: Global, request: &Request, end: &[u8]) -> Option<Reques
     }
 }
 
-/// Writes a picture of one column, which has to end in these bytes, and returns the samples that
-/// are parsed.
+/// Writes a picture of one column, and returns the samples that are parsed from its bytes; `None`
+/// if the bytes don't end in `end`.
 fn picture_and_back(alloc: Global, samples: Samples, end: &[u8]) -> Option<Samples> {
     let desc = Desc::new(1, 3, samples.format())?;
     if samples.len() != desc.sample_count() {
@@ -181,7 +181,7 @@ fn picture_and_back(alloc: Global, samples: Samples, end: &[u8]) -> Option<Sampl
     }
 }
 
-/// Writes a table, and returns the entries that are parsed.
+/// Writes a table, and returns the entries that are parsed from its bytes.
 fn table_and_back(alloc: Global, entries: Samples) -> Option<Samples> {
     let request = Request::CreateLut(Lut::new(entries)?);
     match there_and_back(alloc, &request, b"") {

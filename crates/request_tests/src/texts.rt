@@ -92,8 +92,8 @@ fn texts_in_pieces(rt: HostRuntime) -> Result<(), Fail> {
     Ok(())
 }
 
-/// Returns whether the image still has the first text after each of 23 parts of the frame that
-/// writes the next.
+/// Cuts the frame that writes the next text short at 23 lengths. Returns whether the image still
+/// has the first text each time.
 fn stays_after_parts(
     alloc: Global,
     runtime: &mut Runtime,
@@ -146,7 +146,7 @@ fn is_refused(
     Ok(is_refused && holds(alloc, runtime, first)?)
 }
 
-/// A fault of the text comes before a mismatch with the image, and the image doesn't change.
+/// A fault of the text is reported before a mismatch with the image, and the image doesn't change.
 #[test]
 fn texts_refused(rt: HostRuntime) -> Result<(), Fail> {
     let alloc = rt.alloc();

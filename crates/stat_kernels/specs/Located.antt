@@ -59,13 +59,13 @@ extremes_of f =
       max_at = f.greatest.at;
     }
 
--- the extreme with its pixel moved down rows lower
+-- the extreme with its pixel `down` rows lower
 abbrev pub shift_down : ℕ → Located → Located
 shift_down down l = record l { at = (l.at.0, l.at.1 + down) }
 
 abbrev pub shift_found : ℕ → Found → Found
 shift_found down f = record { least = shift_down down f.least; greatest = shift_down down f.greatest }
 
--- merges the extremes e of the rows above a band with those of the band, which is `down` rows lower in the whole image
+-- merges the extremes of a band, which begins `down` rows lower, with those of the rows above it
 abbrev pub added_extremes : ℕ → Extremes → Extremes → Extremes
 added_extremes down e band = extremes_of (merge_found (found_of e) (shift_found down (found_of band)))

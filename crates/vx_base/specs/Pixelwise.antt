@@ -39,7 +39,7 @@ sum format policy a b = narrow format policy (a +ℤ b)
 abbrev pub difference : Format → Policy → ℤ → ℤ → ℤ
 difference format policy a b = narrow format policy (a -ℤ b)
 
--- "Pixel-wise Multiplication": the product over 2^n, rounded to zero and narrowed to the output's format
+-- "Pixel-wise Multiplication": the product over 2^n, rounded toward zero and narrowed to the output's format
 abbrev pub product : Format → Policy → ℕ → ℤ → ℤ → ℤ
 product format policy n a b = narrow format policy (int_div (a *ℤ b) (pos (2 ^ n)))
 

@@ -1,6 +1,6 @@
 //! Overflow policies.
 
-/// The replacement of a number outside a format's range by a sample (OpenVX 1.3,
+/// How a number outside a format's range is converted to a sample (OpenVX 1.3,
 /// `vx_convert_policy_e`).
 #[derive(Clone, Copy, PartialEq, Eq, Debug)]
 pub enum Policy {

@@ -31,8 +31,8 @@ const MOST_READS: u64 = 1_099_511_627_776;
 ///
 /// Samples are not copied on the way. Those of a WriteImage with a longer body are read straight
 /// into the image's new samples, and those of a WriteImagePgm are parsed there from the frame; a
-/// request that is refused writes none. ReadImage and ReadImagePgm write the samples of the image
-/// itself.
+/// request that is refused writes none. ReadImage and ReadImagePgm write the samples straight from
+/// the image.
 ///
 /// Ok: the stream ended between two frames. Faults:
 ///
@@ -43,7 +43,7 @@ const MOST_READS: u64 = 1_099_511_627_776;
 /// - `WriteFailed`: a write or a flush failed
 /// - `ReaderWouldNotEnd`: 2^40 reads were made
 ///
-/// However it ends, the runtime is in the state that the frames read whole have left.
+/// However it ends, the runtime is in the state after the frames that were read whole.
 pub fn serve<S: Source, K: Sink>(
     alloc: Global,
     source: &mut S,

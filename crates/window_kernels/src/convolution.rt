@@ -102,8 +102,8 @@ fn has_constant(border: Border)
     if let Border::Constant(_value) = border {}
 }
 
-/// The number of items of each row that are loaded beyond the columns of a piece: the windows of a
-/// whole block of lanes at the last column read that far.
+/// The number of items of each row that are loaded beyond the columns of a piece. A block of lanes
+/// may begin at the last column, and its windows read that far.
 const AROUND: usize = 48;
 
 /// A U8 image convolved with a matrix under a border.
@@ -125,7 +125,7 @@ struct FromMatrix<'a, 'b> {
 }
 
 impl FromMatrix<'_, '_> {
-    /// Loads what the windows read in a row, from the window of column `x` on.
+    /// Loads the samples of a row that the windows read, from the window of column `x` on.
     fn load_line(&self, x: u16, row: i32, line: &mut [i16])
         requires columns { self.now.image.now.valid.x0 < self.now.image.now.valid.x1 }
         requires rows { self.now.image.now.valid.y0 < self.now.image.now.valid.y1 }
@@ -199,8 +199,8 @@ impl<T: Convolved> RowFormula<T, i16> for FromMatrix<'_, '_> {
     }
 }
 
-/// Writes the convolution of a U8 image to another one of its size. `scratch` is for the rows that
-/// the windows of a piece read.
+/// Writes the convolution of a U8 image to a U8 or S16 image of its size. `scratch` holds the rows
+/// that the windows of a piece read.
 fn write_convolved<T: Convolved>(
     image: &Image<'_>,
     convolution: &Convolution,
@@ -232,8 +232,8 @@ fn write_convolved<T: Convolved>(
 }
 
 /// `with_rows!(width, rows => call)` makes the call with `rows`, scratch memory on the stack: nine
-/// rows of a piece, halo included, for an image of this width. It is cleared once; a small image
-/// gets a small one.
+/// rows of a piece, halo included, for an image of this width. The memory is zeroed once; a narrow
+/// image gets less of it.
 macro_rules! with_rows {
     ($width:expr, $rows:ident => $call:expr) => {
         if $width <= 64 {
@@ -271,7 +271,7 @@ fn convolve_with(
 
 /// Writes the convolution of a U8 image with a matrix to a U8 or S16 image of its size (OpenVX 1.3,
 /// "Custom Convolution"). The matrix is turned by 180 degrees. Each sum is divided by the matrix's
-/// power of two, rounded to zero and clamped.
+/// power of two, rounded toward zero and clamped.
 pub fn convolve(
     image: &Image<'_>,
     convolution: &Convolution,

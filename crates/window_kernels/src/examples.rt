@@ -78,8 +78,8 @@ pub fn turned_matrix()
     ensures { from_matrix U8 upper_left Undefined three_by_three ≡ at_centre U8 (pos 9) }
 {}
 
-/// A matrix with -3 at its centre on an image of one sample, 1: -3 over 2 is rounded to zero and
-/// clamped to each format, and -3 over 2^31 is 0.
+/// A matrix with -3 at its centre on an image of one sample, 1: -3 / 2 is rounded toward zero and
+/// clamped to each format, and -3 / 2^31 is 0.
 pub fn scaled_sums()
     ensures to_zero { (from_matrix S16 (minus_three 1) Replicate single).samples ≡ negsuc 0 ∷ [] }
     ensures clamped { (from_matrix U8 (minus_three 1) Replicate single).samples ≡ pos 0 ∷ [] }

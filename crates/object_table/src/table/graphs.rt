@@ -44,7 +44,7 @@ impl Table {
     }
 
     /// Adds a node to the unreleased graph of this name, and returns the node's number. The node's
-    /// operands are held, and stay held as long as the node exists. A fault has changed nothing.
+    /// operands are held, and stay held as long as the node exists. A fault changes nothing.
     /// `NoResources`: the graph can't take another node. `NoMemory`: the allocation failed.
     pub fn add_node(&mut self, graph: u32, node: NodeSpec) -> Result<u32, GraphFault>
         requires graph { IsUnder self.old.objects kind.Graph graph }

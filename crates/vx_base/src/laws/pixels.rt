@@ -39,8 +39,8 @@ pub fn bits_are_samples()
     ensures xor { (a b : ℤ) → IsSample U8 a → IsSample U8 b → IsSample U8 (xor_bits a b) }
 {}
 
-/// A product's quotient by 2^n is rounded to zero: the next number away from zero, times 2^n, lies
-/// beyond the product.
+/// A product's quotient by 2^n is rounded toward zero: the next number away from zero, times 2^n,
+/// lies beyond the product.
 pub fn products_round_to_zero()
     ensures not_beyond { (z : ℤ) (n : ℕ) →
         unsigned_abs (int_div z (pos (2 ^ n))) * 2 ^ n ≤ unsigned_abs z }

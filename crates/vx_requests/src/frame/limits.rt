@@ -4,11 +4,11 @@ ghost use Rattle.vx_requests.specs.Frame.Frames.{fits_a_frame};
 
 use client_model::Request;
 
-/// The most bytes after a frame's length: 2^29.
+/// The greatest length of a frame, which counts the bytes after the length field: 2^29.
 pub const GREATEST_LENGTH: u32 = 536_870_912;
 
 /// The most bytes of a text in a frame: the client, the op and the reference before it take 8 of
-/// those after the length.
+/// the bytes that the length counts.
 pub const GREATEST_TEXT: usize = GREATEST_LENGTH as usize - 8;
 
 /// Returns whether a request fits a frame. Only a text of more than 536,870,904 bytes does not.

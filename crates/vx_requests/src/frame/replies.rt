@@ -33,9 +33,9 @@ const TEXT_HEAD: usize = 25;
 
 /// Writes the frame of a reply, and flushes the sink.
 ///
-/// `client` and `op` are those of the request. One write passes everything but the samples of a
-/// picture, a text and counts. `WriteFailed`, the only fault: a write or the flush failed; part of
-/// the frame may have been written, or all of it.
+/// `client` and `op` are those of the request. One write passes everything except the samples of a
+/// picture, the bytes of a text and the counts. The only fault is `WriteFailed`: a write or the
+/// flush failed, and part or all of the frame may have been written.
 pub fn write_reply<K: Sink>(
     sink: &mut K,
     client: u16,
@@ -73,8 +73,8 @@ pub fn code_of(reply: &Reply) -> u8
     }
 }
 
-/// Writes the frame of the reply to ReadImage, and flushes the sink, as `write_reply` does. It
-/// writes the samples of the image itself, and allocates nothing.
+/// Writes the frame of the reply to ReadImage, and flushes the sink, as `write_reply` does. The
+/// samples are written straight from the image. Allocates nothing.
 pub fn write_image_reply<K: Sink>(
     sink: &mut K,
     client: u16,
@@ -91,7 +91,7 @@ pub fn write_image_reply<K: Sink>(
 }
 
 /// Writes the frame of the reply to ReadImagePgm for a U8 image, and flushes the sink, as
-/// `write_reply` does. It writes the samples of the image itself, and allocates nothing.
+/// `write_reply` does. The samples are written straight from the image. Allocates nothing.
 pub fn write_image_text_reply<K: Sink>(
     sink: &mut K,
     client: u16,

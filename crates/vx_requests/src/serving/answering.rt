@@ -182,8 +182,8 @@ fn answer_frame(alloc: Global, runtime: &mut Runtime, frame: &RequestFrame) -> C
 {
     let content = content_for(alloc, runtime, frame);
     if let Content::Made(Reply::Refused(Code::NoMemory)) = content {
-        // Parsing may have failed for want of memory. Dropping the free blocks gives a retry of the
-        // client more.
+        // Parsing may have failed for want of memory. Dropping the free blocks leaves more for a
+        // retry by the client.
         runtime.drop_free();
     }
     content
