@@ -42,7 +42,8 @@ fn add_cell(cells: &mut Vec<ObjRef>, node: &Node) -> Result<(), AllocError>
     }
 }
 
-/// Makes the list one of empty tallies, for each node that writes a histogram or extremes.
+/// Replaces the list's tallies by empty ones, one for each node that writes a histogram or
+/// extremes.
 pub fn begin_tallies(
     tallies: &mut Vec<Tally>,
     table: &Table,
