@@ -46,7 +46,7 @@ impl Plan {
         })
     }
 
-    /// The slots of the images of a format.
+    /// Returns the images of a format with their slots.
     fn places(&self, format: Format) -> &Places
         ensures { result.now ≡ places_in self.now format }
     {
@@ -57,8 +57,8 @@ impl Plan {
         }
     }
 
-    /// Returns the slot of a virtual image, among those of its format, or `None` if no node of the
-    /// graph writes this operand or it isn't virtual.
+    /// Returns the slot of a virtual image among those of its format. `None`: the operand isn't
+    /// virtual, or no node of the graph writes it.
     pub fn slot_of(&self, cell: ObjRef) -> Option<usize>
         ensures { result ≡ (plan_view self.now).slot_of cell }
     {

@@ -42,7 +42,8 @@ impl Places {
     }
 }
 
-/// The first slot that is free at step `first`, by the last step at which each slot is in use.
+/// Returns the first slot that is free at step `first`. `ends` has the last step at which each slot
+/// is in use.
 fn free_slot(ends: &[usize], first: usize) -> Option<usize>
     ensures { result ≡ position (λ end. nat_lt end first) ends.now }
 {
@@ -61,7 +62,7 @@ fn take_slot(ends: &mut Vec<usize>, life: &Life) -> Result<usize, AllocError>
     Ok(ends.len() - 1)
 }
 
-/// The greatest sample count of the images of each slot.
+/// Returns for each slot the greatest sample count of its images.
 fn greatest_samples(
     alloc: Global,
     placed: &[Placed],
@@ -83,8 +84,8 @@ fn greatest_samples(
     Ok(samples)
 }
 
-/// The peak step after one more image: the step that writes the image if its slot is new, else as
-/// before.
+/// Returns the peak step after one more image: the image's first step if its slot is new, else the
+/// old peak step.
 fn peak_after(before: Option<usize>, life: &Life, is_new: bool) -> Option<usize>
     ensures { result ≡ (if is_new then Some life.now.first else before) }
 {

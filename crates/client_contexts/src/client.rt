@@ -49,7 +49,7 @@ use std::marker::Model;
 use vx_base::{Desc, ObjRef};
 
 /// The objects of a client, and its verified graphs. A verified graph is kept until its nodes
-/// change or its name ends.
+/// change or its name is released.
 #[derive(Drop)]
 pub struct Client {
     table: Table,
@@ -78,8 +78,8 @@ impl Client {
         }
     }
 
-    /// Returns what is kept of the graph of a name, if anything: its verification, the slots of its
-    /// virtual images and the schedule of its runs, all for the nodes that the graph has now.
+    /// Returns what is kept for a verified graph, if anything: its verification, the slots of its
+    /// virtual images and the schedule of its runs. All are for the graph's current nodes.
     pub fn kept(&self, graph: u32) -> Option<&Kept>
         ensures holds { IfSome result (λ kept. IsKept self.now.context graph kept.now) }
         ensures work { option_map (λ kept. kept.now.work) result

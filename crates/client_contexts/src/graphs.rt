@@ -88,11 +88,11 @@ pub fn remove_node(
     }
 }
 
-/// Verifies a graph. OpenVX 1.3, "Object: Graph", vxVerifyGraph. The verdict is a refusal if the
-/// graph can't run.
+/// Verifies a graph. OpenVX 1.3, "Object: Graph", vxVerifyGraph. A graph that can't run is refused
+/// with its verdict.
 ///
-/// The data of a verified graph are kept until its nodes change. Until then it isn't verified
-/// again, and the request takes no memory.
+/// The result is kept until the graph's nodes change. Until then the same request with the same
+/// quota of work bytes verifies nothing and allocates nothing.
 pub fn verify_graph(
     table: &Table,
     kept: &mut BTreeMap<u32, Kept>,
@@ -132,7 +132,7 @@ pub fn verify_graph(
     }
 }
 
-/// Returns whether a graph is kept that was verified with this quota of work bytes.
+/// Returns whether a graph is in `kept`, verified with this quota of work bytes.
 fn is_kept(kept: &BTreeMap<u32, Kept>, graph: u32, work: u64) -> bool
     ensures kept { result ≡ true → kept_within graph kept.now.entries ≡ Some work }
     ensures other { result ≡ false → kept_within graph kept.now.entries ≢ Some work }

@@ -1,7 +1,7 @@
-//! The fault of a request that finds no memory.
+//! The fault of a request whose memory allocation fails.
 use std::alloc::{AllocError, AllocFailed};
 
-/// There is no memory. Nothing is changed.
+/// A memory allocation failed. Nothing is changed.
 #[derive(Clone, Copy, Debug, PartialEq, Eq)]
 pub struct NoMemory;
 

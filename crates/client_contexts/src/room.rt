@@ -1,4 +1,4 @@
-//! Limits on new objects of a client, and their insertion.
+//! Checks the limits for a client's new objects, and inserts the objects.
 ghost use Rattle.std.specs.Prelude.{◌≡◌, ◌*◌, ◌+◌, ◌≤◌, if◌then◌else◌, IsTrue, [], Ok, Err};
 ghost use Rattle.vx_base.specs.Object.{IsObject, object_bytes};
 ghost use Rattle.vx_base.specs.declared.format.Format.{Format};
@@ -18,9 +18,9 @@ use client_model::{Limits, Refusal, Reply};
 use object_table::{InsertFault, Object, Table};
 use pixel_pool::Pool;
 
-/// Checks that a client can hold one more object that is charged `bytes`, at most those of 16 of
-/// the largest images. It is `NoResources` if no name is left, 1,024 objects are held, or the quota
-/// is exceeded.
+/// Checks that a client can hold one more object that is charged `bytes`: at most the size of 16 of
+/// the largest images. `NoResources`: no name is left, 1,024 objects are held, or the quota would
+/// be exceeded.
 pub fn look_for_room(table: &Table, limits: Limits, bytes: usize) -> Result<(), Refusal>
     requires { bytes ≤ GREATEST_SLOTS * GREATEST_BYTES }
     ensures { result ≡ (if has_capacity limits table.now bytes then Ok tt else Err NoResources) }
@@ -33,8 +33,8 @@ pub fn look_for_room(table: &Table, limits: Limits, bytes: usize) -> Result<(), 
     }
 }
 
-/// Adds a new object without images, for which the limits were checked. The reply has its name. A
-/// graph has no nodes yet.
+/// Adds a new object that has no images and, if it is a graph, no nodes. The caller has checked the
+/// limits. The reply has the object's name.
 pub fn hold(table: &mut Table, limits: Limits, object: Object) -> Result<Reply, RequestFault>
     requires room { IsTrue (has_capacity limits table.old (object_bytes object)) }
     requires object { IsObject object }
@@ -50,8 +50,8 @@ pub fn hold(table: &mut Table, limits: Limits, object: Object) -> Result<Reply, 
     }
 }
 
-/// Adds new images, for which the limits were checked. The reply has their name. If there is no
-/// memory for the object, the blocks are given back.
+/// Adds a new image or delay. The caller has checked the limits. The reply has the object's name.
+/// If there is no memory for it, its blocks go back to the pool.
 pub fn hold_images(
     table: &mut Table,
     pool: &mut Pool,

@@ -32,7 +32,7 @@ age_named c name (Some other) = Err InvalidType
 abbrev pub age_delay : Context → ℕ → Outcome
 age_delay c name = age_named c name (object_named c.objects name)
 
--- RegisterAutoAging: the delay ages after each run of the graph; a name that isn't live is reported before an object of another kind
+-- RegisterAutoAging: the delay ages after each run of the graph; names are checked before kinds
 abbrev pub register_named : Context → ℕ → ℕ → Option ObjectValue → Option ObjectValue → Outcome
 register_named c graph delay (Some (GraphObject found)) (Some (DelayObject images)) = Ok (Empty, Some (with_objects c (with_registration c.objects graph found delay)))
 register_named c graph delay (Some first) (Some second) = Err InvalidType

@@ -30,7 +30,7 @@ abbrev pub is_kind : Kind → Option Kind → Bool
 is_kind wanted None = false
 is_kind wanted (Some kind) = stands_for kind wanted
 
--- whether a reference has another kind than the one that is expected there
+-- whether a reference's kind isn't accepted as the expected one
 abbrev pub is_of_other_kind : List NamedObject → Reference × Kind → Bool
 is_of_other_kind objects operand = not (is_kind operand.1 (kind_of objects operand.0))
 
@@ -48,8 +48,8 @@ abbrev pub is_beyond : Option ℕ → List NamedObject → Reference → Bool
 is_beyond None objects cell = false
 is_beyond (Some graph) objects cell = is_of_other_graph graph (object_at objects cell)
 
--- the first refusal of references, each with the kind that is expected there: first names, then kinds, then scopes, then slots, each over
--- all references
+-- the first refusal of a list of references with their expected kinds: the names of all are checked first, then all kinds, all scopes
+-- and all slots
 abbrev pub operands_refusal : Option ℕ → List NamedObject → List (Reference × Kind) → Option Refusal
 operands_refusal scope objects operands =
     if list_any (λ operand. is_unknown objects operand.0) operands then Some InvalidReference

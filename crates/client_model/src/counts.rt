@@ -3,7 +3,7 @@ ghost use Rattle.std.specs.Prelude.{◌≡◌};
 
 use std::marker::Model;
 
-/// How many samples fell into each bin of a distribution.
+/// The number of samples in each bin of a distribution.
 #[derive(Debug, Drop)]
 pub struct Counts {
     counts: Vec<u32>,

@@ -35,12 +35,12 @@ abbrev pub last_in : ℕ → List ℕ → Option ℕ
 last_in slot [] = None
 last_in slot (s ∷ slots) = option_or (option_map suc (last_in slot slots)) (if s == slot then Some 0 else None)
 
--- the image that has a slot's block after `count` images are written: the last of them in the slot. Before any of them is written, it is
--- the last image in the slot, which had the block at the end of the band before
+-- the image that has a slot's block after `count` images are written: the last of these in the slot, else the slot's last image,
+-- which had the block at the end of the previous band
 abbrev pub holder : List ℕ → ℕ → ℕ → Option ℕ
 holder slots slot count = option_or (last_in slot (take count slots)) (last_in slot slots)
 
--- the image whose block the image at an index takes; none if that is a client's image
+-- the image from which the image at an index takes its block; a client's image takes none
 abbrev pub previous_holder : List ℕ → ℕ → Option ℕ
 previous_holder slots at = if nat_lt at (length slots) then holder slots (slice_index_or slots at 0) at else None
 
@@ -80,7 +80,7 @@ step_for cells slots radius at n which output =
       radius = radius n;
     }
 
--- its task, if the output is given
+-- the task that writes a node's output; none if the output isn't given
 abbrev pub write_given : List Reference → List ℕ → (Node → ℕ) → ℕ → Node → Output → Option Reference → List Task
 write_given cells slots radius at n which None = []
 write_given cells slots radius at n which (Some output) = Write (step_for cells slots radius at n which output) ∷ []
@@ -109,8 +109,8 @@ tasks_of cells slots radius nodes = tasks_from cells slots radius 0 0 nodes
 
 -- ---- blocks that tasks take
 
--- the tasks from the one that writes virtual image k write the virtual images in order, each with the block that it takes then; steps that
--- write clients' images take none
+-- the tasks write the virtual images in order, from image k on, and each takes its block from the slot's previous holder;
+-- steps that write clients' images take no block
 abbrev pub TakeTurns : List ℕ → ℕ → List Task → Type 0
 TakeTurns slots k [] = k ≡ length slots
 TakeTurns slots k (Reduce r ∷ later) = TakeTurns slots k later
@@ -118,11 +118,11 @@ TakeTurns slots k (Write s ∷ later) =
     ((length slots ≤ s.output) × (s.takes ≡ None) × TakeTurns slots k later)
     ⊎ ((k < length slots) × (s.output ≡ k) × (s.takes ≡ previous_holder slots k) × TakeTurns slots (k + 1) later)
 
--- each slot is large enough for the rows of its images
+-- each slot has the format of its images, and the capacity for a band of `size` rows of each of them with its halo
 abbrev pub SlotsHold : ℕ → List ℕ → (ℕ → Description) → List ℕ → (ℕ → Format × ℕ) → Type 0
 SlotsHold size halos descs slots rooms = (k : ℕ) → k < length slots → HoldsRows size (halo halos k) (descs k) (rooms (slice_index_or slots k 0))
 
--- the nodes' outputs other than images aren't virtual
+-- a node that writes no image has no virtual output
 abbrev pub WriteImages : (Reference → Bool) → List Node → Type 0
 WriteImages is_virtual nodes =
     (n : Node) → In n nodes → (parameters n.function).output ≢ kind.Image → filter is_virtual (outputs n) ≡ []

@@ -28,8 +28,7 @@ const BAND_SAMPLES: u32 = 65_536;
 /// The greatest number of samples of an image in a band, whatever the halo.
 const GREATEST_BAND_SAMPLES: u32 = 131_072;
 
-/// The least number of rows of a band. With fewer rows, the calls for each step take too much of
-/// the time.
+/// The least number of rows of a band. With fewer rows, the calls of the steps cost too much time.
 const LEAST_ROWS: u32 = 16;
 
 /// The greatest number of rows of a band. More rows gain nothing.
@@ -96,8 +95,8 @@ pub fn halos_of(
 
 // ---- bands
 
-/// Returns the number of rows of a band. That is `high`, for one band of whole images, if bands
-/// gain nothing or if a step would add to a row twice.
+/// Returns the number of rows of a band. It is `high`, for a single band, if bands gain nothing or
+/// if a step would add to a row twice.
 pub fn band_size(
     high: u16,
     table: &Table,

@@ -98,7 +98,7 @@ fn add_step(tasks: &mut Vec<Task>, step: Option<Step>) -> Result<(), AllocError>
     Ok(())
 }
 
-/// Returns the step that writes an output of a node, if that is given.
+/// Returns the step that writes a node's output, or `None` if the output isn't given.
 fn step_given(
     binding: &Binding<'_>,
     at: usize,
@@ -147,8 +147,8 @@ fn source(cells: &[ObjRef], at: usize, node: &Node) -> Source
 
 // ---- radii
 
-/// Returns a node's radius: the number of input rows above and below an output row that it reads.
-/// If it reads all rows, that is `high`.
+/// Returns a node's radius: the number of input rows that it reads above and below an output row.
+/// The radius is `high` if it reads all rows.
 pub fn radius_of(table: &Table, high: u16, node: &Node) -> u16
     ensures { result ≡ radius_of table.now.objects high node.now }
 {
@@ -172,8 +172,8 @@ fn matrix_of<'a>(table: &'a Table, node: &Node) -> Option<&'a Convolution>
 
 // ---- slots
 
-/// Returns the index of the image whose block the image at index `at` takes; `None` if that is a
-/// client's image.
+/// Returns the index of the image from which the image at index `at` takes its block. A client's
+/// image takes none.
 fn taken(slots: &[usize], at: usize) -> Option<usize>
     ensures { result ≡ previous_holder slots.now at }
 {

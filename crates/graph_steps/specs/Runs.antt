@@ -25,7 +25,7 @@ pub record CanRunBand (tables : List SecondInput) (high : ℕ) (halos : List ℕ
   pub free : AreFree kept tasks
   pub room : HaveCapacity rows.count halos (λ c. (plane planes c).desc) tasks (capacities planes)
 
--- the reductions can add a band, after the rows above `first`
+-- the reductions can add a band that begins at row `first`, each to a tally of its own
 pub record CanReduceBand (first : ℕ) (tasks : List Task) (planes : List PlaneValue) (tallies : List Tally) : Type 0 where
   pub apart : HaveOneReduction tasks
   pub reduces : (r : Reduction) → Reduces r tasks → CanReduce first planes tallies r

@@ -39,7 +39,7 @@ abbrev pub IsNew : Tally → Type 0
 IsNew (tally.Histogram d) = d.counts ≡ replicate d.bins.bins 0
 IsNew (tally.Extremes e) = e ≡ no_extremes
 
--- images of this format can be added
+-- images of this format can be added to the tally
 abbrev pub TakesFormat : Format → Tally → Type 0
 TakesFormat format (tally.Histogram d) = format ≡ U8
 TakesFormat format (tally.Extremes e) = format ≢ U32
@@ -50,7 +50,7 @@ CountsFit rows image (tally.Histogram d) = (k : ℕ) → slice_index d.counts k 
 CountsFit rows image (tally.Extremes e) =
     (e.min_count + (extremes (valid_in rows image)).min_count < 2 ^ 32) × (e.max_count + (extremes (valid_in rows image)).max_count < 2 ^ 32)
 
--- these rows of an image can be added
+-- these rows of an image can be added to the tally
 pub record CanAdd (rows : Band) (image : ImageValue) (t : Tally) : Type 0 where
   pub format : TakesFormat image.format t
   pub room : CountsFit rows image t

@@ -1,4 +1,4 @@
-//! Laws of programs: functions that do nothing, whose contracts are facts.
+//! Laws of programs, as contracts of functions that do nothing.
 ghost use Rattle.std.specs.Prelude.{List, ℕ, length};
 ghost use Rattle.image_core.specs.declared.second.SecondInput.{SecondInput as SecondValue};
 ghost use Rattle.graph_steps.specs.declared.step.Task.{Task as TaskValue};
@@ -6,8 +6,8 @@ ghost use Rattle.graph_steps.specs.Planes.{PlaneValue, block_images};
 ghost use Rattle.graph_steps.specs.Program.{AreFilled, AreInOrder, IsProgram, SolvesSteps};
 ghost use Rattle.graph_steps.specs.Program.{steps_in_turn};
 
-/// The steps of a program have a solution: the images that they write when each runs on whole
-/// images, in order.
+/// Running the steps of a program in order, each on whole images, gives a solution of the steps'
+/// equations.
 pub fn solution()
     ensures { (tables : List SecondValue) (high size : ℕ) (halos : List ℕ) (tasks : List TaskValue)
         (planes : List PlaneValue) → IsProgram tables high size halos tasks planes →

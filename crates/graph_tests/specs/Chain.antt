@@ -11,16 +11,16 @@ use Rattle.object_table.specs.NamedObject.{NamedObject}
 use Rattle.graph_verify.specs.Examples.{node_to}
 use Rattle.graph_run.specs.Lasting.{Lasts}
 
--- the node Box, from the image of one name to that of another
+-- a Box node from one image to another, by their names
 abbrev pub box_to : ℕ → ℕ → Node
 box_to input output = node_to Box Wrap input None output
 
--- a graph with more nodes Box, each between a pair of names
+-- a graph with more Box nodes, each between a pair of images
 abbrev pub with_boxes : GraphValue → List (ℕ × ℕ) → GraphValue
 with_boxes g [] = g
 with_boxes g (l ∷ links) = with_boxes (with_node g (box_to l.0 l.1)) links
 
--- six nodes Box from image 1 to image 2, through the virtual images 4 to 8
+-- a graph of six Box nodes from image 1 to image 2, through the virtual images 4 to 8
 abbrev pub six_boxes : GraphValue
 six_boxes = with_boxes new_graph ((1, 4) ∷ (4, 5) ∷ (5, 6) ∷ (6, 7) ∷ (7, 8) ∷ (8, 2) ∷ [])
 

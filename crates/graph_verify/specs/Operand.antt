@@ -67,7 +67,7 @@ abbrev pub operand_description : Operand → Option Description
 operand_description (Image d) = Some d
 operand_description other = None
 
--- the size of an image's samples in bytes
+-- the size of an image's samples in bytes; 0 for an unresolved virtual image and for any other operand
 abbrev pub virtual_bytes : Operand → ℕ
 virtual_bytes (Image d) = byte_count d
 virtual_bytes other = 0

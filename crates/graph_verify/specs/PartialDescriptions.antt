@@ -17,7 +17,7 @@ use Rattle.graph_verify.specs.Rounds.{rounds}
 abbrev pub all_unknown : PartialDescription
 all_unknown = record { width = None; height = None; format = None }
 
--- an operand's partial description: of an image its full one, of a virtual image the declared one, else nothing
+-- an operand's partial description: the full one of an image, the declared one of a virtual image, otherwise all open
 abbrev pub operand_partial_desc : Operand → PartialDescription
 operand_partial_desc (Image d) = partial_desc_of d
 operand_partial_desc (Virtual declared) = declared
@@ -31,8 +31,8 @@ given_partial_desc function first = record { width = first.width; height = first
 abbrev pub written_partial_desc : (Reference → Operand) → Node → (Reference → PartialDescription) → Reference → PartialDescription
 written_partial_desc is n known cell = with_defaults (operand_partial_desc (is cell)) (given_partial_desc n.function (known n.in1))
 
--- the description of each image: the declared one, then as many rounds as there are nodes, in each of which all nodes fill in their
--- outputs simultaneously
+-- the description of each image after as many rounds as there are nodes, starting from the declared ones; in a round all nodes fill in
+-- their outputs simultaneously
 abbrev pub partial_descs : (Reference → Operand) → List Node → Reference → PartialDescription
 partial_descs is nodes = rounds writes (written_partial_desc is) nodes (length nodes) (λ cell. operand_partial_desc (is cell))
 

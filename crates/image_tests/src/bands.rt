@@ -1,5 +1,5 @@
-//! Bands of rows: each function writes the same rows to a band as to the whole image, whatever the
-//! order of the bands.
+//! Bands of rows. Band by band, in any order, each function gives the same result as on the whole
+//! image in one call.
 ghost use Rattle.std.specs.Prelude.{◌+◌, ◌^◌, ◌<◌, ◌≤◌};
 
 use crate::images::lend;
@@ -76,8 +76,8 @@ fn sums_go_on(rt: HostRuntime) {
     assert!(rt; sums_below(&[1, 3, 12]) == Some([4, 10, 27, 9, 21, 45]));
 }
 
-/// Returns counts in three bins after the two lower rows were added, and these extremes merged with
-/// those of the two rows, which lie four rows further down.
+/// Adds the two lower rows to a histogram of three bins, and merges their extremes into `above`,
+/// with their row numbers increased by 4. Returns both results.
 fn beside_others(above: Extremes) -> Option<([u32; 3], Extremes)>
     requires least { above.min_count < 2 ^ 16 }
     requires greatest { above.max_count < 2 ^ 16 }

@@ -1,5 +1,5 @@
-//! The kernels of lane_rows, at lengths around that of a block: each item that is written is the
-//! formula of the items at its index, and no other item changes.
+//! The kernels of lane_rows, at lengths around that of a block. Each written item is the formula of
+//! the items at its index, and no other item changes.
 ghost use Rattle.std.specs.Prelude.{◌≤◌};
 ghost use Rattle.vx_base.specs.Pixelwise.{not_bits};
 
@@ -88,8 +88,8 @@ macro_rules! assert_pairs {
     };
 }
 
-/// Adds a row of bytes to sums at each length, and compares each sum with the formula of the byte
-/// and the old sum at its index.
+/// Calls a kernel that adds a row of bytes to a row of sums, at each length. Compares each new sum
+/// with the formula of the byte and the old sum at its index.
 macro_rules! assert_sums {
     ($rt:expr;
         |$row:ident, $sums:ident| $call:expr;

@@ -33,7 +33,7 @@ fn extremes_of_bytes(row: &[u8]) -> Option<(u8, u32, u8, u32)> {
     ))
 }
 
-/// The same for S16 samples.
+/// Returns the same for S16 samples.
 fn extremes_of_shorts(row: &[i16]) -> Option<(i16, u32, i16, u32)> {
     if row.is_empty() || row.len() > 65 {
         return None;

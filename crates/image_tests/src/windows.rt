@@ -89,7 +89,7 @@ fn nine_rows() -> [[u8; LONGEST]; 9] {
     rows
 }
 
-/// Returns their bytes at one index.
+/// Returns the bytes of nine rows at one index.
 fn nine_at(rows: &[[u8; LONGEST]; 9], i: usize) -> [u8; 9]
     requires { i < 65 }
 {
@@ -227,7 +227,7 @@ fn nine_around(case: &Case, x: u16, y: u16) -> [u8; 9] {
     nine
 }
 
-/// Writes a function whose results are U8.
+/// Writes the results of a function to a U8 image.
 fn write_to_u8(function: Function, image: &Image<'_>, output: &mut ImageMut<'_>, border: Border)
     requires { WindowFits U8 image.now output.old }
 {
@@ -240,7 +240,7 @@ fn write_to_u8(function: Function, image: &Image<'_>, output: &mut ImageMut<'_>,
     }
 }
 
-/// Writes a function whose results are S16.
+/// Writes the results of a function to an S16 image.
 fn write_to_s16(function: Function, image: &Image<'_>, output: &mut ImageMut<'_>, border: Border)
     requires { WindowFits S16 image.now output.old }
 {
@@ -346,8 +346,8 @@ fn agrees(case: &Case, function: Function) -> bool {
     }
 }
 
-/// Returns whether it is right under each border, on whole images and on images that are valid from
-/// column 1 on.
+/// Returns whether a function is right under each border, on wholly valid images and on images that
+/// are valid from column 1 on.
 fn agrees_at(width: u16, height: u16, function: Function) -> bool {
     for border in BORDERS {
         for first in 0..width.min(2) {
@@ -365,7 +365,7 @@ fn agrees_at(width: u16, height: u16, function: Function) -> bool {
     true
 }
 
-/// Returns whether it is right at each width and height.
+/// Returns whether a function is right at each width and height.
 fn agrees_at_all(function: Function) -> bool {
     for width in WIDTHS {
         for height in 1..5 {

@@ -1,4 +1,4 @@
--- The bounds of the three-number kernels' inputs are low enough for sums in 16 bits.
+-- The input limits of the kernels of three numbers are at most 8191, so that sums fit 16 bits.
 use Rattle.std.specs.Prelude.{◌≤◌}
 use Rattle.std.proofs.Common.{arith}
 

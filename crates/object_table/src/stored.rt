@@ -13,8 +13,8 @@ use std::alloc::{AllocError, Global};
 use std::marker::Model;
 use vx_base::{Desc, Picture, Rect, Samples};
 
-/// An image whose samples are a block of a pool. While the image is written its samples are taken
-/// out, and it has none.
+/// An image whose samples are a block of a pool. The samples are taken out while nodes write the
+/// image.
 #[derive(Drop)]
 pub struct Stored {
     desc: Desc,
@@ -151,7 +151,7 @@ impl Stored {
     }
 }
 
-/// Sets each sample of a band of rows to 0 that is outside a rectangle.
+/// Clears the samples of a band that lie outside a rectangle.
 fn clear_outside(samples: &mut Samples, valid: Rect, width: u16, rows: Band)
     requires rows { rows.start + rows.count < 2 ^ 16 }
     requires size { length (values samples.old) ≡ rows.count * width }

@@ -34,7 +34,7 @@ past_blanks false [] = Some []
 past_blanks false (b ∷ text) =
     if begins_comment b then past_blanks true text else if is_space b then past_blanks false text else Some (b ∷ text)
 
--- the number that the digits of n and then those of the text spell, and the text after them
+-- n with the text's leading digits appended, and the text after them
 abbrev pub digits_after : ℕ → List ℕ → ℕ × List ℕ
 digits_after n [] = (n, [])
 digits_after n (b ∷ text) = if is_ascii_digit b then digits_after (n * 10 + (b - 48)) text else (n, b ∷ text)

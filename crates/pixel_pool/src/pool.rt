@@ -90,8 +90,8 @@ impl Pool {
         Ok(block)
     }
 
-    /// Takes back a block that the pool lent, which becomes free. Its samples are unchanged.
-    /// Allocates and frees nothing.
+    /// Takes back a block that the pool lent, and adds it to the free blocks. Its samples are
+    /// unchanged. Allocates and drops nothing.
     pub fn give_back(&mut self, block: Block)
         requires { HasLent self.old (samples_format block) }
         ensures gets_back { GetsBack self.old self.new (samples_format block) }
@@ -122,8 +122,8 @@ impl Pool {
         self.u32s.trim();
     }
 
-    /// Drops all free blocks, which returns their memory to the system for callers that find none
-    /// otherwise.
+    /// Drops all free blocks. Their memory returns to the system, so that a failed allocation can
+    /// be tried again.
     pub fn drop_free(&mut self)
         ensures lent { KeepsLent self.old self.new }
         ensures free { (format : Format) → free_of self.new format ≡ replicate class_count 0 }

@@ -77,8 +77,8 @@ fn writing(alloc: Global, desc: Desc, seed: u32) -> Result<Vec<u8>, Fail> {
     )
 }
 
-/// Returns the body of the reply to reading the image that such a frame has written: the frame's
-/// body after the reference.
+/// Returns the samples in the frame `writing`, which follow the reference. A ReadImage after the
+/// frame gets them as the body of its reply.
 fn read(writing: &[u8]) -> &[u8] {
     if writing.len() < 12 {
         writing
@@ -112,7 +112,7 @@ pub fn opened(alloc: Global, desc: Desc) -> Result<Runtime, Fail> {
     Ok(runtime)
 }
 
-/// Returns whether the image has the samples that such a frame has written.
+/// Returns whether the image has the samples in the frame `writing`.
 fn holds(alloc: Global, runtime: &mut Runtime, writing: &[u8]) -> Result<bool, Fail> {
     let asked = frame(alloc, &Request::ReadImage(image()))?;
     let replies = ask(alloc, runtime, asked.as_slice())?;
@@ -157,8 +157,8 @@ fn pictures_in_pieces(rt: HostRuntime) -> Result<(), Fail> {
     Ok(())
 }
 
-/// Returns whether the image still has the first picture after two failed writes of the next one:
-/// the stream ends after this part of its frame, and a read of the part fails.
+/// Returns whether the image still has the first picture after two failed writes of the next one.
+/// The stream of one ends after `part` of the frame; in the other, a read of `part` fails.
 fn stays(
     alloc: Global,
     runtime: &mut Runtime,
@@ -174,7 +174,7 @@ fn stays(
     Ok(ended && stays && holds(alloc, runtime, first)?)
 }
 
-/// Returns whether the image stays the same for each of 23 parts.
+/// Returns whether the image stays the same for parts of 23 lengths.
 fn stays_after_parts(
     alloc: Global,
     runtime: &mut Runtime,

@@ -24,7 +24,8 @@ const LONGEST_ROW: usize = GREATEST_SIDE as usize;
 /// The row above the first one, all zeros.
 static ZEROS: [u32; LONGEST_ROW] = [0; LONGEST_ROW];
 
-/// Adds the valid rows above row `y` to the sums, which are those above the first valid row.
+/// Adds the valid rows above row `y` to the sums. On entry they are the sums above the first valid
+/// row.
 fn add_lines(image: &Image<'_>, part: Part, y: u16, sums: &mut [u32])
     requires format { image.now.format ≡ U8 }
     requires part { IsValidPart image.now part }
@@ -59,8 +60,8 @@ fn write_row_from_top(image: &Image<'_>, y: u16, out: &mut [u32])
     add_lines(image, part, y + 1, &mut out[x..x + part.count]);
 }
 
-/// Writes the running sums of part of a row, from column `x` on, on top of the sums in the row
-/// above; these are 0 if there is none.
+/// Writes part of a row of an integral image, from column `x` on: the running sums of the row plus
+/// the sums in the row above. Without a row above, those are 0.
 fn write_part_of_row(row: &[u8], above: Option<&[u32]>, x: usize, out: &mut [u32])
     requires above_len { IfSome above (λ sums. x + length row.now ≤ length sums.now) }
     requires out_len { length out.old ≡ length row.now }

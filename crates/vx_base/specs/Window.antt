@@ -117,11 +117,11 @@ formula_of_nine other output = λ _. pos 0
 
 -- ---- "Custom Convolution"
 
--- the products of the samples around column x with row l of the matrix, summed; the samples are taken from right to left
+-- the dot product of the samples around column x, taken from right to left, with row l of the matrix
 abbrev pub row_product : ConvolutionValue → (ℤ → ℤ) → ℤ → ℕ → ℤ
 row_product c f x l = total (map (λ k. f (x +ℤ pos (c.columns / 2) -ℤ pos k) *ℤ coefficient c l k) (range_with_len 0 c.columns))
 
--- the products of the samples around a pixel with the matrix turned by 180 degrees, summed
+-- the dot product of the samples around a pixel with the matrix turned by 180 degrees
 abbrev pub matrix_product : ConvolutionValue → (ℤ → ℤ → ℤ) → ℤ → ℤ → ℤ
 matrix_product c f x y = total (map (λ l. row_product c (λ u. f u (y +ℤ pos (c.rows / 2) -ℤ pos l)) x l) (range_with_len 0 c.rows))
 

@@ -1,9 +1,10 @@
 //! Border modes of window functions.
 
-/// What a window reads outside the valid rectangle (OpenVX 1.3, `vx_border_e`).
+/// The border mode: which samples a window reads outside the valid rectangle (OpenVX 1.3,
+/// `vx_border_e`).
 #[derive(Clone, Copy, PartialEq, Eq, Debug)]
 pub enum Border {
-    /// Nothing: the output is valid only where the whole window lies in the valid rectangle.
+    /// None: the output is valid only where the whole window lies in the valid rectangle.
     Undefined,
     /// This sample.
     Constant(u8),

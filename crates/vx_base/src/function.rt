@@ -200,8 +200,8 @@ impl Function {
         }
     }
 
-    /// Checks whether the function adds to its output image, whose content at the start of the
-    /// graph's run is then an operand too.
+    /// Checks whether the function adds to its output image. The image's samples from before the
+    /// run are then an operand too.
     pub fn accumulates(self) -> bool
         ensures { result ≡ accumulates self }
     {

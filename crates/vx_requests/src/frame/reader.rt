@@ -14,7 +14,7 @@ const LEAST_LENGTH: u32 = 3;
 /// The number of bytes that are skipped at a time.
 const PAST: usize = 4096;
 
-/// A source, and a budget: how many more reads it may get.
+/// A source, and its budget: the number of reads that are still allowed.
 #[derive(Drop)]
 pub struct Reader<'a, S> {
     pub source: &'a mut S,
@@ -45,7 +45,7 @@ impl<S: Source> Reader<'_, S> {
         Ok(Some(length))
     }
 
-    /// Fills the buffer with bytes of a frame. `Truncated`: the stream ends before.
+    /// Fills the buffer with bytes of a frame. `Truncated`: the stream ends within them.
     pub fn read_exactly(&mut self, buf: &mut [u8]) -> Result<(), StreamFault>
         requires { CanRead S.reads S.failures self.old }
         ensures ok { OnOk result (Consumes
@@ -62,7 +62,7 @@ impl<S: Source> Reader<'_, S> {
         Ok(())
     }
 
-    /// Skips `count` bytes of a frame. `Truncated`: the stream ends before.
+    /// Skips `count` bytes of a frame. `Truncated`: the stream ends within them.
     pub fn skip(&mut self, count: usize) -> Result<(), StreamFault>
         requires { CanRead S.reads S.failures self.old }
         ensures ok { OnOk result (ReadsSome

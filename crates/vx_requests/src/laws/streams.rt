@@ -1,4 +1,5 @@
-//! Laws of streams and of their clients.
+//! Laws of streams and of their clients. A frame whose reply is NO_MEMORY is lost; all others are
+//! kept.
 ghost use Rattle.std.specs.Prelude.{◌≡◌, ℕ, ◌<◌, false, List, [], ◌++◌, ◌==◌, map, All, Option};
 ghost use Rattle.std.specs.Prelude.{Some, IfSome, IfOk, Result};
 ghost use Rattle.vx_base.specs.Reference.{Reference};
@@ -23,7 +24,7 @@ pub fn no_prefix()
         frame_bytes g ≡ frame_bytes f ++ more → more ≡ [] }
 {}
 
-/// Any stream of bytes is whole frames and a rest.
+/// Any stream of bytes splits into whole frames and a rest.
 pub fn splits()
     ensures { (stream : List ℕ) → All (λ byte. byte < 256) stream →
         (frames : List Frame) × (rest : List ℕ) × Splits stream frames rest }
@@ -35,7 +36,7 @@ pub fn one_split()
         Splits stream fs r → Splits stream gs s → (fs ≡ gs) × (r ≡ s) }
 {}
 
-/// The replies to a client's kept frames are those that it would get as the only client.
+/// A client gets the same replies to its kept frames as it would get as the only client.
 pub fn each_alone()
     ensures { (limits : LimitsValue) (start : ℕ → State) (marked : List ReceivedFrame)
         (client : ℕ) →
@@ -52,8 +53,8 @@ pub fn one_client()
         ≡ alone (answer limits) (start client) (frames_of marked) }
 {}
 
-/// If two streams have the same kept frames of a client, which starts in the same state in both,
-/// the client gets the same replies.
+/// If a client starts in the same state in two streams, and its kept frames are the same in both,
+/// it gets the same replies to them.
 pub fn isolated()
     ensures { (limits : LimitsValue) (start other : ℕ → State)
         (marked others : List ReceivedFrame) (client : ℕ) →
@@ -62,8 +63,8 @@ pub fn isolated()
         ≡ kept_replies client others (served (answer limits) other others) }
 {}
 
-/// Several servers may share a stream, each with all frames of its own clients: each client gets
-/// the replies to its kept frames that one server of all clients would give.
+/// Several servers may share a stream if each gets all frames of its own clients. Each client then
+/// gets the same replies to its kept frames as from a single server.
 pub fn over_servers()
     ensures { (limits : LimitsValue) (start : ℕ → State) (server : ℕ → ℕ)
         (marked : List ReceivedFrame) (client : ℕ) →
@@ -87,9 +88,8 @@ pub fn session_splits()
         ReadsToARest result → Splits input (frames_of session.marked) (session.rest ++ more) }
 {}
 
-/// Whatever frames a client sends, its state keeps the limits if it kept them before; no context
-/// does. Each reference then names a valid image or none: its samples are of its format, and 0
-/// outside its valid rectangle.
+/// A client's frames preserve the invariant of its context, `KeepsLimits`. Each reference to an
+/// image then names a valid one: its samples are of its format, and 0 outside its valid rectangle.
 pub fn states_keep()
     ensures limits { (limits : LimitsValue) (state : State) (frames : List Frame) →
         All IsFrame frames → IfSome state (KeepsLimits limits) →
@@ -101,8 +101,7 @@ pub fn states_keep()
         (λ c. IfOk (image_of c.objects cell) IsImage) }
 {}
 
-/// If a client's state keeps the limits before a call of `serve`, it does so after the call,
-/// however the call ends. No context keeps them.
+/// A call of `serve` preserves the invariant of each client's context, however the call ends.
 pub fn session_keeps()
     ensures { (limits : LimitsValue) (left_old left_new taken_old taken_new : Option (List ℕ))
         (old new : ℕ → State) (result : Result Summary StreamFault) (client : ℕ) →

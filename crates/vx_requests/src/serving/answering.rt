@@ -1,4 +1,4 @@
-//! Reads the payload of a frame whose length is known, and answers it from the runtime.
+//! Reads the rest of a frame after its length, and returns the reply of the runtime.
 ghost use Rattle.std.specs.Prelude.{◌≡◌, ℕ, ◌<◌, ◌≤◌, ◌^◌, List, length, All, Ok, IfOk};
 ghost use Rattle.client_model.specs.Limits.{LimitsValue};
 ghost use Rattle.client_model.specs.Context.{State};

@@ -11,14 +11,14 @@ pub trait Source {
     /// The bytes that are left, if they are known.
     ghost left: { Self → Option (List ℕ) };
 
-    /// How often it was read.
+    /// The number of reads.
     ghost reads: { Self → ℕ };
 
-    /// How many of these reads failed.
+    /// The number of these reads that failed.
     ghost failures: { Self → ℕ };
 
-    /// Reads bytes into the front of the buffer, and returns how many. It returns 0 only if no byte
-    /// is left or the buffer is empty. A read that fails takes none.
+    /// Reads bytes into the front of the buffer, and returns their number. It is 0 only if no byte
+    /// is left or the buffer is empty. A failed read takes no bytes.
     fn read(&mut self, buf: &mut [u8]) -> Result<usize, Failed>
         requires reads_fit { reads self.old < 2 ^ 63 }
         requires failures_fit { failures self.old < 2 ^ 63 }

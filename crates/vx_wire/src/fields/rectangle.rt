@@ -7,7 +7,7 @@ use crate::body_fault::BodyFault;
 use crate::fields::Fields;
 use vx_base::Rect;
 
-/// Reads a rectangle: four zeros, or starts that are below their ends. `InvalidValue`: other
+/// Reads a rectangle: its bounds are all 0, or each start is below its end. `InvalidValue`: other
 /// bounds.
 pub fn take_rectangle(fields: &mut Fields) -> Result<Rect, BodyFault>
     ensures { Takes take_rectangle fields.old fields.new result }

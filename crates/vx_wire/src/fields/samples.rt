@@ -30,7 +30,7 @@ pub fn take_samples<'a>(
     fields.bytes(count * format.sample_bytes())
 }
 
-/// A number type of samples that take several bytes.
+/// A type of samples that take several bytes each: `i16` or `u32`.
 pub trait WideSample: Copy {
     /// The format of such samples.
     ghost format: { SampleFormat };
