@@ -36,9 +36,9 @@ pub fn limits_are_kept()
 {}
 
 /// An object keeps its skeleton as long as it is held, whatever requests its client makes, except
-/// ReleaseContext. The skeleton is its kind, sizes, formats, slots and bins, and the whole of a
-/// table, a threshold, a matrix or a virtual image's description. A graph keeps its nodes until one
-/// is added or removed. It follows that:
+/// ReleaseContext. The skeleton is the object's kind, sizes, formats, slots and bins. It includes
+/// all of a lookup table, a threshold or a matrix, and a virtual image's description. A graph keeps
+/// its nodes until one is added or removed. It follows that:
 ///
 /// - while an object is held under a name, references to that name denote the same operand
 /// - the verdict on a graph is the same until a node is added to it or removed from it

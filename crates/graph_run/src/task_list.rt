@@ -23,7 +23,7 @@ use vx_base::{Convolution, Kind, Node, ObjRef, Output};
 pub struct Binding<'a> {
     /// The objects, for the sizes of matrices.
     pub table: &'a Table,
-    /// The height of the highest image.
+    /// The height of the tallest image.
     pub high: u16,
     /// References to the planes' images.
     pub cells: &'a [ObjRef],

@@ -32,7 +32,7 @@ use vx_base::{
     VirtualImage,
 };
 
-/// The object of a client's name.
+/// The object that a client's name denotes.
 #[derive(Drop)]
 pub struct Object {
     content: Content,
@@ -141,7 +141,7 @@ impl Object {
         }
     }
 
-    /// Returns the image in a slot; without a slot, the image that the object is.
+    /// Returns the image in a slot; without a slot, the object itself, which is an image.
     pub fn image(&self, slot: Option<u8>) -> &Stored
         requires { HasImage slot self.now }
         ensures { result.now ≡ image_value (object_in slot self.now) }
@@ -153,8 +153,8 @@ impl Object {
         }
     }
 
-    /// Copies a picture to the image in a slot, or without a slot to the object itself. Both are of
-    /// one description.
+    /// Copies a picture to the image in a slot; without a slot, to the object itself. The image has
+    /// the picture's description.
     pub fn write(&mut self, slot: Option<u8>, picture: &Picture)
         requires there { HasImage slot self.old }
         requires object { IsObject self.old }
@@ -172,7 +172,8 @@ impl Object {
         }
     }
 
-    /// Sets the valid rectangle of the image there, and each sample outside it to 0.
+    /// Sets the valid rectangle of the image in a slot, or of the object itself, and each sample
+    /// outside it to 0.
     pub fn set_valid(&mut self, slot: Option<u8>, valid: Rect)
         requires there { HasImage slot self.old }
         requires object { IsObject self.old }
@@ -189,7 +190,8 @@ impl Object {
         }
     }
 
-    /// Takes the samples out of the image there, and returns them with its size and format.
+    /// Takes the samples out of the image in a slot, or out of the object itself. Returns them with
+    /// the image's size and format.
     pub fn take(&mut self, slot: Option<u8>) -> (Desc, Samples)
         requires { HasImage slot self.old }
         ensures desc { result.0 ≡ description_of (image_value (object_in slot self.old)) }
@@ -207,7 +209,7 @@ impl Object {
         }
     }
 
-    /// Puts samples into the image there, and sets its valid rectangle.
+    /// Puts samples into the image in a slot, or into the object itself; sets its valid rectangle.
     pub fn put(&mut self, slot: Option<u8>, samples: Samples, valid: Rect)
         requires there { HasImage slot self.old }
         requires format { samples_format samples ≡ (image_value (object_in slot self.old)).format }
@@ -233,7 +235,7 @@ impl Object {
         }
     }
 
-    /// Replaces the counts of the distribution that the object is, one for each bin. It allocates
+    /// Replaces the counts of an object that is a distribution, one for each bin. It allocates
     /// nothing.
     pub fn set_counts(&mut self, counts: &[u32])
         requires kind { object_kind self.old ≡ kind.Distribution }
@@ -247,7 +249,7 @@ impl Object {
         }
     }
 
-    /// Replaces the extremes that the object is.
+    /// Replaces the values of an object that is extremes.
     pub fn set_extremes(&mut self, extremes: Extremes)
         requires { object_kind self.old ≡ kind.Extremes }
         ensures value { self.new ≡ ExtremesObject extremes }
@@ -259,7 +261,7 @@ impl Object {
         }
     }
 
-    /// Returns the graph that the object is.
+    /// Returns the graph of an object that is one.
     pub fn graph(&self) -> &Graph
         requires { object_kind self.now ≡ kind.Graph }
         ensures { result.now ≡ graph_value self.now }
@@ -270,8 +272,8 @@ impl Object {
         }
     }
 
-    /// Adds a node to the graph that the object is, and returns the node's number. A fault has
-    /// changed nothing.
+    /// Adds a node to an object that is a graph, and returns the node's number. On a fault, nothing
+    /// has changed.
     pub fn add_node(&mut self, node: NodeSpec) -> Result<u32, GraphFault>
         requires { object_kind self.old ≡ kind.Graph }
         ensures number { IfOk result (λ number. number ≡ (graph_value self.old).next) }
@@ -288,7 +290,7 @@ impl Object {
         }
     }
 
-    /// Removes the node of this number from the graph that the object is, and returns it.
+    /// Removes the node of this number from an object that is a graph, and returns the node.
     /// `InvalidReference`: the graph has no such node.
     pub fn remove_node(&mut self, number: u32) -> Result<NodeSpec, GraphFault>
         requires { object_kind self.old ≡ kind.Graph }
@@ -309,8 +311,7 @@ impl Object {
         }
     }
 
-    /// Sets the names of the delays that age with the graph that the object is. No name occurs
-    /// twice.
+    /// Sets the names of the delays that age with an object that is a graph. No name occurs twice.
     pub fn set_delays(&mut self, delays: Vec<u32>)
         requires kind { object_kind self.old ≡ kind.Graph }
         requires distinct { AllPairs (λ a b. a ≢ b) delays.items }

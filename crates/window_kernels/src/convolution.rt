@@ -102,8 +102,8 @@ fn has_constant(border: Border)
     if let Border::Constant(_value) = border {}
 }
 
-/// The number of items of each row that are loaded beyond the columns of a piece: the windows of a
-/// whole block of lanes at the last column read that far.
+/// The number of items loaded in each row beyond the columns of a piece. A whole block of lanes
+/// that begins at the last column reads that far.
 const AROUND: usize = 48;
 
 /// A U8 image convolved with a matrix under a border.
@@ -199,7 +199,7 @@ impl<T: Convolved> RowFormula<T, i16> for FromMatrix<'_, '_> {
     }
 }
 
-/// Writes the convolution of a U8 image to another one of its size. `scratch` is for the rows that
+/// Writes the convolution of a U8 image to an output of its size. `scratch` is for the rows that
 /// the windows of a piece read.
 fn write_convolved<T: Convolved>(
     image: &Image<'_>,
@@ -232,8 +232,8 @@ fn write_convolved<T: Convolved>(
 }
 
 /// `with_rows!(width, rows => call)` makes the call with `rows`, scratch memory on the stack: nine
-/// rows of a piece, halo included, for an image of this width. It is cleared once; a small image
-/// gets a small one.
+/// rows of a piece, halo included, for an image of this width. It is set to 0 first, so a narrow
+/// image gets less of it.
 macro_rules! with_rows {
     ($width:expr, $rows:ident => $call:expr) => {
         if $width <= 64 {

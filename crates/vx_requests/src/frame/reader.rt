@@ -45,7 +45,7 @@ impl<S: Source> Reader<'_, S> {
         Ok(Some(length))
     }
 
-    /// Fills the buffer with bytes of a frame. `Truncated`: the stream ends before.
+    /// Fills the buffer with bytes of a frame. `Truncated`: fewer are left in the stream.
     pub fn read_exactly(&mut self, buf: &mut [u8]) -> Result<(), StreamFault>
         requires { CanRead S.reads S.failures self.old }
         ensures ok { OnOk result (Consumes
@@ -62,7 +62,7 @@ impl<S: Source> Reader<'_, S> {
         Ok(())
     }
 
-    /// Skips `count` bytes of a frame. `Truncated`: the stream ends before.
+    /// Skips `count` bytes of a frame. `Truncated`: fewer are left in the stream.
     pub fn skip(&mut self, count: usize) -> Result<(), StreamFault>
         requires { CanRead S.reads S.failures self.old }
         ensures ok { OnOk result (ReadsSome
