@@ -11,8 +11,8 @@ use std::marker::Model;
 use vx_base::Border;
 
 /// A row of a U8 image with `radius` more samples on each side. It is for kernels of other crates
-/// that want whole rows, border included. Those of window_kernels read rows without a copy, and
-/// convolution loads pieces of several rows by `load_row`.
+/// that need whole rows, border included. The kernels of window_kernels read rows without a copy,
+/// except that convolution loads pieces of several rows with `load_row`.
 #[derive(Drop)]
 pub struct RowWindow {
     width: u16,

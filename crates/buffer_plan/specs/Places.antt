@@ -31,7 +31,7 @@ plan_view p =
       peak_step = λ format. (places_in p format).peak_step;
     }
 
--- the images of a format, with exact lives and their slots
+-- the images of a format, each with its exact life and its slot
 pub record IsPlacedFor (steps : List Node) (images : List VirtualOutput) (format : Format)
     (p : Places) : Type 0 where
   pub lives : List Life

@@ -18,7 +18,7 @@ pub record Applies (client : ℕ) (request : Request) (old new : World) (result 
   pub no_memory : OnErr result ((each : ℕ) → state_of each new ≡ state_of each old)
   pub takes : OnErr result (TakesMemory request)
 
--- its effect on the graphs that are kept as verified: those of other clients stay
+-- the effect of a call of apply on the cache of verified graphs; those of other clients stay
 pub record AppliesToKept (client : ℕ) (request : Request) (old new : World) (result : Result Reply NoMemory) : Type 0 where
   pub own : KeepsVerified old.limits.work request (verified_of client old) (verified_of client new) result
   pub others : (other : ℕ) → other ≢ client → verified_of other new ≡ verified_of other old

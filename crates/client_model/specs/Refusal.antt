@@ -25,7 +25,7 @@ refusal_code (Rejected verdict) = verdict_code verdict
 abbrev pub Outcome : Type 0
 Outcome = Result (Reply × State) Refusal
 
--- the outcome, unless the request was refused before
+-- the refusal, if there is one, or else the outcome
 abbrev pub refused_or : Option Refusal → Outcome → Outcome
 refused_or None outcome = outcome
 refused_or (Some refusal) outcome = Err refusal

@@ -18,7 +18,7 @@ use Rattle.graph_run.specs.Slots.{slot_place}
 abbrev pub block_size : Samples → Format × ℕ
 block_size block = (samples_format block, length (values block))
 
--- the same for the block at an index
+-- the format and the number of samples of the block at an index
 abbrev pub block_capacity : List Samples → ℕ → Format × ℕ
 block_capacity blocks place = slice_index_or (map block_size blocks) place (U8, 0)
 
@@ -26,11 +26,11 @@ block_capacity blocks place = slice_index_or (map block_size blocks) place (U8, 
 abbrev pub blocks_of_format : List Samples → Format → ℕ
 blocks_of_format blocks format = sum_by (λ b. one_of (samples_format b) format) blocks
 
--- the number of formats and sizes that are of this format
+-- the number of blocks of this format, given the format and size of each block
 abbrev pub room_count : List (Format × ℕ) → Format → ℕ
 room_count rooms format = sum_by (λ r. one_of r.0 format) rooms
 
--- the samples of a band of `size` rows of an image, and of its halo above and below
+-- the number of samples in a band of `size` rows of an image, including the halo above and below
 abbrev pub band_samples : ℕ → ℕ → Description → ℕ
 band_samples size rows desc = min desc.height (size + rows + rows) * desc.width
 
@@ -46,7 +46,7 @@ abbrev pub band_plan : ℕ → List ℕ → List VirtualOutput → List ℕ → 
 band_plan size halos outs slots p =
     record p { slot_samples = λ format k. samples_from size halos 0 outs slots (slot_place p format k) }
 
--- the task of a step, if it is given
+-- the list of the task that runs a step; empty without a step
 abbrev pub step_tasks : Option Step → List Task
 step_tasks None = []
 step_tasks (Some s) = Write s ∷ []

@@ -75,7 +75,7 @@ pub fn rooms_of(
     Ok(rooms)
 }
 
-/// Adds these for the slots of one format.
+/// Adds the format and the number of samples of each slot of one format.
 fn add_rooms(
     rooms: &mut Vec<(Format, usize)>,
     plan: &Plan,
@@ -117,14 +117,14 @@ fn samples_for(demand: &Demand<'_>, place: usize) -> usize
     most
 }
 
-/// Returns `most`, or the greater of `most` and `samples` if `samples` counts.
+/// Returns the greater of `most` and `samples` if `counts` is true, and `most` if not.
 fn most_of(most: usize, counts: bool, samples: usize) -> usize
     ensures { result ≡ (if counts then max most samples else most) }
 {
     if counts { most.max(samples) } else { most }
 }
 
-/// Returns the number of samples in a band of an image with its halo above and below.
+/// Returns the number of samples in a band of an image, including the halo above and below.
 fn band_samples(size: u16, halo: u16, desc: Desc) -> usize
     ensures { result ≡ band_samples size halo desc }
 {
@@ -146,8 +146,8 @@ fn slot_place(plan: &Plan, format: Format, slot: usize) -> usize
 
 // ---- blocks
 
-/// Makes the list one of blocks, of each of these formats and sizes. On an error, those taken are
-/// given back.
+/// Clears the list and fills it with blocks of these formats and sizes. On an error, the blocks
+/// taken so far are given back.
 pub fn take_blocks(
     blocks: &mut Vec<Block>,
     pool: &mut Pool,

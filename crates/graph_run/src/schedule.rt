@@ -20,8 +20,8 @@ use object_table::Table;
 use std::alloc::{AllocError, Global};
 use vx_base::{Format, ObjRef};
 
-/// What each run of a verified graph needs to know. It is made once, and holds until the graph's
-/// nodes change.
+/// The data that each run of a verified graph needs. They are computed once, and hold until the
+/// graph's nodes change.
 #[derive(Drop)]
 pub struct Schedule {
     /// References to the images of the planes: first the virtual images, then the clients'.

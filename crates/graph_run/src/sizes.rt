@@ -60,7 +60,7 @@ pub fn high_of(table: &Table, images: &[VirtualOutput], clients: &[ObjRef]) -> u
     high
 }
 
-/// Returns the height of the highest virtual image, and at least 1.
+/// Returns the height of the tallest virtual image, and at least 1.
 fn highest_virtual(images: &[VirtualOutput]) -> u16
     ensures some { 0 < result }
     ensures virtuals { All (λ o. o.desc.height ≤ result) images.now }
@@ -95,8 +95,8 @@ pub fn halos_of(
 
 // ---- bands
 
-/// Returns the number of rows of a band. It is `high`, for a single band, if bands gain nothing or
-/// if a step would add to a row twice.
+/// Returns the number of rows of a band. If bands gain nothing, or if a step would add to a row
+/// twice, it is `high`: there is then one band, with all rows.
 pub fn band_size(
     high: u16,
     table: &Table,

@@ -1,4 +1,4 @@
-//! The tallies of a graph: made for objects of a table, and written back to them.
+//! The tallies of a graph. They are created for objects of a table, and written back to them.
 ghost use Rattle.std.specs.Prelude.{◌≡◌, ◌≢◌, ◌∷◌, ◌++◌, [], unwrap_or, IfOk, OnOk};
 ghost use Rattle.vx_base.specs.declared.kind.Kind.TheVariants as kind;
 ghost use Rattle.vx_base.specs.Function.{parameters};
@@ -42,7 +42,7 @@ fn add_cell(cells: &mut Vec<ObjRef>, node: &Node) -> Result<(), AllocError>
     }
 }
 
-/// Replaces the tallies with empty ones, one for each node that writes a histogram or extremes.
+/// Clears the list and adds an empty tally for each node that writes a histogram or extremes.
 pub fn begin_tallies(
     tallies: &mut Vec<Tally>,
     table: &Table,

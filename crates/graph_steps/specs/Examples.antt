@@ -85,10 +85,10 @@ integral_step =
 abbrev pub sums : List Task
 sums = Write integral_step ∷ []
 
--- its planes
+-- the planes of this program
 abbrev pub sums_planes : List PlaneValue
 sums_planes = client_plane ∷ sums_plane ∷ []
 
--- its halos, which are 0
+-- the halos of these planes: an integral image needs none
 abbrev pub sums_halos : List ℕ
 sums_halos = 0 ∷ 0 ∷ []

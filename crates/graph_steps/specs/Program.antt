@@ -44,7 +44,7 @@ AreInOrder (Reduce r ∷ later) = AreInOrder later
 
 -- ---- halos
 
--- the number of rows above and below a band that are needed of a plane
+-- the number of rows of a plane that are needed above a band, and below it
 abbrev pub halo : List ℕ → ℕ → ℕ
 halo halos c = slice_index_or halos c 0
 

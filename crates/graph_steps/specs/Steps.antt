@@ -59,7 +59,7 @@ held_image out = image_over_rows out.desc out.valid out.rows (target_image out).
 abbrev pub step_image : List SecondInput → Step → (ℕ → ImageValue) → ImageValue → ImageValue
 step_image tables s images own = image_from_inputs s (images s.first) (second_in tables images s.second) own
 
--- the step of a node whose inputs are passed to its kernel; its plane indices aren't used
+-- the step of a node whose inputs are passed to its kernel; the step's plane indices aren't used
 abbrev pub lent_step : Node → Output → Step
 lent_step n which = record { node = n; which = which; first = 0; second = Nothing; output = 0; takes = None; radius = 0 }
 

@@ -1,4 +1,4 @@
-//! Halos: the rows above and below a band that are needed of each plane.
+//! Halos: the rows of each plane that are needed above and below a band.
 ghost use Rattle.std.specs.Prelude.{◌≡◌, ◌<◌, ◌≤◌, ◌+◌, ℕ, min, max, length, slice_set};
 ghost use Rattle.graph_steps.specs.declared.step.Step.{Step as StepValue};
 ghost use Rattle.graph_steps.specs.declared.step.Task.TheVariants.{Write};
@@ -52,8 +52,8 @@ fn raise_for(task: &Task, high: u16, halos: &mut [u16])
     }
 }
 
-/// Writes the halo of each plane, from the last task back to the first. No halo exceeds `high`, the
-/// height of the highest image.
+/// Computes the halo of each plane, going from the last task back to the first. No halo exceeds
+/// `high`, the height of the tallest image.
 pub fn find_halos(high: u16, tasks: &[Task], halos: &mut [u16])
     requires order { AreInOrder tasks.now }
     requires reads { (s : StepValue) → IsStepOf s tasks.now → (c : ℕ) → ReadsPlane s c →

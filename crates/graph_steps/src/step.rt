@@ -13,7 +13,7 @@ pub enum Source {
     Nothing,
     /// The plane at this index.
     Plane(usize),
-    /// The table, threshold or matrix at this index of the run's tables.
+    /// The lookup table, threshold or matrix at this index of the run's list of them.
     Table(usize),
 }
 
@@ -55,8 +55,8 @@ fn is_integral(function: Function) -> bool
 }
 
 impl Step {
-    /// Returns the step of a node whose inputs are passed to its kernel. Its plane indices aren't
-    /// used.
+    /// Returns the step of a node whose inputs are passed to its kernel. The step's plane indices
+    /// aren't used.
     pub fn of_lent(node: Node, which: Output) -> Step
         ensures { result ≡ lent_step node which }
     {

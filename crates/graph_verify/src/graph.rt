@@ -47,7 +47,7 @@ impl Model for Graph {
 }
 
 impl Graph {
-    /// Returns a graph without nodes and registered delays. Its first node will get number 1.
+    /// Returns a graph without nodes or registered delays. Its first node will get number 1.
     pub fn new(alloc: Global) -> Graph
         ensures value { result ≡ new_graph }
         ensures graph { IsGraph result }

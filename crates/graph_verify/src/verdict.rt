@@ -17,10 +17,10 @@ use vx_base::{Code, Desc, Format, Function, Node};
 /// Why a graph can't run (OpenVX 1.3, `vxVerifyGraph`).
 #[derive(Clone, Copy, PartialEq, Eq, Debug)]
 pub enum Verdict {
-    /// An object is an output twice.
+    /// Two outputs, of two nodes or of one, are the same object.
     MultipleWriters,
-    /// There is a cycle: nodes each of which writes what the next one reads, and the last what the
-    /// first reads.
+    /// There is a cycle: each of its nodes writes an object that the next one reads, and the last
+    /// one writes an object that the first one reads.
     InvalidGraph,
     /// A node reads a virtual image that no node writes, or accumulates into a virtual image.
     InvalidLink,

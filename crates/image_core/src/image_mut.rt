@@ -17,8 +17,8 @@ use crate::sample::Sample;
 use crate::whole::Whole;
 use vx_base::{Desc, Format, Rect};
 
-/// An output image: the mutably borrowed samples of an image or of a band of its rows. Only the
-/// slice of the image's format is in use, row by row; the other two are empty.
+/// An output image: the mutably borrowed samples of an image or of a band of its rows, in row-major
+/// order. Only the slice of the image's format is used; the other two are empty.
 #[derive(Drop)]
 pub struct ImageMut<'a> {
     pub(crate) desc: Desc,

@@ -30,6 +30,6 @@ three_from row i = (slice_index row i, slice_index row (i + 1), slice_index row 
 abbrev pub nine_from : List ℕ → List ℕ → List ℕ → ℕ → List ℤ
 nine_from above here below i = nine_of (three_from above i) (three_from here i) (three_from below i)
 
--- the second three items minus the first three, with weights 1, 2, 1
+-- the sum of the second three items minus that of the first three, both with weights 1, 2, 1
 abbrev pub change : ℕ × ℕ × ℕ → ℕ × ℕ × ℕ → ℤ
 change from to = (pos to.0 -ℤ pos from.0) +ℤ pos 2 *ℤ (pos to.1 -ℤ pos from.1) +ℤ (pos to.2 -ℤ pos from.2)

@@ -59,8 +59,8 @@ fn extremes_of<T: Compared>(row: &[T]) -> RowExtremes<T>
     }
 }
 
-/// Returns the least and the greatest item of a row, which isn't empty, and the number of items
-/// equal to each.
+/// Returns the least and the greatest item of a non-empty row, and the number of items equal to
+/// each.
 pub fn extremes_u8(row: &[u8]) -> RowExtremes<u8>
     requires some { 0 < length row.now }
     requires room { length row.now < 2 ^ 32 }
@@ -73,8 +73,8 @@ pub fn extremes_u8(row: &[u8]) -> RowExtremes<u8>
     extremes_of(row)
 }
 
-/// Returns the least and the greatest item of a row, which isn't empty, and the number of items
-/// equal to each.
+/// Returns the least and the greatest item of a non-empty row, and the number of items equal to
+/// each.
 pub fn extremes_s16(row: &[i16]) -> RowExtremes<i16>
     requires some { 0 < length row.now }
     requires room { length row.now < 2 ^ 32 }

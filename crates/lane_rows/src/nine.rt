@@ -28,8 +28,7 @@ pub trait OfNine<T: Item> {
 }
 
 impl<'a> Three<'a> {
-    /// Returns the three neighbours from left to right, beginning at each item that has two to its
-    /// right.
+    /// Returns, for each item of a row except the last two, the item and the two to its right.
     fn along(row: &'a [u8]) -> Three<'a>
         requires { 2 ≤ length row.now }
         ensures len { length result.left.now + 2 ≡ length row.now }
@@ -54,7 +53,7 @@ impl<'a> Three<'a> {
 }
 
 impl<'a> Nine<'a> {
-    /// Returns the windows of three rows, whose left columns are those with two to their right.
+    /// Returns the 3 x 3 windows of three rows, one for each column except the last two.
     pub fn around(above: &'a [u8], here: &'a [u8], below: &'a [u8]) -> Nine<'a>
         requires some { 2 ≤ length above.now }
         requires here { length here.now ≡ length above.now }

@@ -1,8 +1,8 @@
 //! Sums of samples times coefficients, by the processor's multiply-and-add instruction.
 //!
 //! The instruction multiplies 16 numbers by 16 others and adds the two products of each pair of
-//! neighbours. With two coefficients in alternation it gives the sums at every second index. The
-//! same from the next index on gives the sums in between.
+//! neighbours. With two alternating coefficients, it gives the sums at every second index. A second
+//! instruction, one index further on, gives the sums at the indices in between.
 ghost use Rattle.std.specs.Prelude.{◌≡◌, ◌+◌, ◌-◌, ◌*◌, ◌<◌, ◌≤◌, ℕ, ℤ, ◌+ℤ◌, ◌*ℤ◌, length};
 ghost use Rattle.std.specs.Prelude.{FitsSigned};
 ghost use Rattle.std.specs.Int.{w16};
@@ -35,7 +35,7 @@ fn pair_products(samples: i16x16, coefficients: i16x16) -> i32x8
 
 /// Returns the sums of two coefficients at eight indices, every second one from `place` on.
 ///
-/// The coefficients are read from a table in here. If they were vectors made before the loop, the
+/// The coefficients are read from a table here. If they were put in vectors before the loop, the
 /// compiler would widen them there, and then need a multiplication for each product.
 fn eight_places(row: &[i16], place: usize, table: &[i16], at: usize) -> i32x8
     requires room { place + 16 ≤ length row.now }
@@ -76,8 +76,8 @@ fn sixteen_places(row: &[i16], place: usize, table: &[i16], at: usize) -> i32x16
     )
 }
 
-/// Returns the sums at 32 indices with those of one matrix row added: at the even indices and at
-/// the odd ones, counted from `place`.
+/// Adds the sums of one matrix row to those at 32 indices. Returns the sums at the even indices and
+/// at the odd ones, counted from `place`.
 pub fn add_row(
     row: &[i16],
     place: usize,

@@ -201,7 +201,7 @@ impl OfThree<i16> for WeightedSumOfThree {
     ghost small = { greatest_addend };
 }
 
-/// The sum of three numbers over 9, rounded down.
+/// A ninth of the sum of three numbers, rounded down.
 #[derive(Drop)]
 pub struct Ninth;
 
@@ -221,7 +221,7 @@ impl OfThree<u8> for Ninth {
     ghost small = { greatest_sum };
 }
 
-/// The sum of three numbers with weights 1, 2, 1, over 16, rounded down.
+/// A sixteenth of the sum of three numbers with weights 1, 2, 1, rounded down.
 #[derive(Drop)]
 pub struct Sixteenth;
 

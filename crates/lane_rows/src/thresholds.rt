@@ -35,15 +35,15 @@ pub trait Tested: Item {
     fn is_at_most(self, other: Self) -> bool
         ensures { result ≡ int_le (Self.value self) (Self.value other) };
 
-    /// Returns `true_value` where an item of 32 is above the limit, and `false_value` elsewhere.
+    /// Returns, for each of 32 items, `true_value` if it is above the limit, else `false_value`.
     fn above(row: &[Self], limit: Self, true_value: u8, false_value: u8) -> u8x32
         requires { length row.now ≡ 32 }
         ensures { map pos result
             ≡ map (threshold_choice (Binary (Self.value limit)) true_value false_value)
             (map Self.value row.now) };
 
-    /// Returns `true_value` where an item of 32 is between the limits or equal to one, and
-    /// `false_value` elsewhere.
+    /// Returns, for each of 32 items, `true_value` if it is between the limits or equal to one of
+    /// them, else `false_value`.
     fn between(row: &[Self], lower: Self, upper: Self, true_value: u8, false_value: u8) -> u8x32
         requires { length row.now ≡ 32 }
         ensures { map pos result ≡ map

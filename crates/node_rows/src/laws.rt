@@ -32,8 +32,8 @@ pub fn results_are_alike()
 {}
 
 /// An output row is decided by the rows of the first input within the vertical radius, whatever the
-/// border and the valid rectangles are. Of a second image, or of the accumulator, the same row
-/// alone counts.
+/// border and the valid rectangles are. A second image, or the accumulator, is read in the same row
+/// only.
 pub fn rows_in_radius_decide()
     ensures { (n : Node) (output : Output) (format : Format) (a b : ImageValue)
         (second other : Option ObjectValue) (rows x y : ℕ) → IsImage a → IfSome second IsObject →

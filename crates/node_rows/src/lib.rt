@@ -1,8 +1,8 @@
 //! The rows of its inputs that a node reads for a row of its output.
 //!
-//! If only a band of an image is available, the output can be computed for the band without its
-//! outer rows: as many at each end as the vertical radius, `window_radius`. A function that reads
-//! all rows has no radius.
+//! An output row depends only on the input rows within the vertical radius, `window_radius`. Given
+//! only a band of the input, the output can be computed for the band except for `window_radius`
+//! rows at each end. A function that reads all rows has no radius.
 //!
 //! - `functions`: the vertical radius of each function
 //! - `laws`: an output row is decided by the input rows within the radius

@@ -25,7 +25,7 @@ use Rattle.vx_base.specs.declared.node.TheConstants.{GREATEST_NODES}
 
 -- ---- the objects of names and references
 
--- the object that is held under a name that has one
+-- the object held under a name, if there is one
 abbrev pub object_under : List NamedObject → ℕ → ObjectValue
 object_under objects name = unwrap_or (object_held objects name) (ImageObject (new_image 0 0 U8))
 
@@ -74,7 +74,7 @@ entries_without_name name entries = map {A = ℕ × Entry} {B = ℕ × Entry} (�
 abbrev pub is_kept : ℕ × Entry → Bool
 is_kept e = e.1.live || nat_lt 0 e.1.uses
 
--- the entries that are still held
+-- the entries that are held
 abbrev pub kept_entries : List (ℕ × Entry) → List (ℕ × Entry)
 kept_entries entries = filter is_kept entries
 

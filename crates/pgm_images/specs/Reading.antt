@@ -9,12 +9,12 @@ use Rattle.pgm_images.specs.Marks.{BeginsWith}
 use Rattle.pgm_images.specs.Header.{HeaderValue, take_header, header_description}
 use Rattle.pgm_images.specs.Raster.{numbers_in, samples_up_to}
 
--- the picture of a description with these samples
+-- the picture with this description and these samples, unless reading the samples failed
 abbrev pub picture_with : Description → Result (List ℤ) PgmFault → Result PictureValue PgmFault
 picture_with d (Ok samples) = Ok (record { description = d; samples = samples })
 picture_with d (Err fault) = Err fault
 
--- the picture that the text after a header encodes, given the header's description or its fault
+-- the picture in the text after a header, or its fault; a fault of the header comes first
 abbrev pub picture_under : HeaderValue → Result Description PgmFault → List ℕ → Result PictureValue PgmFault
 picture_under header (Err fault) text = Err fault
 picture_under header (Ok d) text = picture_with d (samples_up_to header.maxval (numbers_in header.encoding header.maxval (sample_count d) text))

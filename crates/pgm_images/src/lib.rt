@@ -2,18 +2,17 @@
 //!
 //! `read` returns the picture that a text encodes, plain (P2) or raw (P5), or the text's first
 //! fault. `described` returns the format and size alone, and `read_into` writes the samples over
-//! existing ones. `write` returns the raw text of an image of U8, which is read back as the same
-//! picture. `WrittenHeader` is the header of that text alone, for callers that write the samples
-//! themselves.
+//! existing ones. `write` returns a U8 image as a raw text, and `read` returns the same picture
+//! from it. `WrittenHeader` is the header alone, for callers that write the samples themselves.
 //!
-//! Of the definitions, `Grammar` relates texts and the pictures that they encode. `Reading` parses
-//! a text from its front, and computes the picture or the fault. `laws` states that they agree.
+//! There are two definitions of the encoding. `Grammar` relates texts to pictures. `Reading` parses
+//! a text from front to back, and computes the picture or the fault. `laws` proves that they agree.
 //!
 //! - `fault`: why a text could not be read
 //! - `marks`: whitespace, comments and numbers
 //! - `header`: the encoding, the width, the height and the maxval
 //! - `text_sample`: number types of samples
-//! - `block`: many numbers at a time
+//! - `block`: parses many numbers at a time
 //! - `raster`: all samples of a text
 //! - `reading`, `writing`: whole texts
 //! - `laws`, `examples`: what the definitions mean

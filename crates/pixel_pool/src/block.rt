@@ -60,7 +60,7 @@ impl Block {
         self.samples.take()
     }
 
-    /// Puts samples of the block's format into it, after `lift`.
+    /// Puts samples back into the block, after `lift`. They have the block's format.
     pub fn put(&mut self, samples: Samples)
         requires { samples_format samples ≡ samples_format self.old }
         ensures { self.new ≡ samples }

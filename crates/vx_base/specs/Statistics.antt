@@ -47,7 +47,7 @@ bins_of bins offset range = if are_bins bins offset range then Some (record { bi
 abbrev pub bin_of : BinsValue → ℕ → Option ℕ
 bin_of b p = if nat_le b.offset p && nat_lt p (b.offset + b.range) then Some ((p - b.offset) * b.bins / b.range) else None
 
--- whether the bin is bin k
+-- whether there is a bin and its number is k
 abbrev pub is_bin : ℕ → Option ℕ → Bool
 is_bin k None = false
 is_bin k (Some bin) = bin == k

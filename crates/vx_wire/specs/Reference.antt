@@ -4,6 +4,7 @@ use Rattle.std.specs.Int.{w32, to_be_bytes}
 use Rattle.vx_base.specs.Reference.{Reference}
 use Rattle.vx_wire.specs.Fields.{FieldResult, and_then, take_byte, take_long}
 
+-- the slot with this number; 255 means the object itself
 abbrev pub slot_numbered : ℕ → Option ℕ
 slot_numbered n = if n == 255 then None else Some n
 

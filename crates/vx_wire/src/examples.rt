@@ -127,8 +127,8 @@ pub fn images_described()
         ≡ 0 ∷ 1 ∷ 2 ∷ 0 ∷ 1 ∷ 0 ∷ 0 ∷ 0 ∷ 0 ∷ 0 ∷ 0 ∷ 0 ∷ 0 ∷ [] }
 {}
 
-/// Setting the valid rectangle of image 1 to columns 1 and 2 of row 0, or to no pixels; and bounds
-/// that no rectangle has. The bounds are checked only once all four are there.
+/// Setting the valid rectangle of image 1 to columns 1 and 2 of row 0, or to no pixels; and invalid
+/// bounds. The bounds are checked only after all four have been read.
 pub fn valid_rectangles_set()
     ensures set { request_of 9 (0 ∷ 0 ∷ 0 ∷ 1 ∷ 255 ∷ 0 ∷ 1 ∷ 0 ∷ 0 ∷ 0 ∷ 3 ∷ 0 ∷ 1 ∷ [])
         ≡ Ok (SetValid (record { name = 1; slot = None })
@@ -161,7 +161,7 @@ pub fn objects_released()
     ensures with_a_slot { request_of 10 (0 ∷ 0 ∷ 1 ∷ 2 ∷ 255 ∷ []) ≡ Err InvalidParameters }
 {}
 
-/// Tables of formats that no table has, and tables that are cut short.
+/// Lookup tables of an invalid format, and ones that are cut short.
 pub fn tables()
     ensures no_format { request_of 11 (3 ∷ []) ≡ Err InvalidFormat }
     ensures one_entry { request_of 11 (1 ∷ 5 ∷ []) ≡ Err InvalidParameters }
@@ -169,8 +169,7 @@ pub fn tables()
     ensures empty { request_of 11 [] ≡ Err InvalidParameters }
 {}
 
-/// Thresholds for U8 samples above 10 and for S16 samples from -1 to 2; and fields that no
-/// threshold has.
+/// Thresholds for U8 samples above 10 and for S16 samples from -1 to 2; and invalid fields.
 pub fn thresholds()
     ensures binary { request_of 12 (0 ∷ 1 ∷ 0 ∷ 10 ∷ 255 ∷ 0 ∷ [])
         ≡ Ok (CreateThreshold (record {
@@ -197,8 +196,8 @@ pub fn thresholds()
     ensures more { request_of 12 (0 ∷ 1 ∷ 0 ∷ 10 ∷ 255 ∷ 0 ∷ 0 ∷ []) ≡ Err InvalidParameters }
 {}
 
-/// A convolution of 3 columns and 5 rows whose sums are divided by 2^31; and numbers that no
-/// convolution has. The first wrong number decides, even if the coefficients are cut short.
+/// A convolution of 3 columns and 5 rows whose sums are divided by 2^31; and invalid sizes and
+/// exponents. The first of these decides the fault, even if the coefficients are cut short.
 pub fn convolutions()
     ensures made { request_of 13 (3 ∷ 5 ∷ 31 ∷ 0 ∷ 1 ∷ 255 ∷ 254 ∷ 0 ∷ 3 ∷ 0 ∷ 4 ∷ 0 ∷ 5 ∷ 0 ∷ 6 ∷ 0
         ∷ 7 ∷ 0 ∷ 8 ∷ 0 ∷ 9 ∷ 0 ∷ 10 ∷ 0 ∷ 11 ∷ 0 ∷ 12 ∷ 0 ∷ 13 ∷ 127 ∷ 255 ∷ 128 ∷ 0 ∷ [])
@@ -223,8 +222,8 @@ pub fn convolutions()
     ensures empty { request_of 13 [] ≡ Err InvalidParameters }
 {}
 
-/// Distributions of 3 bins from 0 to 255, and of 256 that end above 255; and numbers that no bins
-/// have. The first wrong number decides, even if the next one is cut short.
+/// A distribution of 3 bins over the samples 0 to 255, and one of 256 bins that go beyond 255; and
+/// invalid bins. The first invalid number decides the fault, even if the body ends too early.
 pub fn distributions_made()
     ensures made { request_of 14 (0 ∷ 3 ∷ 0 ∷ 0 ∷ 1 ∷ 0 ∷ [])
         ≡ Ok (CreateDistribution (record { bins = 3; offset = 0; range = 256 })) }
@@ -282,7 +281,7 @@ pub fn graphs_made()
 {}
 
 /// Virtual images of graph 3 with all fields known, none or some; and fields out of range. The
-/// first wrong field decides, even if the next one is cut short.
+/// first invalid field decides the fault, even if the next one is cut short.
 pub fn virtual_images_made()
     ensures known { request_of 19 (0 ∷ 0 ∷ 0 ∷ 3 ∷ 1 ∷ 1 ∷ 2 ∷ 32 ∷ 0 ∷ [])
         ≡ Ok (CreateVirtualImage 3 (record {
@@ -365,8 +364,7 @@ pub fn graphs_verified_and_run()
     ensures run_with_a_slot { request_of 23 (0 ∷ 0 ∷ 1 ∷ 2 ∷ 255 ∷ []) ≡ Err InvalidParameters }
 {}
 
-/// Not of image 1 to image 2; and nodes of Not with an operand that it doesn't have, or without one
-/// that it has.
+/// Not of image 1 to image 2; and nodes of Not with one operand too many or too few.
 pub fn nodes()
     ensures whole { request_of 24 (4 ∷ 0 ∷ 0 ∷ 0 ∷ 0 ∷ 0 ∷ 0 ∷ 0 ∷ 1 ∷ 255 ∷ 0 ∷ 0 ∷ 0 ∷ 0 ∷ 255 ∷ 0
         ∷ 0 ∷ 0 ∷ 2 ∷ 255 ∷ 0 ∷ 0 ∷ 0 ∷ 0 ∷ 255 ∷ [])
@@ -431,7 +429,7 @@ pub fn multiplied()
     ensures too_much_and_cut { request_of 24 (7 ∷ 0 ∷ 0 ∷ 0 ∷ 16 ∷ []) ≡ Err InvalidValue }
 {}
 
-/// Delays of 3 images like image 1, of 1 and of 16; and slot counts that no delay has.
+/// Delays of 3, 1 and 16 images like image 1 or a slot of a delay; and invalid slot counts.
 pub fn delays_made()
     ensures made { request_of 25 (0 ∷ 0 ∷ 0 ∷ 1 ∷ 255 ∷ 3 ∷ [])
         ≡ Ok (CreateDelay (record { name = 1; slot = None }) 3) }

@@ -102,8 +102,8 @@ fn has_constant(border: Border)
     if let Border::Constant(_value) = border {}
 }
 
-/// The number of items of each row that are loaded beyond the columns of a piece. A block of lanes
-/// may begin at the last column, and its windows read that far.
+/// The number of items loaded in each row beyond the columns of a piece. A whole block of lanes
+/// that begins at the last column reads that far.
 const AROUND: usize = 48;
 
 /// A U8 image convolved with a matrix under a border.

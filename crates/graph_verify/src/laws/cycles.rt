@@ -3,13 +3,13 @@ ghost use Rattle.std.specs.Prelude.{◌≡◌, ◌↔◌, Bool, true, false, Lis
 ghost use Rattle.graph_verify.specs.Cycle.{HasCycle, has_cycle};
 ghost use Rattle.graph_verify.specs.Order.{IsOrder};
 
-/// The test finds a cycle if and only if there is one, whatever the nodes are.
+/// `has_cycle` is true if and only if there is a cycle, for nodes of any type.
 pub fn found_cycles<N>()
     ensures { (feeds : N → N → Bool) (nodes : List N) →
         (has_cycle feeds nodes ≡ true) ↔ HasCycle feeds nodes }
 {}
 
-/// Nodes that have an order have no cycle.
+/// If nodes can be put in order, each after those that feed it, they have no cycle.
 pub fn orders<N>()
     ensures { (feeds : N → N → Bool) (nodes steps : List N) → IsOrder feeds nodes steps →
         has_cycle feeds nodes ≡ false }

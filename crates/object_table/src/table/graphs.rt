@@ -100,7 +100,7 @@ impl Table {
         Ok(())
     }
 
-    /// Releases a name; the nodes of a graph that is released no longer use their operands. Objects
+    /// Releases a name. If it is a graph's, the graph's nodes no longer use their operands. Objects
     /// that are then neither named nor used are dropped, and their blocks go back to the pool.
     /// `InvalidReference`: the name isn't live. It allocates nothing.
     pub fn release(&mut self, name: u32, pool: &mut Pool) -> Result<(), TableFault>

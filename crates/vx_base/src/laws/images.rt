@@ -9,13 +9,13 @@ ghost use Rattle.vx_base.specs.Image.{ImageValue, IsImage, band, table, pixel_at
 ghost use Rattle.vx_base.specs.Image.{new_image};
 ghost use Rattle.vx_base.specs.Picture.{PictureValue, IsPicture, picture_of, picture_image};
 
-/// A table has a sample for each pixel.
+/// A table of samples has one for each pixel.
 pub fn table_size()
     ensures { (width height : ℕ) (f : ℕ → ℕ → ℤ) → length (table width height f) ≡ height * width }
 {}
 
-/// An image's samples are the band of all its rows. Two adjacent bands, one after the other, are
-/// the band of the rows of both.
+/// An image's samples are the band of all its rows. Two adjacent bands, concatenated, are the band
+/// that covers both.
 pub fn bands()
     ensures whole { (a : ImageValue) → IsImage a → band a.width 0 a.height (pixel_at a)
         ≡ a.samples }

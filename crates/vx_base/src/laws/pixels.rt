@@ -57,7 +57,7 @@ pub fn conversions_round_down()
         ((int_div_euclid a (pos (2 ^ n)) +ℤ pos 1) *ℤ pos (2 ^ n)) }
 {}
 
-/// Absolute Difference is the distance of two U8 samples. For S16 samples it is at most 32767.
+/// The absolute difference of two U8 samples is their distance. For S16 it is limited to 32,767.
 pub fn absolute_differences()
     ensures bytes { (a b : ℤ) → IsSample U8 a → IsSample U8 b →
         absolute_difference U8 a b ≡ pos (distance a b) }

@@ -17,8 +17,7 @@ use vx_base::ObjRef;
 pub enum Content {
     /// A reply that was computed.
     Made(Reply),
-    /// The reply to ReadImage of this image. It is not copied: the samples of the image itself are
-    /// written.
+    /// The reply to ReadImage of this image. The samples are written from the image without a copy.
     Samples(ObjRef),
     /// The reply to ReadImagePgm of this image, written in the same way.
     Text(ObjRef),

@@ -1,4 +1,4 @@
-//! Answers WriteImage: the samples are read straight into the image's new samples.
+//! Answers WriteImage. The samples are read into a block of the pool, whose memory the image gets.
 ghost use Rattle.std.specs.Prelude.{◌≡◌, ◌<◌, Some, OnOk, IfOk, IfErr};
 ghost use Rattle.client_model.specs.declared.reply.Reply.TheVariants.{Refused};
 ghost use Rattle.vx_requests.specs.declared.serving.answered.Content.TheVariants.{Made};
@@ -21,8 +21,8 @@ const HEAD: usize = 10;
 
 /// Reads the body of a WriteImage, of `count` bytes, and answers its frame.
 ///
-/// The samples are read straight into the image's new samples. The body is skipped if it encodes no
-/// request, if the request is refused, or if no memory can be allocated for the samples.
+/// The body is skipped if it encodes no request, if the request is refused, or if no memory can be
+/// allocated for the samples.
 pub fn answer_write_image<S: Source>(
     reader: &mut Reader<S>,
     runtime: &mut Runtime,

@@ -1,4 +1,4 @@
-//! Std's readers as sources.
+//! Sources that read from a reader of the standard library.
 ghost use Rattle.std.specs.Prelude.{◌≡◌};
 ghost use Rattle.vx_requests.specs.Stream.FromRead.{reader_of};
 

@@ -1,4 +1,4 @@
-//! Std's writers as sinks.
+//! Sinks that write to a writer of the standard library.
 ghost use Rattle.std.specs.Prelude.{◌≡◌};
 ghost use Rattle.vx_requests.specs.Stream.FromWrite.{writer_of};
 

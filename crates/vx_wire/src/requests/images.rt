@@ -54,7 +54,7 @@ pub fn write_image(alloc: Global, body: &[u8]) -> Result<Request, ParseFault>
 
 /// Parses the first ten bytes of the body of WriteImage: a reference, and the description of the
 /// picture. `rest` is the number of bytes that follow. `InvalidParameters`: it isn't the number
-/// that the description requires. The values of these bytes don't matter.
+/// that the description requires. Any values of these bytes are valid samples.
 pub fn take_image_head(head: &[u8; 10], rest: usize) -> Result<(ObjRef, Desc), BodyFault>
     ensures ok { IfOk result (λ found. (samples : List ℕ) → length samples ≡ rest →
         write_image_in (head.now ++ samples) ≡ Ok (write_image_of found.0 found.1 samples)) }
