@@ -57,11 +57,12 @@ abbrev pub virtual_plane : Description → Samples → PlaneValue
 virtual_plane d block =
     record { desc = d; valid = empty_rectangle; top = 0; rows = all_rows 0; format = samples_format block; samples = values block }
 
--- the plane with another block, which begins with row `top`; and without a block
+-- the plane with another block, which begins with row `top`
 abbrev pub with_block : Format → List ℤ → ℕ → PlaneValue → PlaneValue
 with_block format samples top p =
     record { desc = p.desc; valid = empty_rectangle; top = top; rows = p.rows; format = format; samples = samples }
 
+-- the plane once its block is taken away
 abbrev pub without_block : PlaneValue → PlaneValue
 without_block p = record p { samples = [] }
 
@@ -72,13 +73,15 @@ abbrev pub no_plane : PlaneValue
 no_plane =
     record { desc = record { width = 0; height = 0; format = U8 }; valid = empty_rectangle; top = 0; rows = all_rows 0; format = U8; samples = [] }
 
--- the plane at an index, the image that a step reads there, and the image of its block
+-- the plane at an index
 abbrev pub plane : List PlaneValue → ℕ → PlaneValue
 plane planes c = slice_index_or planes c no_plane
 
+-- the image that a step reads in each plane
 abbrev pub read_images : List PlaneValue → ℕ → ImageValue
 read_images planes c = plane_image (plane planes c)
 
+-- the image in each plane's block
 abbrev pub block_images : List PlaneValue → ℕ → ImageValue
 block_images planes c = block_image (plane planes c)
 

@@ -63,11 +63,12 @@ IsUnread tasks c = (s : Step) → IsStepOf s tasks → ReadsPlane s c → ⊥
 abbrev pub band_rows : List PlaneValue → List ℕ → Band → ℕ → Band
 band_rows planes halos rows c = with_halo (halo halos c) (plane planes c).desc.height rows
 
--- the planes after a task on a band, and after all tasks
+-- the planes after a task on a band
 abbrev pub after_task : List SecondInput → List ℕ → Band → Task → List PlaneValue → List PlaneValue
 after_task tables halos rows (Write s) planes = after_step tables s (band_rows planes halos rows s.output) planes
 after_task tables halos rows (Reduce r) planes = planes
 
+-- the planes after all tasks on a band, in order
 abbrev pub after_tasks : List SecondInput → List ℕ → Band → List Task → List PlaneValue → List PlaneValue
 after_tasks tables halos rows [] planes = planes
 after_tasks tables halos rows (t ∷ later) planes = after_tasks tables halos rows later (after_task tables halos rows t planes)

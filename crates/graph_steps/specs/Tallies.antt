@@ -71,11 +71,12 @@ abbrev pub after_reduction : Band → List PlaneValue → Reduction → List Tal
 after_reduction rows planes r tallies =
     slice_set tallies r.tally (with_rows_added (with_halo 0 (plane planes r.input).desc.height rows) (plane_image (plane planes r.input)) (tally_at tallies r.tally))
 
--- the tallies after a task on a band, and after all tasks
+-- the tallies after a task on a band
 abbrev pub tallies_after : Band → Task → List PlaneValue → List Tally → List Tally
 tallies_after rows (Write s) planes tallies = tallies
 tallies_after rows (Reduce r) planes tallies = after_reduction rows planes r tallies
 
+-- the tallies after all tasks on a band, in order
 abbrev pub all_tallies_after : List SecondInput → List ℕ → Band → List Task → List PlaneValue → List Tally → List Tally
 all_tallies_after tables halos rows [] planes tallies = tallies
 all_tallies_after tables halos rows (t ∷ later) planes tallies =

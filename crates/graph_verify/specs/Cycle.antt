@@ -28,6 +28,7 @@ abbrev pub left_after : {N : Type 0} → (N → N → Bool) → ℕ → List N �
 left_after feeds zero g = g
 left_after feeds (suc k) g = left_after feeds k (fed_nodes feeds g)
 
+-- whether a list is empty
 abbrev pub is_empty : {N : Type 0} → List N → Bool
 is_empty [] = true
 is_empty (x ∷ xs) = false

@@ -26,19 +26,23 @@ node_to function policy input second output =
       out2 = None;
     }
 
--- nodes with operands of these names: Bitwise Not, Bitwise And, Add, Convert Bit Depth and Accumulate
+-- Bitwise Not of an image; in this and the next definitions the numbers are the names of the operands
 abbrev pub not_to : ℕ → ℕ → Node
 not_to input output = node_to NotBits Wrap input None output
 
+-- Bitwise And of two images
 abbrev pub and_to : ℕ → ℕ → ℕ → Node
 and_to input second output = node_to AndBits Wrap input (Some (reference_to second)) output
 
+-- Add of two images, with Wrap
 abbrev pub adds : ℕ → ℕ → ℕ → Node
 adds input second output = node_to Add Wrap input (Some (reference_to second)) output
 
+-- Convert Bit Depth, with Saturate and without a shift
 abbrev pub convert_to : ℕ → ℕ → Node
 convert_to input output = node_to ConvertDepth Saturate input None output
 
+-- Accumulate of an image
 abbrev pub accumulate_to : ℕ → ℕ → Node
 accumulate_to input output = node_to Accumulate Wrap input None output
 

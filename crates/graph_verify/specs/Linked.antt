@@ -29,6 +29,7 @@ given_unwritten nodes cell operand = false
 abbrev pub reads_unwritten_virtual : List Node → Linked → Bool
 reads_unwritten_virtual nodes l = lacks_writer nodes l.node.in1 l.operands.in1 || given_unwritten nodes l.node.in2 l.operands.in2
 
+-- whether an operand, if it is given, is a virtual image
 abbrev pub is_given_virtual : Option Operand → Bool
 is_given_virtual None = false
 is_given_virtual (Some operand) = is_virtual operand

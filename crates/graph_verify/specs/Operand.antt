@@ -26,6 +26,7 @@ operand_of (ExtremesObject extremes) = Extremes
 operand_of (GraphObject graph) = Graph
 operand_of (VirtualObject image) = Virtual image.declared
 
+-- the kind of an operand
 abbrev pub operand_kind : Operand → Kind
 operand_kind (Image d) = kind.Image
 operand_kind (Lut format) = kind.Lut

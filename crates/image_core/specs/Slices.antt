@@ -5,6 +5,7 @@ use Rattle.vx_base.specs.declared.format.Format.TheVariants as format
 use Rattle.image_core.specs.declared.slice.Slice.{Slice}
 use Rattle.image_core.specs.declared.slice.Slice.TheVariants.{U8, S16, U32}
 
+-- the format of the samples in a slice
 abbrev pub slice_format : Slice → Format
 slice_format (U8 samples) = format.U8
 slice_format (S16 samples) = format.S16

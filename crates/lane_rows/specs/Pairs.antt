@@ -33,10 +33,11 @@ sum_of_first (suc n) g = sum_of_first n g +ℤ g n
 abbrev pub pair_at : List ℤ → ℤ → ℤ → ℕ → ℤ
 pair_at row a b p = slice_index_or row p (pos 0) *ℤ a +ℤ slice_index_or row (p + 1) (pos 0) *ℤ b
 
--- the first and the second coefficient of pair j of a table, which holds each pair eight times
+-- the first coefficient of pair j of a table, which holds each pair eight times
 abbrev pub first_of_pair : List ℤ → ℕ → ℤ
 first_of_pair table j = slice_index_or table (16 * j) (pos 0)
 
+-- the second coefficient of pair j
 abbrev pub second_of_pair : List ℤ → ℕ → ℤ
 second_of_pair table j = slice_index_or table (16 * j + 1) (pos 0)
 

@@ -19,18 +19,22 @@ module _ (lo : ℕ → ℕ → ℕ) (op : ℤ → ℤ → ℤ) (as_number : (x y
       ∙ ap pos (one_after_another (lo (lo (lo (lo (lo a b) c) d) e) f) g h i)
       ∙ numbers a b c d e f g h i
 
+-- the smaller of two natural numbers, as an integer
 pub lesser_number : (x y : ℕ) → pos (min x y) ≡ int_min (pos x) (pos y)
 lesser_number x y = grind arith
 
+-- the greater of two natural numbers, as an integer
 pub greater_number : (x y : ℕ) → pos (max x y) ≡ int_max (pos x) (pos y)
 greater_number x y = grind arith
 
+-- the least of nine, row by row, is the least of all
 pub least_is_least : (a b c d e f g h i : ℕ) → pos (chosen_of_nine min a b c d e f g h i) ≡ least_of (pos a ∷ pos b ∷ pos c ∷ pos d ∷ pos e ∷ pos f ∷ pos g ∷ pos h ∷ pos i ∷ [])
 least_is_least = by_rows min int_min lesser_number assoc
   where
     assoc : (x y z : ℕ) → min x (min y z) ≡ min (min x y) z
     assoc x y z = grind arith
 
+-- the greatest of nine, row by row, is the greatest of all
 pub greatest_is_greatest : (a b c d e f g h i : ℕ) → pos (chosen_of_nine max a b c d e f g h i) ≡ greatest_of (pos a ∷ pos b ∷ pos c ∷ pos d ∷ pos e ∷ pos f ∷ pos g ∷ pos h ∷ pos i ∷ [])
 greatest_is_greatest = by_rows max int_max greater_number assoc
   where

@@ -38,6 +38,7 @@ take_numbers encoding text =
     then_take (take_next text) (λ width rest. then_take (take_next rest) (λ height rest. then_take (take_next rest) (λ maxval rest.
     option_map (λ rest. (record { encoding = encoding; width = width; height = height; maxval = maxval }, rest)) (past_header encoding rest))))
 
+-- the header that a text begins with: a magic number, then width, height and maxval
 abbrev pub take_header : List ℕ → BeginsWith HeaderValue
 take_header text = then_take (take_magic text) take_numbers
 

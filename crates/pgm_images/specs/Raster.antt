@@ -8,17 +8,20 @@ use Rattle.pgm_images.specs.declared.header.Encoding.{Encoding}
 use Rattle.pgm_images.specs.declared.header.Encoding.TheVariants.{Plain, Raw}
 use Rattle.pgm_images.specs.Marks.{BeginsWith, then_take, take_next, ends}
 
--- a sample of a raw text: a byte where none is above 255, else two, the most significant first
+-- a raster sample of one byte
 abbrev pub take_short_sample : List ℕ → BeginsWith ℕ
 take_short_sample [] = None
 take_short_sample (a ∷ text) = Some (a, text)
 
+-- a raster sample of two bytes, the more significant first
 abbrev pub take_long_sample : List ℕ → BeginsWith ℕ
 take_long_sample text = then_take (take_short_sample text) (λ a rest. then_take (take_short_sample rest) (λ b rest. Some (256 * a + b, rest)))
 
+-- a raster sample: one byte if the maxval is below 256, else two
 abbrev pub take_raw : (maxval : ℕ) → List ℕ → BeginsWith ℕ
 take_raw maxval text = if nat_lt maxval 256 then take_short_sample text else take_long_sample text
 
+-- whether the text has ended
 abbrev pub nothing_left : List ℕ → Bool
 nothing_left [] = true
 nothing_left (b ∷ text) = false
@@ -35,6 +38,7 @@ abbrev pub numbers_in : Encoding → (maxval count : ℕ) → List ℕ → Optio
 numbers_in Plain maxval count text = take_count take_next ends count text
 numbers_in Raw maxval count text = take_count (take_raw maxval) nothing_left count text
 
+-- whether all numbers are at most the maxval
 abbrev pub all_up_to : ℕ → List ℕ → Bool
 all_up_to maxval numbers = list_all (λ n. nat_le n maxval) numbers
 

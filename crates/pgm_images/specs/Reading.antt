@@ -19,6 +19,7 @@ abbrev pub picture_under : HeaderValue → Result Description PgmFault → List 
 picture_under header (Err fault) text = Err fault
 picture_under header (Ok d) text = picture_with d (samples_up_to header.maxval (numbers_in header.encoding header.maxval (sample_count d) text))
 
+-- the picture of a text whose header was taken, or the first fault; without a header InvalidFormat
 abbrev pub picture_after : BeginsWith HeaderValue → Result PictureValue PgmFault
 picture_after None = Err InvalidFormat
 picture_after (Some taken) = picture_under taken.0 (header_description taken.0.width taken.0.height taken.0.maxval) taken.1
@@ -27,6 +28,7 @@ picture_after (Some taken) = picture_under taken.0 (header_description taken.0.w
 abbrev pub read_result : List ℕ → Result PictureValue PgmFault
 read_result text = picture_after (take_header text)
 
+-- the fault of a result, if it has one
 abbrev pub fault_of : Result PictureValue PgmFault → Option PgmFault
 fault_of (Ok p) = None
 fault_of (Err fault) = Some fault
@@ -35,6 +37,7 @@ fault_of (Err fault) = Some fault
 abbrev pub fault : List ℕ → Option PgmFault
 fault text = fault_of (read_result text)
 
+-- the description that a header gives, or the header's fault; without a header InvalidFormat
 abbrev pub description_after : BeginsWith HeaderValue → Result Description PgmFault
 description_after None = Err InvalidFormat
 description_after (Some taken) = header_description taken.0.width taken.0.height taken.0.maxval

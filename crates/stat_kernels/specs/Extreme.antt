@@ -63,6 +63,7 @@ extremes_of f =
 abbrev pub shift_down : ℕ → Extreme → Extreme
 shift_down down l = record l { at = (l.at.0, l.at.1 + down) }
 
+-- both extremes with their pixels `down` rows lower
 abbrev pub shift_found : ℕ → Found → Found
 shift_found down f = record { least = shift_down down f.least; greatest = shift_down down f.greatest }
 

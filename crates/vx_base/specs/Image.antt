@@ -30,6 +30,7 @@ pub record ImageValue : Type 0 where
   pub valid : Rectangle
   pub samples : List ℤ
 
+-- the description of an image: its size and format
 abbrev pub description_of : ImageValue → Description
 description_of image = record { width = image.width; height = image.height; format = image.format }
 

@@ -24,6 +24,7 @@ is_named (Some cell) = not (is_nothing cell)
 abbrev pub all_named : Node → Bool
 all_named n = not (is_nothing n.in1) && (is_named n.in2 && (is_named n.out1 && is_named n.out2))
 
+-- whether the policy is Wrap
 abbrev pub is_wrap : Policy → Bool
 is_wrap Wrap = true
 is_wrap Saturate = false

@@ -34,6 +34,7 @@ pub data ObjectValue : Type 0 where
   GraphObject : GraphValue → ObjectValue
   VirtualObject : VirtualImage → ObjectValue
 
+-- whether two kinds are equal
 abbrev pub same_kind : Kind → Kind → Bool
 same_kind kind.Image kind.Image = true
 same_kind kind.Lut kind.Lut = true
@@ -46,6 +47,7 @@ same_kind kind.Graph kind.Graph = true
 same_kind kind.VirtualImage kind.VirtualImage = true
 same_kind a b = false
 
+-- the kind of an object
 abbrev pub object_kind : ObjectValue → Kind
 object_kind (ImageObject image) = kind.Image
 object_kind (LutObject lut) = kind.Lut

@@ -47,10 +47,11 @@ product format policy n a b = narrow format policy (int_div (a *ℤ b) (pos (2 ^
 abbrev pub absolute_difference : Format → ℤ → ℤ → ℤ
 absolute_difference format a b = clamp format (pos (distance a b))
 
--- "Min" and "Max": the smaller and the greater of the two
+-- "Min": the smaller of two samples
 abbrev pub smaller : ℤ → ℤ → ℤ
 smaller a b = int_min a b
 
+-- "Max": the greater of two samples
 abbrev pub greater : ℤ → ℤ → ℤ
 greater a b = int_max a b
 

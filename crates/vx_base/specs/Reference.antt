@@ -10,11 +10,13 @@ pub record Reference : Type 0 where
 abbrev pub reference_to : ℕ → Reference
 reference_to name = record { name = name; slot = None }
 
+-- whether two slots of references are equal; None is no slot
 abbrev pub same_slot : Option ℕ → Option ℕ → Bool
 same_slot None None = true
 same_slot (Some j) (Some k) = j == k
 same_slot j k = false
 
+-- whether two references are equal
 abbrev pub same_reference : Reference → Reference → Bool
 same_reference a b = (a.name == b.name) && same_slot a.slot b.slot
 

@@ -12,6 +12,7 @@ sample_bytes U8 = 1
 sample_bytes S16 = 2
 sample_bytes U32 = 4
 
+-- whether two formats are equal
 abbrev pub same_format : Format → Format → Bool
 same_format U8 U8 = true
 same_format S16 S16 = true
@@ -24,12 +25,13 @@ range_size U8 = 256
 range_size S16 = 65536
 range_size U32 = 4294967296
 
--- the least and the greatest sample
+-- the least sample of a format
 abbrev pub min_sample : Format → ℤ
 min_sample U8 = pos 0
 min_sample S16 = negsuc 32767
 min_sample U32 = pos 0
 
+-- the greatest sample of a format
 abbrev pub max_sample : Format → ℤ
 max_sample U8 = pos 255
 max_sample S16 = pos 32767
