@@ -30,8 +30,8 @@ class TestDefinitions(unittest.TestCase):
         self.assertEqual(list(definitions.faults(twice[:1] * 2)), [])
 
     def test_a_definition_without_a_comment_is_found(self):
-        text = ("-- One line on the file.\nuse A.{b}\n\npub mod c\n\n-- a\nabbrev pub d : N\nd = 1\n"
-                "abbrev pub e : N\n\n-- ---- part\n\npub record F : Type 0 where\n"
+        text = ("-- One line on the file.\nuse A.{b}\n\npub mod c\n\n-- a\nabbrev pub d : N\n"
+                "d = 1\nabbrev pub e : N\n\n-- ---- part\n\npub record F : Type 0 where\n"
                 "-- all\n\nabbrev pub g : N\n")
         self.assertEqual(list(definitions.uncommented(text)), [(9, "e"), (13, "F"), (16, "g")])
 
