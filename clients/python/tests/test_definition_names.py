@@ -1,4 +1,4 @@
-"""tools/check_documents finds definitions whose names say too little, or are defined twice."""
+"""tools/check_documents finds definitions whose names say too little, or that lack a comment."""
 
 import unittest
 
@@ -28,6 +28,12 @@ class TestDefinitions(unittest.TestCase):
         self.assertEqual([path for path, _, _ in definitions.faults(twice)],
                          ["crates/b/specs/B.antt"])
         self.assertEqual(list(definitions.faults(twice[:1] * 2)), [])
+
+    def test_a_definition_without_a_comment_is_found(self):
+        text = ("-- One line on the file.\nuse A.{b}\n\npub mod c\n\n-- a\nabbrev pub d : N\n"
+                "d = 1\nabbrev pub e : N\n\n-- ---- part\n\npub record F : Type 0 where\n"
+                "-- all\n\nabbrev pub g : N\n")
+        self.assertEqual(list(definitions.uncommented(text)), [(9, "e"), (13, "F"), (16, "g")])
 
     def test_the_definitions_of_the_repository_are_read(self):
         defined = list(definitions.definitions())

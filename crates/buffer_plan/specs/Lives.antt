@@ -17,7 +17,7 @@ is_node_operand nodes cell = list_any (λ n. reads n cell || writes n cell) node
 abbrev pub is_live : List Node → Reference → ℕ → Bool
 is_live steps cell step = is_written (take step steps) cell && is_node_operand (drop (step - 1) steps) cell
 
--- ---- lives as they are computed
+-- ---- the lives that the planner computes
 
 -- whether a step is within a life
 abbrev pub is_in : ℕ → Life → Bool

@@ -1,4 +1,4 @@
--- The assignment of images to slots, as it is computed.
+-- The assignment of images to slots that the planner computes.
 use Rattle.std.specs.Prelude.{◌≡◌, ◌≢◌, ℕ, ◌<◌, ◌≤◌, ◌==◌, ◌⊎◌, List, [], ◌∷◌, ◌++◌, length, map, find, slice_index, slice_index_or, slice_set, Option, Some, None, true}
 use Rattle.std.specs.List.{filter}
 use Rattle.std.specs.Option.{option_map}

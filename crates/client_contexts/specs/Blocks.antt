@@ -1,4 +1,4 @@
--- The number of blocks of the pool that hold samples of the clients' images.
+-- The blocks of the pool that hold samples of the clients' images.
 use Rattle.std.specs.Prelude.{ℕ, ◌≡◌, List, sum_by, All}
 use Rattle.std.specs.Map.{values_of}
 use Rattle.vx_base.specs.declared.format.Format.{Format}

@@ -1,4 +1,4 @@
--- Graphs that are kept as verified.
+-- The cache of verified graphs.
 use Rattle.std.specs.Prelude.{ℕ, ◌≡◌, ◌<◌, ◌==◌, ◌⊎◌, Bool, true, false, List, map, All, Option, Some, None, IfSome, Result, Ok, OnErr}
 use Rattle.std.specs.BTreeMap.{is_at}
 use Rattle.std.specs.Map.{lookup, remove_entry}
@@ -21,7 +21,7 @@ use Rattle.client_model.specs.States.{changes_nodes}
 use Rattle.client_contexts.specs.declared.kept.KeptGraph.{KeptGraph}
 use Rattle.client_contexts.specs.declared.memory.NoMemory.{NoMemory}
 
--- What is kept under a name is a verification of the graph that has the name now, and nothing refuses this graph within the quota of
+-- The entry of a name is a verification of the graph that has the name now, and nothing refuses this graph within the quota of
 -- work bytes. The plan gives slots to the virtual images along the order of the nodes. The schedule is one of a run on the objects that
 -- the nodes name.
 pub record IsKept (c : Context) (name : ℕ) (k : KeptGraph) : Type 0 where
@@ -31,7 +31,7 @@ pub record IsKept (c : Context) (name : ℕ) (k : KeptGraph) : Type 0 where
   pub schedule : IfSome (object_held c.objects name) (λ object. IsSchedule c.objects k.verified (plan_view k.plan) k.schedule)
   pub allowed : IfSome (object_held c.objects name) (λ object. verdict k.work (operand_held c.objects) (nodes_in object) ≡ None)
 
--- the same of each graph that is kept
+-- each entry of the cache is a valid verification
 abbrev pub AreKept : Context → List (ℕ × KeptGraph) → Type 0
 AreKept c kept = All (λ k. IsKept c k.0 k.1) kept
 
@@ -52,7 +52,7 @@ forgotten_by (RemoveNode graph number) kept = remove_entry (is_at (nat_cmp graph
 forgotten_by (Release name) kept = remove_entry (is_at (nat_cmp name)) kept
 forgotten_by other kept = kept
 
--- ---- what shows of it
+-- ---- the visible part of the cache
 
 -- the names of the kept graphs, each with the quota of work bytes with which it was verified
 abbrev pub verified_in : List (ℕ × KeptGraph) → List (ℕ × ℕ)
@@ -66,7 +66,7 @@ IsKeptWithin work graph verified = lookup (is_at (nat_cmp graph)) verified ≡ S
 abbrev pub StayKept : ℕ → List (ℕ × ℕ) → List (ℕ × ℕ) → Type 0
 StayKept work old new = (graph : ℕ) → IsKeptWithin work graph old → IsKeptWithin work graph new
 
--- whether a request, if it is done, ends what is kept of a graph: it changes the graph's nodes, or ends its name or its context
+-- whether a request, if it is done, drops a graph from the cache: it changes the graph's nodes, or ends its name or its context
 abbrev pub ends_verification : Request → ℕ → Bool
 ends_verification ReleaseContext name = true
 ends_verification (Release released) name = released == name

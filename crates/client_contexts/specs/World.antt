@@ -1,4 +1,4 @@
--- All clients: their open contexts, and their graphs that are kept as verified.
+-- All clients: their open contexts, and their caches of verified graphs.
 use Rattle.std.specs.Prelude.{ℕ, List, [], unwrap_or}
 use Rattle.std.specs.BTreeMap.{is_at}
 use Rattle.std.specs.Map.{lookup}

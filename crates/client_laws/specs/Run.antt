@@ -1,4 +1,4 @@
--- The result of ProcessGraph, defined by the graph and not by how it runs. OpenVX 1.3, "Graphs", vxProcessGraph.
+-- The result of ProcessGraph, defined by the graph alone. OpenVX 1.3, "Graphs", vxProcessGraph.
 use Rattle.std.specs.Prelude.{ℕ, ◌≡◌, List, map, Ok}
 use Rattle.vx_base.specs.declared.node.Node.{Node}
 use Rattle.vx_base.specs.Graph.{GraphValue, nodes_of}
@@ -28,7 +28,8 @@ pub record IsTheRun (nodes : List Node) (before later : List NamedObject) : Type
   pub in_order : (steps : List Node) → IsOrder feeds nodes steps → one_by_one steps (at_begin nodes before) ≡ at_end
   pub left : later ≡ objects_at_end before at_end
 
--- the context after a run of the graph with this name: the objects after the run, with each registered delay aged; the next name is unchanged
+-- the context after a run of the graph with this name: the objects after the run, with each registered delay aged; the next name is
+-- unchanged
 pub record IsRunOf (name : ℕ) (c later : Context) : Type 0 where
   pub graph : GraphValue
   pub named : graph_named c.objects name ≡ Ok graph

@@ -1,4 +1,4 @@
--- The reply to one client, and the client's new state: the whole meaning of the requests.
+-- The meaning of every request: the reply to a client, and the client's new state.
 use Rattle.std.specs.Prelude.{Some, None, Ok, Err}
 use Rattle.vx_base.specs.declared.code.Code.TheVariants as code
 use Rattle.vx_base.specs.Object.{LutObject, ThresholdObject, ConvolutionObject, DistributionObject, ExtremesObject, GraphObject, new_distribution, no_extremes}

@@ -1,4 +1,4 @@
--- One client's state.
+-- The state of a client.
 use Rattle.std.specs.Prelude.{ℕ, ◌+◌, Bool, ◌&&◌, nat_le, Option}
 use Rattle.object_table.specs.Context.{Context, charge_of, can_insert}
 use Rattle.client_model.specs.Limits.{LimitsValue}

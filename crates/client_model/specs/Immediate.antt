@@ -1,4 +1,4 @@
--- A node that runs by itself. OpenVX 1.3, "Graphs", immediate mode.
+-- Immediate, which runs a single node. OpenVX 1.3, "Graphs", immediate mode.
 use Rattle.std.specs.Prelude.{Bool, false, if◌then◌else◌, List, Option, Some, None}
 use Rattle.std.specs.List.{list_any}
 use Rattle.std.specs.Option.{option_map, option_and_then, option_or}
@@ -24,6 +24,7 @@ use Rattle.client_model.specs.Operands.{operands_refusal}
 abbrev pub operand_in : List NamedObject → Reference → Option Operand
 operand_in objects cell = option_map operand_of (object_at objects cell)
 
+-- the operand that a reference of a node names, if the reference is given
 abbrev pub operand_if : List NamedObject → Option Reference → Option Operand
 operand_if objects cell = option_and_then (operand_in objects) cell
 

@@ -1,4 +1,4 @@
--- Requests on objects of any kind.
+-- Requests on objects of any kind. OpenVX 1.3, "Object: Reference", vxReleaseReference.
 use Rattle.std.specs.Prelude.{ℕ, is_none, Some, Ok, Err, if◌then◌else◌}
 use Rattle.client_model.specs.declared.refusal.Refusal.TheVariants.{InvalidReference}
 use Rattle.client_model.specs.declared.reply.Reply.TheVariants.{Empty}

@@ -1,4 +1,4 @@
--- The objects that references and the operands of nodes name.
+-- The objects that references name, and the refusals of operands.
 use Rattle.std.specs.Prelude.{ℕ, ◌==◌, Bool, true, false, not, List, Option, Some, None, is_none, Result, Ok, Err, if◌then◌else◌}
 use Rattle.std.specs.List.{list_any}
 use Rattle.std.specs.Option.{option_and_then}
@@ -26,6 +26,7 @@ abbrev pub stands_for : Kind → Kind → Bool
 stands_for kind.VirtualImage kind.Image = true
 stands_for kind wanted = same_kind wanted kind
 
+-- whether a reference has a kind that is accepted as the expected one
 abbrev pub is_kind : Kind → Option Kind → Bool
 is_kind wanted None = false
 is_kind wanted (Some kind) = stands_for kind wanted

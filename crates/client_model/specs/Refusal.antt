@@ -1,4 +1,4 @@
--- Why a request is refused. A refused request changes nothing.
+-- Refusals of requests. A refused request changes nothing.
 use Rattle.std.specs.Prelude.{Option, Some, None, Result, Ok, Err}
 use Rattle.vx_base.specs.declared.code.Code.{Code}
 use Rattle.vx_base.specs.declared.code.Code.TheVariants as code

@@ -1,4 +1,4 @@
--- Clients' requests.
+-- The requests of clients.
 use Rattle.std.specs.Prelude.{⊤, IsTrue, ◌<◌, ◌^◌, All}
 use Rattle.vx_base.specs.Reference.{IsReference}
 use Rattle.vx_base.specs.Description.{IsDescription}

@@ -1,4 +1,4 @@
--- The states that a client can be in.
+-- The states of a client: their invariant, and the effect of requests on them.
 use Rattle.std.specs.Prelude.{ℕ, ◌≡◌, ◌≢◌, ◌<◌, ◌≤◌, ◌==◌, Bool, false, not, ◌&&◌, IsTrue, Option, Some, IfSome, List, [], ◌∷◌, length, map, All}
 use Rattle.std.specs.Option.{option_map, option_and_then}
 use Rattle.std.specs.List.Sorted.{IsStrictlyIncreasing}

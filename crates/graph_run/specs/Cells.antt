@@ -14,27 +14,30 @@ abbrev pub image_given : Kind → Option Reference → List Reference
 image_given kind.Image cell = optional_cells cell
 image_given other cell = []
 
--- references to the images that a node reads or writes, and that several nodes do
+-- references to the images that a node reads or writes
 abbrev pub node_images : Node → List Reference
 node_images n =
     n.in1 ∷ (image_given (second_kind n) n.in2
     ++ (image_given (parameters n.function).output n.out1 ++ image_given (parameters n.function).output n.out2))
 
+-- references to the images that nodes read or write, in the order of the nodes
 abbrev pub images_named : List Node → List Reference
 images_named nodes = flat_map node_images nodes
 
--- the list with one more reference, or several more, unless they are in it
+-- the list with this reference appended, unless it has it
 abbrev pub with_cell : List Reference → Reference → List Reference
 with_cell cells c = if list_any (λ d. same_reference d c) cells then cells else cells ++ c ∷ []
 
+-- the list with each of these references appended, unless it has it
 abbrev pub with_cells : List Reference → List Reference → List Reference
 with_cells cells [] = cells
 with_cells cells (c ∷ more) = with_cells (with_cell cells c) more
 
--- references to the virtual images that a verified graph writes, and to all of its images
+-- references to the virtual images that a verified graph writes
 abbrev pub virtual_cells : Verified → List Reference
 virtual_cells v = map (λ o. o.cell) v.virtual_outputs.items
 
+-- references to all images of a verified graph: its virtual images, then the clients' images
 abbrev pub cells_of : Verified → List Reference
 cells_of v = with_cells (virtual_cells v) (images_named v.steps.items)
 

@@ -10,7 +10,7 @@ use Rattle.object_table.specs.Uses.{nodes_in}
 abbrev pub lasting_part : ObjectValue → ObjectValue × List Node
 lasting_part object = (skeleton object, nodes_in object)
 
--- the same with the object's name, and whether that is live
+-- the part of a named object that writes don't change, with its name and whether that is live
 abbrev pub lasting_named : NamedObject → NamedObject × List Node
 lasting_named o = (record o { object = skeleton o.object }, nodes_in o.object)
 

@@ -54,7 +54,7 @@ tables_of objects nodes = map (node_table objects) nodes
 abbrev pub node_radius : List NamedObject → Node → Option ℕ
 node_radius objects n = step_radius n.function (matrix_in (option_and_then (object_at objects) n.in2))
 
--- the same for images of at most this height
+-- a node's radius in images of at most this height, which is the height if the node reads all rows
 abbrev pub radius_of : List NamedObject → ℕ → Node → ℕ
 radius_of objects high n = unwrap_or (node_radius objects n) high
 

@@ -24,10 +24,11 @@ use Rattle.graph_run.specs.Operands.{operand_held}
 
 -- ---- images
 
--- the objects at the start of a run, and at its end before virtual images are restored
+-- the objects at the start of a run
 abbrev pub first_objects : List NamedObject → List Node → List NamedObject
 first_objects objects nodes = map (named_at_start (resolved_operand (operand_held objects) nodes) nodes) objects
 
+-- the objects at the end of a run, before virtual images are restored
 abbrev pub last_objects : List NamedObject → List Node → List NamedObject
 last_objects objects nodes = rounds_of_nodes nodes (length nodes) (first_objects objects nodes)
 
@@ -42,11 +43,12 @@ abbrev pub tally_object : Tally → ObjectValue
 tally_object (tally.Histogram d) = DistributionObject d
 tally_object (tally.Extremes e) = ExtremesObject e
 
--- the reference of a node's tally, if its output isn't an image; and those of several nodes, in their order
+-- the reference of a node's tally, if its output isn't an image
 abbrev pub tally_cell : Kind → Node → List Reference
 tally_cell kind.Image n = []
 tally_cell other n = unwrap_or n.out1 n.in1 ∷ []
 
+-- the references of the tallies of nodes, in the order of the nodes
 abbrev pub tally_cells : List Node → List Reference
 tally_cells nodes = flat_map (λ n. tally_cell (parameters n.function).output n) nodes
 

@@ -31,9 +31,10 @@ pub record IsSchedule (objects : List NamedObject) (v : Verified) (p : PlanView)
   pub clients : All (λ c. (image_held objects c).height ≤ s.high) (client_cells v.steps.items v.virtual_outputs.items)
   pub tally_cells : s.tally_cells.items ≡ tally_cells v.steps.items
 
--- references to the clients' images; and these with the images of their planes
+-- references to the clients' images
 abbrev pub schedule_clients : Verified → Schedule → List Reference
 schedule_clients v s = drop (length v.virtual_outputs.items) s.cells.items
 
+-- references to the clients' images, each with the image of its plane
 abbrev pub schedule_objects : Verified → Schedule → List PlaneValue → List (Reference × ObjectValue)
 schedule_objects v s planes = plane_objects (schedule_clients v s) (drop (length v.virtual_outputs.items) planes)

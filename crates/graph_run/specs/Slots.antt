@@ -16,9 +16,10 @@ slot_place p U32 k = p.slot_count U8 + p.slot_count S16 + k
 abbrev pub place_of : PlanView → VirtualOutput → ℕ
 place_of p o = slot_place p o.desc.format (unwrap_or (p.slot_of o.cell) 0)
 
--- the formats and sizes of a format's slots, and of all slots
+-- the format and size of each slot of a format
 abbrev pub capacities_for : PlanView → Format → List (Format × ℕ)
 capacities_for p format = map (λ k. (format, p.slot_samples format k)) (range_with_len 0 (p.slot_count format))
 
+-- the format and size of each slot of a plan, U8 first, then S16, then U32
 abbrev pub planned_capacities : PlanView → List (Format × ℕ)
 planned_capacities p = capacities_for p U8 ++ capacities_for p S16 ++ capacities_for p U32

@@ -1,4 +1,4 @@
--- Runs defined without rounds: each object that a node writes is what the node computes from the objects after the run.
+-- Runs as solutions of equations, without rounds: each output is its node's result on the objects after the run.
 use Rattle.std.specs.Prelude.{ℕ, ◌≡◌, ◌≢◌, Bool, true, false, List, [], map, All, Option, Some}
 use Rattle.std.specs.Option.{option_map}
 use Rattle.vx_base.specs.declared.kind.Kind.{Kind}

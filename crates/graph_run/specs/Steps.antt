@@ -1,4 +1,4 @@
--- Single nodes: the objects on which they run, and those that they write.
+-- Single nodes: the objects that they read, and those that they write.
 use Rattle.std.specs.Prelude.{ℕ, ◌≡◌, ◌≢◌, IsTrue, is_some, List, Option, Some, None, IfSome}
 use Rattle.std.specs.Option.{option_map, option_and_then}
 use Rattle.vx_base.specs.declared.kind.Kind.TheVariants as kind
@@ -33,11 +33,12 @@ pub record RunsOn (n : Node) (first : ObjectValue) (second : Option ObjectValue)
   pub second_size : SecondHasSize (image_value first) second
   pub out_size : SecondHasSize (image_value first) (Some out)
 
--- one object can be written without the other: their names or their slots differ
+-- both slots are given, and they differ
 abbrev pub TwoSlots : Option ℕ → Option ℕ → Type 0
 TwoSlots (Some j) (Some k) = j ≢ k
 TwoSlots j k = ⊥
 
+-- one object can be written without the other: their names or their slots differ
 abbrev pub AreApart : Reference → Reference → Type 0
 AreApart a b = a.name ≡ b.name → TwoSlots a.slot b.slot
 

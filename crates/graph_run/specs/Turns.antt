@@ -1,4 +1,4 @@
--- Nodes that run one after the other.
+-- Nodes that run in turn.
 use Rattle.std.specs.Prelude.{◌≡◌, List, All, Some, None}
 use Rattle.std.specs.Option.{option_map}
 use Rattle.vx_base.specs.declared.kind.Kind.{Kind}

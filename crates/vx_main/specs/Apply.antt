@@ -17,10 +17,11 @@ use Rattle.vx_main.specs.declared.ended.Ended.TheVariants.{Refused}
 use Rattle.vx_main.specs.declared.job.Job.{Job}
 use Rattle.vx_main.specs.Job.{node_of}
 
--- the image that the job's node gives for a picture, and its text
+-- the image that the job's node computes from a picture
 abbrev pub image_made : Job → PictureValue → ImageValue
 image_made job p = node_image (node_of job) First U8 (picture_image p) None
 
+-- the PGM text of the image that the job's node computes
 abbrev pub text_made : Job → PictureValue → List ℕ
 text_made job p = pgm_text (picture_of (image_made job p))
 
@@ -36,6 +37,7 @@ abbrev pub applied_to : Job → Result PictureValue PgmFault → Result (List �
 applied_to job (Err fault) = Err (pgm_fault_code fault)
 applied_to job (Ok p) = if same_format p.description.format U8 then Ok (text_made job p) else Err InvalidFormat
 
+-- the PGM text that a job writes for a text, or the code of the fault
 abbrev pub job_result : Job → List ℕ → Result (List ℕ) Code
 job_result job text = applied_to job (read_result text)
 

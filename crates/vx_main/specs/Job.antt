@@ -1,4 +1,4 @@
--- The jobs of `apply`.
+-- The jobs of `apply`: their words on the command line, and their nodes.
 use Rattle.std.specs.Prelude.{ℕ, List, Option, Some, None, codes, if◌then◌else◌}
 use Rattle.std.specs.Str.{bytes_eq}
 use Rattle.vx_base.specs.declared.border.Border.{Border}
@@ -31,6 +31,7 @@ parse_border word =
 
 -- ---- nodes
 
+-- the vision function of an operation. OpenVX 1.3, "Vision Functions"
 abbrev pub function_of : Operation → Function
 function_of Not = function.NotBits
 function_of Box = function.Box

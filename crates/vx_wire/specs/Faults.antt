@@ -1,4 +1,4 @@
--- Why parsing a body failed, and the code of the reply.
+-- The faults of parsing a body, and the codes of their replies.
 use Rattle.std.specs.Prelude.{◌≡◌, Result, Ok, Err}
 use Rattle.vx_base.specs.declared.code.Code.{Code}
 use Rattle.vx_base.specs.declared.code.Code.TheVariants as codes

@@ -1,4 +1,4 @@
--- Reading fields from the front of a body, in order.
+-- Fields, which are read in order from the front of a body.
 use Rattle.std.specs.Prelude.{◌≡◌, ℕ, ◌+◌, ◌*◌, if◌then◌else◌, nat_le, List, [], ◌∷◌, length, take, drop, Option, Some, None, Result, Ok, Err, IfOk, IfErr}
 use Rattle.vx_wire.specs.declared.body_fault.BodyFault.{BodyFault}
 use Rattle.vx_wire.specs.declared.body_fault.BodyFault.TheVariants.{InvalidParameters}
@@ -37,17 +37,21 @@ allowed_or_fault fault (Some value) rest = Ok (value, rest)
 
 -- ---- numbers, most significant byte first; a number that is cut short is InvalidParameters
 
+-- reads a u8 from the front of a body
 abbrev pub take_byte : List ℕ → FieldResult ℕ
 take_byte [] = Err InvalidParameters
 take_byte (a ∷ rest) = Ok (a, rest)
 
+-- reads a u16 from the front of a body
 abbrev pub take_short : List ℕ → FieldResult ℕ
 take_short body = and_then (take_byte body) (λ a rest. and_then (take_byte rest) (λ b rest. Ok (256 * a + b, rest)))
 
+-- reads a u32 from the front of a body
 abbrev pub take_long : List ℕ → FieldResult ℕ
 take_long body = and_then (take_short body) (λ a rest. and_then (take_short rest) (λ b rest. Ok (65536 * a + b, rest)))
 
 -- ---- a number of bytes, which are one field
 
+-- reads `n` bytes from the front of a body; fewer are InvalidParameters
 abbrev pub take_bytes : ℕ → List ℕ → FieldResult (List ℕ)
 take_bytes n body = if nat_le n (length body) then Ok (take n body, drop n body) else Err InvalidParameters

@@ -1,4 +1,4 @@
--- Formats of samples, as numbers.
+-- The formats of samples, and their numbers, which are this project's own. OpenVX 1.3, `vx_df_image_e`.
 use Rattle.std.specs.Prelude.{ℕ, List, [], ◌∷◌, Option, Some, None}
 use Rattle.vx_base.specs.declared.format.Format.{Format}
 use Rattle.vx_base.specs.declared.format.Format.TheVariants.{U8, S16, U32}
@@ -6,6 +6,7 @@ use Rattle.vx_wire.specs.declared.body_fault.BodyFault.TheVariants.{InvalidForma
 use Rattle.vx_wire.specs.Numbered.{with_number}
 use Rattle.vx_wire.specs.Fields.{FieldResult, and_then, allowed_or_fault, take_byte}
 
+-- the number of a format: 1 U8, 2 S16, 3 U32
 abbrev pub format_number : Format → ℕ
 format_number U8 = 1
 format_number S16 = 2
@@ -15,6 +16,7 @@ format_number U32 = 3
 abbrev pub format_numbered : ℕ → Option Format
 format_numbered n = with_number format_number (U8 ∷ S16 ∷ U32 ∷ []) n
 
+-- reads a format from the front of a body: a byte from 1 to 3
 abbrev pub take_format : List ℕ → FieldResult Format
 take_format body = and_then (take_byte body) (λ n rest. allowed_or_fault InvalidFormat (format_numbered n) rest)
 
@@ -27,6 +29,7 @@ open_format_number (Some format) = format_number format
 abbrev pub open_format_numbered : ℕ → Option (Option Format)
 open_format_numbered n = with_number open_format_number (None ∷ Some U8 ∷ Some S16 ∷ Some U32 ∷ []) n
 
+-- reads a format that may be open from the front of a body: a byte from 0 to 3, 0 for an open one
 abbrev pub take_open_format : List ℕ → FieldResult (Option Format)
 take_open_format body = and_then (take_byte body) (λ n rest. allowed_or_fault InvalidFormat (open_format_numbered n) rest)
 
@@ -34,5 +37,6 @@ take_open_format body = and_then (take_byte body) (λ n rest. allowed_or_fault I
 abbrev pub input_format_numbered : ℕ → Option Format
 input_format_numbered n = with_number format_number (U8 ∷ S16 ∷ []) n
 
+-- reads the format of a table or threshold from the front of a body: a byte, 1 U8 or 2 S16
 abbrev pub take_input_format : List ℕ → FieldResult Format
 take_input_format body = and_then (take_byte body) (λ n rest. allowed_or_fault InvalidFormat (input_format_numbered n) rest)

@@ -1,4 +1,4 @@
--- Looking up a value by its number.
+-- The lookup of a value by its number.
 use Rattle.std.specs.Prelude.{ℕ, ◌==◌, List, Option}
 use Rattle.std.specs.List.{find}
 

@@ -1,4 +1,4 @@
--- The ops of requests, and their numbers.
+-- The ops of requests, and their numbers, which are this project's own.
 use Rattle.std.specs.Prelude.{ℕ, List, [], ◌∷◌, Option}
 use Rattle.client_model.specs.declared.request.Request.{Request}
 use Rattle.client_model.specs.declared.request.Request.TheVariants as requests
@@ -6,7 +6,7 @@ use Rattle.vx_wire.specs.Numbered.{with_number}
 use Rattle.vx_wire.specs.declared.op.Op.{Op}
 use Rattle.vx_wire.specs.declared.op.Op.TheVariants.{OpenContext, ReleaseContext, CreateImage, QueryImage, WriteImage, WriteImagePgm, ReadImage, ReadImagePgm, SetValid, Release, CreateLut, CreateThreshold, CreateConvolution, CreateDistribution, ReadDistribution, CreateMinMax, ReadMinMax, CreateGraph, CreateVirtualImage, AddNode, RemoveNode, VerifyGraph, ProcessGraph, Immediate, CreateDelay, AgeDelay, RegisterAutoAging}
 
--- the number of an op; this project's own
+-- the number of an op
 abbrev pub op_number : Op → ℕ
 op_number OpenContext = 1
 op_number ReleaseContext = 2
@@ -36,6 +36,7 @@ op_number CreateDelay = 25
 op_number AgeDelay = 26
 op_number RegisterAutoAging = 27
 
+-- all ops, in the order of their numbers
 abbrev pub ops : List Op
 ops =
     OpenContext ∷ ReleaseContext ∷ CreateImage ∷ QueryImage ∷ WriteImage ∷ WriteImagePgm ∷ ReadImage ∷ ReadImagePgm ∷ SetValid ∷ Release ∷ CreateLut ∷ CreateThreshold

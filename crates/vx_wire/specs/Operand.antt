@@ -1,4 +1,4 @@
--- The operands of a node. An operand that is absent is name 0 without a slot.
+-- The operands of a node. An absent operand is name 0 without a slot.
 use Rattle.std.specs.Prelude.{ℕ, ◌&&◌, Bool, if◌then◌else◌, List, Option, Some, None, is_some, is_none, Ok}
 use Rattle.vx_base.specs.declared.function.Parameters.{Parameters}
 use Rattle.vx_base.specs.Reference.{Reference}
@@ -15,9 +15,11 @@ operand Required cell = if is_nothing cell then None else Some (Some cell)
 operand Absent cell = if is_nothing cell then Some None else None
 operand Free cell = if is_nothing cell then Some None else Some (Some cell)
 
+-- reads an operand from the front of a body: a reference, given or absent as its presence requires
 abbrev pub take_operand : Presence → List ℕ → FieldResult (Option Reference)
 take_operand presence body = and_then (take_reference body) (λ cell rest. allowed_or_fault InvalidParameters (operand presence cell) rest)
 
+-- the bytes of an operand: its reference, or name 0 without a slot if it is absent
 abbrev pub operand_bytes : Option Reference → List ℕ
 operand_bytes None = reference_bytes (record { name = 0; slot = None })
 operand_bytes (Some cell) = reference_bytes cell
@@ -30,9 +32,11 @@ is_operand Free cell = is_named cell
 
 -- ---- the operands that the node of a function has
 
+-- whether the second input is required: it is if the function has one, else it is absent
 abbrev pub second_input : Parameters → Presence
 second_input p = if is_some p.second_input then Required else Absent
 
+-- whether the first output is required: it is, unless the function has a pair of outputs
 abbrev pub first_output : Parameters → Presence
 first_output p = if p.output_pair then Free else Required
 
@@ -40,6 +44,7 @@ first_output p = if p.output_pair then Free else Required
 abbrev pub second_output : Parameters → Option Reference → Presence
 second_output p out1 = if p.output_pair then (if is_none out1 then Required else Free) else Absent
 
+-- reads the first input from the front of a body: a reference, which is never absent
 abbrev pub take_first_input : List ℕ → FieldResult Reference
 take_first_input body =
     and_then (take_reference body) (λ cell rest. allowed_or_fault InvalidParameters (if is_nothing cell then None else Some cell) rest)

@@ -1,4 +1,4 @@
--- Rectangles: the four bounds, which are one field.
+-- Rectangles: the four bounds, which are one field. OpenVX 1.3, `vx_rectangle_t`.
 use Rattle.std.specs.Prelude.{ℕ, List, ◌++◌}
 use Rattle.std.specs.Int.{w16, to_be_bytes}
 use Rattle.vx_base.specs.Rectangle.{Rectangle, rectangle}
@@ -12,5 +12,6 @@ take_rectangle body =
     and_then (take_short rest) (λ x1 rest. and_then (take_short rest) (λ y1 rest.
     allowed_or_fault InvalidValue (rectangle x0 y0 x1 y1) rest))))
 
+-- the bytes of a rectangle: x0, y0, x1, y1, each a u16
 abbrev pub rectangle_bytes : Rectangle → List ℕ
 rectangle_bytes r = to_be_bytes w16 r.x0 ++ (to_be_bytes w16 r.y0 ++ (to_be_bytes w16 r.x1 ++ to_be_bytes w16 r.y1))

@@ -15,9 +15,11 @@ pub record Said : Type 0 where
   pub code : ℕ
   pub body : List ℕ
 
+-- the code and body of a refusal: its status code and no bytes
 abbrev pub refusal : Code → Said
 refusal code = record { code = code_number code; body = [] }
 
+-- the code and body that encode a reply; the code is 0, except in a refusal
 abbrev pub said_of : Reply → Said
 said_of (Refused code) = refusal code
 said_of Empty = record { code = 0; body = [] }

@@ -27,6 +27,7 @@ abbrev pub decoded_samples : Format → ℕ → List ℕ → List ℤ
 decoded_samples format zero bytes = []
 decoded_samples format (suc count) bytes = decoded_sample format (take (sample_bytes format) bytes) ∷ decoded_samples format count (drop (sample_bytes format) bytes)
 
+-- the bytes of samples, one after the other
 abbrev pub encoded_samples : Format → List ℤ → List ℕ
 encoded_samples format samples = flat_map (encoded_sample format) samples
 
@@ -36,10 +37,12 @@ take_samples format count body = and_then (take_bytes (count * sample_bytes form
 
 -- ---- pictures: the description, and then the samples row by row from the top
 
+-- reads a picture from the front of a body: the description, then the samples
 abbrev pub take_picture : List ℕ → FieldResult PictureValue
 take_picture body =
     and_then (take_description body) (λ d rest. and_then (take_samples d.format (sample_count d) rest) (λ samples rest.
     Ok (record { description = d; samples = samples }, rest)))
 
+-- the bytes of a picture: the description, then the samples
 abbrev pub picture_bytes : PictureValue → List ℕ
 picture_bytes p = description_bytes p.description ++ encoded_samples p.description.format p.samples

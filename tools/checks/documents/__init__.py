@@ -22,6 +22,8 @@ def found() -> Iterator[str]:
         yield f"{surface.DECISIONS}: `{name}` of {crate} {wrong}"
     for path, name, wrong in definitions.faults(list(definitions.definitions())):
         yield f"{path}: `{name}` {wrong}"
+    for path, line, name in definitions.bare():
+        yield f"{path}:{line}: `{name}` has no comment: say above it in plain words what it is"
     for path in pages():
         for line, target in links.broken(path, tree.read(path)):
             yield f"{path}:{line}: the link to {target} leads nowhere"

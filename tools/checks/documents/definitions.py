@@ -1,4 +1,4 @@
-"""Names of the definitions in crates/*/specs: each says what it is, and has one meaning."""
+"""Definitions in crates/*/specs: each has a name with one meaning, and a comment of its own."""
 
 import re
 from typing import Dict, Iterator, List, Tuple
@@ -16,13 +16,33 @@ FRAGMENTS = {"after", "at", "beside", "but_for", "inside", "look", "nearest", "o
 PLAIN = {"feed", "need", "ring", "string"}
 
 
+def paths() -> Iterator[str]:
+    """Each file of definitions."""
+    return (path for path in sorted(files()) if re.match(r"crates/\w+/specs/.*\.antt$", path))
+
+
 def definitions() -> Iterator[Tuple[str, str]]:
     """The path of each file of definitions, and a name that it defines."""
-    for path in sorted(files()):
-        if re.match(r"crates/\w+/specs/.*\.antt$", path):
-            for name in HEAD.findall(read(path)):
-                if name != "mod":
-                    yield path, name
+    for path in paths():
+        for name in HEAD.findall(read(path)):
+            if name != "mod":
+                yield path, name
+
+
+def uncommented(text: str) -> Iterator[Tuple[int, str]]:
+    """The line and the name of each public definition without a comment directly above it."""
+    for found in HEAD.finditer(text):
+        above = text[:found.start()].rstrip("\n").rpartition("\n")[2]
+        gap = text[:found.start()].endswith("\n\n")
+        if found[1] != "mod" and (gap or not above.startswith("--") or above.startswith("-- --")):
+            yield text.count("\n", 0, found.start()) + 1, found[1]
+
+
+def bare() -> Iterator[Tuple[str, int, str]]:
+    """The path, the line and the name of each definition of the repository without a comment."""
+    for path in paths():
+        for line, name in uncommented(read(path)):
+            yield path, line, name
 
 
 def faults(defined: List[Tuple[str, str]]) -> Iterator[Tuple[str, str, str]]:

@@ -1,4 +1,4 @@
--- Request frames, reply frames, and how a stream splits into whole frames and a rest.
+-- Request frames, reply frames, and the split of a stream into whole frames and a rest.
 use Rattle.std.specs.Prelude.{◌≡◌, ℕ, ◌+◌, ◌<◌, ◌≤◌, ◌^◌, nat_le, Bool, true, List, [], ◌∷◌, ◌++◌, length, take, All, ◌⊎◌}
 use Rattle.std.specs.List.{flat_map}
 use Rattle.std.specs.Int.{w16, w32, to_be_bytes, from_be_bytes}
@@ -21,6 +21,7 @@ pub record ReplyFrame : Type 0 where
   pub code : ℕ
   pub body : List ℕ
 
+-- the request frame with this client, op and body
 abbrev pub frame_of : ℕ → ℕ → List ℕ → Frame
 frame_of client op body = record { client = client; op = op; body = body }
 
@@ -44,10 +45,11 @@ reply_head len client op code = to_be_bytes w32 len ++ (to_be_bytes w16 client +
 abbrev pub reply_bytes : ReplyFrame → List ℕ
 reply_bytes r = to_be_bytes w32 (length r.body + 4) ++ (to_be_bytes w16 r.client ++ r.op ∷ r.code ∷ r.body)
 
--- the frames, joined
+-- the bytes of request frames, one after the other
 abbrev pub frames_bytes : List Frame → List ℕ
 frames_bytes frames = flat_map frame_bytes frames
 
+-- the bytes of reply frames, one after the other
 abbrev pub joined_replies : List ReplyFrame → List ℕ
 joined_replies replies = flat_map reply_bytes replies
 

@@ -1,4 +1,4 @@
--- The effect of reading the parts of a frame.
+-- The effects of reading the parts of a frame.
 use Rattle.std.specs.Prelude.{◌≡◌, ℕ, ℤ, ◌+◌, ◌*◌, ◌<◌, ◌^◌, List, [], length, All, Option, Some, None, Result, Ok, Err, ⊤, OnOk, IfErr}
 use Rattle.std.specs.Int.{w32, to_be_bytes}
 use Rattle.std.specs.Io.KnownBytes.{Consumes, IsAtEnd}

@@ -1,4 +1,4 @@
--- The reply to a frame of one client by itself: its body is parsed, and the model answers the request.
+-- The reply to a frame of one client: the body is parsed, and the model answers the request.
 use Rattle.std.specs.Prelude.{ℕ, List, Result, Ok, Err}
 use Rattle.client_model.specs.declared.request.Request.{Request}
 use Rattle.client_model.specs.Limits.{LimitsValue}
@@ -14,5 +14,6 @@ abbrev pub answer_spelled : LimitsValue → State → Result Request BodyFault �
 answer_spelled limits state (Ok request) = (said_of (answer_to limits state request).0, (answer_to limits state request).1)
 answer_spelled limits state (Err fault) = (refusal (fault_code (parse_fault fault)), state)
 
+-- the reply to a client's frame of this op and body, and the client's new state
 unfoldable pub answer : LimitsValue → State → ℕ → List ℕ → Said × State
 answer limits state op body = answer_spelled limits state (request_of op body)

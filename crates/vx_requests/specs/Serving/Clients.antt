@@ -1,4 +1,4 @@
--- The replies to each client of a stream, in terms of the replies to one client by itself.
+-- The replies to each client of a stream, by the replies to a client that has the server to itself.
 use Rattle.std.specs.Prelude.{ℕ, Bool, not, ◌&&◌, ◌==◌, cond, List, [], ◌∷◌, ◌++◌, map, filter}
 use Rattle.client_model.specs.Context.{State}
 use Rattle.client_contexts.specs.World.{World, state_of}
@@ -13,6 +13,7 @@ states_of world client = state_of client world
 abbrev pub spelled_frame : ℕ → ℕ → Said → ReplyFrame
 spelled_frame client op said = record { client = client; op = op; code = said.code; body = said.body }
 
+-- the reply frame to a request frame: its client and op, and this code and body
 abbrev pub reply_to : Frame → Said → ReplyFrame
 reply_to f said = spelled_frame f.client f.op said
 
@@ -21,6 +22,7 @@ pub record ReceivedFrame : Type 0 where
   pub frame : Frame
   pub lost : Bool
 
+-- the frames that were received, whether lost or not
 abbrev pub frames_of : List ReceivedFrame → List Frame
 frames_of marked = map (λ m. m.frame) marked
 
@@ -48,6 +50,7 @@ no_memory f = reply_to f (record { code = 1; body = [] })
 
 -- `answer` gives the reply to an op and a body in a state, and the new state
 module _ {S : Type 0} (answer : S → ℕ → List ℕ → Said × S) where
+  -- the reply to a client's frame in a state, and the client's new state
   abbrev pub answer_frame : S → Frame → Said × S
   answer_frame state f = answer state f.op f.body
 

@@ -1,4 +1,4 @@
--- The frames that may be lost because memory runs out.
+-- The frames that may be lost when memory runs out.
 use Rattle.std.specs.Prelude.{◌<◌, length, Result, Ok, Err, ◌⊎◌}
 use Rattle.client_model.specs.declared.request.Request.{Request}
 use Rattle.client_model.specs.declared.request.Request.TheVariants.{ReadImage, ReadImagePgm}

@@ -1,4 +1,4 @@
--- The headline: the effect of a call of `serve`.
+-- The top-level property: the effect of a call of `serve`.
 use Rattle.std.specs.Prelude.{◌≡◌, ℕ, true, List, ◌++◌, Option, Result, All}
 use Rattle.std.specs.Io.KnownBytes.{Consumes}
 use Rattle.client_model.specs.Limits.{LimitsValue}

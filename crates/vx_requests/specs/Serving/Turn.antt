@@ -25,6 +25,7 @@ pub record IsReply (limits : LimitsValue) (f : Frame) (old new : ℕ → State) 
   pub states : (client : ℕ) → new client ≡ state_then (answer limits) old (record { frame = f; lost = lost }) client
   pub said : reply ≡ reply_in (answer limits) old (record { frame = f; lost = lost })
 
+-- each client's state is as before
 abbrev pub SameStates : (old new : ℕ → State) → Type 0
 SameStates old new = (client : ℕ) → new client ≡ old client
 

@@ -1,4 +1,4 @@
--- How a call of a source or a sink counts towards the failed calls.
+-- The failed calls of a source or a sink.
 use Rattle.std.specs.Prelude.{ℕ, zero, suc, List, [], ◌∷◌, Result, Ok, Err}
 
 -- 1 if the call returned an error

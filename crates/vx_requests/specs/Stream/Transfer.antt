@@ -1,4 +1,4 @@
--- The effect of filling a buffer, and of writing all of some bytes.
+-- The effects of filling a buffer from a source, and of writing bytes to a sink.
 use Rattle.std.specs.Prelude.{◌≡◌, ℕ, ◌+◌, ◌<◌, ◌≤◌, List, ◌++◌, length, take, Result, Ok, Err, Option, IfErr, OnOk, OnErr}
 use Rattle.std.specs.Io.KnownBytes.{Consumes, Appends, IsAtEnd}
 use Rattle.vx_requests.specs.Stream.Calls.{failed_calls}
