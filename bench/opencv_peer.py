@@ -1,9 +1,8 @@
-"""The time of OpenCV's functions on one thread, as JSON: python3 opencv_peer.py WIDTH HEIGHT COUNT
-[CASE..], of all cases or of those that are named.
+"""Measures OpenCV's functions on one thread, and prints the times as JSON: python3 opencv_peer.py
+WIDTH HEIGHT COUNT [CASE..]. The default is all cases.
 
-Each case has the name that bench/functions gives it, and OpenCV's own name of the function; NumPy's
-where OpenCV has none in Python. The name says what OpenCV does less or more. Outputs are arrays
-that are there already.
+Each case has its name in bench/functions, and OpenCV's own name of the function, or NumPy's if
+OpenCV has none in Python. That name says if OpenCV does more or less. Outputs are existing arrays.
 """
 
 import json
@@ -87,8 +86,8 @@ PIXELWISE = {
 
 
 def filtered(side, depth, output):
-    """filter2D doesn't turn its kernel, so this is the server's convolution turned, and divided by
-    2^4."""
+    """Runs filter2D, which doesn't flip its kernel. The kernel is therefore the server's
+    convolution flipped, divided by 2^4."""
     coefficients = [k % 7 - 3 or 4 for k in range(side * side)]
     kernel = numpy.array(coefficients[::-1], numpy.float32).reshape(side, side) / 16
     return lambda: cv2.filter2D(noise, depth, kernel, output, borderType=REPLICATE)
@@ -141,7 +140,7 @@ def times():
     for case, (name, function) in those_asked(PIXELWISE | STATISTICS).items():
         yield case, (name, best_seconds(function, count))
     for case, (name, function) in those_asked(WINDOWS).items():
-        # OpenCV always gives the border, so one time stands for both.
+        # OpenCV always computes the border, so one time serves both border modes.
         seconds = best_seconds(function, count)
         yield f"{case}, REPLICATE", (name, seconds)
         yield f"{case}, UNDEFINED", (name + ", with its border", seconds)

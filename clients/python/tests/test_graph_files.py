@@ -503,7 +503,7 @@ class TestCommandLine(FolderTest):
     def test_help(self):
         said, _ = self.run_command("run", "--help")
         said = " ".join(said.split())
-        for words in ("natural order", "standard output", "(.npy) for negative", "folder is made"):
+        for words in ("natural order", "standard output", ".npy for U32", "folder is created"):
             self.assertIn(words, said)
         self.assertNotIn("times", said)
 

@@ -12,14 +12,15 @@ def main() -> None:
     parser = argparse.ArgumentParser(prog="tools/check_bands")
     parser.add_argument("program", metavar="PROGRAM")
     parser.add_argument("--seconds", type=float, default=20,
-                        help="seconds for which graphs are begun (default: 20)")
+                        help="seconds during which new graphs are started (default: 20)")
     parser.add_argument("--graphs", type=int,
-                        help="number of graphs, whatever the time (default: no limit)")
+                        help="number of graphs, regardless of time (default: no limit)")
     parser.add_argument("--seed", type=int,
                         help="seed of the first graph; the others count up from it (default: "
                         "random)")
     parser.add_argument("--faults", action="store_true",
-                        help="check that the graphs find servers that run in bands wrongly")
+                        help="plant faults in the band execution, and check that the graphs find "
+                        "them")
     asked = parser.parse_args()
     program = os.path.abspath(asked.program)
     if asked.faults:

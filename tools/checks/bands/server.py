@@ -1,4 +1,4 @@
-"""A server that is asked in lock step."""
+"""A server that is driven in lock step."""
 
 import contextlib
 import subprocess
@@ -7,12 +7,12 @@ from typing import Iterator, Type
 
 from feqyldan import wire
 
-# Seconds after which a program that doesn't answer is ended.
+# Seconds after which a server that doesn't answer is killed.
 PATIENCE = 300
 
 
 class Wrong(Exception):
-    """What is wrong with a server."""
+    """A fault of a server."""
 
 
 class Server:
@@ -20,7 +20,7 @@ class Server:
         self.process = process
 
     def answer(self, request: bytes) -> bytes:
-        """The reply to a request, whatever it is."""
+        """Returns the reply to a request, whatever its code."""
         assert self.process.stdin and self.process.stdout
         try:
             self.process.stdin.write(request)
@@ -36,7 +36,7 @@ class Server:
         return reply
 
     def ask(self, request: bytes) -> bytes:
-        """The reply to a request, which has to succeed."""
+        """Returns the reply to a request that must succeed."""
         reply = self.answer(request)
         if wire.code_of(reply) != wire.SUCCESS:
             raise Wrong(f"{wire.Op(request[6]).name} is refused: {wire.say(reply)}")

@@ -1,29 +1,29 @@
-"""What the same requests leave, again and again."""
+"""Measures the memory that repeated requests leave behind."""
 
 from typing import List
 
 from feqyldan import wire
 from checks.memory.server import QUOTA, Program, Server, TooMuchMemory, in_mib, serving
 
-# How many delays are registered with one graph, each of which is gone before the next.
+# Number of delays that are registered with one graph, each released before the next.
 REGISTERED = 60_000
-# How often all kinds of requests come, and the size of their images. A block that is kept each time
-# takes more than may be kept before it is compared again.
+# Number of repetitions of all requests, repetitions between comparisons, and side of the images. A
+# block leaked in each repetition would exceed the allowance by the next comparison.
 ROUNDS, BETWEEN, SIDE = 1_000, 50, 64
-# What the server may take for all of that.
+# The memory that the server may take for all of that.
 FOR_AGAIN = 128 * 1024
 
 
 class Compared:
-    """That a server takes nothing for what comes again and again, compared now and then: with what
-    it had when it was compared first."""
+    """Checks that repetition takes no memory. From time to time the memory is compared with its
+    value at the first comparison."""
 
     def __init__(self, server: Server, between: int) -> None:
         self.server, self.between = server, between
         self.at_first = self.done = 0
 
     def after(self, what: str) -> str:
-        """Once more is done."""
+        """Notes one more repetition."""
         self.done += 1
         if self.done == self.between:
             self.at_first = self.server.memory()
@@ -37,7 +37,7 @@ class Compared:
 
 
 def registered(program: Program) -> str:
-    """Delays that were registered with a graph and are gone."""
+    """Registers delays with a graph and releases them."""
     with serving(program, QUOTA) as server:
         server.ask(wire.open_context(1))
         image = server.create(wire.create_image(1, wire.U8, 1, 1))
@@ -53,7 +53,8 @@ def registered(program: Program) -> str:
 
 
 def again(program: Program) -> str:
-    """A client that releases all that it made, and one that releases its context with all in it."""
+    """Runs a client that releases all of its objects, and one that releases its context with all of
+    them."""
     with serving(program, QUOTA) as server:
         server.ask(wire.open_context(1))
         compared, told = Compared(server, BETWEEN), ""
@@ -68,8 +69,8 @@ def again(program: Program) -> str:
 
 
 def made_and_run(server: Server, client: int) -> List[int]:
-    """Two images, a delay, and a graph with a virtual image, which runs and ages the delay; an
-    image is gone before the node that reads it. The names that are left."""
+    """Makes two images, a delay, and a graph with a virtual image, which runs and ages the delay.
+    An image is released before the node that reads it. Returns the remaining names."""
     new = wire.create_image(client, wire.U8, SIDE, SIDE)
     image, output = server.create(new), server.create(new)
     delay = server.create(wire.create_delay(client, image, 2))

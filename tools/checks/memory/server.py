@@ -1,4 +1,4 @@
-"""A server that is asked in lock step, and whose memory is read."""
+"""A server that is driven in lock step, and whose memory is read."""
 
 import contextlib
 import os
@@ -8,29 +8,29 @@ from typing import Dict, Iterator, NamedTuple, Type
 
 from feqyldan import wire
 
-# Seconds after which a program that doesn't answer is ended.
+# Seconds after which a server that doesn't answer is killed.
 PATIENCE = 300
 MIB = 1 << 20
-# The C library gives what is freed back to the system at once, so that it isn't taken for what the
-# server keeps.
+# The C library returns freed memory to the system immediately, so that it isn't counted as the
+# server's.
 ENVIRONMENT = {**os.environ, "GLIBC_TUNABLES": "glibc.malloc.mmap_threshold=32768"}
 QUOTA = 256 * MIB
 
 
 class Fault(Exception):
-    """What is wrong with a server."""
+    """A fault of a server."""
 
 
 class WrongAnswer(Fault):
-    """It answers something else, or not at all."""
+    """A wrong reply, or none."""
 
 
 class TooMuchMemory(Fault):
-    """It has more memory than it should."""
+    """More memory than allowed."""
 
 
 class TooLittleMemory(Fault):
-    """It has less memory than its samples take: what was read isn't its memory."""
+    """Less memory than the samples take: the reading isn't the server's memory."""
 
 
 def in_mib(count: int) -> str:
@@ -38,14 +38,14 @@ def in_mib(count: int) -> str:
 
 
 class Server:
-    """A process of the program, which is asked in lock step."""
+    """A process of the program, driven in lock step."""
 
     def __init__(self, process: "subprocess.Popen[bytes]") -> None:
         self.process = process
         self.asked = 0
 
     def answer(self, request: bytes) -> bytes:
-        """The reply to a request, whatever it is."""
+        """Returns the reply to a request, whatever its code."""
         assert self.process.stdin and self.process.stdout
         try:
             self.process.stdin.write(request)
@@ -59,7 +59,7 @@ class Server:
         return reply
 
     def ask(self, request: bytes) -> bytes:
-        """The reply to a request, which has to succeed."""
+        """Returns the reply to a request that must succeed."""
         self.asked += 1
         reply = self.answer(request)
         if wire.code_of(reply) != wire.SUCCESS:
@@ -70,7 +70,8 @@ class Server:
         return wire.name_of(self.ask(request))
 
     def memory(self, field: str = "VmRSS") -> int:
-        """A line of /proc/PID/status, in bytes: VmRSS now, VmHWM at most so far."""
+        """Returns a line of /proc/PID/status in bytes: VmRSS is the current memory, VmHWM the
+        peak."""
         return memory_of(self.process.pid, field)
 
 
@@ -81,7 +82,7 @@ def memory_of(process: int, field: str) -> int:
 
 
 class Program(NamedTuple):
-    """The server's program, with what is beside it where a fault is planted."""
+    """The server's program, with any preloaded library for a planted fault."""
 
     path: str
     environment: Dict[str, str] = {}

@@ -1,4 +1,4 @@
-"""Random streams of several clients: the program's replies beside the model's."""
+"""Random streams of several clients: compares the program's replies with the model's."""
 
 import argparse
 import os
@@ -12,14 +12,15 @@ def main():
     parser = argparse.ArgumentParser(prog="tools/check_streams")
     parser.add_argument("program", metavar="PROGRAM")
     parser.add_argument("--seconds", type=float, default=20,
-                        help="seconds for which streams are begun (default: 20)")
+                        help="seconds during which new streams are started (default: 20)")
     parser.add_argument("--streams", type=int,
-                        help="number of streams, whatever the time (default: no limit)")
+                        help="number of streams, regardless of time (default: no limit)")
     parser.add_argument("--seed", type=int,
                         help="seed of the first stream; the others count up from it (default: "
                         "random)")
     parser.add_argument("--faults", action="store_true",
-                        help="check that the streams find wrong readings of the protocol")
+                        help="plant misreadings of the protocol in the model, and check that the "
+                        "streams find them")
     asked = parser.parse_args()
     program = os.path.abspath(asked.program)
     if asked.faults:

@@ -1,4 +1,4 @@
-"""Wrong readings on bodies."""
+"""Misreadings of request bodies."""
 
 from feqyldan.wire import INVALID_PARAMETERS, INVALID_REFERENCE, REPLICATE
 from checks import model
@@ -17,7 +17,7 @@ def answer_context_first(limits, state, op, body):
 
 
 def description_at_once(fields):
-    """All of its fields are there before one is looked at."""
+    """A body is checked for its full length before any field is checked."""
     at = fields.at
     fields.bytes(5)
     fields.at = at

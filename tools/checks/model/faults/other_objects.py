@@ -1,4 +1,4 @@
-"""Wrong readings on convolutions, distributions and extremes."""
+"""Misreadings about convolutions, distributions and extremes."""
 
 from feqyldan.wire import (
     INVALID_DIMENSION, INVALID_PARAMETERS, INVALID_REFERENCE, INVALID_VALUE, S16)
@@ -34,7 +34,7 @@ def exponent_to(greatest, code=INVALID_VALUE):
 
 
 def convolution_at_once(fields):
-    """Its three numbers are there before one is looked at."""
+    """Its three numbers are checked for their full length before any is checked."""
     at = fields.at
     fields.bytes(3)
     fields.at = at
@@ -42,7 +42,7 @@ def convolution_at_once(fields):
 
 
 def convolution_of_rows(fields):
-    """It has its rows before its columns."""
+    """Rows come before columns."""
     rows, columns = right.take_length(fields), right.take_length(fields)
     exponent = right.take_exponent(fields)
     return model.Convolution(columns, rows, exponent,
@@ -75,7 +75,7 @@ def bins_by_range(fields):
 
 
 def bins_to_256(fields):
-    """They don't go beyond the samples."""
+    """Bins don't extend beyond the samples of the format."""
     bins = right.take_bins(fields)
     model.refuse_if(bins.offset + bins.range > 256, INVALID_VALUE)
     return bins
@@ -102,7 +102,7 @@ def counts_of_shorts(limits, state, name):
 
 
 def read_and_clear(op, cleared):
-    """What is read is then as it was at first."""
+    """A read returns the initial contents."""
     def read(limits, state, name):
         body = right.REQUESTS[op].outcome(limits, state, name)
         state.context.objects[name] = cleared(state.context.objects[name])
@@ -112,7 +112,7 @@ def read_and_clear(op, cleared):
 
 
 def told_extremes(order):
-    """ReadMinMax that tells its numbers otherwise, by what stands at which bytes."""
+    """ReadMinMax with the fields in another order, given as byte positions."""
     def read_min_max(limits, state, name):
         body = right.read_min_max(limits, state, name)
         return b"".join(body[start:end] for start, end in order)
