@@ -28,6 +28,24 @@ pub const REPLIES: &[u8] = b"\x00\x00\x00\x04\x00\x01\x01\x00\
 \x00\x00\x00\x0a\x00\x01\x07\x00\x01\x00\x01\x00\x01\x0a\
 \x00\x00\x00\x0a\x00\x02\x07\x00\x01\x00\x01\x00\x01\x14";
 
+/// Client 7 opens a context, creates two images of one U8 sample, writes 10 to the first, runs Not
+/// from the first to the second, and reads the second.
+const STORED: &[u8] = b"\x00\x00\x00\x03\x00\x07\x01\
+\x00\x00\x00\x08\x00\x07\x03\x01\x00\x01\x00\x01\
+\x00\x00\x00\x08\x00\x07\x03\x01\x00\x01\x00\x01\
+\x00\x00\x00\x0e\x00\x07\x05\x00\x00\x00\x01\xff\x01\x00\x01\x00\x01\x0a\
+\x00\x00\x00\x1c\x00\x07\x18\x04\x00\x00\x00\x00\x00\x00\x00\x01\xff\
+\x00\x00\x00\x00\xff\x00\x00\x00\x02\xff\x00\x00\x00\x00\xff\
+\x00\x00\x00\x08\x00\x07\x07\x00\x00\x00\x02\xff";
+
+/// The replies to `STORED`.
+const STORED_REPLIES: &[u8] = b"\x00\x00\x00\x04\x00\x07\x01\x00\
+\x00\x00\x00\x08\x00\x07\x03\x00\x00\x00\x00\x01\
+\x00\x00\x00\x08\x00\x07\x03\x00\x00\x00\x00\x02\
+\x00\x00\x00\x04\x00\x07\x05\x00\
+\x00\x00\x00\x04\x00\x07\x18\x00\
+\x00\x00\x00\x0a\x00\x07\x07\x00\x01\x00\x01\x00\x01\xf5";
+
 /// The offsets at which the replies end.
 const REPLY_ENDS: [usize; 9] = [0, 8, 16, 28, 40, 48, 56, 70, 84];
 
@@ -216,15 +234,15 @@ fn how_far_it_reads(rt: HostRuntime) {
     }
 }
 
-/// Streams without a fault, one after the other to the same runtime: an empty one, one that opens a
-/// context, and one that finds it open.
+/// Streams without a fault, one after the other to the same runtime: an empty one, one in which a
+/// client opens a context, and one that finds it open.
 #[test]
 fn goes_on_after_a_good_end(rt: HostRuntime) {
     let mut runtime = Runtime::new(rt.alloc(), Limits::default());
     let open = b"\x00\x00\x00\x03\x00\x07\x01";
     for (stream, written, requests, refused) in [
         (&b""[..], &b""[..], 0, 0),
-        (open, b"\x00\x00\x00\x04\x00\x07\x01\x00", 1, 0),
+        (STORED, STORED_REPLIES, 6, 0),
         (open, b"\x00\x00\x00\x04\x00\x07\x01\x07", 1, 1),
     ] {
         let served = serve_bytes(rt.alloc(), &mut runtime, stream, ALL_AT_ONCE);
@@ -232,6 +250,31 @@ fn goes_on_after_a_good_end(rt: HostRuntime) {
             served.result == Ok(Summary { requests, refused }),
             "{stream:?}"
         );
+        assert!(rt; served.written.as_slice() == written, "{stream:?}");
+    }
+}
+
+/// A stream that ends within its second frame, and one that finds the context of the first open.
+#[test]
+fn goes_on_after_a_stream_cut_short(rt: HostRuntime) {
+    let mut runtime = Runtime::new(rt.alloc(), Limits::default());
+    for (stream, result, written) in [
+        (
+            &b"\x00\x00\x00\x03\x00\x07\x01\x00\x00\x00\x03\x00"[..],
+            Err(StreamFault::Truncated),
+            &b"\x00\x00\x00\x04\x00\x07\x01\x00"[..],
+        ),
+        (
+            b"\x00\x00\x00\x03\x00\x07\x01",
+            Ok(Summary {
+                requests: 1,
+                refused: 1,
+            }),
+            b"\x00\x00\x00\x04\x00\x07\x01\x07",
+        ),
+    ] {
+        let served = serve_bytes(rt.alloc(), &mut runtime, stream, ALL_AT_ONCE);
+        assert!(rt; served.result == result, "{stream:?}");
         assert!(rt; served.written.as_slice() == written, "{stream:?}");
     }
 }
