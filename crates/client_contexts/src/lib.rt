@@ -53,6 +53,7 @@ mod source;
 mod statistics;
 mod tables;
 
+pub use client_model::{Limits, Reply, Request};
 pub use kept::KeptGraph;
 pub use memory::NoMemory;
 pub use runtime::Runtime;

@@ -69,7 +69,7 @@ no_cycle_when_ordered nodes steps order = sym (has_cycle-map (λ (l : Linked). l
 without_one : (a b : Bool) → (a ≡ true → b ≡ false) → ((a || b) && not a) ≡ b
 without_one a b h = grind (arith, cases_Bool a, cases_Bool b)
 
-once_ordered-among : (n : Node) (all others : List Node) → ((c : Reference) → (is_written all c && not (writes n c)) ≡ is_written others c)
+pub once_ordered-among : (n : Node) (all others : List Node) → ((c : Reference) → (is_written all c && not (writes n c)) ≡ is_written others c)
     → (l : Linked) → once_ordered n (waiting_among all l) ≡ waiting_among others l
 once_ordered-among n all others same l = grind arith
 

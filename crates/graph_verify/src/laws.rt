@@ -3,3 +3,4 @@
 pub mod cycles;
 pub mod rounds;
 pub mod verdicts;
+pub mod waiting;

@@ -25,7 +25,7 @@ fn fault(rt: HostRuntime, text: &[u8]) -> Option<PgmFault> {
 
 #[test]
 fn no_pictures(rt: HostRuntime) {
-    let texts: [(&[u8], PgmFault); 25] = [
+    let texts: [(&[u8], PgmFault); 26] = [
         (b"", PgmFault::InvalidFormat),
         (b"P6 1 1 255 0", PgmFault::InvalidFormat),
         (b"P5 1 1 255", PgmFault::InvalidFormat),
@@ -51,6 +51,7 @@ fn no_pictures(rt: HostRuntime) {
             PgmFault::InvalidDimension,
         ),
         (b"P5 0 1 0\n", PgmFault::InvalidDimension),
+        (b"P5 4096 4096 255\n", PgmFault::InvalidFormat),
         (b"P5 8192 8192 255\n", PgmFault::InvalidFormat),
         (b"P5 1 1 99999999999999999999\n", PgmFault::InvalidFormat),
         (b"P5 1 1 255#x\n", PgmFault::InvalidFormat),

@@ -28,8 +28,29 @@ pub const REPLIES: &[u8] = b"\x00\x00\x00\x04\x00\x01\x01\x00\
 \x00\x00\x00\x0a\x00\x01\x07\x00\x01\x00\x01\x00\x01\x0a\
 \x00\x00\x00\x0a\x00\x02\x07\x00\x01\x00\x01\x00\x01\x14";
 
+/// Client 7 opens a context, creates two images of one U8 sample, writes 10 to the first, runs Not
+/// from the first to the second, and reads the second.
+const STORED: &[u8] = b"\x00\x00\x00\x03\x00\x07\x01\
+\x00\x00\x00\x08\x00\x07\x03\x01\x00\x01\x00\x01\
+\x00\x00\x00\x08\x00\x07\x03\x01\x00\x01\x00\x01\
+\x00\x00\x00\x0e\x00\x07\x05\x00\x00\x00\x01\xff\x01\x00\x01\x00\x01\x0a\
+\x00\x00\x00\x1c\x00\x07\x18\x04\x00\x00\x00\x00\x00\x00\x00\x01\xff\
+\x00\x00\x00\x00\xff\x00\x00\x00\x02\xff\x00\x00\x00\x00\xff\
+\x00\x00\x00\x08\x00\x07\x07\x00\x00\x00\x02\xff";
+
+/// The replies to `STORED`.
+const STORED_REPLIES: &[u8] = b"\x00\x00\x00\x04\x00\x07\x01\x00\
+\x00\x00\x00\x08\x00\x07\x03\x00\x00\x00\x00\x01\
+\x00\x00\x00\x08\x00\x07\x03\x00\x00\x00\x00\x02\
+\x00\x00\x00\x04\x00\x07\x05\x00\
+\x00\x00\x00\x04\x00\x07\x18\x00\
+\x00\x00\x00\x0a\x00\x07\x07\x00\x01\x00\x01\x00\x01\xf5";
+
 /// The offsets at which the replies end.
 const REPLY_ENDS: [usize; 9] = [0, 8, 16, 28, 40, 48, 56, 70, 84];
+
+/// The same for `STORED_REPLIES`.
+const STORED_ENDS: [usize; 7] = [0, 8, 20, 32, 40, 48, 62];
 
 /// The devices of a stream: the sizes of their pieces, and the number of calls until one fails.
 #[derive(Clone, Copy)]
@@ -77,10 +98,10 @@ pub fn serve_bytes(
     }
 }
 
-/// Serves the stream of the two clients to a new runtime.
-fn serve_turns(alloc: Global, devices: Devices) -> Served {
+/// Serves a stream to a new runtime.
+fn serve_new(alloc: Global, stream: &[u8], devices: Devices) -> Served {
     let mut runtime = Runtime::new(alloc, Limits::default());
-    serve_bytes(alloc, &mut runtime, TURNS, devices)
+    serve_bytes(alloc, &mut runtime, stream, devices)
 }
 
 /// Devices that move everything in one piece, and never fail.
@@ -99,7 +120,7 @@ fn in_pieces(rt: HostRuntime) {
             sink_piece,
             ..ALL_AT_ONCE
         };
-        let served = serve_turns(rt.alloc(), devices);
+        let served = serve_new(rt.alloc(), TURNS, devices);
         assert!(rt; served.written.as_slice() == REPLIES);
         assert!(rt;
             served.result
@@ -111,23 +132,38 @@ fn in_pieces(rt: HostRuntime) {
     }
 }
 
-/// Serves over devices of which one may fail with this fault. Returns whether it succeeded, with
-/// all replies.
-fn ends_well(rt: &impl Abort, alloc: Global, devices: Devices, fault: StreamFault) -> bool {
-    let served = serve_turns(alloc, devices);
-    assert!(rt; REPLIES.starts_with(served.written.as_slice()));
-    let is_whole = REPLY_ENDS.contains(&served.written.len());
+/// Serves a stream over devices of which one may fail with this fault. Returns whether it
+/// succeeded, with all replies, which end at these offsets.
+fn ends_well(
+    rt: &impl Abort,
+    alloc: Global,
+    stream: &[u8],
+    replies: &[u8],
+    ends: &[usize],
+    devices: Devices,
+    fault: StreamFault,
+) -> bool {
+    let served = serve_new(alloc, stream, devices);
+    assert!(rt; replies.starts_with(served.written.as_slice()));
+    let is_whole = ends.contains(&served.written.len());
     assert!(rt; is_whole || fault == StreamFault::WriteFailed);
     let is_ok = served.result.is_ok();
     assert!(rt; is_ok || served.result == Err(fault));
-    assert!(rt; !is_ok || served.written.len() == REPLIES.len());
+    assert!(rt; !is_ok || served.written.len() == replies.len());
     is_ok
 }
 
-/// The stream has 98 bytes and its replies 84, and each byte takes a call here. Further calls are
-/// the flushes, and the read that finds the end.
-#[test]
-fn each_read_and_each_write_failing(rt: HostRuntime) {
+/// Serves a stream, with a byte in each call, and each read and each write failing in turn. It
+/// succeeds with more than this number of good reads, or of good writes.
+fn fails_at_each_call(
+    rt: &impl Abort,
+    alloc: Global,
+    stream: &[u8],
+    replies: &[u8],
+    ends: &[usize],
+    most_reads: u64,
+    most_writes: u64,
+) {
     for good in 0..120 {
         let reads = Devices {
             source_piece: 1,
@@ -136,7 +172,7 @@ fn each_read_and_each_write_failing(rt: HostRuntime) {
         };
         let fault = StreamFault::ReadFailed;
         assert!(rt;
-            ends_well(&rt, rt.alloc(), reads, fault) == (good > 98),
+            ends_well(rt, alloc, stream, replies, ends, reads, fault) == (good > most_reads),
             "{good} reads"
         );
         let writes = Devices {
@@ -146,10 +182,18 @@ fn each_read_and_each_write_failing(rt: HostRuntime) {
         };
         let fault = StreamFault::WriteFailed;
         assert!(rt;
-            ends_well(&rt, rt.alloc(), writes, fault) == (good > 91),
+            ends_well(rt, alloc, stream, replies, ends, writes, fault) == (good > most_writes),
             "{good} writes"
         );
     }
+}
+
+/// `TURNS` has 98 bytes and its replies 84, `STORED` 93 and 62, and each byte takes a call here.
+/// Further calls are the flushes, and the read that finds the end.
+#[test]
+fn each_read_and_each_write_failing(rt: HostRuntime) {
+    fails_at_each_call(&rt, rt.alloc(), TURNS, REPLIES, &REPLY_ENDS, 98, 91);
+    fails_at_each_call(&rt, rt.alloc(), STORED, STORED_REPLIES, &STORED_ENDS, 93, 67);
 }
 
 #[test]
@@ -158,9 +202,11 @@ fn a_write_that_takes_nothing(rt: HostRuntime) {
         sink_piece: 0,
         ..ALL_AT_ONCE
     };
-    let served = serve_turns(rt.alloc(), devices);
-    assert!(rt; served.result == Err(StreamFault::WriteFailed));
-    assert!(rt; served.written.is_empty());
+    for stream in [TURNS, STORED] {
+        let served = serve_new(rt.alloc(), stream, devices);
+        assert!(rt; served.result == Err(StreamFault::WriteFailed));
+        assert!(rt; served.written.is_empty());
+    }
 }
 
 /// Streams with a fault, one after the other to the same runtime: how serving ends, the bytes
@@ -216,15 +262,15 @@ fn how_far_it_reads(rt: HostRuntime) {
     }
 }
 
-/// Streams without a fault, one after the other to the same runtime: an empty one, one that opens a
-/// context, and one that finds it open.
+/// Streams without a fault, one after the other to the same runtime: an empty one, one in which a
+/// client opens a context, and one that finds it open.
 #[test]
 fn goes_on_after_a_good_end(rt: HostRuntime) {
     let mut runtime = Runtime::new(rt.alloc(), Limits::default());
     let open = b"\x00\x00\x00\x03\x00\x07\x01";
     for (stream, written, requests, refused) in [
         (&b""[..], &b""[..], 0, 0),
-        (open, b"\x00\x00\x00\x04\x00\x07\x01\x00", 1, 0),
+        (STORED, STORED_REPLIES, 6, 0),
         (open, b"\x00\x00\x00\x04\x00\x07\x01\x07", 1, 1),
     ] {
         let served = serve_bytes(rt.alloc(), &mut runtime, stream, ALL_AT_ONCE);
@@ -232,6 +278,31 @@ fn goes_on_after_a_good_end(rt: HostRuntime) {
             served.result == Ok(Summary { requests, refused }),
             "{stream:?}"
         );
+        assert!(rt; served.written.as_slice() == written, "{stream:?}");
+    }
+}
+
+/// A stream that ends within its second frame, and one that finds the context of the first open.
+#[test]
+fn goes_on_after_a_stream_cut_short(rt: HostRuntime) {
+    let mut runtime = Runtime::new(rt.alloc(), Limits::default());
+    for (stream, result, written) in [
+        (
+            &b"\x00\x00\x00\x03\x00\x07\x01\x00\x00\x00\x03\x00"[..],
+            Err(StreamFault::Truncated),
+            &b"\x00\x00\x00\x04\x00\x07\x01\x00"[..],
+        ),
+        (
+            b"\x00\x00\x00\x03\x00\x07\x01",
+            Ok(Summary {
+                requests: 1,
+                refused: 1,
+            }),
+            b"\x00\x00\x00\x04\x00\x07\x01\x07",
+        ),
+    ] {
+        let served = serve_bytes(rt.alloc(), &mut runtime, stream, ALL_AT_ONCE);
+        assert!(rt; served.result == result, "{stream:?}");
         assert!(rt; served.written.as_slice() == written, "{stream:?}");
     }
 }

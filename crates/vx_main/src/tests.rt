@@ -342,7 +342,8 @@ fn applies_functions(rt: HostRuntime) {
 /// Runs `apply`, which has to fail and write nothing.
 fn ends<R: Read + Drop>(rt: &impl Abort, alloc: Global, reader: R, status: u8, line: &str) {
     let mut written = Vec::new(alloc);
-    match run(alloc, &["apply", "erode"], reader, &mut written) {
+    let ended = run(alloc, &["apply", "box", "--border", "replicate"], reader, &mut written);
+    match ended {
         Ok(()) => assert!(rt; false, "ended well, not {line}"),
         Err(ended) => {
             assert!(rt; ended.status() == status);

@@ -20,7 +20,7 @@ from checks.growths.session import first_objects, session
 from checks.sessions.images import pictures_in_long_bodies
 from checks.sessions.nodes import counts_and_tables, nodes_that_run
 from checks.sessions.statistics import histograms, places_of_extremes
-from checks.sessions.texts import pgm_texts
+from checks.sessions.texts import faulty_pgm_texts, pgm_texts
 from checks.tables.endings import TURNS
 
 DEFAULT = 268_435_456
@@ -46,6 +46,7 @@ def streams() -> Iterator[Tuple[str, int, List[bytes]]]:
         ("of counts and tables", DEFAULT, counts_and_tables()),
         ("of histograms", DEFAULT, histograms()), ("of extremes", DEFAULT, places_of_extremes()),
         ("of PGM texts", DEFAULT, pgm_texts()),
+        ("of PGM texts with a fault", DEFAULT, faulty_pgm_texts()),
     ):
         yield words, limit, [request for request, _ in of]
 

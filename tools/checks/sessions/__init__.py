@@ -13,7 +13,7 @@ from checks.sessions.clients import (
 from checks.sessions.delays import delays, delays_as_exemplars, nodes_on_slots, refusals_of_slots
 from checks.sessions.images import (
     full_context, full_of_extremes, objects_released, pictures, pictures_in_long_bodies,
-    refusals_of_pictures, sides, sizes)
+    refusals_beside_one_image, refusals_of_pictures, sides, sizes)
 from checks.sessions.nodes import counts_and_tables, nodes_that_run, refusals_of_nodes
 from checks.sessions.rectangles import (
     refusals_of_rectangles, valid_blocks, valid_in_delays, valid_outputs, valid_rectangles)
@@ -21,7 +21,8 @@ from checks.sessions.refusals import refusals_in_order, refusals_of_kinds, refus
 from checks.sessions.rows import CLIENT, EXTREMES
 from checks.sessions.statistics import (
     histograms, integrals, places_of_extremes, statistics_of_slots)
-from checks.sessions.texts import pgm_images, pgm_texts, refusals_of_texts, sizes_of_texts
+from checks.sessions.texts import (
+    faulty_pgm_texts, pgm_images, pgm_texts, refusals_of_texts, sizes_of_texts)
 from checks.sessions.windows import convolutions, two_outputs, windows, windows_beside_the_valid
 
 # The name of a session without graphs, and the function that returns its rows.
@@ -31,6 +32,7 @@ SESSIONS = (
     ("pictures", pictures),
     ("pictures in long bodies", pictures_in_long_bodies),
     ("refusals of pictures", refusals_of_pictures),
+    ("refusals beside one image", refusals_beside_one_image),
     ("sides", sides),
     ("objects that are released", objects_released),
     ("contexts that are released", contexts_released),
@@ -65,6 +67,7 @@ SESSIONS = (
     ("refusals of windows and statistics", refusals_of_kinds),
     ("what comes first in windows and statistics", refusals_in_order),
     ("PGM texts", pgm_texts),
+    ("PGM texts that stand for no picture", faulty_pgm_texts),
     ("PGM texts and images", pgm_images),
     ("refusals of PGM texts", refusals_of_texts),
     *((f"sizes of format {fmt}", partial(sizes, fmt, size)) for fmt, size in (

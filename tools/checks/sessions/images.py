@@ -3,8 +3,8 @@ than 64 bytes, released objects, full contexts, and pictures of all sizes."""
 
 from feqyldan import wire
 from feqyldan.wire import (
-    INVALID_DIMENSION, INVALID_FORMAT, INVALID_PARAMETERS, INVALID_REFERENCE, INVALID_TYPE,
-    INVALID_VALUE, NO_RESOURCES, S16, U32, U8, reference)
+    INVALID_DIMENSION, INVALID_FORMAT, INVALID_GRAPH, INVALID_PARAMETERS, INVALID_REFERENCE,
+    INVALID_TYPE, INVALID_VALUE, NOT_BITS, NO_RESOURCES, S16, U32, U8, reference)
 from checks.sessions.rows import (
     CLIENT, CREATES, EXTREMES, NOTHING_FOUND, NOWHERE, RANGES, SAME, THIRDS, TURNED, confined,
     delayed, found, graph, holds, holds_text, made, name, opened, picture, ran, released, shows,
@@ -66,6 +66,17 @@ def refusals_of_pictures():
         *((wire.read_image(CLIENT, named), code) for named, code in (
             (reference(3, 0), INVALID_REFERENCE), (reference(1, 0), INVALID_TYPE),
             (2, INVALID_TYPE), (0, INVALID_REFERENCE), (2**32 - 1, INVALID_REFERENCE))),
+    ]
+
+
+def refusals_beside_one_image():
+    """1 is an image of one U8 sample, and there is no other object; then 2 is one of S16."""
+    return [
+        opened(), made(1, U8), (wire.create_image(CLIENT, 4, 1, 1), INVALID_FORMAT),
+        (wire.read_image(CLIENT, 2), INVALID_REFERENCE),
+        (wire.read_image(CLIENT, reference(1, 0)), INVALID_TYPE),
+        ran(NOT_BITS, 1, None, 1, INVALID_GRAPH), holds(1, U8, [0]), made(2, S16),
+        ran(NOT_BITS, 2, None, 2, INVALID_GRAPH), holds(2, S16, [0]),
     ]
 
 

@@ -49,7 +49,8 @@ FAULTY_TEXTS = {
         b"P5 1 1 40000\n\x00\x05", b"P5 1 1 32768\n\x00\x05", b"P5 1 1 65535\n\x00\x05",
         b"P5 1 1 65536\n\x00\x05", b"P2 1 1 32768 5", b"P2 1 1 0 0", b"P5 1 1 0\n\x00",
         b"P5 1 1 99999999999999999999\n", b"P5 1 1 4294967551\n\x07", b"P5 1 1 255\n\x07\x07",
-        b"P5 1 1 255\n", b"P5 4097 1 255\n", b"P5 8192 8192 255\n", b"P5 2 1 255\n\x07",
+        b"P5 1 1 255\n", b"P5 4097 1 255\n", b"P5 4096 4096 255\n", b"P5 8192 8192 255\n",
+        b"P5 2 1 255\n\x07",
         b"P5 1 1 300\n\x01", b"P2 8192 1 255 5",
         b"P5 1 1 300\n\x01\x2c\x00", b"P5 1 1 255\n\x07\n", b"P5 1 1 255\n\x07P5 1 1 255\n\x07",
         b"P5 1 1 255\n\x07# a\n", b"P5 1 1 255\r\n\x07", b"P2 2 1 255 1",
@@ -98,6 +99,19 @@ def pgm_texts():
         rows += [made(number, fmt, width, height), wrote_text(number, text),
                  *shows(number, fmt, samples, (0, 0, width, height), width, height),
                  holds_text(number, raw(width, height, samples) if fmt == U8 else INVALID_FORMAT)]
+    return rows
+
+
+def faulty_pgm_texts():
+    """1 is an image of one U8 sample, which is as it was after each text that stands for no
+    picture."""
+    rows = [opened(), made(1, U8), wrote_text(1, b"P2 1 1 255 9")]
+    for text, code in (
+        (b"P5 1 1 40000\n\x00\x05", INVALID_FORMAT), (b"P5 1 1 255\n\x07\x07", INVALID_FORMAT),
+        (b"P5 1 1 255\n", INVALID_FORMAT), (b"P5 0 1 255\n", INVALID_DIMENSION),
+        (b"P2 1 1 300 301", INVALID_VALUE), (b"P5 1 1 100\n\x65", INVALID_VALUE),
+    ):
+        rows += [wrote_text(1, text, code), holds_text(1, raw(1, 1, [9]))]
     return rows
 
 

@@ -26,6 +26,7 @@ ENDINGS = (
     ("a length above 2^27, begun", "08 00 00 01 00 07 01", "", *TRUNCATED),
     ("the greatest length", "20 00 00 00", "", *TRUNCATED),
     ("the greatest length, begun", "20 00 00 00 00 07 01", "", *TRUNCATED),
+    ("a WriteImage of 2^27 bytes, begun", "08 00 00 00 00 07 05", "", *TRUNCATED),
     ("a length one too great", "20 00 00 01 00 07 01", "", *BAD_LENGTH),
     ("the greatest number", "ff ff ff ff", "", *BAD_LENGTH),
     ("the least frame", "00 00 00 03 00 07 01", "00 00 00 04 00 07 01 00", 0, b""),
@@ -62,6 +63,7 @@ def check_streams(program: Program) -> None:
     turns = [(bytes.fromhex(request), bytes.fromhex(reply)) for request, reply in TURNS]
     check_prefixes(program, "the turns", turns)
     check_turns(program, turns)
+    check_alone(program, turns)
     check_long_frames(program)
     check_prefixes(program, "a graph on a delay", pairs_of(graph_before_and_after_ageing()))
     check_prefixes(program, "pictures in long bodies", pairs_of(pictures_in_long_bodies()))
@@ -115,3 +117,12 @@ def check_turns(program: Program, turns: Pairs) -> None:
     process.stdin.close()
     check(process.stdout.read() == b"" and process.wait() == 0,
           "in turns: more than the replies came")
+
+
+def check_alone(program: Program, turns: Pairs) -> None:
+    """Each client's replies are those of the stream without the other's frames."""
+    for client in (1, 2):
+        own = [pair for pair in turns if int.from_bytes(pair[0][4:6], "big") == client]
+        program.check(f"the turns of client {client} alone",
+                      b"".join(request for request, _ in own),
+                      b"".join(reply for _, reply in own))
