@@ -261,6 +261,37 @@ class TestDrawings(ProgramTest):
             self.assertIn("<svg", self.context.graph()._repr_svg_())
 
 
+class TestDrawingsOfFiles(FolderTest):
+    """Without a server."""
+
+    def graph(self, node, objects):
+        return self.put("a.json", {"feqyldan": 1, "objects": objects, "nodes": [node]})
+
+    def test_what_is_wrong_and_where(self):
+        absdiff = {"function": "absdiff", "in1": "a"}
+        for node, objects, words in (
+                (7, {}, 'a node must be a JSON object with a "function", not 7'),
+                ({}, {}, "'function' is missing"),
+                ({"function": ["absdiff"]}, {}, r"there is no function \['absdiff'\]; the func"),
+                (absdiff, {"a": 7}, 'an object must be a JSON object with a "kind", not 7')):
+            path = self.graph(node, objects)
+            with self.subTest(words), self.assertRaisesRegex(vx.GraphFileError,
+                                                             f"{path}: node 1: {words}"):
+                graph_files.drawing_of_file(path)
+        # The names of objects that aren't there are drawn.
+        drawn = graph_files.drawing_of_file(self.graph({**absdiff, "in2": 5}, {"a": {"kind": 7}}))
+        self.assertEqual([box.title for box in drawn.boxes.values()], ["absdiff", "a", "5"])
+
+    def test_a_closed_pipe(self):
+        path, (reader, writer) = self.graph({"function": "not_"}, {}), os.pipe()
+        os.close(reader)
+        environment = {**os.environ, "PYTHONPATH": PACKAGE, "PYTHONUNBUFFERED": ""}
+        with open(writer, "wb") as closed:
+            run = subprocess.run([sys.executable, "-m", "feqyldan", "draw", path], stdout=closed,
+                                 stderr=subprocess.PIPE, env=environment, timeout=90)
+        self.assertEqual((run.returncode, run.stderr), (1, b""))
+
+
 class TestProfiles(ProgramTest):
     def test_each_node_is_measured_and_nothing_changes(self):
         graph, camera = station(self.context)
