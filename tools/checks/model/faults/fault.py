@@ -30,6 +30,17 @@ def with_outcome(op, outcome):
     return {"REQUESTS": {**right.REQUESTS, op: right.REQUESTS[op]._replace(outcome=outcome)}}
 
 
+def at_once(take, size):
+    """A reading of fields for which all of their bytes are there before one is looked at."""
+    def taken(fields):
+        at = fields.at
+        fields.bytes(size)
+        fields.at = at
+        return take(fields)
+
+    return taken
+
+
 def with_fields(op, *takes):
     """A request whose body has other fields."""
     return {"REQUESTS": {**right.REQUESTS,

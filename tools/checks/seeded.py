@@ -1,0 +1,34 @@
+"""The command line of the checks that draw what they run at random, from seeds that count up."""
+
+import argparse
+import os
+import random
+from typing import Any, Callable, Optional
+
+# What runs so many, or where that is None as many as the seconds allow, from a seed on; and what
+# runs the planted faults from a seed on.
+Check = Callable[[str, float, Optional[int], int], Any]
+CheckFaults = Callable[[str, int], Any]
+
+
+def run(name: str, drawn: str, check: Check, check_faults: CheckFaults, faults_help: str) -> None:
+    """Reads the command line of the check of this name, and runs it. `drawn` is what a seed
+    gives."""
+    parser = argparse.ArgumentParser(prog=f"tools/{name}")
+    parser.add_argument("program", metavar="PROGRAM")
+    parser.add_argument("--seconds", type=float, default=20,
+                        help=f"seconds for which {drawn}s are begun (default: 20)")
+    parser.add_argument(f"--{drawn}s", type=int, dest="count", metavar="N",
+                        help=f"number of {drawn}s, whatever the time (default: no limit)")
+    parser.add_argument("--seed", type=int,
+                        help=f"seed of the first {drawn}; the others count up from it (default: "
+                        "random)")
+    parser.add_argument("--faults", action="store_true", help=faults_help)
+    asked = parser.parse_args()
+    program = os.path.abspath(asked.program)
+    if asked.faults:
+        check_faults(program, 1 if asked.seed is None else asked.seed)
+        return
+    seed = random.randrange(1_000_000_000) if asked.seed is None else asked.seed
+    print(f"{name}: the seed of the first {drawn} is {seed}", flush=True)
+    check(program, asked.seconds, asked.count, seed)
