@@ -410,6 +410,20 @@ class Beginning(BrokerTest):
                 with self.assertRaisesRegex(Unusable, "another program has been starting at"):
                     listener.listen_at(path, 0o600)
 
+    def test_a_listener_that_accepts_nobody(self) -> None:
+        with tempfile.TemporaryDirectory() as folder, contextlib.ExitStack() as ends:
+            path = os.path.join(folder, "socket")
+            busy = ends.enter_context(socket.socket(socket.AF_UNIX))
+            busy.bind(path)
+            busy.listen(0)
+            with contextlib.suppress(BlockingIOError):
+                while True:
+                    waiting = ends.enter_context(socket.socket(socket.AF_UNIX))
+                    waiting.setblocking(False)
+                    waiting.connect(path)
+            with self.assertRaisesRegex(Unusable, f"another program listens at {path}"):
+                listener.listen_at(path, 0o600)
+
     def test_an_empty_path(self) -> None:
         for module in ("feqyldan.broker", "feqyldan.door"):
             ended = subprocess.run([sys.executable, "-m", module, "--socket", "", "--", *PLAIN],
