@@ -52,24 +52,23 @@ PIXELWISE = {
     "Add, S16, SATURATE": ("add", lambda: cv2.add(shorts, others, short_output)),
     "Subtract, U8 to U8, SATURATE": ("subtract", lambda: cv2.subtract(first, second, byte_output)),
     "Subtract, S16, SATURATE": ("subtract", lambda: cv2.subtract(shorts, others, short_output)),
-    "Multiply, U8 to U8, n = 8": ("multiply by "
-                                  "1/256",
-                                  lambda: cv2.multiply(first, second, byte_output, 1 / 256)),
-    "Multiply, S16, n = 8": ("multiply by "
-                             "1/256", lambda: cv2.multiply(shorts, others, short_output, 1 / 256)),
+    "Multiply, U8 to U8, n = 8": (
+        "multiply by 1/256", lambda: cv2.multiply(first, second, byte_output, 1 / 256)),
+    "Multiply, S16, n = 8": (
+        "multiply by 1/256", lambda: cv2.multiply(shorts, others, short_output, 1 / 256)),
     "AbsoluteDifference, U8": ("absdiff", lambda: cv2.absdiff(first, second, byte_output)),
     "AbsoluteDifference, S16": ("absdiff", lambda: cv2.absdiff(shorts, others, short_output)),
     "MinPixel, U8": ("min", lambda: cv2.min(first, second, byte_output)),
     "MinPixel, S16": ("min", lambda: cv2.min(shorts, others, short_output)),
     "MaxPixel, U8": ("max", lambda: cv2.max(first, second, byte_output)),
-    "Threshold, U8, "
-    "BINARY": ("threshold", lambda: cv2.threshold(first, 100, 255, cv2.THRESH_BINARY, byte_output)),
+    "Threshold, U8, BINARY": (
+        "threshold", lambda: cv2.threshold(first, 100, 255, cv2.THRESH_BINARY, byte_output)),
     "Threshold, U8, RANGE": ("inRange", lambda: cv2.inRange(first, 100, 200, byte_output)),
     "Threshold, S16, BINARY": ("inRange", lambda: cv2.inRange(shorts, 101, 32767, byte_output)),
     "TableLookup, U8": ("LUT", lambda: cv2.LUT(first, table, byte_output)),
-    "TableLookup, "
-    "S16": ("NumPy's take",
-            lambda: numpy.take(short_table, indices, out=short_output, mode="wrap")),
+    "TableLookup, S16": (
+        "NumPy's take",
+        lambda: numpy.take(short_table, indices, out=short_output, mode="wrap")),
     "ConvertDepth, U8 to S16, shift 4": (
         "NumPy's left_shift",
         lambda: numpy.left_shift(first, 4, out=short_output, dtype=numpy.int16)),
@@ -96,8 +95,8 @@ def filtered(side, depth, output):
 WINDOWS = {
     "Box": ("blur, to nearest", lambda: cv2.blur(noise, (3, 3), byte_output, borderType=REPLICATE)),
     "Gaussian": (
-        "GaussianBlur, to "
-        "nearest", lambda: cv2.GaussianBlur(noise, (3, 3), 0, byte_output, borderType=REPLICATE)),
+        "GaussianBlur, to nearest",
+        lambda: cv2.GaussianBlur(noise, (3, 3), 0, byte_output, borderType=REPLICATE)),
     "Median": ("medianBlur", lambda: cv2.medianBlur(noise, 3, byte_output)),
     "Erode": ("erode", lambda: cv2.erode(noise, square, byte_output, borderType=REPLICATE)),
     "Dilate": ("dilate", lambda: cv2.dilate(noise, square, byte_output, borderType=REPLICATE)),
@@ -111,12 +110,12 @@ WINDOWS = {
         "spatialGradient",
         lambda: cv2.spatialGradient(noise, short_output, second_output, 3, REPLICATE)),
     "Convolve, 3x3 to U8": ("filter2D, to nearest", filtered(3, cv2.CV_8U, byte_output)),
-    "Convolve, 3x3 to "
-    "S16": ("filter2D to CV_16S, to nearest", filtered(3, cv2.CV_16S, short_output)),
-    "Convolve, 5x5 to "
-    "S16": ("filter2D to CV_16S, to nearest", filtered(5, cv2.CV_16S, short_output)),
-    "Convolve, 9x9 to "
-    "S16": ("filter2D to CV_16S, to nearest", filtered(9, cv2.CV_16S, short_output)),
+    "Convolve, 3x3 to S16": (
+        "filter2D to CV_16S, to nearest", filtered(3, cv2.CV_16S, short_output)),
+    "Convolve, 5x5 to S16": (
+        "filter2D to CV_16S, to nearest", filtered(5, cv2.CV_16S, short_output)),
+    "Convolve, 9x9 to S16": (
+        "filter2D to CV_16S, to nearest", filtered(9, cv2.CV_16S, short_output)),
 }
 
 STATISTICS = {
@@ -124,8 +123,8 @@ STATISTICS = {
                          lambda: cv2.calcHist([noise], [0], None, [256], [0, 256], counts)),
     "Histogram, constant": ("calcHist",
                             lambda: cv2.calcHist([constant], [0], None, [256], [0, 256], counts)),
-    "Integral": ("integral, a row and a column "
-                 "more", lambda: cv2.integral(noise, sums, cv2.CV_32S)),
+    "Integral": ("integral, a row and a column more",
+                 lambda: cv2.integral(noise, sums, cv2.CV_32S)),
     "MinMaxLoc, U8, noise": ("minMaxLoc, without counts", lambda: cv2.minMaxLoc(noise)),
     "MinMaxLoc, U8, constant": ("minMaxLoc, without counts", lambda: cv2.minMaxLoc(constant)),
     "MinMaxLoc, S16, noise": ("minMaxLoc, without counts", lambda: cv2.minMaxLoc(short_noise)),

@@ -64,23 +64,26 @@ def arguments(words: Optional[Sequence[str]]) -> argparse.Namespace:
 def main(words: Optional[Sequence[str]] = None) -> int:
     told = arguments(words)
     try:
-        return draw(told) if told.command == "draw" else run(told)
+        (draw if told.command == "draw" else run)(told)
+        sys.stdout.flush()
+        return 0
     except KeyboardInterrupt:
         return 130
     except BrokenPipeError:
+        # Python writes what is left when it ends, and would report the closed pipe once more.
+        os.dup2(os.open(os.devnull, os.O_WRONLY), sys.stdout.fileno())
         return 1
     except (FeqyldanError, OSError, ValueError, ImportError) as error:
         print(f"feqyldan: {error}", file=sys.stderr)
         return 1
 
 
-def draw(told: argparse.Namespace) -> int:
+def draw(told: argparse.Namespace) -> None:
     drawing = drawing_of_file(told.graph)
     sys.stdout.write(drawing.dot if told.dot else drawing.svg)
-    return 0
 
 
-def run(told: argparse.Namespace) -> int:
+def run(told: argparse.Namespace) -> None:
     paths = paths_of(told.pictures)
     with ExitStack() as ends:
         server = ends.enter_context(connect(told.socket, retry=10) if told.socket else Server())
@@ -93,7 +96,6 @@ def run(told: argparse.Namespace) -> int:
         results = station.graph.stream(frames, camera, list(station.outputs.values()))
         for path in paths:
             report.add(path, dict(zip(station.outputs, result_of(path, results))))
-    return 0
 
 
 def result_of(path: str, results: Iterator[Tuple[Any, Tuple[Any, ...]]]) -> Tuple[Any, ...]:

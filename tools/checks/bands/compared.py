@@ -5,7 +5,7 @@ from typing import Iterable, Optional, Tuple, Type
 from feqyldan import wire
 from checks.bands.graph import GRAPH, Graph, Made, shown
 from checks.bands.pictures import picture_for
-from checks.bands.server import Server, Wrong, serving
+from checks.lockstep import Fault, Server, WrongAnswer, serving
 
 # The client that runs graphs, and the one that runs their nodes.
 AS_A_WHOLE, ONE_BY_ONE = 1, 2
@@ -52,7 +52,7 @@ class Beside:
     def same(self, frame: bytes, words: str, made: Made) -> None:
         one, other = self.both(frame)
         if one[6:] != other[6:]:
-            raise Wrong(f"{words}: {difference(made, frame[6], one, other)} as node by node")
+            raise WrongAnswer(f"{words}: {difference(made, frame[6], one, other)} as node by node")
 
     def make_objects(self) -> None:
         """Creates the same objects with the same names for both clients."""
@@ -118,10 +118,10 @@ def fault_of(program: str, graphs: Iterable[Graph],
     failure."""
     graph = None
     try:
-        with serving(program, kind) as server:
+        with serving(kind, [program, "serve"]) as server:
             for graph in graphs:
                 Beside(server, graph).check()
-    except Wrong as wrong:
+    except Fault as fault:
         assert graph is not None
-        return graph, str(wrong)
+        return graph, str(fault)
     return None

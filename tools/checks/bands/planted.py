@@ -10,7 +10,7 @@ from checks.bands.compared import AS_A_WHOLE, fault_of
 from checks.bands.draw import graph_of
 from checks.bands.graph import LARGE
 from checks.bands.pictures import Rectangle
-from checks.bands.server import Server
+from checks.lockstep import Server
 
 # Number of graphs within which a fault must be found.
 FAULT_GRAPHS = 240

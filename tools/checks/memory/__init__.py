@@ -4,10 +4,11 @@ import argparse
 import os
 import sys
 
+from checks.lockstep import Fault
 from checks.memory.again import again, registered
 from checks.memory.great import rising, small_in_great, written
 from checks.memory.planted import check_faults
-from checks.memory.server import Fault, Program
+from checks.memory.server import Program
 from checks.memory.soak import REQUESTS, soak
 
 

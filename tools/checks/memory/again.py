@@ -3,7 +3,7 @@
 from typing import List
 
 from feqyldan import wire
-from checks.memory.server import QUOTA, Program, Server, TooMuchMemory, in_mib, serving
+from checks.memory.server import QUOTA, Program, Server, check_bounds, in_mib, serving
 
 # Number of delays that are registered with one graph, each released before the next.
 REGISTERED = 60_000
@@ -31,9 +31,7 @@ class Compared:
             return ""
         taken = self.server.memory() - self.at_first
         told = f"{in_mib(taken)} for {self.done} {what}, at most {in_mib(FOR_AGAIN)}"
-        if taken > FOR_AGAIN:
-            raise TooMuchMemory(told)
-        return told
+        return check_bounds(told, taken, FOR_AGAIN)
 
 
 def registered(program: Program) -> str:
@@ -42,12 +40,12 @@ def registered(program: Program) -> str:
         server.ask(wire.open_context(1))
         image = server.create(wire.create_image(1, wire.U8, 1, 1))
         graph = server.create(wire.create_graph(1))
-        compared, told = Compared(server, 100), ""
+        growth, told = Compared(server, 100), ""
         for _ in range(REGISTERED):
             delay = server.create(wire.create_delay(1, image, 1))
             server.ask(wire.register_auto_aging(1, graph, delay))
             server.ask(wire.release(1, delay))
-            told = compared.after("registered delays that are gone") or told
+            told = growth.after("registered delays that are gone") or told
         server.ask(wire.process_graph(1, graph))
         return told
 
@@ -57,14 +55,14 @@ def again(program: Program) -> str:
     them."""
     with serving(program, QUOTA) as server:
         server.ask(wire.open_context(1))
-        compared, told = Compared(server, BETWEEN), ""
+        growth, told = Compared(server, BETWEEN), ""
         for _ in range(ROUNDS):
             for name in made_and_run(server, 1):
                 server.ask(wire.release(1, name))
             server.ask(wire.open_context(2))
             made_and_run(server, 2)
             server.ask(wire.release_context(2))
-            told = compared.after("rounds of all kinds of requests") or told
+            told = growth.after("rounds of all kinds of requests") or told
         return told
 
 

@@ -1,8 +1,9 @@
 """Measures the memory of large images while they are written, and after they are released."""
 
 from feqyldan import wire
+from checks.lockstep import WrongAnswer
 from checks.memory.server import (
-    MIB, QUOTA, Program, Server, TooLittleMemory, TooMuchMemory, WrongAnswer, in_mib, serving)
+    MIB, QUOTA, Program, Server, TooLittleMemory, check_bounds, in_mib, serving)
 
 # The largest side of an image.
 GREATEST_SIDE = 8192
@@ -62,11 +63,9 @@ def compare_seen(server: Server, at_first: int) -> None:
 def compare_held(server: Server, at_first: int, objects: int) -> str:
     """Checks the memory of this many objects: their own, and at most one large block."""
     taken = server.memory() - at_first
-    bound = objects * OBJECT_BYTES + GREAT
-    told = f"{in_mib(taken)} for {objects} images of one sample, at most {in_mib(bound)}"
-    if taken > bound:
-        raise TooMuchMemory(told)
-    return told
+    most = objects * OBJECT_BYTES + GREAT
+    told = f"{in_mib(taken)} for {objects} images of one sample, at most {in_mib(most)}"
+    return check_bounds(told, taken, most)
 
 
 def written(program: Program) -> str:
@@ -89,14 +88,10 @@ def written_in(program: Program, fmt: wire.Format) -> str:
             raise WrongAnswer(f"an image of {fmt.name}, {width} by {size[1]}, isn't what was "
                               "written last, bytes of 2")
         taken = server.memory("VmHWM") - at_first
-    bound = 2 * GREAT + BESIDE
+    most = 2 * GREAT + BESIDE
     told = (f"at most {in_mib(taken)} while an image of {in_mib(GREAT)} was written and read, for "
-            f"which {in_mib(bound)} are allowed")
-    if taken > bound:
-        raise TooMuchMemory(told)
-    if taken < GREAT:
-        raise TooLittleMemory(told)
-    return told
+            f"which {in_mib(most)} are allowed")
+    return check_bounds(told, taken, most, GREAT)
 
 
 def rising(program: Program) -> str:
@@ -124,8 +119,6 @@ def had_at_once(server: Server, fmt: wire.Format, count: int) -> None:
 
 def compare_free(server: Server, at_first: int) -> str:
     taken = server.memory() - at_first
-    bound = KEPT * sum(map(wire.sample_bytes, wire.Format)) + BESIDE
-    told = f"{in_mib(taken)} after images of rising sizes, at most {in_mib(bound)}"
-    if taken > bound:
-        raise TooMuchMemory(told)
-    return told
+    most = KEPT * sum(map(wire.sample_bytes, wire.Format)) + BESIDE
+    told = f"{in_mib(taken)} after images of rising sizes, at most {in_mib(most)}"
+    return check_bounds(told, taken, most)

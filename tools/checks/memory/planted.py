@@ -8,9 +8,10 @@ from typing import Callable, Dict, Iterator, List, NamedTuple, Tuple, Type
 
 from feqyldan import wire
 from checks.memory.again import SIDE, again, registered
+from checks.lockstep import Fault, WrongAnswer
 from checks.memory.great import rising, small_in_great, written
 from checks.memory.server import (
-    Fault, Program, Server, TooLittleMemory, TooMuchMemory, WrongAnswer, memory_of)
+    Program, Server, TooLittleMemory, TooMuchMemory, memory_of)
 from checks.memory.soak import soak
 
 HERE = os.path.dirname(os.path.abspath(__file__))

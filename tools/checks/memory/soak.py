@@ -4,9 +4,8 @@ import random
 from typing import Dict, List, NamedTuple, Tuple
 
 from feqyldan import wire
-from checks.memory.server import (
-    MIB, PATIENCE, QUOTA, Program, Server, TooLittleMemory, TooMuchMemory, WrongAnswer, in_mib,
-    serving)
+from checks.lockstep import PATIENCE, WrongAnswer
+from checks.memory.server import MIB, QUOTA, Program, Server, check_bounds, in_mib, serving
 
 CLIENTS, REQUESTS, SEED = 8, 20_000, 1
 LONGEST_SIDE = 512
@@ -155,8 +154,4 @@ def compare_peak(server: Server, peak: int) -> str:
     bound = 2 * peak + BESIDE
     told = (f"at most {in_mib(most)} while {server.asked} requests had at most {in_mib(peak)} of "
             f"samples, for which {in_mib(bound)} are allowed")
-    if most > bound:
-        raise TooMuchMemory(told)
-    if most < peak:
-        raise TooLittleMemory(told)
-    return told
+    return check_bounds(told, most, bound, peak)

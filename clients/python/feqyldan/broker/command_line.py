@@ -132,15 +132,9 @@ def main(words: Optional[List[str]] = None) -> int:
         raise_file_limit(f"{limits.connections} connections and {servers} servers",
                          limits.connections + FILES_OF_SERVER * servers)
         listener, status = options.listeners(told)
+        broker = Broker(listener, status, plan, limits)
+        limit_own_memory(told.own_memory)
+        return broker.run()
     except Unusable as reason:
         print(f"feqyldan broker: {reason}", file=sys.stderr)
-        return 2
-    broker = Broker(listener, status, plan, limits)
-    limit_own_memory(told.own_memory)
-    try:
-        return broker.run()
-    except OSError as error:
-        broker.finish()
-        print(f"feqyldan broker: {told.command[0]} can't be started: {error.strerror or error}; "
-              "give the server's path after --", file=sys.stderr)
         return 2

@@ -30,6 +30,17 @@ def with_outcome(op, outcome):
     return {"REQUESTS": {**right.REQUESTS, op: right.REQUESTS[op]._replace(outcome=outcome)}}
 
 
+def at_once(take, size):
+    """Reads fields after a check that all of their bytes are there."""
+    def taken(fields):
+        at = fields.at
+        fields.bytes(size)
+        fields.at = at
+        return take(fields)
+
+    return taken
+
+
 def with_fields(op, *takes):
     """Replaces the fields of a request's body."""
     return {"REQUESTS": {**right.REQUESTS,

@@ -3,7 +3,7 @@
 from feqyldan.wire import (
     INVALID_DIMENSION, INVALID_PARAMETERS, INVALID_REFERENCE, INVALID_VALUE, S16)
 from checks import model
-from checks.model.faults.fault import Fault, right, with_fields, with_outcome
+from checks.model.faults.fault import Fault, at_once, right, with_fields, with_outcome
 from checks.model.state import (
     CREATE_CONVOLUTION, CREATE_DISTRIBUTION, READ_DISTRIBUTION, READ_MIN_MAX)
 
@@ -31,14 +31,6 @@ def exponent_to(greatest, code=INVALID_VALUE):
         return exponent
 
     return {"take_exponent": take}
-
-
-def convolution_at_once(fields):
-    """Its three numbers are checked for their full length before any is checked."""
-    at = fields.at
-    fields.bytes(3)
-    fields.at = at
-    return right.take_convolution(fields)
 
 
 def convolution_of_rows(fields):
@@ -79,13 +71,6 @@ def bins_to_256(fields):
     bins = right.take_bins(fields)
     model.refuse_if(bins.offset + bins.range > 256, INVALID_VALUE)
     return bins
-
-
-def bins_at_once(fields):
-    at = fields.at
-    fields.bytes(6)
-    fields.at = at
-    return right.take_bins(fields)
 
 
 def distribution_of_ones(bins):
@@ -139,7 +124,7 @@ CONVOLUTION_FAULTS = tuple(Fault(words, CREATE_CONVOLUTION, changes) for words, 
     ("an exponent may be 32", exponent_to(32)),
     ("an exponent is told as INVALID_PARAMETERS", exponent_to(31, INVALID_PARAMETERS)),
     ("a convolution that is cut short is told before its sides",
-     with_fields(CREATE_CONVOLUTION, convolution_at_once)),
+     with_fields(CREATE_CONVOLUTION, at_once(right.take_convolution, 3))),
     ("a convolution has its rows before its columns",
      with_fields(CREATE_CONVOLUTION, convolution_of_rows)),
 ))
@@ -152,7 +137,7 @@ STATISTIC_OBJECT_FAULTS = tuple(Fault(words, CREATE_DISTRIBUTION, changes) for w
     ("bins have their range before their offset", with_fields(CREATE_DISTRIBUTION, bins_by_range)),
     ("bins may not go beyond 255", with_fields(CREATE_DISTRIBUTION, bins_to_256)),
     ("bins that are cut short are told before their numbers",
-     with_fields(CREATE_DISTRIBUTION, bins_at_once)),
+     with_fields(CREATE_DISTRIBUTION, at_once(right.take_bins, 6))),
     ("a new distribution isn't 0", {"new_distribution": distribution_of_ones}),
     ("ReadDistribution doesn't tell how many bins there are",
      with_outcome(READ_DISTRIBUTION, counts_without_bins)),

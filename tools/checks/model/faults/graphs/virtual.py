@@ -3,7 +3,7 @@
 from feqyldan import wire
 from feqyldan.wire import OPEN, S16, U8
 from checks import model
-from checks.model.faults.fault import right, with_outcome, with_row
+from checks.model.faults.fault import at_once, right, with_outcome, with_row
 from checks.model.faults.graphs.fault import graph_faults, is_virtual
 from checks.model.state import CREATE_VIRTUAL_IMAGE, PROCESS_GRAPH, QUERY_IMAGE, VERIFY_GRAPH
 
@@ -111,14 +111,6 @@ def no_room_at_quota(limits, context, thing):
                                           and right.charge(context) == limits.quota)
 
 
-def declared_at_once(fields):
-    """A body is checked for its full length before any field is checked."""
-    at = fields.at
-    fields.bytes(9)
-    fields.at = at
-    return right.take_virtual_image(fields)
-
-
 def taken_as(take):
     rows = {**right.REQUESTS,
             CREATE_VIRTUAL_IMAGE: right.REQUESTS[CREATE_VIRTUAL_IMAGE]._replace(take=take)}
@@ -184,7 +176,8 @@ VIRTUAL_FAULTS = graph_faults(
     ("a virtual image isn't counted among the objects", without_count(model.VirtualImage)),
     ("a graph isn't counted among the objects", without_count(model.Graph)),
     ("at the quota no virtual image finds room", {"has_room": no_room_at_quota}),
-    ("a virtual image that is cut short is told before its format", taken_as(declared_at_once)),
+    ("a virtual image that is cut short is told before its format",
+     taken_as(at_once(right.take_virtual_image, 9))),
     ("a virtual image has its height before its width", taken_as(take_by_height)),
     ("a virtual image's sides are 4096 at most", taken_as(take_smaller)),
     ("a virtual image is wholly open or not at all", taken_as(take_whole_or_none)),
