@@ -1,6 +1,6 @@
-/* What a run of a graph of one Not costs by the C library: c_client WIDTH HEIGHT COUNT prints two
-   times in seconds, the least of five rounds of so many: of vxProcessGraph alone, and of it with
-   the picture written before and read after it. */
+/* Measures a run of a graph of one Not in the C library. c_client WIDTH HEIGHT COUNT prints two
+   times in seconds, each the least of five rounds of COUNT runs: vxProcessGraph alone, and
+   vxProcessGraph with the picture written before and read after it. */
 #define _POSIX_C_SOURCE 200809L
 #include <VX/vx.h>
 #include <stdio.h>
@@ -46,7 +46,7 @@ static double now(void) {
     return (double)time.tv_sec + 1e-9 * (double)time.tv_nsec;
 }
 
-/* The least time of a call, over rounds of so many calls. */
+/* Returns the least time of a call, over rounds of this many calls. */
 static double best_seconds(void (*call)(void), int count) {
     double best = 1e9;
     call();

@@ -1,7 +1,7 @@
-/* What moving pictures by the C library costs: c_moves prints a row of a table for each size and
-   format with the least times of a copy to the library and from it, of a map to read and of a map
-   that is written, and of memcpy; and then for 1080p a frame by maps through the six nodes of
-   edges.c, and the run of the graph in it. In microseconds. */
+/* Measures the movement of pictures in the C library. c_moves prints a table row for each size and
+   format, with the least times in microseconds of a copy to and from the library, of a map for
+   reading, of a map for writing, and of memcpy. A last row has a 1080p frame through the six nodes
+   of edges.c with maps, and the run of the graph alone. */
 #define _POSIX_C_SOURCE 200809L
 #include <VX/vx.h>
 #include <stdio.h>
@@ -60,7 +60,7 @@ static void map_write(void) { map(move.image, VX_WRITE_ONLY); }
 
 static void copy_memory(void) {
     memcpy(move.copied, move.samples, bytes_of());
-    /* Has the compiler believe that it is read. */
+    /* Keeps the compiler from removing the copy. */
     __asm__ volatile("" : : "r"(move.copied) : "memory");
 }
 

@@ -1,6 +1,6 @@
-"""OpenCV's calls for the graphs of bench/clients on one thread, as JSON, in seconds: python3
-clients_peer.py. "motion" is a frame of 1280x720, "station" a picture of 2448x2048; of each the time
-where the calls write to arrays that are there already, and where each makes a new one."""
+"""Measures OpenCV's calls for the graphs of bench/clients on one thread, and prints the seconds as
+JSON: python3 clients_peer.py. "motion" is a frame of 1280x720, "station" a picture of 2448x2048.
+Each has two times: writing to existing arrays, and allocating new ones."""
 
 import json
 import sys
@@ -17,12 +17,12 @@ REPLICATE = cv2.BORDER_REPLICATE
 
 
 def outputs(count, shape, are_kept):
-    """Arrays for the outputs of calls; None for each that the call makes."""
+    """Returns the output arrays of the calls, or None for each array that the call allocates."""
     return [numpy.empty(shape, numpy.uint8) if are_kept else None for _ in range(count)]
 
 
 def motion(are_kept, height=720, width=1280):
-    """The ten nodes of clients.motion()."""
+    """Runs the ten nodes of clients.motion()."""
     frame, background, before = (chance.integers(0, 256, (height, width), numpy.uint8)
                                  for _ in range(3))
     to = outputs(8, frame.shape, are_kept)
@@ -45,7 +45,7 @@ def motion(are_kept, height=720, width=1280):
 
 
 def station(are_kept, height=2048, width=2448):
-    """The eight nodes of clients.station()."""
+    """Runs the eight nodes of clients.station()."""
     part, low, high = (chance.integers(0, 256, (height, width), numpy.uint8) for _ in range(3))
     to = outputs(7, part.shape, are_kept)
 

@@ -1,18 +1,18 @@
-/* Drives a server through pipes and says how many seconds it took.
+/* Drives a server through pipes, and prints the seconds that it took.
  *
  *   drive MODE COUNT PROGRAM [WORD..]       with a server of its own
- *   drive MODE COUNT --socket PATH          with the one that a Unix socket leads to
+ *   drive MODE COUNT --socket PATH          with the server behind a Unix socket
  *
  *   drive lockstep COUNT PROGRAM [WORD..]   COUNT small requests, each after the reply to the last
  *   drive streamed COUNT PROGRAM [WORD..]   COUNT small requests, written ahead of their replies
- *   drive image COUNT PROGRAM [WORD..]      COUNT times a 1920x1080 U8 image in, Not of it, and out
- *   drive image=WxHxN COUNT PROGRAM [..]    the same of another size; where N is 2 and not 1, S16
- *                                           images, and the greater of the image and itself for Not
+ *   drive image COUNT PROGRAM [WORD..]      COUNT times a 1920x1080 U8 image in, Not, and out
+ *   drive image=WxHxN COUNT PROGRAM [..]    the same with another size; N is 1 for U8, or 2 for
+ *                                           S16, with Max of the image and itself for Not
  *   drive bytes COUNT PROGRAM [WORD..]      COUNT times as many bytes in and out (for cat), also
  *                                           with =WxHxN
  *
- * A small request is WriteImage of one sample (18 bytes), its reply has 8 bytes. Pipes hold a
- * mebibyte, as those of the Python package and the broker do. */
+ * A small request is WriteImage of one sample (18 bytes), and its reply has 8 bytes. Pipes hold a
+ * mebibyte, like those of the Python package and the broker. */
 #define _GNU_SOURCE
 #include <errno.h>
 #include <fcntl.h>
@@ -73,7 +73,7 @@ static void reach(const char *path) {
   fcntl(to_server, F_SETFL, O_NONBLOCK);
 }
 
-/* Writes the requests and reads so many bytes of replies, whichever can go on. */
+/* Writes the requests and reads this many bytes of replies, as far as each doesn't block. */
 static void exchange(const uint8_t *requests, size_t length, uint8_t *replies, size_t wanted) {
   size_t written = 0, got = 0;
   while (written < length || got < wanted) {
@@ -127,7 +127,7 @@ static uint8_t *put_write(uint8_t *at, uint32_t name) {
   return at + byte_count();
 }
 
-/* A context, and two images. */
+/* Creates a context and two images. */
 static void prepare(void) {
   uint8_t requests[64], replies[64], *at = put_head(requests, 0, 1);
   for (int k = 0; k < 2; k++)
@@ -135,7 +135,7 @@ static void prepare(void) {
   exchange(requests, (size_t)(at - requests), replies, 8 + 12 + 12);
 }
 
-/* Not of the first image to the second, or the greater of it and itself. */
+/* Runs Not of the first image into the second, or Max of the first image with itself. */
 static uint8_t *put_node(uint8_t *at) {
   at = put_head(at, 25, 24);
   at = put_number(at, size == 1 ? NOT : MAX, 1);
@@ -180,7 +180,7 @@ static void bytes(long count) {
     exchange(there, byte_count(), back, byte_count());
 }
 
-/* The mode that a word begins with, once its size is taken off. */
+/* Returns the mode of an argument, without its size. */
 static const char *mode_of(char *word) {
   char *sides = strchr(word, '=');
   if (!sides)

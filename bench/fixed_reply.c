@@ -1,5 +1,5 @@
-/* The peer for small requests: reads a frame, answers a fixed reply of its client and op, and does
- * nothing else. Its reads and writes are those of a plain program: the length, the rest, the reply. */
+/* The peer for small requests. It reads a frame, writes a fixed reply for its client and op, and
+ * does nothing else. It uses one read for the length, one for the rest, and one write. */
 #include <stdint.h>
 #include <unistd.h>
 
@@ -23,7 +23,7 @@ int main(void) {
       return 1;
     uint8_t reply[12] = {0, 0, 0, 4, rest[0], rest[1], rest[2], 0};
     uint32_t size = 8;
-    if (rest[2] == 3) { /* a create has a name */
+    if (rest[2] == 3) { /* the reply to a create has a name */
       reply[3] = 8;
       size = 12;
     }

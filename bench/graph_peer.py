@@ -1,6 +1,6 @@
-"""The time of OpenCV's calls for the chains of bench/graphs on one thread, as JSON: python3
-graph_peer.py WIDTH HEIGHT COUNT CHAIN.., of the chains that are named, as they are called there.
-Each call writes to an array that is there already; the arrays are as many as a chain has links."""
+"""Measures OpenCV's calls for the chains of bench/graphs on one thread, and prints the times as
+JSON: python3 graph_peer.py WIDTH HEIGHT COUNT CHAIN... The chains have their names in bench/graphs.
+Each call writes to an existing array; a chain has one array per link."""
 
 import json
 import random
@@ -68,7 +68,7 @@ def run(calls, length=4):
 
 
 def looked_at(look):
-    """The difference, what is found in it, and where it is great."""
+    """Computes the difference, statistics of it, and a threshold of it."""
     apart, out = arrays[:2]
     difference(first, apart)
     look(apart)
@@ -80,7 +80,7 @@ def measure(a):
     cv2.minMaxLoc(a)
 
 
-# A quarter of a gradient, rounded down, is this with what OpenCV does, which rounds to nearest.
+# With OpenCV's rounding to nearest, this gives a quarter of a gradient, rounded down.
 QUARTER, DOWN = 1 / 4, -3 / 8
 
 
@@ -89,7 +89,7 @@ def edges_of_both():
     gaussian(first, smooth)
     cv2.spatialGradient(smooth, *gradients, 3, REPLICATE)
     for gradient, out in zip(gradients, outputs):
-        # What is below 0 becomes 0 first: convertScaleAbs would take it without its sign.
+        # Negative values become 0 first, because convertScaleAbs would take their absolute value.
         cv2.threshold(gradient, 0, 0, cv2.THRESH_TOZERO, gradient)
         cv2.convertScaleAbs(gradient, out, QUARTER, DOWN)
 
@@ -101,7 +101,7 @@ def edges_of_each():
         cv2.Sobel(smooth, cv2.CV_8U, dx, dy, out, 3, QUARTER, DOWN, REPLICATE)
 
 
-# The ways to do what a chain does, of which the fastest counts.
+# Alternative implementations of a chain; the fastest one counts.
 CHAINS = {
     "4 nodes, pixelwise": (lambda: run(PIXELWISE),),
     "16 nodes, pixelwise": (lambda: run(PIXELWISE, 16),),

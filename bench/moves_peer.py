@@ -1,6 +1,6 @@
-"""OpenCV's calls for the frame of c_moves.c on one thread: python3 moves_peer.py. The picture is in
-memory, and the calls write to arrays that are there already. Prints the least time of 60 in
-microseconds, in two ways: with both gradients by one call (six calls), and by one each (seven)."""
+"""Measures OpenCV's calls for the frame of c_moves.c on one thread: python3 moves_peer.py. The
+picture is in memory, and the calls write to existing arrays. Prints the least time of 60 in
+microseconds, in two ways: both gradients in one call (six calls), and one call for each (seven)."""
 
 import sys
 

@@ -1,9 +1,8 @@
-"""The time of OpenCV's functions on one thread, as JSON: python3 opencv_peer.py WIDTH HEIGHT COUNT
-[CASE..], of all cases or of those that are named.
+"""Measures OpenCV's functions on one thread, and prints the times as JSON: python3 opencv_peer.py
+WIDTH HEIGHT COUNT [CASE..]. The default is all cases.
 
-Each case has the name that bench/functions gives it, and OpenCV's own name of the function; NumPy's
-where OpenCV has none in Python. The name says what OpenCV does less or more. Outputs are arrays
-that are there already.
+Each case has its name in bench/functions, and OpenCV's own name of the function, or NumPy's if
+OpenCV has none in Python. That name says if OpenCV does more or less. Outputs are existing arrays.
 """
 
 import json
@@ -53,24 +52,23 @@ PIXELWISE = {
     "Add, S16, SATURATE": ("add", lambda: cv2.add(shorts, others, short_output)),
     "Subtract, U8 to U8, SATURATE": ("subtract", lambda: cv2.subtract(first, second, byte_output)),
     "Subtract, S16, SATURATE": ("subtract", lambda: cv2.subtract(shorts, others, short_output)),
-    "Multiply, U8 to U8, n = 8": ("multiply by "
-                                  "1/256",
-                                  lambda: cv2.multiply(first, second, byte_output, 1 / 256)),
-    "Multiply, S16, n = 8": ("multiply by "
-                             "1/256", lambda: cv2.multiply(shorts, others, short_output, 1 / 256)),
+    "Multiply, U8 to U8, n = 8": (
+        "multiply by 1/256", lambda: cv2.multiply(first, second, byte_output, 1 / 256)),
+    "Multiply, S16, n = 8": (
+        "multiply by 1/256", lambda: cv2.multiply(shorts, others, short_output, 1 / 256)),
     "AbsoluteDifference, U8": ("absdiff", lambda: cv2.absdiff(first, second, byte_output)),
     "AbsoluteDifference, S16": ("absdiff", lambda: cv2.absdiff(shorts, others, short_output)),
     "MinPixel, U8": ("min", lambda: cv2.min(first, second, byte_output)),
     "MinPixel, S16": ("min", lambda: cv2.min(shorts, others, short_output)),
     "MaxPixel, U8": ("max", lambda: cv2.max(first, second, byte_output)),
-    "Threshold, U8, "
-    "BINARY": ("threshold", lambda: cv2.threshold(first, 100, 255, cv2.THRESH_BINARY, byte_output)),
+    "Threshold, U8, BINARY": (
+        "threshold", lambda: cv2.threshold(first, 100, 255, cv2.THRESH_BINARY, byte_output)),
     "Threshold, U8, RANGE": ("inRange", lambda: cv2.inRange(first, 100, 200, byte_output)),
     "Threshold, S16, BINARY": ("inRange", lambda: cv2.inRange(shorts, 101, 32767, byte_output)),
     "TableLookup, U8": ("LUT", lambda: cv2.LUT(first, table, byte_output)),
-    "TableLookup, "
-    "S16": ("NumPy's take",
-            lambda: numpy.take(short_table, indices, out=short_output, mode="wrap")),
+    "TableLookup, S16": (
+        "NumPy's take",
+        lambda: numpy.take(short_table, indices, out=short_output, mode="wrap")),
     "ConvertDepth, U8 to S16, shift 4": (
         "NumPy's left_shift",
         lambda: numpy.left_shift(first, 4, out=short_output, dtype=numpy.int16)),
@@ -87,8 +85,8 @@ PIXELWISE = {
 
 
 def filtered(side, depth, output):
-    """filter2D doesn't turn its kernel, so this is the server's convolution turned, and divided by
-    2^4."""
+    """Runs filter2D, which doesn't flip its kernel. The kernel is therefore the server's
+    convolution flipped, divided by 2^4."""
     coefficients = [k % 7 - 3 or 4 for k in range(side * side)]
     kernel = numpy.array(coefficients[::-1], numpy.float32).reshape(side, side) / 16
     return lambda: cv2.filter2D(noise, depth, kernel, output, borderType=REPLICATE)
@@ -97,8 +95,8 @@ def filtered(side, depth, output):
 WINDOWS = {
     "Box": ("blur, to nearest", lambda: cv2.blur(noise, (3, 3), byte_output, borderType=REPLICATE)),
     "Gaussian": (
-        "GaussianBlur, to "
-        "nearest", lambda: cv2.GaussianBlur(noise, (3, 3), 0, byte_output, borderType=REPLICATE)),
+        "GaussianBlur, to nearest",
+        lambda: cv2.GaussianBlur(noise, (3, 3), 0, byte_output, borderType=REPLICATE)),
     "Median": ("medianBlur", lambda: cv2.medianBlur(noise, 3, byte_output)),
     "Erode": ("erode", lambda: cv2.erode(noise, square, byte_output, borderType=REPLICATE)),
     "Dilate": ("dilate", lambda: cv2.dilate(noise, square, byte_output, borderType=REPLICATE)),
@@ -112,12 +110,12 @@ WINDOWS = {
         "spatialGradient",
         lambda: cv2.spatialGradient(noise, short_output, second_output, 3, REPLICATE)),
     "Convolve, 3x3 to U8": ("filter2D, to nearest", filtered(3, cv2.CV_8U, byte_output)),
-    "Convolve, 3x3 to "
-    "S16": ("filter2D to CV_16S, to nearest", filtered(3, cv2.CV_16S, short_output)),
-    "Convolve, 5x5 to "
-    "S16": ("filter2D to CV_16S, to nearest", filtered(5, cv2.CV_16S, short_output)),
-    "Convolve, 9x9 to "
-    "S16": ("filter2D to CV_16S, to nearest", filtered(9, cv2.CV_16S, short_output)),
+    "Convolve, 3x3 to S16": (
+        "filter2D to CV_16S, to nearest", filtered(3, cv2.CV_16S, short_output)),
+    "Convolve, 5x5 to S16": (
+        "filter2D to CV_16S, to nearest", filtered(5, cv2.CV_16S, short_output)),
+    "Convolve, 9x9 to S16": (
+        "filter2D to CV_16S, to nearest", filtered(9, cv2.CV_16S, short_output)),
 }
 
 STATISTICS = {
@@ -125,8 +123,8 @@ STATISTICS = {
                          lambda: cv2.calcHist([noise], [0], None, [256], [0, 256], counts)),
     "Histogram, constant": ("calcHist",
                             lambda: cv2.calcHist([constant], [0], None, [256], [0, 256], counts)),
-    "Integral": ("integral, a row and a column "
-                 "more", lambda: cv2.integral(noise, sums, cv2.CV_32S)),
+    "Integral": ("integral, a row and a column more",
+                 lambda: cv2.integral(noise, sums, cv2.CV_32S)),
     "MinMaxLoc, U8, noise": ("minMaxLoc, without counts", lambda: cv2.minMaxLoc(noise)),
     "MinMaxLoc, U8, constant": ("minMaxLoc, without counts", lambda: cv2.minMaxLoc(constant)),
     "MinMaxLoc, S16, noise": ("minMaxLoc, without counts", lambda: cv2.minMaxLoc(short_noise)),
@@ -141,7 +139,7 @@ def times():
     for case, (name, function) in those_asked(PIXELWISE | STATISTICS).items():
         yield case, (name, best_seconds(function, count))
     for case, (name, function) in those_asked(WINDOWS).items():
-        # OpenCV always gives the border, so one time stands for both.
+        # OpenCV always computes the border, so one time serves both border modes.
         seconds = best_seconds(function, count)
         yield f"{case}, REPLICATE", (name, seconds)
         yield f"{case}, UNDEFINED", (name + ", with its border", seconds)

@@ -1,9 +1,9 @@
-"""The time of OpenCV's PGM reader and writer on one thread, as JSON: python3 pgm_peer.py COUNT RAW
-PLAIN.
+"""Measures OpenCV's PGM reader and writer on one thread, and prints the times as JSON: python3
+pgm_peer.py COUNT RAW PLAIN.
 
-RAW and PLAIN are files with a P5 and a P2 text of one picture. Each case has the name that
-bench/pgm gives it, and OpenCV's own name of the function. Each call makes its output anew, since
-OpenCV has no other in Python.
+RAW and PLAIN are files with a P5 and a P2 text of the same picture. Each case has its name in
+bench/pgm, and OpenCV's own name of the function. Each call allocates its output, because OpenCV's
+Python functions can't reuse one.
 """
 
 import json
@@ -17,8 +17,8 @@ from shared import best_seconds  # noqa: E402
 
 count = int(sys.argv[1])
 cv2.setNumThreads(1)
-# The C library keeps the memory of outputs once a greater block was freed. Else most of the time
-# would be page faults, which a program doesn't have that reads into an array that is there.
+# Freeing a large block first makes the C library keep the memory of later outputs. Otherwise most
+# of the time would be page faults, which a program that reads into an existing array doesn't have.
 numpy.ones(2**24, numpy.uint8)
 raw, plain = (numpy.fromfile(path, numpy.uint8) for path in sys.argv[2:])
 picture = cv2.imdecode(raw, cv2.IMREAD_GRAYSCALE)

@@ -1,6 +1,6 @@
-/* The peer for images: what a plain program has to do for the same replies. It reads the samples of
- * WriteImage into memory that it keeps, writes Not of them into other memory for Immediate, and
- * writes that for ReadImage. It checks nothing, and knows U8 images alone, and one of each. */
+/* The peer for images, a minimal program that gives the same replies. It reads the samples of
+ * WriteImage into a buffer, writes Not of them into a second buffer for Immediate, and returns that
+ * for ReadImage. It checks nothing, and knows only one U8 input and one U8 output. */
 #include <stdint.h>
 #include <stdlib.h>
 #include <string.h>
@@ -9,7 +9,7 @@
 enum { CREATE = 3, WRITE_IMAGE = 5, READ_IMAGE = 7, IMMEDIATE = 24 };
 enum { HEAD = 10, MOST = 8192 * 8192 };
 
-/* What is read ahead of large reads, as by a buffered reader. */
+/* Bytes read ahead of large reads, like a buffered reader's. */
 static uint8_t ahead[8192];
 static size_t begin, end;
 

@@ -1,5 +1,4 @@
-"""What the benchmarks of functions, graphs and PGM texts share: a server that is asked, the best
-time of some rounds, OpenCV's times."""
+"""Shared parts of the benchmarks: a server, the best time of some rounds, OpenCV's times."""
 
 import json
 import os
@@ -16,7 +15,7 @@ ROUNDS = 5
 
 
 class Server:
-    """The server as the package starts it, and one client's context in it. The quota has room for
+    """A server as the package starts it, with one client's context. The quota is large enough for
     all images of a benchmark."""
 
     def __init__(self, program):
@@ -25,7 +24,7 @@ class Server:
         self.run([wire.open_context(CLIENT)])
 
     def run(self, requests):
-        """The bodies of the replies to the requests, none of which is a refusal."""
+        """Returns the bodies of the replies to the requests. Fails if a request is refused."""
         self.process.stdin.write(b"".join(requests))
         self.process.stdin.flush()
         return [self.body() for _ in requests]
@@ -41,7 +40,8 @@ class Server:
         return int.from_bytes(self.run([request])[0], "big")
 
     def memory(self, field):
-        """A line of /proc/PID/status in megabytes: VmRSS now, VmHWM at most so far."""
+        """Returns a line of /proc/PID/status in megabytes: VmRSS is the current memory, VmHWM the
+        peak."""
         with open(f"/proc/{self.process.pid}/status", encoding="ascii") as status:
             lines = dict(line.split(":", 1) for line in status)
         return int(lines[field].split()[0]) * 1024 / 1e6
@@ -52,7 +52,7 @@ class Server:
 
 
 def best_seconds(function, count=1):
-    """The least time of a call, over rounds of so many calls."""
+    """Returns the least time of a call, over rounds of this many calls."""
     function()
     best = float("inf")
     for _ in range(ROUNDS):
@@ -64,7 +64,8 @@ def best_seconds(function, count=1):
 
 
 def opencv():
-    """A python3 that has OpenCV; None, and a line that says so, where there is none."""
+    """Returns a python3 that has OpenCV. Without one, prints a line that says so and returns
+    None."""
     for python in (sys.executable, "/usr/bin/python3"):
         try:
             if subprocess.run([python, "-c", "import cv2"], capture_output=True).returncode == 0:
@@ -77,9 +78,9 @@ def opencv():
 
 
 def opencv_times(python, program, *words):
-    """For each case that OpenCV has, its own name of the function and the seconds, as a program
-    here prints them. Its arrays stand in pages of the usual size, as the server's images and
-    OpenCV's own do; NumPy would ask for huge ones."""
+    """Returns OpenCV's name of the function and the seconds for each case that OpenCV has, as a
+    peer program prints them. The arrays use pages of the usual size, like the server's images and
+    OpenCV's own; NumPy would ask for huge pages."""
     command = [python, os.path.join(HERE, program), *map(str, words)]
     environment = dict(os.environ, NUMPY_MADVISE_HUGEPAGE="0")
     run = subprocess.run(command, capture_output=True, text=True, check=True, env=environment)

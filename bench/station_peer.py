@@ -1,5 +1,5 @@
-"""The time of OpenCV's calls for a picture of bench/station on one thread, as JSON: python3
-station_peer.py WIDTH HEIGHT COUNT. Each call writes to an array that is there already."""
+"""Measures OpenCV's calls for a picture of bench/station on one thread, and prints the times as
+JSON: python3 station_peer.py WIDTH HEIGHT COUNT. Each call writes to an existing array."""
 
 import json
 import random

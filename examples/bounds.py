@@ -1,6 +1,6 @@
 """
-The least rectangle around what a picture marks, found by extremes: MinMaxLoc, and Min with pictures
-of numbers.
+Finds the bounding rectangle of the marked pixels of a picture with MinMaxLoc, and Min with
+coordinate pictures.
 """
 
 from array import array
@@ -8,12 +8,12 @@ from typing import Callable, List, Optional, Sequence, Union
 
 import feqyldan as vx
 
-# A picture of numbers: its samples for a width and a height.
+# Makes the samples of a coordinate picture from a width and a height.
 Numbers = Callable[[int, int], "array[int]"]
 
 
 def from_left(width: int, height: int) -> "array[int]":
-    """Each pixel's column, counted from 1."""
+    """Returns the column of each pixel, counted from 1."""
     return array("h", range(1, width + 1)) * height
 
 
@@ -25,22 +25,22 @@ def from_top(width: int, height: int) -> "array[int]":
     return array("h", [1 + at // width for at in range(width * height)])
 
 
-# The greatest number that is marked: how far the first column is from the right side, the last
-# column, the last row. The first row is that of the first pixel that is marked.
+# The greatest marked number gives the distance of the first column from the right side, the last
+# column, and the last row. The first marked pixel gives the first row.
 NUMBERS: Sequence[Numbers] = (from_right, from_left, from_top)
 
 
 def add_bounds(graph: vx.Graph, marks: Union[vx.AnyImage, vx.VirtualImage], width: int,
                height: int) -> List[vx.MinMax]:
     """
-    Adds nodes to a graph that find the bounds of what is 255 in a U8 picture of 0 and 255, of any
-    size. After the graph has run, rectangle_of() makes a rectangle of what these extremes read.
+    Adds nodes to a graph that find the bounds of the pixels of 255 in a U8 picture of 0 and 255, of
+    any size. After a run, rectangle_of() makes a rectangle of these extremes.
     """
     context = graph.context
     extremes = [context.min_max() for _ in range(1 + len(NUMBERS))]
     graph.min_max_loc(marks, extremes[0])
-    # What is marked becomes 255 * 128, which is above all numbers, so that the smaller one is the
-    # number there.
+    # Marked pixels become 255 * 128, which is above all coordinates, so Min gives the coordinate
+    # there.
     wide = graph.virtual_image(vx.S16)
     graph.convert_depth(marks, wide, vx.WRAP, 7)
     for numbers, found in zip(NUMBERS, extremes[1:]):
@@ -53,7 +53,7 @@ def add_bounds(graph: vx.Graph, marks: Union[vx.AnyImage, vx.VirtualImage], widt
 
 
 def rectangle_of(extremes: Sequence[vx.Extremes], width: int) -> Optional[vx.Rectangle]:
-    """The columns x0 to x1 - 1 and the rows y0 to y1 - 1; None where nothing is marked."""
+    """Returns the columns x0 to x1 - 1 and the rows y0 to y1 - 1, or None if nothing is marked."""
     marks, first_column, last_column, last_row = extremes
     if not marks.max:
         return None

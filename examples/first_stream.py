@@ -1,11 +1,11 @@
 #!/usr/bin/env python3
-"""A first stream: two clients, each with an image of its own, and Not of one of them.
+"""A first stream: two clients, each with its own image, and Not of one of them.
 
     examples/first_stream.py [--bytes]
 
-starts the server, sends its requests and prints the replies in words. With --bytes it writes the
-stream's bytes to standard output, so that `examples/first_stream.py --bytes | PROGRAM serve | xxd`
-shows the reply frames themselves.
+Starts the server, sends the requests and prints the decoded replies. With --bytes it writes the
+bytes of the stream to standard output. `examples/first_stream.py --bytes | PROGRAM serve | xxd`
+then shows the reply frames themselves.
 """
 
 import subprocess

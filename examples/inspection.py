@@ -1,13 +1,13 @@
 #!/usr/bin/env python3
-"""An inspection station: which parts have a scratch, by comparison with a reference.
+"""An inspection station that finds scratched parts by comparison with a reference.
 
     examples/inspection.py FOLDER
 
-inspects two flanges. A graph takes the specks out of a part's picture by a median, takes the
-absolute difference to the reference, keeps what differs by more than 24, takes single pixels out by
-a median again, and finds the rectangle around the rest by extremes. It prints what was found, and
-writes FOLDER/inspection.png: the reference, the scratched part with the rectangle, the difference
-four times as bright, and what was kept.
+Inspects two flanges. For each picture a graph removes specks by a median, takes the absolute
+difference to the reference, keeps differences above 24, removes single pixels by a second median,
+and finds the bounding rectangle of the rest. Prints the result, and writes FOLDER/inspection.png:
+the reference, the scratched part with the rectangle, the difference four times as bright, and the
+marked pixels.
 """
 
 import math
@@ -19,7 +19,7 @@ import feqyldan as vx
 from bounds import add_bounds, rectangle_of
 from folder import folder_told
 
-# Red, green and blue from 0 to 255, by rows from the top.
+# Rows of red, green and blue values from 0 to 255, top row first.
 Pixel = Tuple[int, int, int]
 Rows = List[List[Pixel]]
 
@@ -35,12 +35,12 @@ WHITE, RED = (255, 255, 255), (230, 30, 30)
 # ---- the pictures
 
 def inside(distance: float) -> float:
-    """How much of a pixel is inside of an edge that is so many pixels away."""
+    """Returns the share of a pixel that lies inside an edge at this distance."""
     return min(1.0, max(0.0, distance + 0.5))
 
 
 def flange(x: int, y: int) -> float:
-    """A turned flange with a bore and six holes on a dark belt."""
+    """Draws a rotated flange with a bore and six holes on a dark belt."""
     radius = math.dist((x, y), MIDDLE)
     metal = inside(63 - radius) * inside(radius - 19)
     for hole in HOLES:
@@ -50,7 +50,7 @@ def flange(x: int, y: int) -> float:
 
 
 def from_scratch(x: int, y: int) -> float:
-    """How far a pixel is from the scratch's middle line."""
+    """Returns the distance of a pixel from the centre line of the scratch."""
     (ax, ay), (bx, by) = SCRATCH
     along = ((x - ax) * (bx - ax) + (y - ay) * (by - ay)) / math.dist(*SCRATCH) ** 2
     along = min(1.0, max(0.0, along))
@@ -58,7 +58,7 @@ def from_scratch(x: int, y: int) -> float:
 
 
 def photograph(seed: int, scratched: bool = False) -> List[List[int]]:
-    """A part as a camera sees it: with a little noise, and specks that are black or white."""
+    """Returns a camera picture of a part: with a little noise, and black and white specks."""
     chance = random.Random(seed)
 
     def sample(x: int, y: int) -> int:
@@ -80,8 +80,8 @@ class Finding(NamedTuple):
 
 
 class Station:
-    """A graph that compares the picture in `part` with a reference, and leaves `difference` and
-    `marks`."""
+    """Builds a graph that compares the picture in `part` with a reference and writes `difference`
+    and `marks`."""
 
     def __init__(self, context: vx.Context, reference: vx.Image) -> None:
         self.part, self.difference, self.marks, clean = (context.image_like(reference)
@@ -114,8 +114,8 @@ def in_words(found: Finding) -> str:
 # ---- the sheet
 
 def panel(picture: Any, around: Optional[vx.Rectangle] = None) -> Rows:
-    """A grey picture, as Image.read() gives it, in colour; with a red frame two pixels beside a
-    rectangle."""
+    """Converts a grey picture, as Image.read() returns it, to colour, and draws a red frame two
+    pixels outside a rectangle."""
     rows = [[(sample, sample, sample) for sample in row] for row in picture.tolist()]
     if around:
         frame(rows, vx.Rectangle(around.x0 - 3, around.y0 - 3, around.x1 + 3, around.y1 + 3))
@@ -123,8 +123,7 @@ def panel(picture: Any, around: Optional[vx.Rectangle] = None) -> Rows:
 
 
 def frame(rows: Rows, outside: vx.Rectangle) -> None:
-    """The frame's outermost pixels are those of the rectangle; what isn't in the picture is left
-    out."""
+    """Draws a frame whose outermost pixels are those of the rectangle, clipped to the picture."""
     x0, y0, x1, y1 = outside
     across = [(x, y) for x in range(x0, x1) for y in (y0, y1 - 1)]
     down = [(x, y) for y in range(y0, y1) for x in (x0, x1 - 1)]
@@ -134,7 +133,7 @@ def frame(rows: Rows, outside: vx.Rectangle) -> None:
 
 
 def sheet(panels: Sequence[Rows]) -> Rows:
-    """Panels of one height beside one another, on white."""
+    """Joins panels of the same height side by side on white."""
     result: Rows = []
     for parts in zip(*panels):
         joined: List[Pixel] = list(parts[0])

@@ -1,14 +1,14 @@
 #!/usr/bin/env python3
-"""What moves before a live camera, with a background that follows the light.
+"""Motion detection for a live camera, with a background that adapts to the light.
 
     examples/live.py FOLDER [VIDEO | NUMBER]
 
-takes frames of a video, or of the camera of that number, by OpenCV; without either it makes some,
-30 a second. A graph adds each frame to sums, and marks what differs from the background and from
-the frame before. After 16 frames the mean of the sums is the new background. A stream yields each
-result as soon as it is there, while the camera is waited for. Ctrl-C ends it. It prints how many
-frames were seen and how long after its frame a result came, and writes FOLDER/live.png: the last
-frame in which something moved, and its marks.
+Reads frames of a video, or of the camera with that number, through OpenCV. Without either it makes
+test frames, 30 a second. A graph accumulates the frames, and marks differences from the background
+and from the previous frame. After 16 frames the mean of the sums becomes the new background. A
+stream yields each result as soon as it is ready, even while the camera has no new frame. Ctrl-C
+ends the program. It prints the number of frames and the latency of the results, and writes
+FOLDER/live.png: the last frame with motion, and its marks.
 """
 
 from __future__ import annotations
@@ -26,18 +26,18 @@ try:
     import numpy
     import numpy.typing
 except ImportError:
-    print("examples/live.py: OpenCV and NumPy aren't here, so there is nothing to show (Debian's "
-          "python3-opencv)")
+    print("examples/live.py: OpenCV and NumPy aren't installed, so this example is skipped "
+          "(Debian's python3-opencv)")
     sys.exit(0)
 
 Picture = numpy.typing.NDArray[numpy.uint8]
-# Frames, 2 to the shift, are in one background.
+# A background is the mean of 2 to the power of SHIFT frames.
 SHIFT, ABOVE = 4, 24
 WIDTH, HEIGHT, FRAMES, RATE = 1280, 720, 60, 30
 
 
 class Camera:
-    """Grey frames, and when each of them came."""
+    """Grey frames, with the time of arrival of each."""
 
     def __init__(self, source: str) -> None:
         self.times: List[float] = []
@@ -62,7 +62,7 @@ class Camera:
             is_there, frame = self._video.read()
 
     def _made(self) -> Iterator[Picture]:
-        """A box that crosses a noisy belt; the light grows weaker."""
+        """Draws a box that crosses a noisy belt while the light fades."""
         chance = numpy.random.default_rng(1)
         due = time.perf_counter()
         for number in range(FRAMES):
@@ -76,7 +76,7 @@ class Camera:
 
 
 class Watch:
-    """A graph that marks what moves, and one that renews the background."""
+    """A graph that marks motion, and another one that updates the background."""
 
     def __init__(self, context: vx.Context, width: int, height: int) -> None:
         self.camera, self._background, self.marks = (
@@ -100,18 +100,19 @@ class Watch:
         graph.histogram(self.marks, self.counts)
         graph.register_auto_aging(smooth)
         graph.verify()
-        # A graph that reads the sums and one that resets them: in one graph the reset runs first.
+        # Two graphs, one that reads the sums and one that resets them: in one graph the reset would
+        # run first.
         self._mean = context.graph(name="mean")
         self._mean.convert_depth(self._sums, self._background, vx.SATURATE, SHIFT)
 
     def renew(self) -> None:
-        """The frames so far make the background of the next ones."""
+        """Makes the background of the next frames from the sums so far."""
         self._mean.process()
         self._sums.fill(0)
 
     def look(self, frames: Camera) -> Iterator[Tuple[Picture, vx.Picture, int]]:
-        """Each frame with its marks, and how many samples are marked. No frame is sent ahead, so
-        each background has the frames that it should."""
+        """Yields each frame with its marks and the number of marked samples. Sends no frame ahead,
+        so each background is the mean of the right frames."""
         for number, (frame, (marks, counts)) in enumerate(
                 self.graph.stream(frames, self.camera, [self.marks, self.counts], ahead=0), 1):
             if number % (1 << SHIFT) == 0:
@@ -132,7 +133,7 @@ def main() -> None:
         try:
             for frame, marks, count in watch.look(camera):
                 late.append(time.perf_counter() - camera.times[len(late)])
-                # The first background is 0 everywhere: nothing is known of the scene yet.
+                # The first background is 0 everywhere, because no frame has been seen yet.
                 if count and len(late) > 1 << SHIFT:
                     moved += 1
                     shown = numpy.hstack([frame, marks])

@@ -1,12 +1,12 @@
 #!/usr/bin/env python3
-"""A robot whose programs each have a server of their own, and go on when the servers are restarted.
+"""A robot whose programs each have their own server, and continue after a restart of the servers.
 
     examples/robot.py
 
-starts a door, which gives each connection a server, and two programs, each with a graph and 10
-pictures a second. After a second it ends the door with its servers, and starts it again another
-second later. Each program connects again, builds its graph again, and does the same picture again:
-none is lost. It prints what each did.
+Starts a door, which starts a server for each connection, and two programs. Each program has a graph
+and processes 10 pictures a second. After a second it stops the door and its servers, and restarts
+them another second later. Each program reconnects, rebuilds its graph and repeats the interrupted
+picture, so none is lost. Prints a summary of each program.
 """
 
 from __future__ import annotations
@@ -30,7 +30,7 @@ Build = Callable[[vx.Context], Tuple[vx.Graph, vx.Image, vx.Image]]
 # ---- the graphs
 
 def outlines(context: vx.Context) -> Tuple[vx.Graph, vx.Image, vx.Image]:
-    """What a dilation has more than an erosion."""
+    """Builds the morphological gradient: a dilation minus an erosion."""
     camera, out = (context.image(vx.U8, WIDTH, HEIGHT, name=name) for name in ("camera", "out"))
     graph = context.graph(name="outlines")
     bright, dark = graph.virtual_image(vx.U8), graph.virtual_image(vx.U8)
@@ -42,7 +42,7 @@ def outlines(context: vx.Context) -> Tuple[vx.Graph, vx.Image, vx.Image]:
 
 
 def clean(context: vx.Context) -> Tuple[vx.Graph, vx.Image, vx.Image]:
-    """Without specks."""
+    """Builds a median, which removes specks."""
     camera, out = (context.image(vx.U8, WIDTH, HEIGHT, name=name) for name in ("camera", "out"))
     graph = context.graph(name="clean")
     graph.median3x3(camera, out, border=vx.REPLICATE)
@@ -53,7 +53,7 @@ def clean(context: vx.Context) -> Tuple[vx.Graph, vx.Image, vx.Image]:
 # ---- a program
 
 def work(path: str, name: str, build: Build, begun: Any, told: Any) -> None:
-    """Does all pictures, one after another, whatever becomes of the server."""
+    """Processes all pictures in order, even if the server goes away meanwhile."""
     pictures = [random.Random(number).randbytes(WIDTH * HEIGHT) for number in range(PICTURES)]
     done, built = 0, 0
     while done < PICTURES:
@@ -69,7 +69,7 @@ def work(path: str, name: str, build: Build, begun: Any, told: Any) -> None:
                     done += 1
                     time.sleep(1 / RATE)
         except (vx.ServerEnded, vx.TimedOut):
-            # The context is gone with its server: connect and build again.
+            # The context is gone with its server: reconnect and rebuild the graph.
             continue
     told.put(f"    {name}: {done} pictures, built {built} times")
 

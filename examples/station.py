@@ -1,14 +1,13 @@
 #!/usr/bin/env python3
-"""An inspection station with a recipe for each type of part: NumPy, OpenCV and Feqyldan.
+"""An inspection station with a recipe for each type of part, with NumPy, OpenCV and Feqyldan.
 
     examples/station.py FOLDER
 
-inspects 5-megapixel pictures of two types of parts. OpenCV moves each part to where its reference
-is, by phase correlation. A graph finds what is brighter or darker than the reference may be within
-two pixels, so small shifts that are left over don't count. The regions that differ are found by
-OpenCV again, where the graph found any. A picture of another size is refused, and the station goes
-on. It prints what was found and how long each picture took, and writes FOLDER/station.png: a part
-with its regions framed.
+Inspects 5-megapixel pictures of two types of parts. OpenCV aligns each part with its reference by
+phase correlation. A graph marks pixels that are brighter or darker than the reference within two
+pixels allows, so small remaining shifts don't count. If the graph finds any, OpenCV finds the
+connected regions. A picture of another size is rejected, and the station continues. Prints the
+result and the time of each picture, and writes FOLDER/station.png: a part with its regions framed.
 """
 
 from __future__ import annotations
@@ -26,22 +25,22 @@ try:
     import numpy
     import numpy.typing
 except ImportError:
-    print("examples/station.py: OpenCV and NumPy aren't here, so there is nothing to show "
+    print("examples/station.py: OpenCV and NumPy aren't installed, so this example is skipped "
           "(Debian's python3-opencv)")
     sys.exit(0)
 
 Picture = numpy.typing.NDArray[numpy.uint8]
 WIDTH, HEIGHT = 2448, 2048
-# How many pixels of shift are tolerated; how much a sample may differ beyond that; and the least
-# defect, in pixels.
+# Tolerated shift in pixels, tolerated difference of a sample beyond that, and the smallest defect
+# in pixels.
 TOLERANCE, ABOVE, LEAST = 2, 40, 40
-# Pictures are aligned on a quarter of their width and height.
+# Pictures are aligned at a quarter of their width and height.
 QUARTER = 4
 RED = (30, 30, 230)
 
 
 def bytes_of(pixels: Any) -> Picture:
-    """What OpenCV gives, with its type."""
+    """OpenCV's results, with their types."""
     picture: Picture = numpy.asarray(pixels, numpy.uint8)
     return picture
 
@@ -49,7 +48,7 @@ def bytes_of(pixels: Any) -> Picture:
 # ---- the pictures, as a camera would take them
 
 def part_of(kind: str) -> Picture:
-    """A clean picture of a part of some kind: holes in a plate, or a ring."""
+    """Draws a clean picture of a part of some kind: a plate with holes, or a ring."""
     picture = numpy.full((HEIGHT, WIDTH), 60, numpy.uint8)
     middle = WIDTH // 2, HEIGHT // 2
     if kind == "plate":
@@ -63,7 +62,7 @@ def part_of(kind: str) -> Picture:
 
 
 def photograph(kind: str, seed: int, defects: int) -> Picture:
-    """The part moved by up to 30 pixels, with noise, and scratches of another brightness."""
+    """Returns the part shifted by up to 30 pixels, with noise and scratches."""
     chance = numpy.random.default_rng(seed)
     picture = part_of(kind)
     for _ in range(defects):
@@ -99,12 +98,12 @@ class Recipe:
         graph.verify()
 
     def inspect(self, picture: Picture) -> Tuple[Picture, List[vx.Region]]:
-        """The picture moved to where the reference is, and the regions that differ. Raises
-        vx.BadPicture for a wrong frame."""
+        """Returns the picture aligned with the reference, and the regions that differ. Raises
+        vx.BadPicture for a frame of the wrong size or type."""
         aligned = self._align(picture)
         self._part.write(aligned)
         self._graph.process()
-        # Most parts are good, and their marks needn't be read.
+        # Most parts are good, so their marks needn't be read.
         if self._extremes.read().max == 0:
             return aligned, []
         return aligned, vx.regions(self._marks, least=LEAST)
@@ -120,7 +119,7 @@ class Recipe:
 
 
 def smaller(picture: Picture) -> numpy.typing.NDArray[numpy.float32]:
-    """A quarter of the width and the height, as phaseCorrelate wants it."""
+    """Returns the picture at a quarter of its width and height, as phaseCorrelate needs it."""
     small = cv2.resize(picture, None, fx=1 / QUARTER, fy=1 / QUARTER,
                        interpolation=cv2.INTER_AREA)
     floats: numpy.typing.NDArray[numpy.float32] = numpy.asarray(small, numpy.float32)
@@ -128,7 +127,8 @@ def smaller(picture: Picture) -> numpy.typing.NDArray[numpy.float32]:
 
 
 def envelope(context: vx.Context, reference: Picture) -> Tuple[vx.Image, vx.Image]:
-    """The least and the greatest sample of the reference within TOLERANCE pixels of each."""
+    """Returns the minimum and the maximum of the reference within TOLERANCE pixels of each
+    pixel."""
     low, high = context.image_from(reference), context.image_from(reference)
     for _ in range(TOLERANCE):
         for function, image in ((context.vxu.erode3x3, low), (context.vxu.dilate3x3, high)):
@@ -138,7 +138,7 @@ def envelope(context: vx.Context, reference: Picture) -> Tuple[vx.Image, vx.Imag
 
 
 def drawn(picture: Picture, found: List[vx.Region]) -> Picture:
-    """A quarter of the picture, in colour, with the regions framed."""
+    """Returns the picture at a quarter of its size, in colour, with the regions framed."""
     coloured = cv2.cvtColor(picture, cv2.COLOR_GRAY2BGR)
     for region in found:
         x0, y0, x1, y1 = region.around

@@ -1,14 +1,14 @@
 #!/usr/bin/env python3
-"""What moves in a video, found while its frames come as from a camera.
+"""Motion in a video whose frames arrive at the pace of a camera.
 
     examples/video.py FOLDER [VIDEO]
 
-takes the frames of a video by OpenCV (Debian's python3-opencv), which gives them as NumPy arrays;
-without VIDEO it makes one in FOLDER, parts on a belt, 1080p at 25 frames a second. The frames come
-at the video's pace, whether or not somebody takes them: one that comes while the one before still
-waits takes its place, and that one is dropped. A graph finds the rectangle around what has moved
-since the last frame that it saw. It prints how many frames were seen and dropped, and how long each
-took, and writes FOLDER/video.png: frames with that rectangle.
+Reads the frames of a video through OpenCV (Debian's python3-opencv) as NumPy arrays. Without VIDEO
+it makes one in FOLDER: parts on a belt, 1080p at 25 frames a second. The frames arrive at the
+video's pace. A frame that arrives while the previous one is still waiting replaces it, and the
+previous one is dropped. A graph finds the bounding rectangle of the motion since the last processed
+frame. Prints the number of processed and dropped frames and the time per frame, and writes
+FOLDER/video.png: frames with that rectangle.
 """
 
 import os
@@ -25,8 +25,8 @@ try:
     import cv2
     import numpy
 except ImportError:
-    print("examples/video.py: OpenCV and NumPy aren't here, so there is nothing to show (Debian's "
-          "python3-opencv)")
+    print("examples/video.py: OpenCV and NumPy aren't installed, so this example is skipped "
+          "(Debian's python3-opencv)")
     sys.exit(0)
 
 WIDTH, HEIGHT, RATE, FRAMES = 1920, 1080, 25, 75
@@ -37,8 +37,8 @@ RED = (30, 30, 230)
 # ---- the video
 
 def belt(time: int) -> Any:
-    """A frame, blue, green and red from 0 to 255: a belt with rollers, and two parts that go along
-    it."""
+    """Draws a frame, as blue, green and red from 0 to 255: a belt with rollers and two moving
+    parts."""
     frame = numpy.full((HEIGHT, WIDTH, 3), 60, numpy.uint8)
     frame[300:780] = 90
     frame[300:780, ::160] = 70
@@ -57,7 +57,7 @@ def make_video(path: str) -> str:
 
 
 class Camera(threading.Thread):
-    """Reads frames at the video's pace, and keeps the newest until it is taken."""
+    """Reads frames at the video's pace, and keeps the newest one until it is taken."""
 
     def __init__(self, path: str) -> None:
         super().__init__(daemon=True)
@@ -89,7 +89,7 @@ class Camera(threading.Thread):
             self._changed.notify()
 
     def take(self) -> Optional[Any]:
-        """The newest frame that nobody has taken, as soon as there is one; None after the last
+        """Waits for the next frame that has not been taken and returns it, or None after the last
         one."""
         with self._changed:
             self._changed.wait_for(lambda: self._newest is not None or self._has_ended)
@@ -97,7 +97,7 @@ class Camera(threading.Thread):
             return frame
 
 
-# ---- what is found in it
+# ---- motion
 
 class Seen(NamedTuple):
     frame: Any
@@ -106,7 +106,7 @@ class Seen(NamedTuple):
 
 
 class Watch:
-    """A graph that finds what has moved since the frame before."""
+    """Builds a graph that finds the motion since the previous frame."""
 
     def __init__(self, context: vx.Context, width: int, height: int) -> None:
         self._context, self._width = context, width
@@ -145,7 +145,7 @@ def watch(camera: Camera) -> List[Seen]:
 
 
 def drawn(seen: Seen) -> Any:
-    """A frame with the rectangle, smaller, as PNG has its colours."""
+    """Returns a reduced frame with the rectangle, in PNG's channel order."""
     frame = seen.frame.copy()
     if seen.around:
         x0, y0, x1, y1 = seen.around
@@ -161,7 +161,7 @@ def main() -> None:
     camera = Camera(name)
     if not camera.width:
         sys.exit(f"examples/video.py: OpenCV can't read {name!r}: give a video")
-    # Before the first frame the delay is 0 everywhere, so that all that is bright has moved.
+    # Before the first frame the delay is 0 everywhere, so every bright pixel counts as moved.
     seen = watch(camera)[1:]
     if not seen:
         sys.exit(f"examples/video.py: {name!r} has fewer than two frames: give a longer video")

@@ -1,6 +1,6 @@
 """
-Builds the package for pip, which calls this as pyproject.toml says. It needs nothing but Python, so
-it works in a new virtual environment without a network, and it leaves nothing beside the sources.
+Builds the package for pip, as the build backend that pyproject.toml names. It needs only Python, so
+it works in a new virtual environment without a network. It writes nothing next to the sources.
 """
 
 import base64
@@ -14,9 +14,9 @@ import tarfile
 import zipfile
 
 HERE = os.path.dirname(os.path.abspath(__file__))
-# What the archive of the sources has beside the package.
+# Files of the source archive besides the package.
 ALSO = ("LICENSE", "README.md", "build_backend.py", "pyproject.toml")
-# The same files give the same bytes.
+# A fixed date makes builds reproducible.
 DATE = (1980, 1, 1, 0, 0, 0)
 METADATA = """\
 Metadata-Version: 2.1

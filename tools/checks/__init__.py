@@ -1,8 +1,7 @@
-"""The checks of the server's program: each is the `main` of a module or package here, and a command
-of its name stands in tools/.
+"""Checks of the server. Each is the `main` of a module or package here, and has a command of the
+same name in tools/.
 
-They speak to the program by the package of clients/python, which stands beside them in the
-repository and needn't be installed.
+They talk to the server through the Python package in clients/python, which needn't be installed.
 """
 
 import os

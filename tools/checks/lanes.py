@@ -1,10 +1,10 @@
 """Counts the vector instructions of the kernels in a built program.
 
-A kernel of lane_rows is small, so the compiler puts it into the function that calls it: no symbol
-tells its instructions from those of others. What is counted is the instruction that a kernel is
-made of, in all functions of the program but those of the standard library. Where it is rarer than
-the table says, the kernel no longer runs in lanes; or it has other instructions now, and the table
-is to follow. Of `pand`, `por` and `pxor`, which other kernels have too, this says little.
+A kernel of lane_rows is small, so the compiler inlines it, and no symbol separates its instructions
+from others. The check therefore counts each kernel's characteristic instruction in all functions of
+the program except the standard library's. If there are fewer than in the table, the kernel is no
+longer vectorized, or it uses other instructions and the table must be updated. For `pand`, `por`
+and `pxor`, which other kernels have too, the count means little.
 """
 
 import re
@@ -23,8 +23,8 @@ WINDOWS = "window_kernels::"
 
 
 class Kernel(NamedTuple):
-    """What a kernel is made of: at least so many of an instruction, with or without the v of AVX,
-    in the functions whose name has a word; none where the least is 0."""
+    """A kernel's characteristic instruction: at least this many of it, with or without the v of
+    AVX, in the functions whose name contains a word; none if the least is 0."""
 
     name: str
     instruction: str
@@ -55,12 +55,12 @@ KERNELS = [
     Kernel("narrow", "psraw", 1),
     Kernel("accumulate, accumulate_square", "pminuw", 1),
     Kernel("accumulate_square", "psrlw", 1),
-    # Convolution alone scales, so they are in its function.
+    # Only Convolution scales, so these instructions are in its function.
     Kernel("scale_u8, scale_s16", "psrad", 1, WINDOWS),
     Kernel("scale_u8", "packuswb", 1, WINDOWS),
     Kernel("scale_s16", "packssdw", 1, WINDOWS),
-    # Sixteen numbers multiplied and the products of neighbours added up, which takes half the time
-    # of single products of 32 bits.
+    # Multiplies sixteen numbers and adds neighbouring products, in half the time of single 32-bit
+    # products.
     Kernel("convolution", "pmaddwd", 4, WINDOWS),
     Kernel("convolution, by single products", "pmulld", 0, WINDOWS),
 ]
@@ -69,7 +69,7 @@ Counts = dict[str, Counter[str]]
 
 
 def counted(lines: Iterable[str]) -> Counts:
-    """How many there are of each instruction in each function of a disassembly."""
+    """Returns the number of each instruction in each function of a disassembly."""
     counts: Counts = {}
     function = ""
     for line in lines:
@@ -82,7 +82,7 @@ def counted(lines: Iterable[str]) -> Counts:
 
 
 def wrong(counts: Counts, kernels: Iterable[Kernel] = KERNELS) -> list[str]:
-    """What is to be said of the kernels that don't run in lanes as they should."""
+    """Returns a line for each kernel that isn't vectorized as it should be."""
     lines = []
     for kernel in kernels:
         there = sum(of[kernel.instruction] for name, of in counts.items() if kernel.word in name)
@@ -93,7 +93,7 @@ def wrong(counts: Counts, kernels: Iterable[Kernel] = KERNELS) -> list[str]:
 
 
 def planted(counts: Counts, kernel: Kernel) -> Counts:
-    """The counts of a program whose kernel is computed item by item."""
+    """Returns the counts of a program in which this kernel is scalar."""
     if kernel.least == 0:
         return {**counts, f"{kernel.word}planted": Counter({kernel.instruction: 1})}
     return {

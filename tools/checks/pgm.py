@@ -1,4 +1,4 @@
-"""PGM texts of the server, of Netpbm and of OpenCV: each reads what the others write."""
+"""Exchanges PGM texts between the server, Netpbm and OpenCV: each reads the others' output."""
 
 import os
 import random
@@ -13,11 +13,11 @@ from feqyldan import wire
 CLIENT = 7
 INVALID_FORMAT = 5
 SIZES = ((1, 1), (1, 7), (9, 1), (16, 4), (33, 17), (200, 150), (8192, 2))
-# Netpbm takes pictures with a maxval of 1 for bitmaps, and writes no grey maps of them.
+# Netpbm treats pictures with a maxval of 1 as bitmaps, and writes no grey maps of them.
 MAXVALS = (2, 15, 100, 254, 255, 256, 1000, 4095, 32767, 65535)
 GREATEST = 32767
 
-# The width, the height and the samples that a text has.
+# The width, the height and the samples of a text.
 Read = Tuple[int, int, List[int]]
 
 
@@ -29,7 +29,7 @@ class Picture(NamedTuple):
 
 
 class Text(NamedTuple):
-    """A text that another program made of a picture, and by which words it did."""
+    """A text that another program made of a picture, and the command that made it."""
 
     words: str
     text: bytes
@@ -42,7 +42,7 @@ def check(condition: object, what: str) -> None:
 
 
 def pictures() -> Iterator[Picture]:
-    """Noise, in which the least and the greatest sample are."""
+    """Returns noise that includes the least and the greatest sample."""
     rng = random.Random(7)
     for maxval in MAXVALS:
         for width, height in SIZES:
@@ -56,17 +56,17 @@ def is_byte(picture: Picture) -> bool:
 
 
 def plain(picture: Picture) -> bytes:
-    """The simplest text of a picture, by which Netpbm is told of it."""
+    """Returns the simplest text of a picture, as input for Netpbm."""
     head = f"P2 {picture.width} {picture.height} {picture.maxval}\n"
     return (head + "\n".join(map(str, picture.samples)) + "\n").encode()
 
 
-# ---- the other programs: what they write, and what they read
+# ---- the other programs: their output, and their readings
 
 
 class Netpbm:
     name, package = "Netpbm", "netpbm"
-    # Tools that write the picture that they read, and tools that make one.
+    # Tools that convert a picture, and tools that make one.
     COPIES = (("pnmtopnm",), ("pamtopnm",), ("pnmtoplainpnm",))
     MAKERS = (
         ("pgmmake", "0.3", "31", "5"), ("pgmmake", "-maxval=1000", "0.7", "5", "31"),
@@ -85,13 +85,13 @@ class Netpbm:
         return subprocess.run(words, input=text, capture_output=True, timeout=60, check=True).stdout
 
     def numbers(self, text: bytes) -> List[int]:
-        """The width, the height, the maxval and the samples."""
+        """Returns the width, the height, the maxval and the samples."""
         magic, *numbers = self.run(("pnmtoplainpnm",), text).split()
         check(magic == b"P2", f"Netpbm makes {magic!r} of {text[:20]!r}")
         return [*map(int, numbers)]
 
     def read(self, texts: Sequence[bytes]) -> Iterator[Read]:
-        """The width, the height and the samples that each text has."""
+        """Returns the width, the height and the samples of each text."""
         for text in texts:
             width, height, _, *samples = self.numbers(text)
             yield width, height, samples
@@ -109,9 +109,9 @@ class Netpbm:
                 yield Text(" ".join(maker), text, Picture(width, height, maxval, samples))
 
 
-# Reads a line for each picture, and answers in one: "read TEXT" with the width, the height and the
-# samples; "raw" and "plain", a width, a height, bytes of a sample and the samples, with the text.
-# All bytes are in hex.
+# Reads a line for each picture, and answers in one line. "read TEXT" returns the width, the height
+# and the samples. "raw" and "plain", with a width, a height, the bytes of a sample and the samples,
+# return the text. All bytes are in hex.
 OPENCV = """
 import sys, cv2, numpy
 for line in sys.stdin:
@@ -160,7 +160,7 @@ class OpenCv:
             yield width, height, samples
 
     def texts(self) -> Iterator[Text]:
-        """It knows two maxvals, 255 and 65535."""
+        """Writes only the maxvals 255 and 65535."""
         known = [(word, picture) for word in ("raw", "plain") for picture in pictures()
                  if picture.maxval in (255, 65535)]
         lines = []
@@ -174,15 +174,15 @@ class OpenCv:
                        bytes.fromhex(answer), picture)
 
 
-# A program that the server's texts are compared with.
+# A program whose texts are compared with the server's.
 Program = Union[Netpbm, OpenCv]
 
 
-# ---- the server between them
+# ---- comparison with the server
 
 
 def requests_on(name: int, fmt: int, text: Text) -> List[bytes]:
-    """An image for a text, which is written to it, and read from it in both ways."""
+    """Writes a text to an image, and reads it back in both ways."""
     width, height = text.picture.width, text.picture.height
     return [wire.create_image(CLIENT, fmt, width, height),
             wire.write_image_pgm(CLIENT, name, text.text),
@@ -190,7 +190,7 @@ def requests_on(name: int, fmt: int, text: Text) -> List[bytes]:
 
 
 def served(program: str, texts: Sequence[Text]) -> List[Text]:
-    """What the server writes of the texts that it read: each of bytes as a text of its own."""
+    """Checks how the server reads the texts, and returns its own text of each one-byte picture."""
     requests = [wire.open_context(CLIENT)]
     for name, text in enumerate(texts, 1):
         requests += requests_on(name, wire.U8 if is_byte(text.picture) else wire.S16, text)
@@ -220,7 +220,7 @@ FUNCTIONS = {"not": wire.NOT_BITS, "box": wire.BOX, "gaussian": wire.GAUSSIAN,
 
 
 def immediate(program: str, text: Text, function: str) -> List[int]:
-    """What Immediate gives of a text's picture under REPLICATE."""
+    """Returns the result of Immediate on a text's picture with REPLICATE."""
     width, height = text.picture.width, text.picture.height
     stream = [wire.open_context(CLIENT), *requests_on(1, wire.U8, text),
               wire.create_image(CLIENT, wire.U8, width, height),
@@ -232,8 +232,8 @@ def immediate(program: str, text: Text, function: str) -> List[int]:
 
 
 def applied(program: str, texts: Sequence[Text]) -> Iterator[Text]:
-    """What `apply` writes of the texts, with the samples that Immediate gives; texts of two bytes
-    it refuses."""
+    """Compares the output of `apply` with the samples of Immediate. It refuses texts of two
+    bytes."""
     words = list(FUNCTIONS)
     for at, text in enumerate(texts):
         function = words[at % len(words)]

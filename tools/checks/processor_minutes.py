@@ -1,4 +1,4 @@
-"""The processor minutes that the prover took for each crate, while a command ran."""
+"""Measures the processor minutes of the prover for each crate while a command runs."""
 
 import collections
 import os
@@ -10,14 +10,14 @@ from typing import DefaultDict, Dict, Optional, Tuple
 
 TICKS = os.sysconf("SC_CLK_TCK")
 KINDS = ("proof", "tests", "edits", "build")
-# A process by its number and its start; a crate and the kind of work on it, if it is any.
+# A process by its number and start time; a crate with the kind of work, or None.
 Process = Tuple[int, str]
 Work = Optional[Tuple[str, str]]
 
 
 def stat(pid: str) -> Tuple[Process, int, float]:
-    """A process by its number and its start, its parent's number, and the seconds that it and its
-    ended children have used."""
+    """Returns a process by number and start time, its parent's number, and the processor seconds of
+    it and its finished children."""
     with open(f"/proc/{pid}/stat") as file:
         fields = file.read().rsplit(")", 1)[1].split()
     ticks = sum(map(int, fields[11:15]))
@@ -25,7 +25,7 @@ def stat(pid: str) -> Tuple[Process, int, float]:
 
 
 def work_of(pid: int) -> Work:
-    """The crate and the kind of work of a process of the prover; None of any other process."""
+    """Returns the crate and the kind of work of a prover process, or None for any other process."""
     with open(f"/proc/{pid}/cmdline") as file:
         words = file.read().split("\0")
     if os.path.basename(words[0]) != "rattle" or "--crate-name" not in words:
@@ -42,7 +42,7 @@ def work_of(pid: int) -> Work:
 
 
 def sample(root: int, times: Dict[Process, float], works: Dict[Process, Work]) -> None:
-    """Notes the time so far of each process of the prover below the root."""
+    """Records the current time of each prover process below the root."""
     found: Dict[int, Tuple[Process, int, float]] = {}
     for entry in os.listdir("/proc"):
         if entry.isdigit():
@@ -51,14 +51,14 @@ def sample(root: int, times: Dict[Process, float], works: Dict[Process, Work]) -
             except (OSError, IndexError, ValueError):
                 pass
     for pid, (process, _, _) in found.items():
-        # (what isn't the prover yet may become it)
+        # A process may become the prover later.
         if works.get(process) is None:
             try:
                 works[process] = work_of(pid)
             except OSError:
                 pass
     for pid, (process, parent, seconds) in found.items():
-        # A forked copy of the prover counts with the process that forked it, once it has ended.
+        # A forked copy of the prover counts with its parent once it has ended.
         is_copy = parent in found and works.get(found[parent][0]) is not None
         if works.get(process) and not is_copy and below(pid, root, found):
             alive = sum(its for _, its_parent, its in found.values() if its_parent == pid)
@@ -72,7 +72,7 @@ def below(pid: int, root: int, found: Dict[int, Tuple[Process, int, float]]) -> 
 
 
 def line(words: str, minutes: Dict[str, float]) -> str:
-    """The minutes by kind, and their sum."""
+    """Returns the minutes by kind, and their sum."""
     kinds = "  ".join(f"{minutes[kind]:7.1f}" for kind in KINDS)
     return f"{words:22} {kinds}  {sum(minutes.values()):7.1f}"
 

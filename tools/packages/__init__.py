@@ -1,4 +1,4 @@
-"""What tools/package builds: a wheel, and packages for Debian."""
+"""The parts of tools/package: a wheel, and Debian packages."""
 
 import os
 import sys

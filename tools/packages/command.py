@@ -17,8 +17,8 @@ KINDS = {"default": program.PLAIN, "x86-64-v3": program.FASTER}
 
 
 def programs_of(asked: argparse.Namespace) -> Dict[str, bytes]:
-    """By the name that it has in a package, each program's bytes; refused where one isn't there, or
-    is of another version."""
+    """Returns the bytes of each program by its name in a package. Fails if one is missing, or has
+    another version."""
     here = {os.path.basename(path) for path in program.built()}
     found = {}
     for kind, name in KINDS.items():
@@ -41,15 +41,15 @@ def check_version(path: str) -> None:
 
 
 def c_library(programs: Dict[str, bytes]) -> Tuple[int, int]:
-    """The oldest version of the C library that has all that the programs name of it."""
+    """Returns the oldest version of the C library that has all symbols that the programs use."""
     named = [found for data in programs.values()
              for found in re.findall(rb"GLIBC_(\d+)\.(\d+)", data)]
     return max((int(major), int(minor)) for major, minor in named)
 
 
 def date() -> str:
-    """In seconds since 1970, what every file in the packages is dated: the last commit's, or where
-    there is none, 1980, the first that a wheel can say."""
+    """Returns the date of every file in the packages, in seconds since 1970: that of the last
+    commit, or else 1980, the earliest date that a wheel can have."""
     run = subprocess.run(["git", "-C", ROOT, "log", "-1", "--format=%ct"], text=True, check=False,
                          stdout=subprocess.PIPE, stderr=subprocess.DEVNULL)
     return run.stdout.strip() or "315532800"
@@ -61,7 +61,7 @@ def main() -> None:
                         help="folder for the packages (default: out)")
     for kind, name in KINDS.items():
         parser.add_argument(f"--{kind}", dest=kind, metavar="PROGRAM",
-                            help=f"server's program for {kind} (default: {name} of tools/build)")
+                            help=f"server program for {kind} (default: {name} from tools/build)")
     asked = parser.parse_args()
     programs = programs_of(asked)
     oldest = c_library(programs)

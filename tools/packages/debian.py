@@ -1,4 +1,4 @@
-"""What the packages for Debian have in common: files, their digests, the fields of a package."""
+"""Common parts of the Debian packages: files, digests, and control fields."""
 
 import glob
 import gzip
@@ -14,7 +14,7 @@ import feqyldan
 
 from . import ROOT
 
-# What a file holds.
+# The contents of a file.
 Data = Union[str, bytes]
 MAINTAINER = "Feqyldan maintainers <maintainers@users.noreply.feqyldan.example>"
 CONTROL = """\
@@ -58,13 +58,13 @@ def packed(text: str) -> bytes:
 
 
 def manual(name: str) -> Dict[str, Data]:
-    """A manual page of deploy/man, where a package has it."""
+    """Returns a manual page of deploy/man, by its path in a package."""
     said = text_of("deploy", "man", name).replace("@VERSION@", feqyldan.__version__)
     return {f"usr/share/man/man{name[-1]}/{name}.gz": packed(said)}
 
 
 def documents(name: str) -> Dict[str, Data]:
-    """What each package says of itself."""
+    """Returns the changelog and the copyright file of a package."""
     date = formatdate(int(os.environ["SOURCE_DATE_EPOCH"]))
     said = CHANGELOG.format(version=feqyldan.__version__, maintainer=MAINTAINER, date=date)
     return {f"usr/share/doc/{name}/copyright": COPYRIGHT,
@@ -90,7 +90,8 @@ def digests(stage: str, paths: Iterable[str]) -> str:
 
 
 def finish(stage: str, folder: str, scripts: Mapping[str, Data], **fields: str) -> str:
-    """Packs a folder into a package of these fields, with the maintainer's scripts; its path."""
+    """Packs a folder into a package with these fields and the maintainer's scripts. Returns its
+    path."""
     if shutil.which("dpkg-deb") is None:
         sys.exit("tools/package: there is no command dpkg-deb on the PATH: install dpkg")
     os.chmod(stage, 0o755)

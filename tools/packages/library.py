@@ -1,5 +1,5 @@
-"""The packages for Debian of the C library: the library itself, and what programs are built with.
-Neither needs Python, nor the server to be on the same machine."""
+"""The Debian packages of the C library: the library itself, and the files for building programs.
+Neither needs Python, or a server on the same machine."""
 
 import os
 import shutil
@@ -16,8 +16,8 @@ LIBRARY = os.path.join(ROOT, "clients", "c")
 MULTIARCH = "usr/lib/x86_64-linux-gnu"
 NAME, DEVELOPMENT = "libfeqyldan0", "libfeqyldan-dev"
 DESCRIPTION = """OpenVX's calls for the vision server Feqyldan{what}
- A C library with the names, types and signatures of OpenVX 1.3. Pictures are
- computed by a server, which a program starts or reaches at a socket.
+ A C library with the names, types and signatures of OpenVX 1.3. A server does
+ the computing. A program starts one, or connects to a socket.
  .
  {contents}"""
 LIBRARY_CONTENTS = "This package has the shared library."
@@ -26,7 +26,7 @@ DEVELOPMENT_CONTENTS = """This package has the headers, the static library, a ma
 
 
 def install(stage: str) -> None:
-    """Installs the library, built from a copy of its sources and without what is for debuggers."""
+    """Builds the library from a copy of its sources, strips it and installs it."""
     with tempfile.TemporaryDirectory() as folder:
         copy = shutil.copytree(LIBRARY, os.path.join(folder, "c"),
                                ignore=shutil.ignore_patterns("out"))
@@ -65,7 +65,8 @@ def build_development(made: str, target: str) -> str:
 
 
 def build(folder: str, oldest: Callable[[Dict[str, bytes]], Tuple[int, int]]) -> List[str]:
-    """The paths of the packages. `oldest` gives the oldest C library that some data needs."""
+    """Returns the paths of the packages. `oldest` returns the oldest C library that some data
+    needs."""
     with tempfile.TemporaryDirectory() as made:
         install(made)
         with open(os.path.join(made, MULTIARCH, "libfeqyldan.so.0"), "rb") as file:

@@ -1,7 +1,8 @@
-"""The packages for Debian of the server, of the Python package, and of what serves several
-programs: the door and the broker, with the documents.
+"""Builds the Debian packages of the server, of the Python package, and of the services for several
+programs (the door and the broker, with the documents).
 
-The server needs no Python. The Python package may reach a server at a socket, so it asks for none.
+The server needs no Python. The Python package can use a server at a socket, so it doesn't depend on
+the server's package.
 """
 
 import glob
@@ -19,22 +20,22 @@ from .debian import Data
 SERVER, PYTHON, SERVICES = "feqyldan-server", "python3-feqyldan", "feqyldan"
 SERVER_DESCRIPTION = """vision server with the behaviour of OpenVX
  Images, graphs, virtual images, delays, immediate mode and 25 vision functions
- on grey pictures of 8 and 16 bits, for many clients at once: none of them sees
- another's pixels.
+ on 8-bit and 16-bit grey images, for many clients. No client sees another's
+ pixels.
  .
- This package has the server for both kinds of processor, and a socket of
- systemd at which each program of the machine has a server of its own."""
+ This package has the server for both kinds of processor, and a systemd socket
+ that starts a server for each connection."""
 PYTHON_DESCRIPTION = """vision server Feqyldan from Python
  Images, graphs, delays, immediate mode and 25 vision functions on NumPy arrays
- and other pictures. They are computed by a server, which a program starts or
- reaches at a socket."""
+ and other pictures. A server does the computing. A program starts one, or
+ connects to a socket."""
 SERVICES_DESCRIPTION = """vision server Feqyldan for several programs
- Two services at a socket: the door gives each program of the machine a server
- of its own, the broker lets programs share servers. Both have limits for each
- process and each user, and tell their state.
+ Two services on a Unix socket: the door starts a server for each connection,
+ and the broker lets programs share servers. Both limit connections per process
+ and per user, and report their state.
  .
- This package has them, and the documents of Feqyldan."""
-# A command that is a module of the Python package.
+ This package has both services and the documents of Feqyldan."""
+# A command that runs a module of the Python package.
 COMMAND = """\
 #!/usr/bin/python3
 import sys
@@ -44,13 +45,12 @@ from feqyldan.{module} import main
 sys.exit(main())
 """
 COMMANDS = ("door", "broker")
-# The units of deploy/ by package, and what in them is otherwise in a package: by the words there,
-# those here.
+# The units of deploy/ for each package, and the replacements made in them when they are packaged.
 SERVER_UNITS = ("feqyldan.slice", "feqyldan.socket", "feqyldan@.service")
 SERVICE_UNITS = tuple(f"feqyldan-{module}.{kind}" for module in COMMANDS
                       for kind in ("service", "socket"))
 PROGRAM = "/opt/feqyldan/bin/vx_main"
-# The program that this machine's processors can run is looked for once, before the socket listens.
+# A link to the program for this machine's processors, made once before the socket listens.
 CHOSEN = "/run/feqyldan/program"
 CHANGES = {
     "feqyldan.socket": {
@@ -60,7 +60,7 @@ CHANGES = {
     "feqyldan@.service": {PROGRAM: CHOSEN},
     **{f"feqyldan-{module}.service": {"Environment=PYTHONPATH=/opt/feqyldan/python\n": "",
                                       PROGRAM: "/usr/bin/feqyldan"} for module in COMMANDS}}
-# In a root folder of another system nothing is started and nobody is added.
+# Starts nothing and adds no user when installing into another system's root (DPKG_ROOT).
 AFTER_INSTALL = """\
 #!/bin/sh
 set -e
@@ -71,7 +71,7 @@ fi
 ADD_USER = "    if command -v systemd-sysusers > /dev/null; then systemd-sysusers feqyldan.conf; fi"
 COMPILE = "    if command -v py3compile > /dev/null; then py3compile -p python3-feqyldan; fi"
 RELOAD = "    if [ -d /run/systemd/system ]; then systemctl daemon-reload; fi"
-# Nothing that isn't there, or is masked, keeps the package from being removed.
+# A missing or masked unit doesn't prevent removal of the package.
 BEFORE_REMOVAL = """\
 #!/bin/sh
 set -e
@@ -99,7 +99,7 @@ fi
 
 
 def unit(name: str) -> str:
-    """A unit of deploy/, with the package's paths."""
+    """Returns a unit of deploy/ with the paths of the package."""
     said = debian.text_of("deploy", name)
     for before, after in CHANGES.get(name, {}).items():
         if said.count(before) != 1:
@@ -114,7 +114,7 @@ def units(names: Tuple[str, ...]) -> Dict[str, Data]:
 
 
 def documents() -> Dict[str, Data]:
-    """As they stand in the checkout, so that what they refer to is found."""
+    """Returns the documents with their paths in the checkout, so that links between them work."""
     paths = ["README.md", "CHANGELOG.md", "clients/python/README.md", "examples/first.py",
              "clients/c/examples/edges.c"]
     paths += [os.path.relpath(path, ROOT) for path in glob.glob(f"{ROOT}/docs/*.md")]
@@ -129,7 +129,7 @@ def build_server(programs: Dict[str, bytes], c_library: Tuple[int, int], folder:
                                debian.text_of("deploy", "sysusers.conf")}, 0o644)
         debian.put(stage, {**places, "usr/bin/feqyldan": debian.text_of("deploy", "starter")},
                    0o755)
-        # What is for debuggers alone is taken out.
+        # Remove debug information.
         subprocess.run(["strip", "--strip-unneeded",
                         *(os.path.join(stage, place) for place in places)], check=True)
         return debian.finish(
@@ -174,6 +174,6 @@ def build_services(folder: str) -> str:
 
 def build(wheel: str, programs: Dict[str, bytes], c_library: Tuple[int, int],
           folder: str) -> List[str]:
-    """The paths of the packages, with the Python package as it is in a wheel."""
+    """Builds the packages, with the Python package from a wheel, and returns their paths."""
     return [build_server(programs, c_library, folder), build_python(wheel, folder),
             build_services(folder)]

@@ -1,4 +1,4 @@
-"""Wheels: the Python package alone, and with the server's programs inside."""
+"""Builds wheels: the Python package alone, and with the server's programs."""
 
 import base64
 import hashlib
@@ -11,13 +11,13 @@ from typing import Dict, Tuple
 
 from . import PYTHON
 
-# Where feqyldan.program looks for the programs.
+# The folder in which feqyldan.program looks for the programs.
 FOLDER = "feqyldan/programs"
 PURE_TAG = "py3-none-any"
 
 
 def python() -> str:
-    """A Python that has pip."""
+    """Returns a Python that has pip."""
     asked = "from importlib.util import find_spec\nraise SystemExit(not find_spec('pip'))"
     for path in (sys.executable, "/usr/bin/python3"):
         if not subprocess.run([path, "-c", asked], check=False).returncode:
@@ -27,7 +27,7 @@ def python() -> str:
 
 
 def pure(folder: str) -> str:
-    """The path of the wheel of the Python package, built in a folder."""
+    """Builds the wheel of the Python package in a folder, and returns its path."""
     run = subprocess.run([python(), "-m", "pip", "wheel", "--no-index", "--no-deps",
                           "--wheel-dir", folder, PYTHON],
                          stdout=subprocess.PIPE, stderr=subprocess.STDOUT, text=True, check=False)
@@ -38,7 +38,7 @@ def pure(folder: str) -> str:
 
 
 def entries_of(path: str) -> Dict[str, bytes]:
-    """The files of a wheel, by name, but the list of them."""
+    """Returns the files of a wheel by name, except RECORD."""
     with zipfile.ZipFile(path) as archive:
         return {name: archive.read(name)
                 for name in archive.namelist() if not name.endswith(".dist-info/RECORD")}
@@ -46,7 +46,8 @@ def entries_of(path: str) -> Dict[str, bytes]:
 
 def with_programs(path: str, programs: Dict[str, bytes], c_library: Tuple[int, int],
                   folder: str) -> str:
-    """The path of a wheel with the programs in it, for machines that have such a C library."""
+    """Builds a wheel with the programs, for machines with at least this C library. Returns its
+    path."""
     tag = f"py3-none-manylinux_{c_library[0]}_{c_library[1]}_x86_64"
     entries = entries_of(path)
     about, = (name for name in entries if name.endswith(".dist-info/WHEEL"))
@@ -62,7 +63,7 @@ def with_programs(path: str, programs: Dict[str, bytes], c_library: Tuple[int, i
 
 
 def record(entries: Dict[str, bytes], listed: str) -> bytes:
-    """The list of a wheel's files, with the digest and the length of each."""
+    """Returns the RECORD of a wheel, with the digest and the length of each file."""
     lines = []
     for name, data in entries.items():
         digest = base64.urlsafe_b64encode(hashlib.sha256(data).digest()).rstrip(b"=").decode()

@@ -36,51 +36,54 @@ def arguments(words: Optional[Sequence[str]]) -> argparse.Namespace:
     commands = parser.add_subparsers(dest="command", required=True)
     run = commands.add_parser("run", help="run a graph on pictures", description=(
         "Writes each picture to the graph's input, runs the graph and saves its results. Images go "
-        "to a folder. Numbers go to a CSV file, one line for each picture: extremes, counts, and "
-        "for each image the number of samples that aren't 0. Without --out and --csv these lines "
-        "go to standard output."))
+        "to a folder. Numbers go to a CSV file with one line per picture: extremes, histogram "
+        "counts, and the number of nonzero samples of each image. Without --out and --csv the "
+        "lines go to standard output."))
     run.add_argument("graph", help="JSON file of the graph")
     run.add_argument("--in", dest="pictures", required=True, nargs="+", metavar="PATTERN",
-                     help="names of pictures, or quoted patterns such as 'parts/*.png'; the files "
-                     "of a pattern come in natural order, part2 before part10, which matters to "
-                     "a graph with a delay")
-    run.add_argument("--out", metavar="FOLDER", help="folder for images (default: none are saved); "
-                     "the folder is made if it doesn't exist. Files are PNG with the names of the "
-                     "pictures, or NumPy's (.npy) for negative samples and for U32")
-    run.add_argument("--csv", metavar="FILE", help="file for numbers (default: standard output "
-                     "without --out); its folder is made if it doesn't exist")
+                     help="picture files, or quoted patterns such as 'parts/*.png'; files that "
+                     "match a pattern run in natural order, part2 before part10 (the order matters "
+                     "to a graph with a delay)")
+    run.add_argument("--out", metavar="FOLDER", help="folder for images, created if it doesn't "
+                     "exist (default: no images are saved); files are named after the pictures, as "
+                     "PNG, or as NumPy .npy for U32 images and negative samples")
+    run.add_argument("--csv", metavar="FILE", help="file for numbers; its folder is created if it "
+                     "doesn't exist (default: standard output without --out, otherwise none)")
     run.add_argument("--socket", metavar="PATH", help="Unix socket of a broker or door (default: "
                      "start a server)")
     run.add_argument("--quiet", action="store_true",
-                     help="show no progress (default: shown at a terminal)")
+                     help="show no progress (default: shown on a terminal)")
     draw = commands.add_parser("draw", help="draw a graph as SVG", description=(
-        "Writes the graph as SVG to standard output, by Graphviz if it is installed."))
+        "Writes the graph as SVG to standard output. Uses Graphviz if it is installed."))
     draw.add_argument("graph", help="JSON file of the graph")
     draw.add_argument("--dot", action="store_true",
-                      help="write Graphviz's language (default: SVG)")
+                      help="write Graphviz DOT (default: SVG)")
     return parser.parse_args(words)
 
 
 def main(words: Optional[Sequence[str]] = None) -> int:
     told = arguments(words)
     try:
-        return draw(told) if told.command == "draw" else run(told)
+        (draw if told.command == "draw" else run)(told)
+        sys.stdout.flush()
+        return 0
     except KeyboardInterrupt:
         return 130
     except BrokenPipeError:
+        # Python writes what is left when it ends, and would report the closed pipe once more.
+        os.dup2(os.open(os.devnull, os.O_WRONLY), sys.stdout.fileno())
         return 1
     except (FeqyldanError, OSError, ValueError, ImportError) as error:
         print(f"feqyldan: {error}", file=sys.stderr)
         return 1
 
 
-def draw(told: argparse.Namespace) -> int:
+def draw(told: argparse.Namespace) -> None:
     drawing = drawing_of_file(told.graph)
     sys.stdout.write(drawing.dot if told.dot else drawing.svg)
-    return 0
 
 
-def run(told: argparse.Namespace) -> int:
+def run(told: argparse.Namespace) -> None:
     paths = paths_of(told.pictures)
     with ExitStack() as ends:
         server = ends.enter_context(connect(told.socket, retry=10) if told.socket else Server())
@@ -93,7 +96,6 @@ def run(told: argparse.Namespace) -> int:
         results = station.graph.stream(frames, camera, list(station.outputs.values()))
         for path in paths:
             report.add(path, dict(zip(station.outputs, result_of(path, results))))
-    return 0
 
 
 def result_of(path: str, results: Iterator[Tuple[Any, Tuple[Any, ...]]]) -> Tuple[Any, ...]:

@@ -229,10 +229,7 @@ class Context(Uncopied):
                             f"{given} was given")
         limits = tuple(within(limit, "a threshold's limit", SIGNED,
                               "a whole number, a sample of its format")
-                       for limit in ((above,) if between is None else between))
-        if between is not None and len(limits) != 2:
-            raise TypeError("between must be two limits, (lower, upper), not "
-                            f"{len(limits)}")
+                       for limit in ((above,) if between is None else two_limits(between)))
         outputs = (within(true_value, *_AN_OUTPUT), within(false_value, *_AN_OUTPUT))
         made = format_of(fmt)
         kind = "above" if between is None else "between"
@@ -581,9 +578,23 @@ class Context(Uncopied):
 _AN_OUTPUT = ("a threshold's true or false value", BYTE, "a whole number from 0 to 255")
 
 
+def two_limits(between: Any) -> Tuple[Any, Any]:
+    """Returns the limits of a threshold that is `between` them."""
+    try:
+        lower, upper = between
+    except (TypeError, ValueError):
+        raise TypeError(f"between must be two limits, (lower, upper), not {between!r}") from None
+    return lower, upper
+
+
 def rows_of_kernel(coefficients: Rows) -> Tuple[Tuple[int, ...], ...]:
     """Returns the coefficients of a convolution, row by row."""
-    rows = tuple(tuple(coefficient_of(value) for value in row) for row in coefficients)
+    try:
+        given = [list(row) for row in coefficients]
+    except TypeError:
+        raise TypeError("the coefficients of a convolution must be rows of numbers, as [[1, 2, 1], "
+                        f"[2, 4, 2], [1, 2, 1]], not {coefficients!r}") from None
+    rows = tuple(tuple(map(coefficient_of, row)) for row in given)
     if any(len(row) != len(rows[0]) for row in rows):
         raise ValueError("a convolution must have rows of the same length, not "
                          f"{lengths_in_words(rows)}")

@@ -17,7 +17,7 @@ from .context import Context
 from .errors import FeqyldanError, ServerEnded
 from .graphs import Graph
 from .images import AnyImage
-from .samples import is_array, samples_of
+from .samples import is_array, numpy_module, of_two_sides, samples_of
 from .server import Server
 
 if TYPE_CHECKING:
@@ -166,7 +166,7 @@ class Job(NamedTuple):
     def run(self, picture: Any) -> Any:
         """Returns the output for a picture. It runs on a worker, in one of its threads."""
         picture = picture.rows if isinstance(picture, Rows) else picture
-        height, width = picture.shape if is_array(picture) else samples_of(picture)[2:0:-1]
+        height, width = shape_of(picture)
         key = self.number, width, height
         station = station_of(self)
         line = None
@@ -181,6 +181,15 @@ class Job(NamedTuple):
             raise
         station.give_back(line, key)
         return output
+
+
+def shape_of(picture: Any) -> Tuple[int, int]:
+    """Returns the height and the width of a picture. Raises BadPicture if it has none."""
+    if is_array(picture):
+        height, width = of_two_sides(numpy_module().asarray(picture)).shape
+    else:
+        _, width, height, _ = samples_of(picture)
+    return height, width
 
 
 # Of this process, by the program, the quota and the work bytes.

@@ -6,9 +6,10 @@ import base64
 import html
 import shutil
 import subprocess
-from typing import Any, Dict, Iterable, List, NamedTuple, Optional, Tuple
+from typing import TYPE_CHECKING, Any, Dict, Iterable, List, Mapping, NamedTuple, Optional, Tuple
 
-from .verdicts import Cell, Member
+if TYPE_CHECKING:
+    from .functions import Call
 
 # How many seconds Graphviz may take.
 PATIENCE = 20
@@ -49,32 +50,25 @@ class Drawing(NamedTuple):
         return _by_graphviz(self.dot) or _in_columns(self)
 
 
-def drawing_of(members: Iterable[Member]) -> Drawing:
+def drawing_of(calls: Mapping[int, Call]) -> Drawing:
+    """Returns the drawing of a graph's nodes, given the call of each by its number."""
     drawing = Drawing({}, [])
-    for member in members:
-        key = f"node{member.number}"
-        drawing.boxes[key] = Box(key, member.function, f"node {member.number}", "node")
-        for cell in member.inputs:
-            drawing.arrows.append((_key_of(drawing, cell), key))
-        for cell in member.outputs:
-            drawing.arrows.append((key, _key_of(drawing, cell)))
+    for number, call in calls.items():
+        key = f"node{number}"
+        drawing.boxes[key] = Box(key, call.name, f"node {number}", "node")
+        others = [None if operand is None else _key_of(drawing, operand)
+                  for operand in call.operands]
+        drawing.arrows.extend((other, key) for other in others[:2] if other)
+        drawing.arrows.extend((key, other) for other in others[2:] if other)
     return drawing
 
 
-def _key_of(drawing: Drawing, cell: Cell) -> str:
+def _key_of(drawing: Drawing, operand: Any) -> str:
     """Returns the key of an object, whose box is drawn once."""
-    key = f"object{cell.reference.hex()}"
-    title, _, about = cell.words.partition(" (")
-    slot, _, delay = title.partition(" of ")
-    label = _label_in(title) if not delay else f"{_label_in(delay)}[{slot.split()[1]}]"
-    drawing.boxes.setdefault(key, Box(key, label, about.rstrip(")"),
-                                      "virtual" if cell.is_virtual else "object"))
+    key = f"object{operand.reference.hex()}"
+    kind = "virtual" if operand.is_virtual else "object"
+    drawing.boxes.setdefault(key, Box(key, operand.title, operand.about, kind))
     return key
-
-
-def _label_in(words: str) -> str:
-    """Returns the label in the words of an object, or its kind and number without one."""
-    return words.split('"')[1] if '"' in words else words
 
 
 def _quoted(words: str) -> str:

@@ -70,7 +70,9 @@ def _by_cv2(cv2: Any, path: str) -> Any:
 def _by_pil(pil: Any, path: str) -> Any:
     try:
         with pil.open(path) as picture:
-            grey = picture if picture.mode in ("L", "I;16", "I", "F") else picture.convert("L")
+            # "I;16B" and the like are 16 bits in some byte order.
+            is_grey = picture.mode in ("L", "F") or picture.mode.startswith("I")
+            grey = picture if is_grey else picture.convert("L")
             pixels = needed_numpy(path).asarray(grey)
     except (OSError, SyntaxError):
         # PIL has both for a file that is cut off or damaged.

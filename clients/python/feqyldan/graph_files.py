@@ -21,12 +21,15 @@ says more of one is refused.
 from __future__ import annotations
 
 import base64
+import contextlib
 import inspect
 import json
 import os
 import re
 import zlib
-from typing import TYPE_CHECKING, Any, Dict, List, NamedTuple, Optional, Sequence, Tuple
+from typing import (
+    TYPE_CHECKING, Any, ContextManager, Dict, Iterator, List, NamedTuple, Optional, Sequence,
+    Tuple)
 
 from . import wire
 from .drawing import Box, Drawing
@@ -217,9 +220,31 @@ def parameters_of(function: str) -> List[str]:
     return [*inspect.signature(getattr(Functions, function)).parameters][1:]
 
 
-def unknown_function(name: Any) -> str:
-    """Returns the words for a function that doesn't exist."""
-    return f"there is no function {name!r}; the functions are {', '.join(FUNCTIONS)}"
+def function_of(node: Any) -> str:
+    """Returns the name of a node's function. Raises ValueError if there is no such function."""
+    name = checked(node, "a node", "function")["function"]
+    if not isinstance(name, str) or name not in FUNCTIONS:
+        raise ValueError(f"there is no function {name!r}; the functions are "
+                         f"{', '.join(FUNCTIONS)}")
+    return name
+
+
+def checked(told: Any, what: str, field: str) -> Dict[str, Any]:
+    """Returns a node or an object of a file. Raises ValueError if it isn't a JSON object."""
+    if not isinstance(told, dict):
+        raise ValueError(f'{what} must be a JSON object with a "{field}", not {told!r}')
+    return told
+
+
+@contextlib.contextmanager
+def at_place(path: Path, place: str) -> Iterator[None]:
+    """A context whose errors name the file and the place in it."""
+    try:
+        yield
+    except KeyError as error:
+        raise GraphFileError(f"{path}: {place}: {error.args[0]!r} is missing") from None
+    except (TypeError, ValueError, OSError, zlib.error, FeqyldanError) as error:
+        raise GraphFileError(f"{path}: {place}: {error}") from None
 
 
 # ---- drawing
@@ -229,25 +254,27 @@ def drawing_of_file(path: Path) -> Drawing:
     told = told_by(path)
     drawing = Drawing({}, [])
     for number, node in enumerate(told["nodes"], 1):
-        function = node.get("function") if isinstance(node, dict) else None
-        if function not in FUNCTIONS:
-            raise GraphFileError(f"{path}: node {number}: {unknown_function(function)}")
-        key = f"node{number}"
-        drawing.boxes[key] = Box(key, function, f"node {number}", "node")
-        for parameter in parameters_of(function):
-            if parameter in OPERANDS and node.get(parameter) is not None:
-                other = _entered(drawing, node[parameter], told["objects"])
-                drawing.arrows.append((other, key) if OPERANDS[parameter] < 2 else (key, other))
+        with at_place(path, f"node {number}"):
+            _draw_node(drawing, number, node, told["objects"])
     return drawing
+
+
+def _draw_node(drawing: Drawing, number: int, node: Any, objects: Dict[str, Any]) -> None:
+    key, function = f"node{number}", function_of(node)
+    drawing.boxes[key] = Box(key, function, f"node {number}", "node")
+    for parameter in parameters_of(function):
+        if parameter in OPERANDS and node.get(parameter) is not None:
+            other = _entered(drawing, str(node[parameter]), objects)
+            drawing.arrows.append((other, key) if OPERANDS[parameter] < 2 else (key, other))
 
 
 def _entered(drawing: Drawing, name: str, objects: Dict[str, Any]) -> str:
     """Adds an object's box, and returns its key."""
     slot = SLOT.fullmatch(name)
-    described = objects.get(slot[1] if slot else name, {})
+    described = checked(objects.get(slot[1] if slot else name, {}), "an object", "kind")
     fields = [str(described[field]) for field in ("format", "width", "height", "above", "bins")
               if described.get(field) is not None]
-    kind = described.get("kind", "")
+    kind = str(described.get("kind", ""))
     key = f"object{name.encode().hex()}"
     drawing.boxes[key] = Box(key, name, " ".join([kind, *fields]),
                              "virtual" if kind == "virtual image" else "object")
@@ -300,18 +327,20 @@ class Reader:
         """Reads the whole file."""
         objects = told["objects"]
         for name, described in objects.items():
-            self._at(f'object "{name}"', self._make, name, described)
+            with self._at(f'object "{name}"'):
+                self._things[name] = self._made(name, described)
         for number, node in enumerate(told["nodes"], 1):
-            self._at(f"node {number}", self._add, node)
+            with self._at(f"node {number}"):
+                self._add(node)
         for name, described in objects.items():
             if described.get("ages"):
-                self._at(f'object "{name}"', self._graph.register_auto_aging, self._things[name])
+                with self._at(f'object "{name}"'):
+                    self._graph.register_auto_aging(self._things[name])
         inputs = {name: self._things[name] for name, described in objects.items()
                   if described.get("input")}
         for name, thing in inputs.items():
-            fault = fault_of_input(self._graph, thing)
-            if fault:
-                raise self._fault(f'object "{name}": it can\'t be an input: {fault}')
+            with self._at(f'object "{name}"'):
+                self._check_input(thing)
         return GraphFile(self._graph, inputs, self._outputs(), self._things)
 
     def _outputs(self) -> Dict[str, Any]:
@@ -319,34 +348,28 @@ class Reader:
         return {name: thing for name, thing in self._things.items()
                 if isinstance(thing, (Image, Distribution, MinMax)) and thing.name in written}
 
-    def _fault(self, words: str) -> GraphFileError:
-        return GraphFileError(f"{self._path}: {words}")
+    def _check_input(self, thing: Any) -> None:
+        fault = fault_of_input(self._graph, thing)
+        if fault:
+            raise ValueError(f"it can't be an input: {fault}")
 
-    def _at(self, place: str, call: Any, *arguments: Any) -> None:
-        """Calls a function; an error names the place in the file."""
-        try:
-            call(*arguments)
-        except KeyError as error:
-            raise self._fault(f"{place}: {error.args[0]!r} is missing") from None
-        except (TypeError, ValueError, OSError, zlib.error, FeqyldanError) as error:
-            raise self._fault(f"{place}: {error}") from None
+    def _at(self, place: str) -> ContextManager[None]:
+        return at_place(self._path, place)
 
-    def _make(self, name: str, told: Any) -> None:
-        if not isinstance(told, dict):
-            raise ValueError(f"an object must be a JSON object with a \"kind\", not {told!r}")
+    def _made(self, name: str, told: Any) -> Any:
         makers: Dict[str, Any] = {
             "image": self._image, "virtual image": self._virtual_image, "delay": self._delay,
             "threshold": self._threshold, "lookup table": self._lut,
             "convolution": self._convolution, "distribution": self._distribution,
             "extremes": lambda name, told: self._context.min_max(name=name)}
-        kind = told["kind"]
-        if kind not in makers:
+        kind = checked(told, "an object", "kind")["kind"]
+        if not isinstance(kind, str) or kind not in makers:
             raise ValueError(f"a kind must be one of {', '.join(makers)}, not {kind!r}")
         unknown = [field for field in told if field not in ("kind", *FIELDS[kind])]
         if unknown:
             raise ValueError(f"the kind {kind!r} has no field {unknown[0]!r}; it has "
                              f"{', '.join(FIELDS[kind]) or 'nothing more'}")
-        self._things[name] = makers[kind](name, told)
+        return makers[kind](name, told)
 
     def _image(self, name: str, told: Dict[str, Any]) -> Image:
         image = self._whole_image(name, told)
@@ -395,11 +418,7 @@ class Reader:
                                           told.get("range", 256), name=name)
 
     def _add(self, told: Any) -> None:
-        if not isinstance(told, dict):
-            raise ValueError(f"a node must be a JSON object with a \"function\", not {told!r}")
-        function = told["function"]
-        if function not in FUNCTIONS:
-            raise ValueError(unknown_function(function))
+        function = function_of(told)
         parameters = parameters_of(function)
         unknown = [name for name in told if name not in ("function", *parameters)]
         if unknown:

@@ -183,9 +183,9 @@ class Graph(Named, Functions[Node]):
                          for side, what in ((width, "width"), (height, "height")))
         declared = Description(None if fmt is None else format_of(fmt), columns, rows,
                                Rectangle(0, 0, 0, 0))
-        number = self._context.create("create a virtual image of "
-                                      f"{self}", wire.create_virtual_image, self.name,
-                                      *(wire.OPEN if one is None else one for one in declared[:3]))
+        number = self._context.create(
+            f"create a virtual image of {self}", wire.create_virtual_image, self.name,
+            *(wire.OPEN if one is None else one for one in declared[:3]))
         image = VirtualImage(self, Made(number, name), declared)
         self._virtual_images.add(image)
         return image
@@ -270,13 +270,13 @@ class Graph(Named, Functions[Node]):
     def to_dot(self) -> str:
         """Returns the graph in Graphviz's language: nodes, images and other objects."""
         from .drawing import drawing_of
-        return drawing_of(self.members).dot
+        return drawing_of(self._calls).dot
 
     def _repr_svg_(self) -> str:
         """Returns a drawing of the graph for a notebook: by Graphviz if it is installed, else by a
         small layout of this package."""
         from .drawing import drawing_of
-        return drawing_of(self.members).svg
+        return drawing_of(self._calls).svg
 
     def register_auto_aging(self, delay: Delay) -> None:
         """

@@ -172,9 +172,8 @@ class AnyImage(Readable):
         """Replaces all samples by those of a PGM text, P5 or P2, whose picture has the image's
         format and size."""
         content = memoryview(text).cast("B")
-        self.context.tell(
-            "write a PGM text to "
-            f"{self}", wire.write_image_pgm_head, self.reference, len(content), content=content)
+        self.context.tell(f"write a PGM text to {self}", wire.write_image_pgm_head, self.reference,
+                          len(content), content=content)
 
     def read_pgm(self) -> bytes:
         """Returns the picture of a U8 image as a PGM text (P5)."""
@@ -183,8 +182,8 @@ class AnyImage(Readable):
     def reading_pgm(self) -> Asked[bytes]:
         """Returns the request of read_pgm(), for a pipeline."""
         head = f"P5\n{self.width} {self.height}\n255\n".encode()
-        return ("read a PGM text of "
-                f"{self}", lambda client: wire.read_image_pgm(client, self.reference),
+        return (f"read a PGM text of {self}",
+                lambda client: wire.read_image_pgm(client, self.reference),
                 lambda reply: bytes(wire.text_of(reply)), Body(len(head) + self.size, head))
 
     def query(self) -> Description:
@@ -213,8 +212,8 @@ class AnyImage(Readable):
                       for side in rectangle)
         if len(sides) != 4:
             raise ValueError(f"a rectangle must be (x0, y0, x1, y1), not {rectangle!r}")
-        self.context.tell(f"make {sides} the valid rectangle of "
-                          f"{self}", wire.set_valid, self.reference, sides)
+        self.context.tell(f"make {sides} the valid rectangle of {self}", wire.set_valid,
+                          self.reference, sides)
 
 
 class Image(Named, AnyImage):
@@ -253,6 +252,14 @@ class Slot(Uncopied, AnyImage):
     @property
     def number(self) -> int:
         return self._number
+
+    @property
+    def title(self) -> str:
+        return f"{self._delay.title}[{self._number}]"
+
+    @property
+    def about(self) -> str:
+        return self._delay.about
 
     @property
     def _described(self) -> Size:

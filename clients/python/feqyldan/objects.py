@@ -49,8 +49,8 @@ Extremes = wire.Extremes
 def in_words(fmt: Optional[Format], width: Optional[int], height: Optional[int]) -> str:
     """The format and the size of an image in words; those of a virtual one may be open."""
     if fmt is None and width is None and height is None:
-        return "(open)"
-    return f"({fmt or 'open'}, {width or 'open'} by {height or 'open'})"
+        return "open"
+    return f"{fmt or 'open'}, {width or 'open'} by {height or 'open'}"
 
 
 class Made(NamedTuple):
@@ -68,17 +68,18 @@ class Named(Uncopied):
     server it lives on as long as a node of a graph uses it.
     """
 
-    __slots__ = ("_context", "_made", "_is_closed", "_words", "_reference", "__weakref__")
-    _inner = frozenset(("reference", "reading", "reading_pgm", "querying", "is_virtual", "kind"))
+    __slots__ = ("_context", "_made", "_about", "_is_closed", "_words", "_reference", "__weakref__")
+    _inner = frozenset(("reference", "reading", "reading_pgm", "querying", "is_virtual", "kind",
+                        "title", "about"))
     kind = "object"
     is_virtual = False
 
     def __init__(self, context: Context, made: Made, about: str = "") -> None:
-        self._context, self._made = context, made
+        self._context, self._made, self._about = context, made, about
         self._is_closed = False
         # Kind, name and, where there is more to say, the format or the sides, for messages.
         label = f' "{made.label}"' if made.label else ""
-        self._words = f"{self.kind} {made.name}{label}{' ' if about else ''}{about}"
+        self._words = f"{self.kind} {made.name}{label}{f' ({about})' if about else ''}"
         self._reference: bytes = wire.reference(made.name)
         context.claim(made.name, self)
 
@@ -93,6 +94,16 @@ class Named(Uncopied):
     @property
     def label(self) -> str:
         return self._made.label
+
+    @property
+    def title(self) -> str:
+        """The label, or the kind and the name without one."""
+        return self.label or f"{self.kind} {self.name}"
+
+    @property
+    def about(self) -> str:
+        """The format or the sides in words; empty if there are none."""
+        return self._about
 
     @property
     def closed(self) -> bool:
@@ -139,7 +150,7 @@ class Threshold(Named):
 
     def __init__(self, context: Context, made: Made, fmt: Format, limits: Tuple[int, ...],
                  outputs: Tuple[int, int]) -> None:
-        super().__init__(context, made, f"({fmt})")
+        super().__init__(context, made, str(fmt))
         self._fmt, self._limits, self._outputs = fmt, limits, outputs
 
     @property
@@ -176,7 +187,7 @@ class Lut(Named):
     kind = "lookup table"
 
     def __init__(self, context: Context, made: Made, fmt: Format, entries: bytes) -> None:
-        super().__init__(context, made, f"({fmt})")
+        super().__init__(context, made, str(fmt))
         self._fmt, self._entries = fmt, entries
 
     @property
@@ -202,7 +213,7 @@ class Convolution(Named):
     def __init__(self, context: Context, made: Made, coefficients: Tuple[Tuple[int, ...], ...],
                  scale: int) -> None:
         columns = len(coefficients[0]) if coefficients else 0
-        super().__init__(context, made, f"({columns} by {len(coefficients)})")
+        super().__init__(context, made, f"{columns} by {len(coefficients)}")
         self._coefficients, self._scale = coefficients, scale
 
     @property
@@ -226,7 +237,7 @@ class Distribution(Named):
     kind = "distribution"
 
     def __init__(self, context: Context, made: Made, sides: Tuple[int, int, int]) -> None:
-        super().__init__(context, made, f"({sides[0]} bins)")
+        super().__init__(context, made, f"{sides[0]} bins")
         self._sides = sides
 
     @property

@@ -16,11 +16,10 @@ HERE = os.path.dirname(os.path.abspath(__file__))
 INSIDE = os.path.join(HERE, "programs")
 # The crate where tools/build leaves it, if this package stands in a checkout.
 CRATE = os.path.normpath(os.path.join(HERE, "../../../crates/vx_main"))
-# The faster build asks for this in the words of /proc/cpuinfo, as tools/build does; the other is
-# for all processors.
-FASTER, FASTER_FLAGS = "vx_main-x86-64-v3", set("abm avx avx2 bmi1 bmi2 f16c fma movbe "
-                                                "xsave".split())
-PLAIN = "vx_main-default"
+# The build for processors with AVX2, and the one for all. The faster one needs these flags of
+# /proc/cpuinfo (abm is lzcnt; xsave is osxsave where the system allows it).
+FASTER, PLAIN = "vx_main-x86-64-v3", "vx_main-default"
+FASTER_FLAGS = set("abm avx avx2 bmi1 bmi2 f16c fma movbe xsave".split())
 
 
 def find() -> str:
@@ -60,8 +59,13 @@ def built() -> List[str]:
 
 def in_folder(folder: str) -> List[str]:
     """Returns the paths in a folder that this machine's processor can run, the fastest first."""
-    names = [FASTER, PLAIN] if FASTER_FLAGS <= _flags() else [PLAIN]
+    names = [FASTER, PLAIN] if runs_faster() else [PLAIN]
     return [os.path.join(folder, name) for name in names]
+
+
+def runs_faster() -> bool:
+    """Returns whether this machine's processor can run the faster build."""
+    return FASTER_FLAGS <= _flags()
 
 
 def _flags() -> Set[str]:

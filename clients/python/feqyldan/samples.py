@@ -21,7 +21,7 @@ from typing import TYPE_CHECKING, Any, Iterable, NamedTuple, Optional, Sequence,
 
 from . import wire
 from .errors import NotAPicture, WrongPicture
-from .whole import first_that_is_none, whole
+from .whole import first_not_whole, whole
 
 if TYPE_CHECKING:
     import numpy
@@ -140,7 +140,7 @@ def samples_of(value: Any, size: Optional[Size] = None) -> Samples:
     """
     Returns a picture's samples, which have shape (height, width) or (height, width, 1). Samples in
     one line, such as bytes, have the size that is given and this machine's byte order. Rows of
-    numbers have the format that is given, or U8.
+    numbers have the format that is given, or U8. A size of 0 by 0 gives the format alone.
     """
     if isinstance(value, Readable):
         value = value.read()
@@ -244,7 +244,7 @@ def _of_buffer(view: memoryview, size: Optional[Size]) -> Samples:
         view = _line_of(view).cast(LETTERS[fmt], view.shape[:2])
     if view.ndim == 2 and view.shape is not None and fmt is not None:
         return Samples(fmt, view.shape[1], view.shape[0], _reordered(_line_of(view), fmt))
-    if size is None:
+    if size is None or not size.width:
         if fmt is None:
             raise NotAPicture(f"samples must have the type 'B' (U8), 'h' (S16) or 'I' (U32), not "
                               f"{view.format!r}")
@@ -335,7 +335,7 @@ def packed(numbers: Sequence[int], fmt: Format, what: str) -> Any:
         raise ValueError(f"{what} of {fmt} must be from {least} to {greatest}, not "
                          f"{wrong}") from None
     except TypeError:
-        wrong = first_that_is_none(numbers)
+        wrong = first_not_whole(numbers)
         raise TypeError(f"{what} of {fmt} must be a whole number, not {wrong!r}: scale and round "
                         "it first") from None
 

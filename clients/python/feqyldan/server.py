@@ -17,7 +17,8 @@ from typing import Any, Dict, List, Optional, Sequence, Set, Type, Union
 
 from .connection import Connection
 from .context import Context
-from .errors import BrokerFull, Closed, FeqyldanError, Refused, ServerEnded, TimedOut
+from .errors import (
+    BrokerFull, Closed, FeqyldanError, Refused, ServerEnded, TimedOut, UnexpectedReply)
 from .forks import FORKED, HELD, OPENING, Forked
 from .pictures import Path
 from .pipes import enlarge
@@ -348,7 +349,7 @@ class SocketServer(Server):
                                "seconds: give a longer timeout, or see why the broker is "
                                "busy") from None
             if isinstance(error, OSError):
-                raise type(error)(error.errno, error.strerror or str(error), self._path) from None
+                raise with_path(error, self._path) from None
             raise
         return stream
 
@@ -386,14 +387,32 @@ def user_number(user: Union[int, str]) -> int:
 
 
 def status(path: Path, *, timeout: float = 10.0) -> Dict[str, Any]:
-    """Returns the state of a broker, from its status socket (--status) at this path."""
+    """
+    Returns the state of a broker or a door, from its status socket (--status) at this path. Raises
+    OSError if it doesn't answer within `timeout` seconds, and UnexpectedReply if it is another
+    socket.
+    """
+    path = os.fspath(path)
     with socket.socket(socket.AF_UNIX, socket.SOCK_STREAM) as stream:
         stream.settimeout(timeout)
-        stream.connect(os.fspath(path))
-        stream.shutdown(socket.SHUT_WR)
-        with stream.makefile("rb") as replies:
-            found: Dict[str, Any] = json.loads(replies.read())
+        try:
+            stream.connect(path)
+            stream.shutdown(socket.SHUT_WR)
+            with stream.makefile("rb") as replies:
+                said = replies.read()
+        except OSError as error:
+            raise with_path(error, path) from None
+    try:
+        found: Dict[str, Any] = json.loads(said)
+    except ValueError:
+        raise UnexpectedReply(f"{path} answers {said[:40]!r}, which isn't the state of a broker or "
+                              "a door: give the path of --status, not that of --socket") from None
     return found
+
+
+def with_path(error: OSError, path: str) -> OSError:
+    """Returns an error of a Unix socket with the path, which Python leaves out."""
+    return type(error)(error.errno, error.strerror or str(error), path)
 
 
 def seconds_of(timeout: Optional[float]) -> Optional[float]:

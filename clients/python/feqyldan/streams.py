@@ -60,7 +60,12 @@ def stream(frames: Iterable[Frame], stations: Sequence[Station],
 
 
 def look_at_frames(frames: Any, camera: AnyImage) -> None:
-    """Refuses a single picture, whose rows would be used as frames."""
+    """Refuses a path, what has no elements, and a single picture, whose rows would be used as
+    frames."""
+    if isinstance(frames, str) or not (hasattr(frames, "__iter__")
+                                       or hasattr(frames, "__getitem__")):
+        raise TypeError("the frames of a stream must be pictures in a list, or from an iterator, "
+                        f"not {frames!r}")
     shape: Tuple[int, ...] = getattr(frames, "shape", ()) if is_array(frames) else ()
     if len(shape) == 2 and shape[1] != camera.size:
         raise WrongPicture("the frames of a stream are several pictures, and this is one array of "
@@ -366,8 +371,9 @@ class Threaded(Source):
         self._wanted.put(None)
         self._lock = threading.Lock()
         self._is_closed = self._is_over = False
+        taker = Taker(self._take_all, iter(frames), self.close)
         self.descriptor, self._writer = os.pipe()
-        Taker(self._take_all, iter(frames), self.close).start()
+        taker.start()
 
     def _take_all(self, frames: Iterator[Any]) -> None:
         thread = threading.get_ident()

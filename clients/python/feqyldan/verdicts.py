@@ -284,8 +284,9 @@ def _closing(cell: Cell, writer: Member, known: Dict[bytes, Cell]) -> str:
     """Returns what a virtual image gets from its writer, and how to give it another format, if that
     is possible."""
     now = known[cell.reference]
-    words = f" {cell.words[0].upper()}{cell.words[1:]} is {in_words(*now[4:])[1:-1]}, because "
-    words += f"node {writer.number}, {writer.function}, writes it"
+    resolved_as = in_words(now.fmt, now.width, now.height)
+    words = (f" {cell.words[0].upper()}{cell.words[1:]} is {resolved_as}, because node "
+             f"{writer.number}, {writer.function}, writes it")
     if cell.fmt is None:
         inputs = [known[read.reference].fmt for read in (writer.in1, writer.in2) if read]
         as_bytes = (*inputs, *[None] * (2 - len(inputs)), U8)

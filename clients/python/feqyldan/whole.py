@@ -34,7 +34,7 @@ def within(value: Any, what: str, field: Field, allowed: str) -> int:
     return number
 
 
-def first_that_is_none(values: Iterable[Any]) -> Any:
+def first_not_whole(values: Iterable[Any]) -> Any:
     """Returns the first value that isn't a whole number."""
     for value in values:
         try:

@@ -18,6 +18,7 @@ HERE = os.path.dirname(os.path.abspath(__file__))
 PACKAGE = os.path.join(HERE, "..")
 sys.path[:0] = [HERE, PACKAGE, os.path.join(HERE, "..", "..", "..", "tools")]
 
+import feqyldan as vx  # noqa: E402
 from feqyldan import wire  # noqa: E402
 from plain_server import HOLD, WHO_ASKED  # noqa: E402
 
@@ -321,6 +322,15 @@ class BrokerTest(unittest.TestCase):
             return [entry for entry in asked if entry[0] != own] == wanted
 
         return broker.wait_for(is_so)
+
+
+def passes_longest(path: str) -> bool:
+    """Returns whether the longest write, and the longest reply, pass a socket as they are."""
+    samples = bytes(range(256)) * (8192 * 8192 * 4 // 256)
+    with vx.connect(path) as server, server.context() as context:
+        image = context.image(vx.U32, 8192, 8192)
+        image.write(samples)
+        return image.read_bytes() == samples
 
 
 def peak_bytes(pid: int) -> int:

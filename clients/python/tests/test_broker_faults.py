@@ -19,8 +19,8 @@ from typing import Any, List, Tuple
 from unittest import mock
 
 from broker_tools import (
-    LATE, PACKAGE, PLAIN, Broker, BrokerTest, Door, Program, files_of, peak_bytes,
-    plain, success)
+    LATE, PACKAGE, PLAIN, Broker, BrokerTest, Door, Program, children_of, files_of, peak_bytes,
+    plain, runs, success)
 from feqyldan import wire
 from feqyldan.broker.incoming import SHARED_TURN_BYTES
 from feqyldan.service import descriptors, listener
@@ -127,6 +127,26 @@ class Descriptors(BrokerTest):
             first.sock.close()
             self.assertTrue(broker.wait_for(lambda: files_of(broker.process.pid) < files))
             self.assertEqual(broker.stop(), 0)
+
+    def test_the_process_that_closes_them_is_killed(self) -> None:
+        """Another one takes its place."""
+        for self.kind in (Broker, Door):
+            broker = self.begin(tells_state=True, refuses_descriptors=False)
+            honest = self.connect(broker)
+            self.assertEqual(honest.ask(plain(1)), success(1))
+            self.come_and_go(broker)
+            servers = {server["process"] for server in broker.state()["servers"]}
+            closer, = {*children_of(broker.process.pid)} - servers
+            os.kill(closer, signal.SIGKILL)
+            self.assertTrue(broker.wait_for(lambda: not runs(closer)))
+            self.come_and_go(broker)
+            self.assertEqual(honest.ask(plain(50)), success(50))
+            self.assertEqual(broker.stop(), 0)
+
+    def come_and_go(self, broker: Broker) -> None:
+        with broker.program() as program:
+            self.assertEqual(program.ask(plain(1)), success(1))
+        self.assertTrue(broker.wait_for(lambda: broker.state()["connections"]["open"] == 1))
 
     def test_they_wait_in_a_connection_that_was_never_accepted(self) -> None:
         """They don't delay the end of a broker or a door."""
@@ -389,6 +409,20 @@ class Beginning(BrokerTest):
                 fcntl.flock(file, fcntl.LOCK_EX)
                 with self.assertRaisesRegex(Unusable, "another program has been starting at"):
                     listener.listen_at(path, 0o600)
+
+    def test_a_listener_that_accepts_nobody(self) -> None:
+        with tempfile.TemporaryDirectory() as folder, contextlib.ExitStack() as ends:
+            path = os.path.join(folder, "socket")
+            busy = ends.enter_context(socket.socket(socket.AF_UNIX))
+            busy.bind(path)
+            busy.listen(0)
+            with contextlib.suppress(BlockingIOError):
+                while True:
+                    waiting = ends.enter_context(socket.socket(socket.AF_UNIX))
+                    waiting.setblocking(False)
+                    waiting.connect(path)
+            with self.assertRaisesRegex(Unusable, f"another program listens at {path}"):
+                listener.listen_at(path, 0o600)
 
     def test_an_empty_path(self) -> None:
         for module in ("feqyldan.broker", "feqyldan.door"):

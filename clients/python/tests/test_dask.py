@@ -10,7 +10,7 @@ import time
 import unittest
 
 from program import PROGRAM, needs_program, vx
-from feqyldan.dask import STATIONS, Job, map_pictures
+from feqyldan.dask import STATIONS, Job, map_pictures, shape_of
 
 try:
     import distributed
@@ -104,6 +104,9 @@ class TestMistakes(unittest.TestCase):
             return
         with self.assertRaisesRegex(TypeError, r"one array of shape \(2, 2\): pass \[picture\]"):
             map_pictures(NoClient(), inverse, numpy.zeros((2, 2), numpy.uint8), program="vx_main")
+        with self.assertRaisesRegex(vx.BadPicture, r"\(2, 4, 3\): make a grey one of it"):
+            shape_of(numpy.zeros((2, 4, 3), numpy.uint8))
+        self.assertEqual(shape_of(numpy.zeros((2, 4, 1), numpy.uint8)), (2, 4))
 
 
 def send_output(job, pipe):

@@ -2,6 +2,7 @@
 (plain_server.py), and with the server's program if the environment variable FEQYLDAN_PROGRAM has
 its path."""
 
+import concurrent.futures
 import os
 import re
 import signal
@@ -16,11 +17,15 @@ import unittest
 from typing import Dict
 
 from broker_tools import (
-    CLIENT, LATE, PACKAGE, PLAIN, PROGRAM, Broker, BrokerTest, Door, Program, children_of, files_of,
-    plain, runs, success)
+    CLIENT, LATE, PACKAGE, PLAIN, PROGRAM, Broker, BrokerTest, Door, Program, all_of, children_of,
+    files_of, plain, runs, success)
+import feqyldan as vx
 from feqyldan import program, wire
 from feqyldan.door.server import chosen
+from feqyldan.service.descriptors import Descriptors
+from feqyldan.service.events import Events
 from feqyldan.service.lines import Unusable
+from feqyldan.service.visitors import Visitors
 from plain_server import EXIT, HOLD, MANY_BYTES, MISTAKE, WHO_ASKED
 
 needs_program = unittest.skipUnless(PROGRAM, "FEQYLDAN_PROGRAM doesn't name the server's program")
@@ -412,6 +417,31 @@ class Telling(DoorTest):
         self.assertGreater(state["processor_seconds"], 0)
         # Nobody sees requests.
         self.assertNotIn("requests", state)
+
+    def test_the_package_reads_the_state(self) -> None:
+        door = self.begin(tells_state=True)
+        self.assertEqual(vx.status(door.status_path)["connections"]["open"], 0)
+        with self.assertRaisesRegex(vx.UnexpectedReply,
+                                    f"{door.path} answers b'', .* give the path of --status"):
+            vx.status(door.path)
+        with self.assertRaisesRegex(FileNotFoundError, "'/no/such/socket'"):
+            vx.status("/no/such/socket")
+
+    def test_a_state_that_is_longer_than_a_socket_holds(self) -> None:
+        state = b"x" * 3_000_000
+        watched = Events()
+        self.addCleanup(watched.close)
+        visitors = Visitors(watched, Descriptors(True), 64, lambda data, is_all: state)
+        here, there = socket.socketpair()
+        self.addCleanup(there.close)
+        there.send(b"\n")
+        visitors.add(here)
+        with concurrent.futures.ThreadPoolExecutor() as pool:
+            got = pool.submit(all_of, there)
+            while visitors.present:
+                for handler, mask in watched.ready(LATE):
+                    handler(mask)
+            self.assertEqual(got.result(LATE), state)
 
     def test_prometheus_is_told_all_of_the_state(self) -> None:
         door = self.begin(tells_state=True)

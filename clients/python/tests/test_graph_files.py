@@ -245,6 +245,16 @@ class TestDrawings(ProgramTest):
         self.assertEqual(text.count(" -> "), sum(
             operand is not None for call in graph.calls.values() for operand in call.operands))
 
+    def test_labels(self):
+        graph = self.context.graph()
+        old = self.context.delay(self.context.image(vx.U8, 2, 1), 2, name='old "one"')
+        graph.not_(self.context.image(vx.U8, 2, 1, name="top of (box)"), old[0])
+        graph.not_(old[-1], graph.virtual_image(vx.U8))
+        text = graph.to_dot()
+        for words in (r'"top of (box)\nU8, 2 by 1"', r'"old \"one\"[0]\nU8, 2 by 1"',
+                      r'"old \"one\"[-1]\nU8, 2 by 1"', r'\nU8, open by open"'):
+            self.assertIn(words, text)
+
     def test_svg_without_graphviz(self):
         graph, _ = station(self.context)
         with mock.patch("shutil.which", return_value=None):
@@ -259,6 +269,37 @@ class TestDrawings(ProgramTest):
         with mock.patch("shutil.which", return_value=None):
             self.assertEqual(cycle._repr_svg_().count("<rect"), 4)
             self.assertIn("<svg", self.context.graph()._repr_svg_())
+
+
+class TestDrawingsOfFiles(FolderTest):
+    """Without a server."""
+
+    def graph(self, node, objects):
+        return self.put("a.json", {"feqyldan": 1, "objects": objects, "nodes": [node]})
+
+    def test_what_is_wrong_and_where(self):
+        absdiff = {"function": "absdiff", "in1": "a"}
+        for node, objects, words in (
+                (7, {}, 'a node must be a JSON object with a "function", not 7'),
+                ({}, {}, "'function' is missing"),
+                ({"function": ["absdiff"]}, {}, r"there is no function \['absdiff'\]; the func"),
+                (absdiff, {"a": 7}, 'an object must be a JSON object with a "kind", not 7')):
+            path = self.graph(node, objects)
+            with self.subTest(words), self.assertRaisesRegex(vx.GraphFileError,
+                                                             f"{path}: node 1: {words}"):
+                graph_files.drawing_of_file(path)
+        # The names of objects that aren't there are drawn.
+        drawn = graph_files.drawing_of_file(self.graph({**absdiff, "in2": 5}, {"a": {"kind": 7}}))
+        self.assertEqual([box.title for box in drawn.boxes.values()], ["absdiff", "a", "5"])
+
+    def test_a_closed_pipe(self):
+        path, (reader, writer) = self.graph({"function": "not_"}, {}), os.pipe()
+        os.close(reader)
+        environment = {**os.environ, "PYTHONPATH": PACKAGE, "PYTHONUNBUFFERED": ""}
+        with open(writer, "wb") as closed:
+            run = subprocess.run([sys.executable, "-m", "feqyldan", "draw", path], stdout=closed,
+                                 stderr=subprocess.PIPE, env=environment, timeout=90)
+        self.assertEqual((run.returncode, run.stderr), (1, b""))
 
 
 class TestProfiles(ProgramTest):
@@ -316,11 +357,14 @@ class TestHelpers(FolderTest, ProgramTest):
                          and importlib.util.find_spec("PIL"), "OpenCV or PIL isn't installed")
     def test_by_either_reader(self):
         import cv2
+        import PIL.Image
         colours = numpy.random.default_rng(1).integers(0, 256, (6, 8, 3), numpy.uint8)
         cv2.imwrite(self.path("colours.png"), colours)
         wide = numpy.array([[0, 32767, 5]], numpy.uint16)
         cv2.imwrite(self.path("wide.png"), wide)
         cv2.imwrite(self.path("wider.png"), wide * 2)
+        big = PIL.Image.frombytes("I;16B", wide.shape[::-1], wide.astype(">u2").tobytes())
+        big.save(self.path("big.tif"))
         self.put("text.png", "no picture")
         self.put("empty.png", "")
         with open(self.path("cut.png"), "wb") as file:
@@ -332,7 +376,8 @@ class TestHelpers(FolderTest, ProgramTest):
                 grey = self.context.load(self.path("colours.png"))
                 wanted = cv2.cvtColor(colours, cv2.COLOR_BGR2GRAY).astype(int)
                 self.assertLessEqual(abs(grey.read().astype(int) - wanted).max(), 1)
-                self.holds(self.context.load(self.path("wide.png")), [[0, 32767, 5]])
+                for name in ("wide.png", "big.tif"):
+                    self.holds(self.context.load(self.path(name)), [[0, 32767, 5]])
                 with self.assertRaisesRegex(vx.BadPicture, "0 to 65534, and S16 holds those from"):
                     self.context.load(self.path("wider.png"))
                 for name, fault in (
@@ -503,7 +548,7 @@ class TestCommandLine(FolderTest):
     def test_help(self):
         said, _ = self.run_command("run", "--help")
         said = " ".join(said.split())
-        for words in ("natural order", "standard output", "(.npy) for negative", "folder is made"):
+        for words in ("natural order", "standard output", ".npy for U32", "folder is created"):
             self.assertIn(words, said)
         self.assertNotIn("times", said)
 

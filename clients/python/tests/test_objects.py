@@ -124,8 +124,9 @@ class TestSamples(ProgramTest):
         for wrong in (5, None, [["a"]], array.array("f", [1] * 6), array.array("d", [1] * 6)):
             with self.assertRaises((TypeError, ValueError)):
                 image.write(wrong)
-        with self.assertRaises(ValueError):
-            self.context.image_from(b"123456")
+        for fmt in (None, U8):
+            with self.assertRaisesRegex(ValueError, "6 bytes in one line have no width and height"):
+                self.context.image_from(b"123456", fmt)
         with self.assertRaises(vx.InvalidDimension):
             image.write([[1, 2], [3, 4]])
         with self.assertRaises(vx.InvalidFormat):
@@ -191,6 +192,9 @@ class TestParameters(ProgramTest):
         self.assertRaises(TypeError, self.context.threshold, U8)
         self.assertRaises(TypeError, self.context.threshold, U8, 5, (1, 2))
         self.assertRaises(ValueError, self.context.threshold, U8, 40000)
+        for wrong in (5, (1,), (1, 2, 3)):
+            with self.assertRaisesRegex(TypeError, r"two limits, \(lower, upper\), not [(5]"):
+                self.context.threshold(U8, between=wrong)
         for limits in ({"above": 256}, {"between": (20, 10)}):
             with self.assertRaises(vx.InvalidValue):
                 self.context.threshold(U8, **limits)
@@ -199,6 +203,9 @@ class TestParameters(ProgramTest):
         for wrong in ({"scale": 3}, {"scale": 0}, {"scale": -2}):
             self.assertRaises(ValueError, self.context.convolution, [[1] * 3] * 3, **wrong)
         self.assertRaises(ValueError, self.context.convolution, [[1, 2, 3], [1, 2], [1, 2, 3]])
+        for wrong in ([1, 2, 1], 5, None):
+            with self.assertRaisesRegex(TypeError, r"must be rows of numbers, .*, not [\[5N]"):
+                self.context.convolution(wrong)
         with self.assertRaises(vx.InvalidDimension):
             self.context.convolution([[1] * 4] * 3)
         with self.assertRaises(vx.InvalidValue):

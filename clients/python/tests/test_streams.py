@@ -1,6 +1,7 @@
 """Streams, polled results, and results that can't be of an older picture."""
 
 import itertools
+import pathlib
 import threading
 import time
 import unittest
@@ -357,6 +358,9 @@ class TestStreams(StationTest):
                 self.assertRaisesRegex(TypeError, "distributions and extremes|other objects",
                                        self.graph.stream, [], self.part, wrong)
         self.assertRaisesRegex(TypeError, "to an image", self.graph.stream, [], None, self.out)
+        for frames in (7, None, "film.mp4", pathlib.Path("film.mp4")):
+            with self.assertRaisesRegex(TypeError, "must be pictures in a list, .*, not .*(7|N|f)"):
+                self.graph.stream(frames, self.part, self.out)
         with self.server.context() as other:
             with self.assertRaises(vx.InvalidScope):
                 next(self.graph.stream([[[1]]], other.image(vx.U8, 1, 1), self.out))

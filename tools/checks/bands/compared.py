@@ -1,15 +1,15 @@
-"""Graphs that are run, and beside them their nodes one by one."""
+"""Runs graphs, and compares them with their nodes run one by one."""
 
 from typing import Iterable, Optional, Tuple, Type
 
 from feqyldan import wire
 from checks.bands.graph import GRAPH, Graph, Made, shown
 from checks.bands.pictures import picture_for
-from checks.bands.server import Server, Wrong, serving
+from checks.lockstep import Fault, Server, WrongAnswer, serving
 
 # The client that runs graphs, and the one that runs their nodes.
 AS_A_WHOLE, ONE_BY_ONE = 1, 2
-# How what statistics found is read, by what made the object.
+# The request that reads a statistic, by the request that created the object.
 READS = {wire.CREATE_DISTRIBUTION: wire.read_distribution, wire.CREATE_MIN_MAX: wire.read_min_max}
 
 
@@ -18,7 +18,7 @@ def addressed(frame: bytes, client: int) -> bytes:
 
 
 def image_difference(made: Made, one: bytes, other: bytes) -> str:
-    """Of two replies to ReadImage that aren't the same."""
+    """Describes the difference of two replies to ReadImage."""
     if wire.size_of(one) != wire.size_of(other):
         return f"{wire.size_of(one)}, not {wire.size_of(other)}"
     pairs = enumerate(zip(one[13:], other[13:]))
@@ -38,7 +38,7 @@ def difference(made: Made, op: int, one: bytes, other: bytes) -> str:
 
 
 class Beside:
-    """Two clients of a server, of which one runs a graph and the other its nodes."""
+    """Two clients of a server: one runs a graph, the other its nodes."""
 
     def __init__(self, server: Server, graph: Graph) -> None:
         self.server, self.graph = server, graph
@@ -52,10 +52,10 @@ class Beside:
     def same(self, frame: bytes, words: str, made: Made) -> None:
         one, other = self.both(frame)
         if one[6:] != other[6:]:
-            raise Wrong(f"{words}: {difference(made, frame[6], one, other)} as node by node")
+            raise WrongAnswer(f"{words}: {difference(made, frame[6], one, other)} as node by node")
 
     def make_objects(self) -> None:
-        """Both have the same names for the same."""
+        """Creates the same objects with the same names for both clients."""
         self.both(wire.open_context(0))
         self.both(wire.create_graph(0))
         for made in self.graph.objects:
@@ -85,7 +85,8 @@ class Beside:
             self.ask(ONE_BY_ONE, wire.age_delay(0, name))
 
     def compare_images(self, turn: int) -> None:
-        """After the first run what is written alone: the second one reads the rest."""
+        """Compares the written objects after the first run. The second run's comparison reads the
+        rest."""
         written = self.graph.written()
         for cell, made in self.graph.cells():
             if turn == 0 and cell not in written and not made.slots:
@@ -113,14 +114,14 @@ class Beside:
 
 def fault_of(program: str, graphs: Iterable[Graph],
              kind: Type[Server] = Server) -> Optional[Tuple[Graph, str]]:
-    """The first of the graphs, run one after the other on one server, that shows that something is
-    wrong, and what."""
+    """Returns the first of the graphs, run one after the other on one server, that fails, with the
+    failure."""
     graph = None
     try:
-        with serving(program, kind) as server:
+        with serving(kind, [program, "serve"]) as server:
             for graph in graphs:
                 Beside(server, graph).check()
-    except Wrong as wrong:
+    except Fault as fault:
         assert graph is not None
-        return graph, str(wrong)
+        return graph, str(fault)
     return None

@@ -1,4 +1,4 @@
-"""Random graphs: one of each seed."""
+"""Draws random graphs, one for each seed."""
 
 import random
 from typing import Dict, List, NamedTuple, Optional, Sequence, Tuple
@@ -16,7 +16,7 @@ NINES = (wire.BOX, wire.GAUSSIAN, wire.MEDIAN, wire.ERODE, wire.DILATE)
 PIXELWISE = (*BITS, *ARITHMETIC, *ALIKE, wire.NOT_BITS, wire.THRESHOLD, wire.TABLE_LOOKUP,
              wire.CONVERT_DEPTH)
 
-# So many samples may all nodes of a graph write together, so that no graph takes long.
+# Most samples that all nodes of a graph write together, so that no graph takes long.
 GREATEST_SUM = 12_000_000
 
 
@@ -25,7 +25,8 @@ def small_size(rng: random.Random) -> Size:
 
 
 def wide_size(rng: random.Random) -> Size:
-    """Up to the heights at which images of this width are some hundred thousand samples."""
+    """Returns heights up to those at which images of this width have some hundred thousand
+    samples."""
     width, most = rng.choice(((640, 480), (640, 480), (1000, 400), (1920, 300), (4096, 160)))
     return width, rng.randint(1, most) if rng.random() < 0.3 else rng.randint(most // 2, most)
 
@@ -52,9 +53,9 @@ class Held(NamedTuple):
 
 
 class Style(NamedTuple):
-    """What a graph has: the share of nodes with windows; which statistics and functions that add
-    there are, now and then; and whether there are images of the client's that are written and read,
-    and delays, in slots of which nodes write."""
+    """The ingredients of a graph: the share of window nodes, the rare statistics and accumulating
+    functions, client images that are both written and read, and delays in whose slots nodes
+    write."""
 
     windows: float
     statistics: Tuple[int, ...]
@@ -73,7 +74,7 @@ def any_style(rng: random.Random) -> Style:
 
 
 class Draw:
-    """A graph as far as it is drawn."""
+    """A partly drawn graph."""
 
     def __init__(self, seed: int) -> None:
         self.rng = rng = random.Random(seed)
@@ -82,8 +83,7 @@ class Draw:
         self.objects: List[Made] = []
         self.nodes: List[Node] = []
         self.delays: List[int] = []
-        # What nodes can read, and slots that they can write; and the objects that are no images, by
-        # their kinds.
+        # Readable images and writable slots, and the objects that are not images, by kind.
         self.readable: List[Held] = []
         self.slots: List[Held] = []
         self.others: Dict[str, List[int]] = {}
@@ -102,7 +102,7 @@ class Draw:
         return Held(wire.reference(self.add(made)), fmt, size)
 
     def sources(self) -> None:
-        """Images to begin with, at least one of U8 of each size, and delays."""
+        """Draws the initial images, at least one U8 image of each size, and delays."""
         for size in self.sizes:
             self.readable.append(self.image(U8, size))
             for _ in range(self.rng.randint(0, 3)):
@@ -122,7 +122,7 @@ class Draw:
             self.delays.append(name)
 
     def other(self, kind: str, frame: bytes) -> bytes:
-        """A name of an object that is no image; often one that is there already."""
+        """Returns the name of an object that is not an image, often an existing one."""
         names = self.others.setdefault(kind, [])
         if not names or self.chance(0.3):
             names.append(self.add(Made(frame)))
@@ -149,7 +149,8 @@ class Draw:
     # ---- operands
 
     def pick(self, size: Size, formats: Sequence[int]) -> Held:
-        """Often one of the newest, so that graphs are deep; there is always one of U8."""
+        """Chooses an input, often one of the newest, so that graphs are deep. There is always a U8
+        image."""
         held = [held for held in self.readable if held.size == size and held.fmt in formats]
         return self.rng.choice(held[-3:] if self.chance(0.6) else held)
 
@@ -157,14 +158,14 @@ class Draw:
         return sorted({held.fmt for held in self.readable if held.size == size} & {U8, S16})
 
     def declared(self, fmt: int, size: Size, has_format: bool) -> bytes:
-        """A virtual image of which each field is declared or left open."""
+        """Draws a virtual image; each field is declared or left open."""
         shown = fmt if has_format or self.chance(0.5) else wire.OPEN
         sides = [side if self.chance(0.5) else wire.OPEN for side in size]
         return wire.create_virtual_image(0, GRAPH, shown, *sides)
 
     def output(self, fmt: int, size: Size, has_format: bool = False) -> bytes:
-        """A slot, a virtual image, or an image of the client's. `has_format` where the node makes
-        another format of an open one."""
+        """Chooses a slot, a virtual image or a client image. `has_format` tells that the node gives
+        an open image another format."""
         slots = [slot for slot in self.slots if (slot.fmt, slot.size) == (fmt, size)]
         if slots and self.chance(0.5):
             held = self.rng.choice(slots)
@@ -234,7 +235,7 @@ class Draw:
             self.node(function, first.cell, None, self.output(U8, size))
 
     def statistics(self, size: Size) -> None:
-        """What counts or sums up an image, or adds to one, which is not virtual then."""
+        """Adds a reduction or an accumulating node on an image, which can't be virtual then."""
         function = self.rng.choice(self.style.statistics)
         first = self.pick(size, (U8, S16) if function == wire.MIN_MAX_LOCATION else (U8,))
         if function in ADDING:
@@ -272,8 +273,8 @@ class Draw:
         return Graph(self.seed, self.with_few_unread(), tuple(self.nodes), tuple(self.delays))
 
     def with_few_unread(self) -> Tuple[Made, ...]:
-        """The objects. What virtual images hold that no node reads can't be seen, so most of these
-        are images of the client's."""
+        """Returns the objects. A virtual image that no node reads can't be observed, so most of
+        these become client images."""
         read = {cell for node in self.nodes for cell in node.inputs()}
         return tuple(
             made._replace(virtual=None)

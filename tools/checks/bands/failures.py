@@ -1,4 +1,4 @@
-"""A graph that fails, and how it is told."""
+"""Reduces and reports a graph that fails."""
 
 import sys
 import time
@@ -8,12 +8,12 @@ from checks.bands.compared import fault_of
 from checks.bands.graph import Graph, graph_words, shown
 from checks.bands.pictures import picture_for
 
-# Seconds in which a graph is made smaller.
+# Seconds for which a graph is reduced.
 CUTTING = 60
 
 
 def cut_down(program: str, graph: Graph, words: str) -> Tuple[Graph, str]:
-    """The graph without the nodes that aren't needed for it to fail, and how it fails then."""
+    """Returns the graph reduced to the nodes that are needed for the failure, and the failure."""
     end = time.monotonic() + CUTTING
     for number in reversed(range(len(graph.nodes))):
         shorter = graph.without(number)
@@ -36,7 +36,7 @@ def picture_words(graph: Graph) -> Iterator[str]:
 
 
 def tell(program: str, seeds: Sequence[int], graph: Graph, words: str) -> None:
-    """Ends with a graph that failed, the last of those with these seeds on one server."""
+    """Ends with a report of a failed graph, the last of those with these seeds on one server."""
     seed, again = graph.seed, f"--seed {graph.seed} --graphs 1"
     alone = fault_of(program, [graph])
     if alone is None:

@@ -5,11 +5,11 @@ from typing import Iterator, List, NamedTuple, Optional, Set, Tuple
 
 from feqyldan import wire
 
-# The name of the graph itself, which is made first.
+# The name of the graph itself, which is created first.
 GRAPH = 1
-# So many samples and more are a large image.
+# The least number of samples of a large image.
 LARGE = 131_072
-# What is counted, added or summed up band by band.
+# Functions that accumulate across bands: reductions, sums and scans.
 COUNTED = (wire.HISTOGRAM, wire.MIN_MAX_LOCATION)
 ADDING = (wire.ACCUMULATE, wire.ACCUMULATE_SQUARE)
 STATISTICS = (*COUNTED, *ADDING, wire.INTEGRAL)
@@ -17,8 +17,8 @@ WINDOWED = range(wire.BOX, wire.CONVOLVE + 1)
 
 
 class Made(NamedTuple):
-    """An object: the frame that makes it. An image, and those in the slots of a delay, have a
-    format and a size; an image may be virtual, and then has the frame that makes it so."""
+    """An object, as the frame that creates it. Images, including those in delay slots, have a
+    format and a size. A virtual image also has the frame that makes it a virtual one."""
 
     frame: bytes
     fmt: int = 0
@@ -29,7 +29,7 @@ class Made(NamedTuple):
 
 
 class Node(NamedTuple):
-    """The fields of a node, in the order in which `wire.add_node` takes them."""
+    """The fields of a node, in the order of the arguments of `wire.add_node`."""
 
     function: int
     in1: bytes
@@ -49,8 +49,8 @@ class Node(NamedTuple):
 
 
 class Graph(NamedTuple):
-    """The objects have the names from the graph's on; each node comes after those that write what
-    it reads. The delays are registered with the graph."""
+    """A graph. The names of its objects follow the graph's own. Nodes are in topological order. The
+    delays are registered with the graph."""
 
     seed: int
     objects: Tuple[Made, ...]
@@ -64,7 +64,7 @@ class Graph(NamedTuple):
         return self.objects[name_in(cell) - GRAPH - 1]
 
     def cells(self) -> Iterator[Tuple[bytes, Made]]:
-        """All images that aren't virtual, in slots too."""
+        """Returns all images that aren't virtual, including those in slots."""
         for name, made in self.named():
             for slot in range(made.slots):
                 yield wire.reference(name, slot), made
@@ -78,8 +78,8 @@ class Graph(NamedTuple):
         return {cell for node in self.nodes for cell in node.inputs()}
 
     def added(self) -> List[Node]:
-        """The nodes in the order in which they are added: any, but the same if some are left
-        out."""
+        """Returns the nodes in the order of adding. The order is random, but stays the same if some
+        nodes are left out."""
         return sorted(self.nodes,
                       key=lambda node: random.Random(
                           f"{self.seed} {node.outputs()[0].hex()}").random())
@@ -88,16 +88,16 @@ class Graph(NamedTuple):
         return max(made.width * made.height for made in self.objects)
 
     def may_run_in_bands(self) -> bool:
-        """Whether nothing in it keeps it from that, whatever its sizes are: each image to which a
-        node adds, and each integral image, is the client's, and no node reads it."""
+        """Checks that the graph can run in bands, apart from its sizes: each integral image and
+        each image to which a node adds is a client image, and no node reads it."""
         read = self.read()
         return not any(cell in read or self.made(cell).virtual is not None
                        for node in self.nodes if node.function in (*ADDING, wire.INTEGRAL)
                        for cell in node.outputs())
 
     def without(self, number: int) -> "Graph":
-        """The same without a node. An image that was virtual, and isn't written any more, is an
-        image then."""
+        """Returns the graph without a node. A virtual image that is no longer written becomes a
+        real one."""
         shorter = self._replace(nodes=self.nodes[:number] + self.nodes[number + 1 :])
         written = shorter.written()
         objects = tuple(made if wire.reference(name) in written else made._replace(virtual=None)
@@ -109,7 +109,7 @@ def name_in(cell: bytes) -> int:
     return int.from_bytes(cell[:4], "big")
 
 
-# ---- in words
+# ---- descriptions
 
 
 def shown(cell: bytes) -> str:
@@ -140,7 +140,7 @@ def node_words(node: Node) -> str:
 
 
 def graph_words(graph: Graph) -> List[str]:
-    """Its objects that are used, and its nodes in the order in which they are run one by one."""
+    """Describes the used objects, and the nodes in the order in which they are run one by one."""
     used = {name_in(cell) for cell in graph.written() | graph.read()}
     lines = [object_words(name, made) for name, made in graph.named() if name in used]
     lines += [f"ages after each run: {name}" for name in graph.delays]

@@ -1,4 +1,4 @@
-"""Many graphs, and what was in them."""
+"""Runs many graphs, and counts what occurred in them."""
 
 import collections
 import sys
@@ -11,15 +11,15 @@ from checks.bands.draw import graph_of
 from checks.bands.failures import tell
 from checks.bands.graph import LARGE, WINDOWED, Graph
 
-# So many graphs run on one server.
+# Number of graphs on one server.
 TOGETHER = 10
-# Among so many graphs everything comes.
+# Number of graphs after which every case has occurred.
 ALL_COMES = 1000
 
 
 class Counts:
-    """Graphs and nodes; and of the graphs on large images that may run in bands, the functions with
-    their borders."""
+    """Counts graphs and nodes, and the functions with their border modes in graphs of large images
+    that can run in bands."""
 
     def __init__(self) -> None:
         self.graphs = self.nodes = self.large = self.large_nodes = self.may = self.may_nodes = 0
@@ -41,7 +41,7 @@ class Counts:
         return [border for border in wire.Border if self.in_bands[function, border]]
 
     def lacks(self) -> Iterator[str]:
-        """What never came."""
+        """Returns the cases that never occurred."""
         for function in wire.Function:
             if not self.functions[function]:
                 yield function.name
@@ -58,7 +58,7 @@ class Counts:
 
 
 class Many:
-    """So many graphs, or where that is None as many as the seconds allow."""
+    """Runs this many graphs, or as many as the seconds allow if the number is None."""
 
     def __init__(self, seconds: float, graphs: Optional[int], seed: int) -> None:
         self.end, self.graphs = time.monotonic() + seconds, graphs
@@ -71,7 +71,7 @@ class Many:
             self.counts.graphs >= ALL_COMES or not any(self.counts.lacks()))
 
     def some(self) -> Iterator[Graph]:
-        """Those that come next, for one server; at least one."""
+        """Draws the next graphs for one server, at least one."""
         for number in range(TOGETHER):
             if number and self.is_enough():
                 return

@@ -1,4 +1,4 @@
-"""Samples of images, and where they are valid."""
+"""Draws samples and valid rectangles of images."""
 
 import random
 import struct
@@ -8,7 +8,7 @@ from feqyldan import wire
 from checks.bands.graph import Graph, Made
 
 Rectangle = Tuple[int, int, int, int]
-# The upper bytes of S16 samples whose sums and products are often samples too: mostly small ones.
+# Upper bytes of S16 samples whose sums and products often fit S16: mostly small ones.
 UPPER = bytes((0, 0, 0, 1, 2, 255, 255, 254)[byte % 8] for byte in range(256))
 
 
@@ -25,7 +25,7 @@ def near_zero(rng: random.Random, made: Made) -> bytes:
 
 
 def encoded(rng: random.Random, fmt: int) -> bytes:
-    """A sample, often one of the least and the greatest."""
+    """Draws a sample, often the least or the greatest of the format."""
     letter = wire.letter_of(fmt)
     ends = {wire.U8: (0, 1, 255), wire.S16: (-32768, -1, 0, 255, 32767), wire.U32: (0,)}
     if rng.random() < 0.3:
@@ -38,7 +38,7 @@ def constant(rng: random.Random, made: Made) -> bytes:
 
 
 def steps_down(rng: random.Random, made: Made) -> bytes:
-    """Each row is another than those beside it, or than those some rows away."""
+    """Draws a picture whose rows differ from the rows near them."""
     thick = rng.choice((1, 1, 2, 7, 16))
     samples, length = rng.randbytes(4 * made.height), wire.sample_bytes(made.fmt)
     starts = (y // thick * length for y in range(made.height))
@@ -74,7 +74,7 @@ def row(rng: random.Random, made: Made) -> Rectangle:
 
 
 def at_edge(rng: random.Random, made: Made) -> Rectangle:
-    """All but some columns or rows at a side or two."""
+    """Draws a rectangle without some columns or rows at one or two sides."""
     left, top = rng.randrange(made.width), rng.randrange(made.height)
     right, bottom = rng.randint(left + 1, made.width), rng.randint(top + 1, made.height)
     return rng.choice((
@@ -84,7 +84,8 @@ def at_edge(rng: random.Random, made: Made) -> Rectangle:
 
 
 def within(rng: random.Random, made: Made) -> Rectangle:
-    """All but a few columns and rows at each side, as far as there are so many."""
+    """Draws a rectangle without a few columns and rows at each side, if there are enough of
+    them."""
     left, top = rng.randint(0, min(9, made.width - 1)), rng.randint(0, min(40, made.height - 1))
     right = max(left + 1, made.width - rng.randint(0, 9))
     return left, top, right, max(top + 1, made.height - rng.randint(0, 40))
@@ -96,7 +97,7 @@ RECTANGLE_SHARES = (1, 1, 1, 4, 5)
 
 
 class Picture(NamedTuple):
-    """What is written to an image before a run."""
+    """Draws the contents of an image before a run."""
 
     samples: bytes
     valid: Rectangle
@@ -104,8 +105,9 @@ class Picture(NamedTuple):
 
 
 def picture_for(graph: Graph, cell: bytes, made: Made, turn: int) -> Optional[Picture]:
-    """Before the second run many images stay as they are, and those that nodes write stay more
-    often. It is the same whatever nodes are left out, but for that."""
+    """Draws the changes before the second run. Many images stay unchanged, and images that nodes
+    write do so more often. Apart from that, the changes don't depend on the nodes that are left
+    out."""
     rng = random.Random(f"{graph.seed} {cell.hex()} {turn}")
     share = 0.9 if turn == 0 else 0.5
     if rng.random() > (share / 2 if cell in graph.written() else share):

@@ -1,4 +1,4 @@
-"""Servers that run graphs in bands wrongly: faults in what is asked and answered."""
+"""Plants faults of a wrong band execution into requests and replies."""
 
 import struct
 import subprocess
@@ -10,22 +10,22 @@ from checks.bands.compared import AS_A_WHOLE, fault_of
 from checks.bands.draw import graph_of
 from checks.bands.graph import LARGE
 from checks.bands.pictures import Rectangle
-from checks.bands.server import Server
+from checks.lockstep import Server
 
-# A fault is found in so many graphs, or never.
+# Number of graphs within which a fault must be found.
 FAULT_GRAPHS = 240
-# Where a band begins.
+# The row at which a band begins.
 EDGE = 16
 
 
 class Wrongly(Server):
-    """Changes what the client is answered that runs graphs: of large images that nodes write, since
-    those are of graphs that run in bands."""
+    """Changes replies to the client that runs graphs. Only large images that nodes write are
+    changed, because their graphs run in bands."""
 
     def __init__(self, process: "subprocess.Popen[bytes]") -> None:
         super().__init__(process)
-        # Since the client's context was opened: the replies to requests that read, what the nodes
-        # write, and how many runs there were.
+        # State since the client's context was opened: the replies to reads, the images that nodes
+        # write, and the number of runs.
         self.before: Dict[bytes, bytes] = {}
         self.written: Set[bytes] = set()
         self.runs = 0
@@ -53,7 +53,7 @@ class Wrongly(Server):
             self.written |= {request[-10:-5], request[-5:]}
 
     def is_left_out(self, _: bytes) -> bool:
-        """Whether this isn't done."""
+        """Checks that this request is dropped."""
         return False
 
     def concerns(self, cell: bytes) -> bool:
@@ -71,7 +71,7 @@ class Wrongly(Server):
         return reply[:13] + struct.pack(">4H", *self.valid(request, (left, top, right, bottom)))
 
     def image(self, _: bytes, reply: bytes, __: int, ___: int) -> bytes:
-        """The reply to ReadImage; a row has so many bytes, and there are so many rows."""
+        """Changes the reply to ReadImage, whose rows have this length and number."""
         return reply
 
     def valid(self, _: bytes, valid: Rectangle) -> Sequence[int]:
@@ -88,7 +88,7 @@ def row_of(reply: bytes, length: int, number: int) -> bytes:
 
 
 class OtherAtEdge(Wrongly):
-    """A sample of the row at which a band begins is another."""
+    """Changes a sample of the first row of a band."""
 
     def image(self, _: bytes, reply: bytes, length: int, height: int) -> bytes:
         if height <= EDGE:
@@ -98,7 +98,7 @@ class OtherAtEdge(Wrongly):
 
 
 class RowAbove(Wrongly):
-    """A band begins with the last row of the one above."""
+    """Starts a band with the last row of the previous band."""
 
     def image(self, _: bytes, reply: bytes, length: int, height: int) -> bytes:
         if height <= EDGE:
@@ -107,7 +107,7 @@ class RowAbove(Wrongly):
 
 
 class BandTwice(Wrongly):
-    """A band is the one above."""
+    """Repeats the previous band."""
 
     def image(self, _: bytes, reply: bytes, length: int, height: int) -> bytes:
         if height < 2 * EDGE:
@@ -117,7 +117,7 @@ class BandTwice(Wrongly):
 
 
 class NoLastRow(Wrongly):
-    """The last row isn't written, where the bands are no whole number."""
+    """Drops the last row if the height isn't a multiple of the band height."""
 
     def image(self, _: bytes, reply: bytes, length: int, height: int) -> bytes:
         if height <= EDGE or height % EDGE == 0:
@@ -126,7 +126,7 @@ class NoLastRow(Wrongly):
 
 
 class OldRow(Wrongly):
-    """A row at a band's edge is what the run before left."""
+    """Keeps a row at the edge of a band from the previous run."""
 
     def image(self, request: bytes, reply: bytes, length: int, height: int) -> bytes:
         old = self.before.get(request)
@@ -136,7 +136,7 @@ class OldRow(Wrongly):
 
 
 class SourceChanged(Wrongly):
-    """A row of an image that nodes only read is cleared."""
+    """Clears a row of an image that nodes only read."""
 
     def concerns(self, cell: bytes) -> bool:
         return cell not in self.written
@@ -146,28 +146,28 @@ class SourceChanged(Wrongly):
 
 
 class ShorterValid(Wrongly):
-    """A valid rectangle ends a row sooner."""
+    """Returns a valid rectangle that is one row too short."""
 
     def valid(self, _: bytes, valid: Rectangle) -> Sequence[int]:
         return (*valid[:3], valid[3] - 1) if valid[3] - valid[1] > 1 else valid
 
 
 class ValidOfBand(Wrongly):
-    """A valid rectangle is that of the first band."""
+    """Returns the valid rectangle of the first band."""
 
     def valid(self, _: bytes, valid: Rectangle) -> Sequence[int]:
         return (*valid[:3], min(valid[3], EDGE)) if valid[1] < EDGE else valid
 
 
 class ValidInRows(Wrongly):
-    """A rectangle of one row, which isn't the first, is told as the empty one."""
+    """Returns the empty rectangle for one row that isn't the first."""
 
     def valid(self, _: bytes, valid: Rectangle) -> Sequence[int]:
         return (0, 0, 0, 0) if valid[1] and valid[3] == valid[1] + 1 else valid
 
 
 class OldValid(Wrongly):
-    """A valid rectangle is that of the run before."""
+    """Returns the valid rectangle of the previous run."""
 
     def valid(self, request: bytes, valid: Rectangle) -> Sequence[int]:
         old = self.before.get(request)
@@ -175,21 +175,21 @@ class OldValid(Wrongly):
 
 
 class OneRun(Wrongly):
-    """A graph doesn't run again."""
+    """Never runs a graph again."""
 
     def is_left_out(self, request: bytes) -> bool:
         return request[6] == wire.PROCESS_GRAPH and self.runs > 1
 
 
 class NoAgeing(Wrongly):
-    """No delay ages after a run."""
+    """Never ages a delay after a run."""
 
     def is_left_out(self, request: bytes) -> bool:
         return request[6] == wire.REGISTER_AUTO_AGING
 
 
 class BandCounted(Wrongly):
-    """What is counted or found isn't that of all bands."""
+    """Returns statistics that miss some bands."""
 
     def changed(self, request: bytes, reply: bytes) -> bytes:
         if request[6] not in (wire.READ_DISTRIBUTION, wire.READ_MIN_MAX):
@@ -198,7 +198,7 @@ class BandCounted(Wrongly):
 
 
 class LostRequests(Wrongly):
-    """No fault: a third client asks for an image that isn't there, before each request."""
+    """Plants no fault: before each request a third client asks for a missing image."""
 
     def answer(self, request: bytes) -> bytes:
         Server.answer(self, wire.query_image(AS_A_WHOLE + 2, 1))

@@ -1,4 +1,4 @@
-"""Checks of the documents: that what they name exists, and how they and comments are written."""
+"""Checks of the documents: the names that they use exist, and their style and that of comments."""
 
 from typing import Iterator
 
@@ -6,12 +6,12 @@ from . import comments, definitions, links, names, prose, surface, tree
 
 
 def pages() -> Iterator[str]:
-    """Every document of the repository."""
+    """Returns every document of the repository."""
     return (path for path in sorted(tree.files()) if path.endswith(".md"))
 
 
 def found() -> Iterator[str]:
-    """Each fault, as FILE:LINE and what is wrong."""
+    """Returns each fault, as FILE:LINE and a description."""
     known = tree.names()
     for path in names.DOCUMENTS:
         text = tree.read(path).partition(f"\n## {surface.SECTION}\n")[0]
@@ -35,7 +35,7 @@ def found() -> Iterator[str]:
 
 
 def main() -> int:
-    """Prints the faults, and gives the status that the command ends with."""
+    """Prints the faults, and returns the exit status of the command."""
     faults = list(found())
     for fault in faults:
         print(fault)

@@ -1,4 +1,4 @@
-"""Comments of the code and of definitions, which are held to the style of the documents."""
+"""Comments of the code and of definitions, which follow the style of the documents."""
 
 import os
 import re
@@ -6,7 +6,7 @@ from typing import Iterator, Tuple
 
 from . import prose
 
-# What a comment's line begins with, in each language.
+# The start of a comment line, in each language.
 MARKS = {".rt": r"//[/!]?", ".antt": "--"}
 FOLDERS = ("src", "specs")
 
@@ -16,18 +16,19 @@ def ending(path: str) -> str:
 
 
 def is_read(path: str) -> bool:
-    """Whether it is a crate's code or definitions."""
+    """Checks that a file has a crate's code or definitions."""
     parts = path.split("/")
     return parts[0] == "crates" and parts[2] in FOLDERS and ending(path) in MARKS
 
 
 def comments(path: str, text: str) -> str:
-    """The text with its comments alone, each on its line; one ends with the code that follows."""
+    """Returns the text with only its comments, each on its line. A comment ends at the code after
+    it."""
     mark = MARKS[ending(path)]
     lines = (re.match(rf"\s*{mark}(?: (.*))?$", line) for line in text.split("\n"))
     return "\n".join(line[1] or "" if line else "" for line in lines)
 
 
 def faults(path: str, text: str) -> Iterator[Tuple[int, str]]:
-    """What is wrong with a file's comments, with the number of the line where each begins."""
+    """Returns the faults of a file's comments, with the line where each begins."""
     return prose.faults(comments(path, text))

@@ -1,4 +1,4 @@
-"""Definitions in crates/*/specs: each has a name with one meaning, and a comment of its own."""
+"""Definitions in crates/*/specs: each has a name with one meaning, and its own comment."""
 
 import re
 from typing import Dict, Iterator, List, Tuple
@@ -6,10 +6,10 @@ from typing import Dict, Iterator, List, Tuple
 from .tree import NAME, files, read
 
 HEAD = re.compile(rf"^(?:abbrev |unfoldable )?pub (?:abbrev |record |data )?({NAME})(?=[ :])", re.M)
-# One word, which looks like a participle. `Is`, `Are` and the like before it make it a phrase.
+# A single word that looks like a participle. `Is`, `Are` and the like in front of it make a phrase.
 PARTICIPLE = re.compile(r"[A-Za-z][a-z]*(?:ed|ing|wn|rnt)$|"
                         r"(?i:begun|given|held|kept|left|made|taken|told|written)$")
-# Prepositions and the like, which say nothing alone.
+# Prepositions and similar words, which mean nothing alone.
 FRAGMENTS = {"after", "at", "beside", "but_for", "inside", "look", "nearest", "once", "small",
              "so_many", "stands", "through", "times", "unless", "whole", "within"}
 # Nouns and verbs that look like participles.
@@ -17,12 +17,12 @@ PLAIN = {"feed", "need", "ring", "string"}
 
 
 def paths() -> Iterator[str]:
-    """Each file of definitions."""
+    """Returns each file of definitions."""
     return (path for path in sorted(files()) if re.match(r"crates/\w+/specs/.*\.antt$", path))
 
 
 def definitions() -> Iterator[Tuple[str, str]]:
-    """The path of each file of definitions, and a name that it defines."""
+    """Returns the path of each file of definitions with each name that it defines."""
     for path in paths():
         for name in HEAD.findall(read(path)):
             if name != "mod":
@@ -30,7 +30,8 @@ def definitions() -> Iterator[Tuple[str, str]]:
 
 
 def uncommented(text: str) -> Iterator[Tuple[int, str]]:
-    """The line and the name of each public definition without a comment directly above it."""
+    """Returns the line and the name of each public definition without a comment directly above
+    it."""
     for found in HEAD.finditer(text):
         above = text[:found.start()].rstrip("\n").rpartition("\n")[2]
         gap = text[:found.start()].endswith("\n\n")
@@ -39,14 +40,14 @@ def uncommented(text: str) -> Iterator[Tuple[int, str]]:
 
 
 def bare() -> Iterator[Tuple[str, int, str]]:
-    """The path, the line and the name of each definition of the repository without a comment."""
+    """Returns the path, line and name of each definition in the repository without a comment."""
     for path in paths():
         for line, name in uncommented(read(path)):
             yield path, line, name
 
 
 def faults(defined: List[Tuple[str, str]]) -> Iterator[Tuple[str, str, str]]:
-    """The path, the name, and what is wrong with it."""
+    """Returns the path, the name and the fault of each badly named definition."""
     first: Dict[str, str] = {}
     for path, name in defined:
         if name not in PLAIN and PARTICIPLE.match(name):

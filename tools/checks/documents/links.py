@@ -10,14 +10,14 @@ LINK = re.compile(r"\]\(([^)\s]+)\)|^\[[^\]]+\]: (\S+)", re.M)
 
 
 def anchors(text: str) -> Set[str]:
-    """The headings of a document, as links name them."""
+    """Returns the headings of a document, in the form that links use."""
     text = re.sub(r"```.*?```", "", text, flags=re.S)
     headings = re.findall(r"^#+ (.*)$", text, re.M)
     return {re.sub(r"[^\w\- ]", "", heading.lower()).replace(" ", "-") for heading in headings}
 
 
 def broken(path: str, text: str) -> Iterator[Tuple[int, str]]:
-    """Each link of a document that leads nowhere in the repository, with its line's number."""
+    """Returns each broken link of a document within the repository, with its line number."""
     for match in LINK.finditer(text):
         target = match[1] or match[2]
         file, _, anchor = target.partition("#")

@@ -3,11 +3,11 @@
 import re
 from typing import Iterator, Set, Tuple
 
-# Documents that speak of the code as it is. What docs/DECISIONS.md says isn't there is for
-# `surface`.
+# Documents that describe the current code. `surface` checks the names that docs/DECISIONS.md calls
+# missing.
 DOCUMENTS = ["README.md", "CONTRIBUTING.md", "docs/DECISIONS.md", "docs/architecture.md",
              "docs/limits.md", "docs/model.md", "docs/proved.md", "docs/roadmap.md"]
-# What others define: the toolchain, the languages, tools of the system.
+# Names that others define: the toolchain, the languages, system tools.
 FOREIGN = {
     "rt", "rattle-kit-13f", "ensures", "requires", "unfolding", "search", "grind", "proves",
     "file:", "old:", "new:", "no", "TheVariants", "clap", "thiserror", "itoa", "slab", "assert",
@@ -19,8 +19,7 @@ FREE = re.compile(r"vx[A-Z]|VX_|vx_\w+_[et]$|Rattle\.|(.*/)?(NAME|PATH|CRATE|WOR
 
 
 def spans(text: str) -> Iterator[Tuple[int, str]]:
-    """What stands in backquotes, with the number of its line; programs and commands that are set
-    off have none."""
+    """Returns the text of each backquoted span with its line number. Code blocks have no spans."""
     text = re.sub(r"```.*?```", lambda match: "\n" * match[0].count("\n"), text, flags=re.S)
     text = re.sub(r"^    .*$", "", text, flags=re.M)
     for match in re.finditer(r"`([^`]+)`", text):
@@ -28,7 +27,7 @@ def spans(text: str) -> Iterator[Tuple[int, str]]:
 
 
 def parts(span: str) -> Iterator[str]:
-    """The names of a span: its first word, which may be a path of names."""
+    """Returns the names in a span: its first word, which may be a path of names."""
     word = re.sub(r"\.?\{.*|[(),;!]*$", "", span.split(" ")[0])
     if re.fullmatch(r"[A-Za-z_][\w'./:*-]*", word):
         yield from (part for part in word.split("::") if len(part) > 1)
@@ -43,7 +42,7 @@ def exists(name: str, known: Set[str]) -> bool:
 
 
 def stale(text: str, known: Set[str]) -> Iterator[Tuple[int, str]]:
-    """Each name of a document that nothing defines, with the number of its line."""
+    """Returns each name of a document that is defined nowhere, with its line number."""
     for line, span in spans(text):
         for name in parts(span):
             if not exists(name, known):

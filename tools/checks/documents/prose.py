@@ -1,10 +1,10 @@
-"""How documents are written: sentences that are too long, and words that have a plainer one."""
+"""Style of documents: overlong sentences, and words that have a plainer alternative."""
 
 import re
 from typing import Iterator, List, Tuple
 
 MOST_WORDS = 40
-# What to write in place of these.
+# The plainer alternatives.
 PLAINER = {
     "beside": "next to, beyond, besides; of a window: halo",
     "so many": "that many, n, or the number's name",
@@ -18,8 +18,8 @@ WORD = re.compile(r"[^\W_][\w'’/.,^+*-]*")
 
 
 def units(text: str) -> Iterator[Tuple[int, str]]:
-    """The paragraphs, list items and table cells of a document, each with its first line's number;
-    without programs, commands, headings and quotations."""
+    """Returns the paragraphs, list items and table cells of a document, each with the number of its
+    first line. Leaves out code blocks, headings and quotations."""
     text = re.sub(r"```.*?```", lambda match: "\n" * match[0].count("\n"), text, flags=re.S)
     begun, lines = 0, []  # type: Tuple[int, List[str]]
     for number, line in enumerate(text.split("\n") + [""], 1):
@@ -36,7 +36,7 @@ def units(text: str) -> Iterator[Tuple[int, str]]:
 
 
 def plain(text: str) -> str:
-    """Without the marks of links and emphasis; what stands in backquotes is one word."""
+    """Removes the markup of links and emphasis. A backquoted span becomes one word."""
     text = re.sub(r"`[^`]*`", "Code", text)
     return re.sub(r"!?\[([^\]]*)\]\([^)]*\)", r"\1", text).replace("**", "")
 
@@ -46,12 +46,12 @@ def sentences(text: str) -> List[str]:
 
 
 def is_list(sentence: str) -> bool:
-    """Whether it is names alone, with commas between them."""
+    """Checks that a text is only a list of names with commas between them."""
     return all(len(part.split()) == 1 for part in sentence.split(", "))
 
 
 def faults(text: str) -> Iterator[Tuple[int, str]]:
-    """What is wrong with a document, with the number of the line where its paragraph begins."""
+    """Returns the faults of a document, with the line number of the paragraph."""
     for line, unit in units(text):
         for sentence in sentences(unit):
             count = len(WORD.findall(sentence))

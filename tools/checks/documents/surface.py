@@ -1,4 +1,4 @@
-"""Public names that a reader looks for: each is there, or docs/DECISIONS.md says what else is."""
+"""Public names that readers look for: each exists, or docs/DECISIONS.md names its replacement."""
 
 import re
 from typing import Dict, Iterator, List, Set, Tuple
@@ -10,14 +10,14 @@ DECISIONS, SECTION = "docs/DECISIONS.md", "Names that one may look for"
 
 
 def expected(text: str) -> Dict[str, List[str]]:
-    """The names of the list by crate: a line goes on where the next one is indented."""
+    """Returns the expected names by crate. An indented line continues the previous one."""
     lines = [line for line in text.split("\n") if line.strip() and not line.startswith("#")]
     joined = "\n".join(lines).replace("\n ", " ").split("\n")
     return {crate: names.split() for crate, _, names in (line.partition(":") for line in joined)}
 
 
 def block(text: str, start: int) -> str:
-    """The text from the next brace on, to the one that closes it."""
+    """Returns the text from the next brace to the matching one."""
     depth, at = 0, text.index("{", start)
     for place in range(at, len(text)):
         depth += (text[place] == "{") - (text[place] == "}")
@@ -27,7 +27,8 @@ def block(text: str, start: int) -> str:
 
 
 def exported(library: str) -> Set[str]:
-    """The names that other crates can import: what lib.rt passes on, and what is public there."""
+    """Returns the names that other crates can import: re-exports of lib.rt, and its public
+    items."""
     found = set(re.findall(rf"^pub (?:fn|struct|enum|trait|type|const) ({NAME})", library, re.M))
     for group, single in re.findall(r"^pub use [\w:]*::(?:\{([^}]*)\}|(\w+));", library, re.M):
         found.update(name.split()[-1] for name in [*group.split(","), single] if name.strip())
@@ -35,7 +36,7 @@ def exported(library: str) -> Set[str]:
 
 
 def methods(sources: str, kind: str) -> Set[str]:
-    """The public methods of a type, or those of a trait."""
+    """Returns the public methods of a type, or the methods of a trait."""
     found: Set[str] = set()
     for match in re.finditer(rf"^impl(?:<[^\n]*?>)? {kind}\b", sources, re.M):
         found.update(re.findall(rf"^\s*pub (?:const )?fn ({NAME})",
@@ -46,8 +47,8 @@ def methods(sources: str, kind: str) -> Set[str]:
 
 
 def surface(crate: str, names: List[str]) -> Set[str]:
-    """Those of these names that a crate has, a method as TYPE::METHOD. A program that is no library
-    has none."""
+    """Returns the expected names that a crate has; a method is TYPE::METHOD. A program that isn't a
+    library has none."""
     paths = [path for path in files() if re.match(rf"crates/{crate}/src/.*\.rt$", path)]
     library = f"crates/{crate}/src/lib.rt"
     public = exported(without_comments(library, read(library))) if library in paths else set()
@@ -61,8 +62,8 @@ def surface(crate: str, names: List[str]) -> Set[str]:
 
 
 def explained(text: str) -> Set[str]:
-    """The names that the first column of the section's tables lists, a crate's own as CRATE::NAME.
-    What is told there of another form of something isn't such a list."""
+    """Returns the names in the first column of the section's tables, a crate's own as CRATE::NAME.
+    Tables that describe another form of something don't count."""
     _, _, section = text.partition(f"\n## {SECTION}\n")
     section = section.partition("\n## ")[0]
     found: Set[str] = set()
@@ -73,7 +74,7 @@ def explained(text: str) -> Set[str]:
 
 
 def faults(list_text: str, decisions: str) -> Iterator[Tuple[str, str, str]]:
-    """The crate, the name, and what is wrong with it."""
+    """Returns the crate, the name and the fault of each missing name."""
     told = explained(decisions)
     for crate, names in expected(list_text).items():
         there = surface(crate, names)

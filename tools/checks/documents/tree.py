@@ -1,4 +1,4 @@
-"""What the repository defines, by name: in Rust, in definitions, Python, C and shell, and files."""
+"""The names that the repository defines, in Rust, definitions, Python, C, shell and file names."""
 
 import functools
 import os
@@ -7,7 +7,7 @@ from typing import Iterator, List, Set
 
 ROOT = os.path.realpath(os.path.join(os.path.dirname(os.path.abspath(__file__)), "../../.."))
 NAME = r"[A-Za-z_][\w']*"
-# Folders that a build or a tool leaves.
+# Folders that builds and tools create.
 BUILT = {".git", "out", "build", "__pycache__", ".mypy_cache"}
 
 # A definition in each language; the last group is its name.
@@ -39,7 +39,7 @@ def read(path: str) -> str:
 
 @functools.lru_cache(maxsize=None)
 def files() -> List[str]:
-    """Every file of the repository, by its path from the root, but for what is built."""
+    """Returns every file of the repository that isn't built, by its path from the root."""
     found = []
     for folder, inner, names_here in os.walk(ROOT):
         inner[:] = [name for name in inner if name not in BUILT]
@@ -48,7 +48,8 @@ def files() -> List[str]:
 
 
 def is_code(path: str) -> bool:
-    """Whether it is of one of these languages; a command has no ending, and a first line."""
+    """Checks that a file is in one of these languages. A command has no extension, so its first
+    line decides."""
     ending = os.path.splitext(path)[1]
     if ending:
         return ending in PATTERNS
@@ -69,7 +70,8 @@ def defined_in(path: str, text: str) -> Iterator[str]:
 
 
 def names() -> Set[str]:
-    """Every name that the repository defines, each file's path and its parts, and each crate."""
+    """Returns every name that the repository defines, the path and path components of each file,
+    and each crate."""
     found: Set[str] = set()
     for path in files():
         parts = path.split("/")

@@ -1,4 +1,4 @@
-"""Every vision function on every format, each sample beside the function's formula."""
+"""Compares every vision function with its formula, sample by sample, on every format."""
 
 import os
 import sys
@@ -8,7 +8,7 @@ from checks.functions.session import HEIGHT, WIDE, WIDTHS, Session
 from checks.functions.shapes import SHAPES, Shape
 from checks.functions.worked import WORKED, WORKED_PICTURES, worked, worked_pictures
 
-# A width, and a rectangle that begins and ends beside the places of vectors.
+# A width and a rectangle that begins and ends off the boundaries of vectors.
 PART = 70, (3, 1, 68, 2)
 
 

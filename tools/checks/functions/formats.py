@@ -1,4 +1,4 @@
-"""Each function on every combination of formats, those that are refused among them."""
+"""Runs each function on every combination of formats, including those that are refused."""
 
 import itertools
 
@@ -19,8 +19,8 @@ def samples_of(fmt, count, step):
 
 
 def objects(session, width, valid):
-    """The names of the inputs and outputs, by what they are for and their format, and the samples
-    of the images. The inputs are valid in that rectangle."""
+    """The names of the inputs and outputs by role and format, and the samples of the images. The
+    inputs are valid in that rectangle."""
     count = width * HEIGHT
     names, samples = {(NOTHING, NOTHING): None, (HELD, NOTHING): None}, {}
     for fmt in (U8, S16, U32):
@@ -32,7 +32,7 @@ def objects(session, width, valid):
     for fmt in (U8, S16):
         names[TABLE, fmt] = session.create(wire.create_lut(CLIENT, fmt, entries(fmt)))
         for limits in (BINARY, RANGE):
-            # A limit is a sample of the format.
+            # The limits of a threshold are samples of the format.
             allowed = tuple(max(LEAST[fmt], limit) for limit in limits)
             names[limits, fmt] = session.create(wire.create_threshold(CLIENT, fmt, allowed, 200, 7))
     names[MATRIX, NOTHING] = session.convolution(SLANTED)
@@ -42,16 +42,16 @@ def objects(session, width, valid):
 
 
 def all_formats(names, second, allowed):
-    """The formats of both inputs and of the output, in every combination, or with the kind that the
-    output has."""
+    """Returns every combination of formats of both inputs and the output, or the kind of an output
+    that is not an image."""
     seconds = [fmt for fmt in (NOTHING, U8, S16, U32) if (second, fmt) in names]
     kinds = {output for _, _, output in allowed} & {COUNTS, FOUND}
     return itertools.product((U8, S16, U32), seconds, kinds or (U8, S16, U32))
 
 
 def formats(session, width, valid):
-    """Every function on every format, on images that are valid in a rectangle: how many nodes give
-    their formulas, and how many are refused."""
+    """Runs every function on every format, on images that are valid in a rectangle. Returns the
+    number of nodes that match their formulas, and of those that are refused."""
     names, samples = objects(session, width, valid)
     ran = refused = 0
     for number, second, policies, amounts, allowed, gives in FUNCTIONS:
@@ -76,8 +76,8 @@ def formats(session, width, valid):
 
 
 def held_before(picture):
-    """What an output holds before samples of this picture are added to it: valid all over, in a
-    part, and nowhere."""
+    """Returns the prior contents of an output to which samples of this picture are added: valid
+    everywhere, in a part, and nowhere."""
     width, height = picture.width, picture.height
     held = whole(width, height, samples_of(S16, width * height, 5))
     part = (width // 3, height // 3, width, height)
@@ -85,7 +85,8 @@ def held_before(picture):
 
 
 def added(session, picture, first, output):
-    """Each function that adds to what its output holds, twice to the same: how many nodes ran."""
+    """Runs each accumulating function twice on the same output. Returns the number of nodes that
+    ran."""
     rows = [(number, Way(S16, amount=amount), gives)
             for number, second, _, amounts, _, gives in FUNCTIONS if second == HELD
             for amount in amounts]
@@ -99,8 +100,8 @@ def added(session, picture, first, output):
 
 
 def gradients_refused(session, names):
-    """Sobel into each pair of formats but two of S16, one of which may be absent: how many are
-    refused."""
+    """Runs Sobel into each pair of formats other than two S16 outputs, one of which may be absent.
+    Returns the number of refusals."""
     pairs = [(one, other) for one in (None, U8, S16, U32) for other in (U8, S16, U32)
              if not {one, other} <= {None, S16}]
     for one, other in pairs:

@@ -11,7 +11,8 @@ from checks.functions.pictures import (
 
 
 def pixels(formula):
-    """The formula is of the two samples, the output's format, the policy and the amount."""
+    """Makes a pixelwise function from a formula of the two samples, the output's format, the policy
+    and the amount."""
 
     def gives(picture, beside, way):
         values = map(lambda a, b: formula(a, b, way.fmt, way.policy, way.amount), picture.samples,
@@ -22,7 +23,8 @@ def pixels(formula):
 
 
 def sums(formula):
-    """The formula is of a sample and the amount, and is added to what the output held."""
+    """Makes an accumulating function from a formula of a sample and the amount, whose value is
+    added to the output."""
 
     def gives(picture, held, way):
         values = (narrow(S16, wire.SATURATE, c + formula(a, way.amount))
@@ -33,12 +35,12 @@ def sums(formula):
     return gives
 
 
-# ---- windows: a formula of the samples around a pixel, by rows from above
+# ---- windows: a formula of the samples around a pixel, row by row from the top
 
 
 def rows_seen(picture, way, across, down):
-    """What windows see of the valid rectangle, and beside it under a border that has something
-    there."""
+    """Returns the samples that windows see: the valid rectangle, and the border around it if the
+    mode has one."""
     rows = [row_of(picture, y) for y in range(picture.valid[1], picture.valid[3])]
     if way.border == wire.CONSTANT:
         side, beside = (way.constant,) * across, (way.constant,) * (len(rows[0]) + 2 * across)
@@ -51,7 +53,7 @@ def rows_seen(picture, way, across, down):
 
 @functools.lru_cache(maxsize=64)
 def windows(picture, way, columns, rows):
-    """The places at which an output is valid, and the window at each of them."""
+    """Yields the pixels at which an output is valid, with the window of each."""
     if picture.valid == NOWHERE:
         return NOWHERE, []
     seen = rows_seen(picture, way, columns // 2, rows // 2)
@@ -84,8 +86,8 @@ gradient_y = nines(lambda nine: weighted(nine, DOWN))
 
 
 def convolved(picture, convolution, way):
-    """The first coefficient is for the last sample of a window, the second for the one before it,
-    and so on."""
+    """Applies the coefficients in reverse: the first one belongs to the last sample of a window,
+    the second one to the sample before it, and so on."""
     valid, places = windows(picture, way._replace(fmt=U8), convolution.columns, convolution.rows)
     turned, divisor = convolution.coefficients[::-1], 2**convolution.exponent
     values = [narrow(way.fmt, wire.SATURATE, to_zero(weighted(place, turned), divisor))
@@ -106,8 +108,8 @@ def counts(picture, bins, _=None):
 
 
 def integral(picture, _, __):
-    """At each valid place the sum of the valid samples that are neither right of it nor below it,
-    modulo 2^32."""
+    """Returns for each valid pixel the sum of the valid samples that are neither right of it nor
+    below it, modulo 2^32."""
     left, top, right, bottom = picture.valid
     values, above = [], [0] * (right - left)
     for y in range(top, bottom):
@@ -118,8 +120,8 @@ def integral(picture, _, __):
 
 
 def extremes(picture, _=None, __=None):
-    """The least and the greatest, how many places hold each, and the x and the y of the first place
-    of each."""
+    """Returns the least and the greatest sample, the number of pixels with each, and x and y of the
+    first pixel with each."""
     left, top, right, bottom = picture.valid
     places = [(x, y) for y in range(top, bottom) for x in range(left, right)]
     samples = [sample for y in range(top, bottom) for sample in row_of(picture, y)]
@@ -130,8 +132,8 @@ def extremes(picture, _=None, __=None):
             *(part for end in ends for part in places[samples.index(end)])]
 
 
-# The second operand of a function: nothing, an image, a table, a convolution, or a threshold with
-# these limits; or what its output held. Two functions have outputs that are no images.
+# Second operands of functions: none, an image, a table, a convolution, a threshold with these
+# limits, or the prior contents of the output. Two functions have outputs that are not images.
 NOTHING, IMAGE, TABLE, MATRIX, HELD = None, "image", "table", "convolution", "held"
 BINARY, RANGE = (10,), (-1, 20)
 COUNTS, FOUND = "counts", "extremes"
@@ -145,8 +147,8 @@ POLICIES = (wire.WRAP, wire.SATURATE)
 # The convolution and the bins of the table of functions.
 SLANTED, THIRDS = Convolution(3, 3, 2, (1, 2, 3, -4, 5, -6, 7, 8, -9)), Bins(3, 5, 250)
 
-# The function, its second operand, policies, amounts, formats that are allowed (first, second,
-# output), and what it gives of a picture, of what is beside it, and of the way that it is run.
+# Function, second operand, policies, amounts, allowed formats (first, second, output), and its
+# formula of a picture, of the second operand, and of the parameters.
 FUNCTIONS = (
     (wire.AND_BITS, IMAGE, (0,), (0,), BYTES, pixels(lambda a, b, g, p, n: a & b)),
     (wire.OR_BITS, IMAGE, (0,), (0,), BYTES, pixels(lambda a, b, g, p, n: a | b)),

@@ -1,4 +1,4 @@
-"""What functions are given and give: samples by rows, with the valid rectangle."""
+"""Inputs and outputs of functions: rows of samples with a valid rectangle."""
 
 from collections import namedtuple
 
@@ -27,16 +27,15 @@ def to_zero(value, divisor):
 
 
 def entries(fmt):
-    """A table that turns the range round."""
+    """A table that reverses the range."""
     return range(GREATEST[fmt], LEAST[fmt] - 1, -1)
 
 
-# What functions are given and give: samples by rows, with the valid rectangle, as its start and its
-# end.
+# Inputs and outputs of functions: rows of samples with the valid rectangle, as its start and end.
 Picture = namedtuple("Picture", "width height valid samples")
 Convolution = namedtuple("Convolution", "columns rows exponent coefficients")
 Bins = namedtuple("Bins", "bins offset range")
-# How a node is run: to which format, and what the node has.
+# The parameters of a node: the output format, and the node's fields.
 Way = namedtuple("Way", "fmt policy amount border constant",
                  defaults=(wire.WRAP, 0, wire.UNDEFINED, 0))
 NOWHERE = (0, 0, 0, 0)
@@ -47,13 +46,14 @@ def whole(width, height, samples):
 
 
 def row_of(picture, y):
-    """The valid samples of a row."""
+    """Returns the valid samples of a row."""
     left, _, right, _ = picture.valid
     return picture.samples[y * picture.width + left : y * picture.width + right]
 
 
 def filled(picture, valid, values):
-    """A picture of the same size with these values in the rectangle by rows, and 0 beside it."""
+    """Returns a picture of the same size with these values in the rectangle, row by row, and 0
+    outside it."""
     values, (left, top, right, bottom) = iter(values), valid
     samples = [next(values) if left <= x < right and top <= y < bottom else 0
                for y in range(picture.height) for x in range(picture.width)]
@@ -61,14 +61,14 @@ def filled(picture, valid, values):
 
 
 def meet(one, other):
-    """The places that are in both rectangles."""
+    """Returns the intersection of two rectangles."""
     starts, ends = [*map(max, one[:2], other[:2])], [*map(min, one[2:], other[2:])]
     is_empty = any(start >= end for start, end in zip(starts, ends))
     return NOWHERE if is_empty else (*starts, *ends)
 
 
 def confined(picture, valid):
-    """The picture with another valid rectangle, and 0 beside it."""
+    """Returns the picture with another valid rectangle, and 0 outside it."""
     left, top, right, bottom = valid
     starts = [y * picture.width for y in range(top, bottom)]
     return filled(picture, valid, [sample for start in starts

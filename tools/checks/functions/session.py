@@ -1,4 +1,4 @@
-"""The requests of one client, and what has to come back."""
+"""Sends the requests of one client, and checks the replies."""
 
 import itertools
 import struct
@@ -12,23 +12,24 @@ from checks.functions.pictures import whole
 CLIENT = 7
 
 WIDTHS, HEIGHT = (1, 15, 16, 17, 31, 33, 64, 65), 3
-# Those of wide pictures, of which rows may be computed in pieces: the widest among them.
+# Sizes of wide pictures, whose rows may be computed in pieces.
 WIDE = (1025, 8192)
 
 
 def described(fmt, picture):
-    """The body of the reply to QueryImage."""
+    """Returns the body of the reply to QueryImage."""
     return struct.pack(">BHH4H", fmt, picture.width, picture.height, *picture.valid)
 
 
 def encoded(fmt, picture):
-    """The body of the reply to ReadImage, which is that of WriteImage without the name."""
+    """Returns the body of the reply to ReadImage, which is the body of WriteImage without the
+    name."""
     letters = f"{len(picture.samples)}{wire.SAMPLE_LETTERS[fmt]}"
     return struct.pack(f">BHH{letters}", fmt, picture.width, picture.height, *picture.samples)
 
 
 def difference(reply, body):
-    """Where a reply isn't the one that it should be."""
+    """A reply that differs from the expected one."""
     wanted = reply[:8] + body
     if reply[6] != wire.READ_IMAGE:
         return f"{wire.say(reply)}, not {wire.say(wanted)}"
@@ -39,8 +40,7 @@ def difference(reply, body):
 
 
 class Session:
-    """The requests of one client, and what has to come back: a code, and a body unless any will
-    do."""
+    """The requests of one client with the expected replies: a code, and a body or any body."""
 
     def __init__(self):
         self.requests, self.wanted = [wire.open_context(CLIENT)], [("OpenContext", 0, None)]
@@ -61,7 +61,7 @@ class Session:
         return name
 
     def write(self, name, fmt, picture):
-        """All samples of an image, and then its valid rectangle."""
+        """Reads all samples of an image, and its valid rectangle."""
         self.ask(wire.frame(CLIENT, wire.WRITE_IMAGE, wire.operand(name) + encoded(fmt, picture)),
                  "WriteImage")
         if picture.valid != (0, 0, picture.width, picture.height):
@@ -89,7 +89,7 @@ class Session:
         self.ask(wire.read_min_max(CLIENT, name), words, 0, struct.pack(">hhII4H", *numbers))
 
     def holds(self, name, output, value, words):
-        """What is read of an output of this format, or of this kind."""
+        """Reads an output of this format or kind."""
         if output == COUNTS:
             self.counted(name, value, words)
         elif output == FOUND:

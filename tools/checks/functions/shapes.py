@@ -1,4 +1,4 @@
-"""Windows and statistics, under every border and on valid rectangles of all kinds."""
+"""Window functions and statistics, with every border mode and valid rectangles of all kinds."""
 
 import functools
 import itertools
@@ -11,7 +11,7 @@ from checks.functions.pictures import (
     ENDS, GREATEST, LEAST, NOWHERE, S16, U32, U8, Bins, Convolution, Way, confined, whole)
 from checks.functions.session import CLIENT, Session
 
-# The sizes of pictures for windows and statistics.
+# Sizes of pictures for window functions and statistics.
 SHAPES = tuple(itertools.product((1, 2, 15, 16, 17, 33, 65), (1, 2, 3, 4)))
 
 BORDERS = ((wire.UNDEFINED, 0), (wire.CONSTANT, 0), (wire.CONSTANT, 100), (wire.CONSTANT, 255),
@@ -25,7 +25,7 @@ MANY_BINS = (Bins(256, 0, 256), Bins(3, 0, 256), Bins(7, 3, 250), Bins(16, 100, 
 
 
 def rectangles(width, height):
-    """The whole of a picture, parts of it, one place, and none."""
+    """Returns the whole of a picture, parts of it, one pixel, and the empty rectangle."""
     x, y = width // 2, height // 2
     parts = ((1, 0, width, height), (0, 1, width - 1, height), (1, 1, width - 1, height - 1),
              (0, 0, x, y),
@@ -35,8 +35,8 @@ def rectangles(width, height):
 
 
 def convolutions(rng):
-    """Two of each size: one that is mostly narrowed not at all, and one of all i16, divided by
-    much."""
+    """Returns two convolutions of each size: one whose results mostly fit, and one of any
+    coefficients with a large scale."""
     for columns, rows in itertools.product(SIDES, SIDES):
         count = columns * rows
         yield Convolution(columns, rows, rng.randrange(4),
@@ -52,7 +52,7 @@ def samples_at_random(rng, fmt, count):
 
 
 class Shape:
-    """Pictures of one size, with what windows and statistics of them go to."""
+    """Pictures of one size, with the outputs of window functions and statistics."""
 
     def __init__(self, width, height, seed):
         rng, count = random.Random(seed), width * height
@@ -72,7 +72,7 @@ class Shape:
             self.run(valid)
 
     def run(self, valid):
-        """All functions on pictures that are valid in this rectangle."""
+        """Runs all functions on pictures that are valid in this rectangle."""
         pictures = {fmt: confined(picture, valid) for fmt, picture in self.pictures.items()}
         for fmt, picture in self.pictures.items():
             self.session.write(self.inputs[fmt], fmt, picture._replace(valid=valid))
@@ -102,7 +102,7 @@ class Shape:
                 self.node(wire.CONVOLVE, name, fmt, value, way, f"{convolution}, {words}")
 
     def sums(self, picture):
-        """The functions that add, to what is valid in each rectangle."""
+        """Runs the accumulating functions on outputs with each valid rectangle."""
         places = rectangles(picture.width, picture.height)
         for valid, (number, gives) in itertools.product(places, SUMS):
             held = confined(self.pictures[S16], valid)

@@ -1,13 +1,12 @@
-"""Worked examples, whose samples stand here in numbers."""
+"""Worked examples with literal samples."""
 
 from feqyldan import wire
 from checks.functions.formulas import COUNTS, FOUND, HELD, NOTHING, POLICIES, TABLE
 from checks.functions.pictures import NOWHERE, S16, U32, U8, Bins, Convolution, Picture, Way, whole
 from checks.functions.session import CLIENT, WIDTHS
 
-# Worked examples: the function, policy, amount, the format of in1 and its sample, what in2 is (an
-# image's format and sample, limits, or a table) or what the output held, the output's format and
-# its sample.
+# Worked examples: function, policy, amount, format and sample of in1, in2 (format and sample of an
+# image, limits, or a table) or the prior output, format and sample of the output.
 WRAP, SATURATE = POLICIES
 WORKED = (
     (wire.AND_BITS, WRAP, 0, (U8, 12), (U8, 10), (U8, 8)),
@@ -41,9 +40,8 @@ WORKED = (
       for n, c, v in ((0, 0, 32767), (1, 0, 32512), (15, -32768, -32767), (0, -32768, 32257))),
 )
 
-# Worked examples of pictures: the function, how it is run, the width, the height and the samples of
-# its input, its convolution or bins, and what is read of its output: samples with their valid
-# rectangle, or numbers.
+# Worked examples of pictures: function, parameters, width, height and samples of the input,
+# convolution or bins, and the expected output: samples with their valid rectangle, or numbers.
 SQUARE, COUNT = (2, 2, [10, 20, 30, 40]), (3, 3, [*range(1, 10)])
 MIDDLE, ALL = (1, 1, 2, 2), (0, 0, 3, 3)
 REPLICATED, CONSTANT_0, CONSTANT_255 = (
@@ -90,8 +88,8 @@ WORKED_PICTURES = (
 
 
 def worked(session):
-    """The worked examples, each on images of one sample; and Not of rows whose sample at x is x."""
-    # 5 for the least sample, 6 for 0, 7 for the greatest.
+    """Runs the worked examples on images of one sample, and Not of rows whose sample at x is x."""
+    # The table has 5 for the least sample, 6 for 0, and 7 for the greatest.
     table = [5] + [0] * 32767 + [6] + [0] * 32766 + [7]
     for number, policy, amount, (fmt, sample), beside, (output, wanted) in WORKED:
         is_sum = beside is not NOTHING and beside[0] == HELD
@@ -118,7 +116,7 @@ def worked(session):
 
 
 def worked_pictures(session):
-    """The worked examples of windows and statistics."""
+    """Runs the worked examples of window functions and statistics."""
     for number, way, (width, height, samples), beside, wanted in WORKED_PICTURES:
         words = f"function {number} of {samples}, {way}, {beside}"
         if number == wire.HISTOGRAM:

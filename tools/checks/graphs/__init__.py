@@ -23,7 +23,7 @@ from checks.sessions.rows import added, graph, made, no_room, opened, processed,
 
 
 def told_limits():
-    """The words after `serve`, and the rows of a stream under these limits."""
+    """Yields command line arguments after `serve`, and the rows of a stream under these limits."""
     for option, table in (("--quota", under_quotas()), ("--work", under_work_bytes())):
         for number, rows in table:
             yield (option, str(number)), rows
@@ -32,7 +32,7 @@ def told_limits():
                              (("--work=268435457",), True),
                              (("--work", "1099511627776"), True)):
         yield words, largest_graphs(fits_more)
-    # Both, in either order. One says nothing of the other.
+    # Both options, in either order. Each leaves the other at its default.
     rows = [opened(), made(1, U8, 2, 2), made(2, U8, 2, 2), no_room(U8, 1, 1), graph(3),
             virtual(4, 3),
             added(3, 1, inverse(1, 4)), processed(3), added(3, 2, node(ADD, 4, 4, 2)), processed(3),
@@ -43,7 +43,7 @@ def told_limits():
 
 
 def sessions():
-    """The names and the rows of all sessions under the default limits."""
+    """Yields the names and the rows of all sessions under the default limits."""
     yield from verdicts()
     yield "declared virtual images", declarations()
     yield "open outputs", open_outputs()

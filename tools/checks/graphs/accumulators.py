@@ -1,4 +1,4 @@
-"""Sessions on graphs that add to what their outputs held as a run began."""
+"""Sessions on graphs that add to the prior contents of their outputs."""
 
 from itertools import permutations
 
@@ -13,8 +13,8 @@ from checks.sessions.rows import (
     holds, in_slots, made, opened, processed, ran, registered, released, removed, shows, verified,
     virtual, wrote)
 
-# In these sessions A and B are images of one U8 sample, S and T of one S16, G is a graph, and V and
-# W are its virtual images.
+# In these sessions A and B are images of one U8 sample, S and T of one S16 sample, G is a graph,
+# and V and W are its virtual images.
 A, B, S, T, G, V, W = range(1, 8)
 BEGUN = (opened(), made(A, U8), made(B, U8), made(S, S16), made(T, S16), graph(G), virtual(V, G),
          virtual(W, G), wrote(A, U8, [10]), wrote(S, S16, [5]))
@@ -29,31 +29,31 @@ def adds_squares(source, target, shift=0):
 
 
 def shown(source, target):
-    """A node that gives the sums as samples of U8."""
+    """Returns a node that converts the sums to U8."""
     return node(CONVERT_DEPTH, source, None, target, SATURATE)
 
 
-# Nodes, and what S, T and B hold after a first run and after a second, in whichever order the nodes
-# are added.
+# Nodes, and the contents of S, T and B after a first and a second run. The nodes may be added in
+# any order.
 RUNS = (
     ((adds(A, S), shown(S, B)), (15, 0, 15), (25, 0, 25)),
     ((adds(A, S),), (15, 0, 0), (25, 0, 0)), ((adds_squares(A, S),), (105, 0, 0), (205, 0, 0)),
     ((adds_squares(A, S, 3), shown(S, B)), (17, 0, 17), (29, 0, 29)),
-    # Two of an image, and one of what another node gives; rounds of all nodes would add more often.
+    # Two nodes add an image, and one adds another node's output. Running all nodes in rounds would
+    # add more often.
     ((adds(A, S), adds_squares(A, T, 1), node(ADD, S, T, V), shown(V, B)),
      (15, 50, 65), (25, 100, 125)),
     ((inverse(A, V), inverse(V, W), adds(W, S), shown(S, B)), (15, 0, 15), (25, 0, 25)),
-    # What is read of sums is added to others.
+    # A reader of sums feeds another sum.
     ((adds(A, S), shown(S, V), adds(V, T), shown(T, B)), (15, 15, 15), (25, 40, 40)),
     ((adds(A, S), shown(S, B), adds(B, T)), (15, 15, 15), (25, 40, 25)),
-    # Another node writes what is added.
+    # Another node writes the added image.
     ((node(MAX_PIXEL, A, A, B), adds(B, S)), (15, 0, 10), (25, 0, 10)),
 )
 
 
 def sums_in_graphs():
-    """Each run adds once, to what there was as it began, and what reads the sums reads the new
-    ones."""
+    """Each run adds once to the contents at its start. Readers of the sums see the new ones."""
     rows = []
     for nodes, *wanted in RUNS:
         for order in permutations(nodes):
@@ -66,8 +66,7 @@ def sums_in_graphs():
 
 
 def sums_that_change():
-    """Between the runs: what is written or added by others, rectangles, and nodes that come and
-    go."""
+    """Changes between runs: writes, other additions, rectangles, and added or removed nodes."""
     return [
         *BEGUN, *in_graph((shown(S, B), adds(A, S)), G), processed(G), holds(S, S16, [15]),
         wrote(S, S16, [32760]), processed(G), holds(S, S16, [32767]), holds(B, U8, [255]),
@@ -76,10 +75,10 @@ def sums_that_change():
         confined(S, NOWHERE), processed(G), *shows(S, S16, [0], NOWHERE, 1),
         *shows(B, U8, [0], NOWHERE, 1), confined(S, (0, 0, 1, 1)), processed(G),
         *shows(S, S16, [10], (0, 0, 1, 1), 1), *shows(B, U8, [10], (0, 0, 1, 1), 1),
-        # Without the node that adds, and with it again.
+        # The adding node is removed and added again.
         removed(G, 2), processed(G), holds(S, S16, [10]), added(G, 3, adds(A, S)), processed(G),
         holds(S, S16, [20]), holds(B, U8, [20]),
-        # What refuses a graph has it add nothing.
+        # A refused graph adds nothing.
         added(G, 4, adds(B, T)), added(G, 5, inverse(T, V)), verified(G, INVALID_FORMAT),
         processed(G, INVALID_FORMAT), holds(S, S16, [20]), holds(T, S16, [0]), removed(G, 5),
         added(G, 6, adds(A, V)), processed(G, INVALID_LINK), removed(G, 6),
@@ -89,7 +88,7 @@ def sums_that_change():
         # Another graph adds to the same sums.
         graph(8), added(8, 1, adds_squares(A, S)), processed(8), holds(S, S16, [130]),
         processed(G), holds(S, S16, [140]), holds(T, S16, [170]),
-        # Sums that are released, as are what is added and what is shown of them.
+        # The sums, the added image and the converted image are released.
         released(S), released(A), (wire.read_image(CLIENT, S), INVALID_REFERENCE), processed(G),
         holds(B, U8, [150]), processed(8), processed(G), holds(B, U8, [255]), released(8),
         wrote(T, S16, [0]), processed(G), holds(T, S16, [255]),
@@ -97,21 +96,21 @@ def sums_that_change():
 
 
 def sum_and_its_depth():
-    """Two runs of a graph that adds to sums and shows them; a run that is lost adds nothing."""
+    """Two runs of a graph that adds to sums and converts them. A run that is lost adds nothing."""
     return [*BEGUN, *in_graph((adds(A, S), shown(S, B)), G), processed(G), holds(S, S16, [15]),
             holds(B, U8, [15]), processed(G), holds(S, S16, [25]), holds(B, U8, [25])]
 
 
 def sums_in_slots():
-    """1 is an image of one U8 sample, 2 of S16, 3 a delay of two like 2, 4 a graph that adds to
-    slot 0 and ages the delay."""
+    """1 is an image of one U8 sample, 2 of one S16 sample, 3 a delay of two slots like 2, 4 a graph
+    that adds to slot 0 and ages the delay."""
     newest, before = reference(3, 0), reference(3, 1)
     return [
         opened(), made(1, U8), made(2, S16), delayed(3, 2, 2), graph(4), wrote(1, U8, [10]),
         *in_slots(wrote, 3, S16, [100, 200]), added(4, 1, adds(1, newest)), processed(4),
         *in_slots(holds, 3, S16, [110, 200]), registered(4, 3), processed(4),
         *in_slots(holds, 3, S16, [200, 120]), processed(4), *in_slots(holds, 3, S16, [120, 210]),
-        # To one slot what the other one shows: no cycle. A node adds to both of them.
+        # One slot gets the conversion of the other: no cycle. A node adds to each of them.
         made(5, U8), added(4, 2, shown(before, 5)), processed(4),
         *in_slots(holds, 3, S16, [210, 130]), holds(5, U8, [210]), added(4, 3, adds(5, before)),
         processed(4, INVALID_GRAPH), removed(4, 2), processed(4),
@@ -121,8 +120,8 @@ def sums_in_slots():
 
 
 def sums_in_rows():
-    """1 and 2 are images of four U8 samples in a row, 3 of S16, 4 is a graph that adds what a
-    window gives; through virtual images, for which a run takes memory."""
+    """1 and 2 are images of four U8 samples in a row, 3 of S16. 4 is a graph that adds the output
+    of a window function, through virtual images, for which a run takes memory."""
     shift = {"border": wire.CONSTANT, "constant": 0}
     return [
         opened(), made(1, U8, 4), made(2, U8, 4), made(3, S16, 4), graph(4), virtual(5, 4),

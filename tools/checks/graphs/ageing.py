@@ -1,4 +1,4 @@
-"""Sessions on delays that age by themselves, after the runs of graphs."""
+"""Sessions on automatic ageing: delays that age after the runs of graphs."""
 
 from feqyldan import wire
 from feqyldan.wire import (
@@ -24,21 +24,21 @@ def aged_after_each_run():
 
 
 def registrations():
-    """A successful run of the graph ages its delays once, and nothing else does."""
+    """A successful run of the graph ages its delays once. Nothing else does."""
     return [
         *aged_after_each_run(), (wire.register_auto_aging(CLIENT, 2, 3), INVALID_TYPE),
         registered(3, 99, INVALID_REFERENCE), registered(99, 2, INVALID_REFERENCE),
-        # Neither a verification does, nor a refused run, nor a node by itself, nor another graph.
+        # A verification, a refused run, a node in immediate mode and another graph age nothing.
         verified(3), *in_slots(holds, 2, U8, [235, 20]),
         added(3, 2, inverse(reference(2, 0), reference(2, 1))), processed(3, INVALID_GRAPH),
         verified(3, INVALID_GRAPH), *in_slots(holds, 2, U8, [235, 20]),
         ran(NOT_BITS, reference(2, 0), None, 1), holds(1, U8, [20]), graph(4), processed(4),
         *in_slots(holds, 2, U8, [235, 20]),
-        # A registration stays when nodes come and go, and beside AgeDelay.
+        # A registration survives added and removed nodes, and AgeDelay.
         removed(3, 2), removed(3, 1), processed(3), *in_slots(holds, 2, U8, [20, 235]), aged(2),
         *in_slots(holds, 2, U8, [235, 20]), added(3, 3, inverse(reference(2, 0), 1)),
         processed(3), holds(1, U8, [20]), *in_slots(holds, 2, U8, [20, 235]),
-        # An image moves with its valid rectangle.
+        # The valid rectangle moves with its image.
         confined(reference(2, 1), (0, 0, 0, 0)), processed(3), told(reference(2, 0), U8, (0,) * 4),
         told(reference(2, 1), U8, (0, 0, 1, 1)),
     ]
@@ -57,38 +57,38 @@ def registrations_of_several():
         processed(4), *in_slots(holds, 2, U8, [1, 2, 3]), *in_slots(holds, 5, U8, [5, 4]),
         *in_slots(holds, 6, U8, [6]), *in_slots(holds, 7, U8, [15, *range(15)]),
         processed(3), *in_slots(holds, 2, U8, [3, 1, 2]), *in_slots(holds, 5, U8, [5, 4]),
-        # With a graph its registrations go, and those of another stay.
+        # Releasing a graph ends its registrations, but not another graph's.
         released(4), processed(3), *in_slots(holds, 2, U8, [2, 3, 1]), graph(8), processed(8),
         *in_slots(holds, 2, U8, [2, 3, 1]), *in_slots(holds, 5, U8, [5, 4]),
     ]
 
 
 def released_after_a_run():
-    """What was released and is used by a node goes on ageing; what isn't held is gone."""
+    """A released delay that a node uses continues to age. Without a user it is gone."""
     slot, before = reference(2, 0), reference(2, 1)
     return [
         *aged_after_each_run()[:-3], released(2), processed(3),
         (wire.read_image(CLIENT, 2), INVALID_REFERENCE),
         (wire.read_image(CLIENT, slot), INVALID_REFERENCE), registered(3, 2, INVALID_REFERENCE),
-        # Of three slots, which a node of another graph uses than the one that ages them.
+        # A delay of three slots, used by a node of a different graph than the one that ages it.
         delayed(4, 1, 3), *in_slots(wrote, 4, U8, [1, 2, 3]), graph(5), graph(6),
         added(5, 1, inverse(reference(4, 0), 1)), registered(6, 4), released(4),
         *(row for sample in (254, 252, 253, 254)
           for row in (processed(5), holds(1, U8, [sample]), processed(6))),
         registered(6, 4, INVALID_REFERENCE), processed(5), holds(1, U8, [252]), removed(5, 1),
         processed(6), processed(5), holds(1, U8, [252]),
-        # One that no node uses is gone at once, and the graph that it was registered with isn't.
+        # An unused delay is gone immediately. Releasing its graph then has no further effect.
         delayed(7, 1, 2), *in_slots(wrote, 7, U8, [8, 9]), registered(6, 7), released(7),
         processed(6), delayed(8, 1, 2), *in_slots(wrote, 8, U8, [8, 9]), registered(6, 8),
         processed(6), *in_slots(holds, 8, U8, [9, 8]),
-        # The graph that the node was in takes the first delay with it.
+        # The graph that contained the node takes the first delay with it.
         released(3), processed(6), *in_slots(holds, 8, U8, [8, 9]),
         ran(NOT_BITS, before, None, 1, INVALID_REFERENCE),
     ]
 
 
 def refusals_of_registrations():
-    """Both names before both kinds. What is refused registers nothing."""
+    """Both names are checked before both kinds. A refused request registers nothing."""
     no_delays = (*(of for of in NO_GRAPHS if of != DELAY), G, H)
     rows = [*TWO_GRAPHS, added(G, 1, inverse(A, B))]
     rows += [registered(of, DELAY, INVALID_REFERENCE) for of in UNKNOWN]
@@ -99,7 +99,7 @@ def refusals_of_registrations():
     rows += [registered(G, of, INVALID_TYPE) for of in no_delays]
     rows += [registered(DELAY, G, INVALID_TYPE), registered(A, B, INVALID_TYPE)]
     rows += [processed(G), processed(H), *in_slots(holds, DELAY, U8, [1, 2, 3])]
-    # None of them has an effect on what is registered, and a graph that is refused ages nothing.
+    # None of these requests changes the registrations. A refused graph ages nothing.
     rows += [registered(G, DELAY), registered(G, A, INVALID_TYPE), processed(G),
              *in_slots(holds, DELAY, U8, [3, 1, 2])]
     for number, (fault, code) in enumerate((
@@ -112,7 +112,7 @@ def refusals_of_registrations():
 
 
 def registrations_of_clients():
-    """Each client has its own, and a context that is released takes them with it."""
+    """Registrations belong to one client, and end with its context."""
     rows = []
     for client in (CLIENT, 8):
         rows += [opened(client), made(1, U8, client=client), delayed(2, 1, 2, client),
@@ -129,7 +129,7 @@ def registrations_of_clients():
 
 
 def registrations_of_the_released():
-    """1,024 objects: a registration keeps no place. More delays than a client can hold were
+    """1,024 objects: a registration takes no object. More delays than a client can have were
     registered with one graph."""
     rows = [opened(), made(1, U8), delayed(2, 1, 2), graph(3), graph(4), registered(3, 2),
             *(extremes(number) for number in range(5, 1025)), (EXTREMES, NO_RESOURCES),
@@ -145,7 +145,8 @@ def registrations_of_the_released():
 
 
 def registrations_in_rows():
-    """Pictures of four samples in a row: what differs between two runs is what lies in slot -1."""
+    """Pictures of four samples in a row. The difference between two runs is the contents of slot
+    -1."""
     now, before = reference(2, 0), reference(2, 1)
     return [
         opened(), made(1, U8, 4), delayed(2, 1, 2), graph(3), made(4, U8, 4), registered(3, 2),

@@ -1,4 +1,4 @@
-"""Graphs in place of Immediate."""
+"""Replaces Immediate by graphs."""
 
 import struct
 
@@ -7,9 +7,9 @@ from feqyldan.wire import (
     INVALID_PARAMETERS, INVALID_REFERENCE, INVALID_TYPE, INVALID_VALUE, frame)
 from checks.sessions.rows import added, graph, name, processed, removed, unadded
 
-# Refusals of Immediate that are AddNode's too.
+# Refusals of Immediate that AddNode has too.
 OF_ADD_NODE = (INVALID_PARAMETERS, INVALID_REFERENCE, INVALID_TYPE, INVALID_VALUE)
-# Where the names stand in the bodies of requests that a session with nodes has.
+# The positions of names in request bodies, for sessions with nodes.
 NAMES_AT = {
     **{op: (0,) for op in (*range(wire.QUERY_IMAGE, wire.RELEASE + 1), wire.READ_DISTRIBUTION,
                            wire.READ_MIN_MAX, wire.CREATE_DELAY, wire.AGE_DELAY)},
@@ -18,7 +18,7 @@ NAMES_AT = {
 
 
 def renamed(op, body):
-    """The body with each object's name one greater."""
+    """Returns the body with each object name increased by one."""
     body = bytearray(body)
     for at in NAMES_AT.get(op, ()):
         (number,) = struct.unpack_from(">I", body, at)
@@ -28,9 +28,9 @@ def renamed(op, body):
 
 
 def by_graphs(rows):
-    """The session with a graph as each client's first object, of one node wherever there was an
-    Immediate. What that is refused before its verdict AddNode is, and the verdict is that of
-    ProcessGraph."""
+    """Returns the session with a graph of one node in place of each Immediate. The graph is each
+    client's first object. AddNode gives the refusals that precede the verdict, and ProcessGraph
+    gives the verdict."""
     of, numbers = 1, {}
     for request, wanted in rows:
         client, op = struct.unpack_from(">HB", request, 4)

@@ -1,13 +1,13 @@
-"""The objects with which most sessions on graphs begin, and rows on them."""
+"""The initial objects of most sessions on graphs, and rows on them."""
 
 from feqyldan.wire import AND_BITS, NOT_BITS, OPEN, S16, U32, U8, node, reference
 from checks.sessions.rows import (
     EXTREMES, NOTHING_FOUND, NOWHERE, SAME, THIRDS, TURNED, added, counted, delayed, found, graph,
     holds, in_slots, made, name, opened, threshold, told, virtual, wrote)
 
-# What most sessions begin with: A, B and C are images of one U8 sample, D of one S16, E of two U8,
-# F of one U32; the delay has three slots like A; V, W, X and Y are virtual images of the graph G,
-# wholly open. There is no NOBODY.
+# A, B and C are images of one U8 sample, D of one S16 sample, E of two U8 samples, F of one U32
+# sample. The delay has three slots like A. V, W, X and Y are virtual images of the graph G, with
+# nothing declared. NOBODY names no object.
 (A, B, C, D, E, F, TABLE, LIMIT, MATRIX, COUNTS, FOUND, DELAY, G, V, W, X, Y) = range(1, 18)
 NEXT, NOBODY = 18, 99
 SLOTS = [reference(DELAY, k) for k in range(3)]
@@ -25,7 +25,7 @@ UNCHANGED = (
     holds(E, U8, [40, 50], 2), holds(F, U32, [0]), *in_slots(holds, DELAY, U8, [1, 2, 3]),
     counted(COUNTS, [0] * 3), found(FOUND, *NOTHING_FOUND),
 )
-# Whatever is no graph.
+# Names of everything that is not a graph.
 NO_GRAPHS = (A, D, F, TABLE, LIMIT, MATRIX, COUNTS, FOUND, DELAY, V)
 UNKNOWN = (0, NOBODY, 2**32 - 1)
 
@@ -39,10 +39,10 @@ def both(one, other, target):
 
 
 def in_graph(nodes, of=G):
-    """The rows that add them to a graph without nodes."""
+    """Returns the rows that add the nodes to an empty graph."""
     return [added(of, number, node) for number, node in enumerate(nodes, 1)]
 
 
 def declared(named, fmt=OPEN, width=OPEN, height=OPEN):
-    """QueryImage of a virtual image."""
+    """Returns QueryImage of a virtual image."""
     return told(named, fmt, NOWHERE, width, height)

@@ -1,4 +1,5 @@
-"""What nodes hold: released objects and graphs, places of objects, and graphs of clients."""
+"""Sessions on objects in use by nodes: released objects and graphs, object counts, and the graphs
+of clients."""
 
 from feqyldan import wire
 from feqyldan.wire import (
@@ -16,7 +17,7 @@ from checks.sessions.rows import (
 
 
 def released_objects():
-    """What is released has no name, and the nodes that use it read and write it as before."""
+    """A released object has no name, and the nodes that use it read and write it as before."""
     byte = wrote(A, U8, [77])
     return [
         *CAST,
@@ -29,7 +30,7 @@ def released_objects():
         found(FOUND, 245, 245, 1, 1, 0, 0, 0, 0), holds(SLOTS[0], U8, [10]), wrote(A, U8, [200]),
         processed(G), holds(C, U8, [3]), counted(COUNTS, [1, 0, 0]),
         found(FOUND, 55, 55, 1, 1, 0, 0, 0, 0), holds(SLOTS[0], U8, [200]),
-        # Their names are nobody's, also for nodes of the same graph.
+        # The old names are invalid, even for nodes of the same graph.
         *((request, INVALID_REFERENCE) for of in (B, V) for request in on_image(of)),
         *(released(of, INVALID_REFERENCE) for of in (B, TABLE, V)),
         unadded(G, INVALID_REFERENCE, inverse(B, Y)), unadded(G, INVALID_REFERENCE, inverse(V, Y)),
@@ -37,7 +38,7 @@ def released_objects():
         ran(NOT_BITS, B, None, C, INVALID_REFERENCE),
         ran(CONVOLVE, A, MATRIX, C, INVALID_REFERENCE),
         *((request, INVALID_REFERENCE) for request in on_image(reference(B, 0))),
-        # A delay with its slots, a distribution, extremes, and what is read first.
+        # A delay with its slots, a distribution, extremes, and an input of a node.
         released(DELAY), released(COUNTS), released(FOUND), aged(DELAY, INVALID_REFERENCE),
         (wire.read_image(CLIENT, SLOTS[0]), INVALID_REFERENCE),
         (wire.read_distribution(CLIENT, COUNTS), INVALID_REFERENCE),
@@ -45,7 +46,7 @@ def released_objects():
         processed(G), holds(C, U8, [7]), released(A),
         (wire.read_image(CLIENT, A), INVALID_REFERENCE), wrote(C, U8, [99]),
         processed(G), holds(C, U8, [7]),
-        # A node with what is released can be removed, and isn't added again.
+        # A node with a released object can be removed, but not added again.
         added(G, 9, inverse(C, E)), processed(G, INVALID_DIMENSION), removed(G, 9), processed(G),
         removed(G, 1), unadded(G, INVALID_REFERENCE, inverse(A, B)), wrote(C, U8, [99]),
         processed(G), holds(C, U8, [7]), removed(G, 3), processed(G, INVALID_LINK),
@@ -55,8 +56,8 @@ def released_objects():
 
 
 def released_graphs():
-    """A graph is gone at once with its nodes; its virtual images have their names, and no graph any
-    more."""
+    """A released graph is gone immediately with its nodes. Its virtual images keep their names, but
+    have no graph."""
     return [
         *TWO_GRAPHS, *in_graph((inverse(A, V), inverse(V, B))), verified(G), released(G),
         *((request, INVALID_REFERENCE) for request in on_graph(G)), released(G, INVALID_REFERENCE),
@@ -78,8 +79,8 @@ def released_graphs():
 
 
 def places_of_objects():
-    """1,024 objects: images, graphs, a virtual image and extremes. Nodes keep the places of what
-    was released."""
+    """1,024 objects: images, graphs, a virtual image and extremes. Released objects count while a
+    node uses them."""
 
     def full(of=2):
         creates = (*CREATES, wire.create_virtual_image(CLIENT, of), wire.create_delay(CLIENT, 5, 1))
@@ -88,7 +89,7 @@ def places_of_objects():
     return [
         opened(), made(1, U8), graph(2), virtual(3, 2), graph(4), made(5, U8),
         *(extremes(number) for number in range(6, 1025)), *full(),
-        # What is wrong with the graph or the exemplar is told before.
+        # A fault of the graph or the exemplar has precedence.
         (wire.create_virtual_image(CLIENT, 1), INVALID_TYPE),
         (wire.create_virtual_image(CLIENT, 1025), INVALID_REFERENCE),
         (wire.create_delay(CLIENT, 3, 1), OPTIMIZED_AWAY),
@@ -96,18 +97,18 @@ def places_of_objects():
         added(2, 2, inverse(3, 5)), released(1), *full(), released(3), *full(),
         processed(2), holds(5, U8, [0]), released(6), virtual(1025, 2), *full(), removed(2, 2),
         *full(), removed(2, 1), graph(1026), extremes(1027), *full(),
-        # A graph leaves one place, and those of what only its nodes still used.
+        # A graph frees its own place, and those of objects that only its nodes still used.
         added(4, 1, node(MIN_MAX_LOCATION, 5, None, 7)),
         added(4, 2, node(MIN_MAX_LOCATION, 5, None, 8)), released(7),
         released(8), *full(), released(4), *(extremes(number) for number in range(1028, 1031)),
         *full(), released(2), graph(1031), *full(1026),
-        # The virtual image of a released graph has a place until it is released.
+        # The virtual image of a released graph counts until it is released.
         declared(1025), released(1025), extremes(1032), *full(1026),
     ]
 
 
 def graphs_of_clients():
-    """Each client has graphs of its own, and a context that is released takes them with it."""
+    """Graphs belong to one client, and are released with its context."""
     rows = []
     for client, sample in ((CLIENT, 10), (8, 20)):
         rows += [opened(client), made(1, U8, client=client), made(2, U8, client=client),
@@ -121,7 +122,7 @@ def graphs_of_clients():
              verified(5, INVALID_REFERENCE, 8), unadded(5, INVALID_REFERENCE, inverse(1, 2), 8),
              verified(5), released(3), processed(3, INVALID_REFERENCE), processed(3, client=8),
              holds(2, U8, [235], client=8), opened(9), verified(3, INVALID_REFERENCE, 9)]
-    # A new context begins with name 1 and with node 1.
+    # A new context begins with name 1 and node 1.
     rows += [closed(), verified(3, INVALID_REFERENCE),
              (wire.create_graph(CLIENT), INVALID_REFERENCE),
              (wire.open_context(8), INVALID_VALUE), opened(), verified(3, INVALID_REFERENCE),

@@ -1,4 +1,4 @@
-"""Graphs under limits that the program is told, or isn't."""
+"""Sessions on graphs under default and other limits."""
 
 from feqyldan import wire
 from feqyldan.wire import (
@@ -11,15 +11,15 @@ from checks.sessions.rows import (
 
 
 def under_quotas():
-    """Quotas, and rows under each. 1 and 2 are images of 2 by 2 U8 samples. What nodes use is
-    charged."""
+    """Yields quotas with rows for each. 1 and 2 are images of 2 by 2 U8 samples. Objects in use by
+    nodes are charged."""
     squares = [opened(), made(1, U8, 2, 2), made(2, U8, 2, 2)]
     yield 8, [*squares, graph(3), added(3, 1, inverse(1, 2)), released(1),
               (wire.read_image(CLIENT, 1), INVALID_REFERENCE),
               processed(3), holds(2, U8, [255] * 4, 2, 2), no_room(U8, 1, 1), verified(3),
               unadded(3, INVALID_REFERENCE, inverse(1, 2)), released(3), made(4, U8, 2, 2),
               holds(4, U8, [0] * 4, 2, 2), no_room(U8, 1, 1)]
-    # By the last of two nodes, of two graphs, and of two operands of one; as an output.
+    # In use by the last of two nodes, of two graphs, and of two operands of one node; as an output.
     yield 8, [*squares, graph(3), added(3, 1, inverse(1, 2)), added(3, 2, inverse(1, 2)),
               released(1),
               no_room(U8, 1, 1), removed(3, 1), no_room(U8, 1, 1), processed(3), removed(3, 2),
@@ -32,7 +32,7 @@ def under_quotas():
               released(2), removed(3, 1),
               no_room(U8, 1, 1), released(1), no_room(U8, 1, 1), processed(3), removed(3, 2),
               made(4, U8, 4, 2), no_room(U8, 1, 1)]
-    # A delay by any of its slots; a name that isn't released; a context.
+    # A delay in use by any slot, an object that isn't released, and a context.
     slot = reference(2, 1)
     yield 16, [opened(), made(1, U8, 2, 2), delayed(2, 1, 3), graph(3),
                added(3, 1, inverse(slot, 1)), released(2),
@@ -41,20 +41,20 @@ def under_quotas():
                made(4, U8, 3, 4), no_room(U8, 1, 1), added(3, 2, inverse(4, 1)), removed(3, 2),
                no_room(U8, 1, 1), added(3, 3, inverse(4, 1)), released(4), released(3),
                made(5, U32, 3, 1), closed(), opened(), made(1, U32, 4, 1), no_room(U8, 1, 1)]
-    # Virtual images are charged nothing, whatever they are declared to be.
+    # Virtual images are charged nothing, whatever their declarations.
     yield 1, [opened(), made(1, U8), graph(2), virtual(3, 2), virtual(4, 2, U32, 8192, 8192),
               no_room(U8, 1, 1),
               added(2, 1, inverse(1, 3)), processed(2), no_room(U8, 1, 1)]
 
 
 def under_work_bytes():
-    """Work bytes, and rows under each. 1 and 2 are images of 2 by 2 U8 samples, 4 to 6 virtual
+    """Yields work bytes with rows for each. 1 and 2 are images of 2 by 2 U8 samples, 4 to 6 virtual
     images of graph 3."""
     begun = [opened(), made(1, U8, 2, 2), made(2, U8, 2, 2), graph(3),
              *(virtual(number, 3) for number in (4, 5, 6))]
     unwritten = holds(2, U8, [0] * 4, 2, 2)
-    # Each image that is written counts, of whatever format, read or not; what is only declared
-    # doesn't.
+    # Each virtual image that is written counts, of any format, read or not. One that is only
+    # declared doesn't.
     for work, nodes in (
         (4, (inverse(1, 4), inverse(4, 2))),
         (12, (inverse(1, 4), inverse(4, 5), inverse(5, 6), inverse(6, 2))),
@@ -72,12 +72,12 @@ def under_work_bytes():
               virtual(8, 3), *(added(3, number, inverse(7, number + 2)) for number in (2, 3, 4)),
               processed(3), added(3, 5, inverse(7, 8)), verified(3, NO_RESOURCES),
               processed(3, NO_RESOURCES), removed(3, 3), verified(3), processed(3)]
-    # Each graph has all of them to itself.
+    # Each graph may use all of the work bytes.
     yield 4, [*begun, graph(7), virtual(8, 7), *in_graph((inverse(1, 4), inverse(4, 2)), 3),
               *in_graph((inverse(2, 8),), 7), processed(3), processed(7), verified(3),
               holds(2, U8, [0] * 4, 2, 2), added(7, 2, inverse(8, 1)), processed(7),
               holds(1, U8, [0] * 4, 2, 2)]
-    # Whatever else is wrong is told before.
+    # All other faults have precedence.
     rows, number = [*begun, made(7, U8)], 1
     for code, nodes in (
         (MULTIPLE_WRITERS, (inverse(1, 4), inverse(2, 4))),
@@ -95,8 +95,8 @@ def under_work_bytes():
 
 
 def largest_graphs(fits_more):
-    """Four virtual images of 67,108,864 bytes each, and then the greatest, of 268,435,456; and one
-    of one byte, for which there may be room beside them."""
+    """Four virtual images of 67,108,864 bytes each, then the largest, of 268,435,456. An additional
+    one of one byte may or may not fit."""
     more = b"" if fits_more else NO_RESOURCES
     return [
         opened(), made(1, U8, 4096, 4096), graph(2),

@@ -13,13 +13,13 @@ from checks.sessions.rows import (
     CLIENT, NOWHERE, added, confined, graph, holds, on_graph, on_image, processed, ran, released,
     removed, unadded, verified, virtual, wrote_text)
 
-# In these sessions H is a graph beside G, and Z its virtual image.
+# In these sessions H is another graph, and Z its virtual image.
 H, Z_OF_H = NEXT, NEXT + 1
 TWO_GRAPHS = (*CAST, graph(H), virtual(Z_OF_H, H))
 
 
 def refusals_of_graphs():
-    """What names no graph, and no node."""
+    """Names that are not graphs, and numbers that are not nodes."""
     rows = [*TWO_GRAPHS, added(G, 1, inverse(A, V)), added(H, 1, inverse(A, B)),
             added(H, 2, inverse(A, C))]
     rows += [(request, INVALID_REFERENCE) for of in UNKNOWN for request in on_graph(of)]
@@ -30,12 +30,13 @@ def refusals_of_graphs():
                  ((4, 0, 0), INVALID_FORMAT), ((255, 1, 1), INVALID_FORMAT),
                  ((U8, 8193, 1), INVALID_DIMENSION), ((U8, 1, 8193), INVALID_DIMENSION),
                  ((4, 8193, 1), INVALID_FORMAT))]
-    # A graph's name before its node's, which was removed, never was, or is another graph's.
+    # The graph's name before the node's number, which was removed, never existed, or is another
+    # graph's.
     rows += [removed(NOBODY, 1, INVALID_REFERENCE), removed(A, 99, INVALID_TYPE), removed(H, 1)]
     rows += [removed(H, number, INVALID_REFERENCE) for number in (0, 1, 3, 256, 2**32 - 1)]
     rows += [removed(G, 2, INVALID_REFERENCE), verified(G), verified(H), processed(H),
              removed(G, 1), removed(G, 1, INVALID_REFERENCE)]
-    # A graph is no image, no delay and no operand.
+    # A graph is not an image, a delay or an operand.
     rows += [(request, INVALID_TYPE) for of in (G, reference(G, 0), reference(H, 254))
              for request in on_image(of)]
     rows += [(ask(CLIENT, G), INVALID_TYPE)
@@ -50,10 +51,10 @@ def refusals_of_graphs():
 
 
 def refusals_of_names_and_kinds():
-    """Names of the graph and of all operands before kinds, and kinds before other graphs' images
-    and slots."""
+    """The names of the graph and all operands before kinds; kinds before images of other graphs and
+    slots."""
     rows = [*TWO_GRAPHS]
-    # Unknown names, beside whatever else is wrong.
+    # Unknown names, whatever other faults there are.
     for of in (G, A, TABLE, V, NOBODY):
         rows += [unadded(of, INVALID_REFERENCE, spelled) for spelled in (
             inverse(NOBODY, B), inverse(A, NOBODY), both(A, NOBODY, B),
@@ -64,8 +65,8 @@ def refusals_of_names_and_kinds():
     rows += [unadded(of, INVALID_REFERENCE, spelled) for of in UNKNOWN for spelled in (
         inverse(A, B), inverse(D, E), inverse(TABLE, B), inverse(Z_OF_H, B), inverse(A, NO_SLOT),
         inverse(G, G))]
-    # What is no graph; and operands of another kind, beside images of another graph and slots that
-    # aren't there.
+    # Names that are not graphs; operands of the wrong kind, together with images of another graph
+    # and missing slots.
     rows += [unadded(of, INVALID_TYPE, spelled) for of in NO_GRAPHS for spelled in (
         inverse(A, B), inverse(TABLE, B), inverse(V, B), inverse(Z_OF_H, B), inverse(A, NO_SLOT),
         both(Z_OF_H, NO_SLOT, B))]
@@ -85,7 +86,7 @@ def refusals_of_names_and_kinds():
 
 
 def refusals_of_scopes_and_slots():
-    """Other graphs' images before slots, and nothing after these; no refusal has used a number."""
+    """Images of other graphs before slots, and before nothing else. A refusal uses no number."""
     rows = [*TWO_GRAPHS]
     rows += [unadded(G, INVALID_SCOPE, spelled) for spelled in (
         inverse(Z_OF_H, B), inverse(A, Z_OF_H), both(A, Z_OF_H, B), both(Z_OF_H, A, B),
@@ -111,8 +112,8 @@ def refusals_of_scopes_and_slots():
 
 
 def virtual_images_in_requests():
-    """One wholly open, one declared, one another graph's, one of a graph that is gone. QueryImage
-    alone takes them."""
+    """A virtual image with nothing declared, a declared one, one of another graph, and one of a
+    released graph. Only QueryImage accepts them."""
     byte, released_graph, gone = NEXT + 2, NEXT + 3, NEXT + 4
     rows = [*TWO_GRAPHS, virtual(byte, G, U8, 1, 1), graph(released_graph),
             virtual(gone, released_graph, S16, 7),
@@ -121,7 +122,7 @@ def virtual_images_in_requests():
     for of, parts in ((V, (OPEN, 0, 0)), (Z_OF_H, (OPEN, 0, 0)), (byte, (U8, 1, 1)),
                       (gone, (S16, 7, 0))):
         rows += [declared(of, *parts), *((request, OPTIMIZED_AWAY) for request in on_image(of)[1:])]
-        # Before formats, sizes, texts and rectangles; after a rectangle that is none, a number of
+        # Before formats, sizes, texts and rectangles; after a malformed rectangle, a number of
         # slots, and a slot.
         rows += [(wire.write_image(CLIENT, of, S16, 2, 2, bytes(8)), OPTIMIZED_AWAY),
                  wrote_text(of, b"P5 0 1 255\n", OPTIMIZED_AWAY),
@@ -142,7 +143,7 @@ def virtual_images_in_requests():
 
 
 def immediates(of):
-    """Nodes with a virtual image: names, kinds and slots are told before it, and the verdict after
+    """Nodes with a virtual image: names, kinds and slots are checked before it, the verdict after
     it."""
     return [
         *(ran(*operands, OPTIMIZED_AWAY) for operands in (
@@ -172,8 +173,8 @@ def immediates(of):
 
 
 def full_graphs():
-    """At most 256 nodes; the 257th is refused after all else that is wrong with it. No number is
-    used twice."""
+    """At most 256 nodes. The 257th is refused after all its other faults. No number is used
+    twice."""
     rows = [*TWO_GRAPHS, *(added(G, number, inverse(A, B)) for number in range(1, 257))]
     rows += [unadded(G, code, spelled) for code, spelled in (
         (NO_RESOURCES, inverse(A, B)), (NO_RESOURCES, inverse(A, A)), (NO_RESOURCES, inverse(D, E)),
@@ -186,7 +187,7 @@ def full_graphs():
              added(G, 258, inverse(C, B)), removed(G, 1), removed(G, 256),
              added(G, 259, inverse(A, B)), added(G, 260, inverse(A, B)),
              unadded(G, NO_RESOURCES, inverse(A, B))]
-    # Another graph has its own.
+    # Another graph has its own limit.
     rows += [added(H, 1, inverse(A, B)), processed(H), holds(B, U8, [245]), *UNCHANGED[2:]]
     kept = [number for number in range(2, 256) if number != 100] + [258, 259, 260]
     rows += [removed(G, number) for number in kept if number != 258]

@@ -16,23 +16,23 @@ from checks.sessions.rows import (
     closed, confined, counted, found, graph, holds, in_slots, made, name, opened, processed,
     removed, shows, verified, virtual, wrote)
 
-# Nodes, and what there is after a run, and after any more; in whichever order they are added.
+# Nodes, and the contents after one or more runs. The nodes may be added in any order.
 RUNS = (
     ((), UNCHANGED), ((inverse(A, V),), UNCHANGED), ((inverse(A, V), inverse(V, W)), UNCHANGED),
     ((inverse(A, B),), [holds(A, U8, [10]), holds(B, U8, [245]), holds(C, U8, [20]),
                         *in_slots(holds, DELAY, U8, [1, 2, 3])]),
     ((inverse(V, B), inverse(A, V)), [holds(B, U8, [10])]),
     ((inverse(A, V), inverse(V, W), inverse(W, B)), [holds(B, U8, [245])]),
-    # An image that is written is read as it was written, and as it was held elsewhere.
+    # A written image is read with its new contents; the prior contents are kept in other images.
     ((inverse(A, C), inverse(C, B)), [holds(C, U8, [245]), holds(B, U8, [10])]),
     ((both(A, A, B), inverse(B, C)), [holds(B, U8, [10]), holds(C, U8, [245])]),
-    # One that is read twice, by two nodes and by one.
+    # An image that is read twice, by two nodes and by one.
     ((inverse(A, V), inverse(V, W), node(ADD, V, W, B)), [holds(B, U8, [255])]),
     ((inverse(A, V), node(ADD, V, V, W), node(CONVERT_DEPTH, W, None, B)), [holds(B, U8, [234])]),
     ((inverse(A, V), node(ADD, V, V, D), node(CONVERT_DEPTH, D, None, B, SATURATE, 1)),
      [holds(D, S16, [490]), holds(B, U8, [245])]),
     ((inverse(A, V), inverse(V, B), inverse(V, C)), [holds(B, U8, [10]), holds(C, U8, [10])]),
-    # Two graphs' worth in one.
+    # Two independent graphs in one.
     ((inverse(A, V), inverse(V, B), inverse(E, W)),
      [holds(B, U8, [10]), holds(E, U8, [40, 50], 2)]),
     # Tables, thresholds and convolutions.
@@ -40,12 +40,12 @@ RUNS = (
     ((inverse(A, V), node(TABLE_LOOKUP, V, TABLE, B)), [holds(B, U8, [10])]),
     ((inverse(A, V), node(CONVOLVE, V, MATRIX, W, **REPLICATE), node(CONVERT_DEPTH, W, None, B)),
      [holds(B, U8, [245])]),
-    # What isn't an image is found anew by each run.
+    # Each run computes histograms and extremes again.
     ((inverse(A, V), node(HISTOGRAM, V, None, COUNTS), node(MIN_MAX_LOCATION, V, None, FOUND)),
      [counted(COUNTS, [0, 0, 1]), found(FOUND, 245, 245, 1, 1, 0, 0, 0, 0)]),
     ((node(INTEGRAL, A, None, F), node(MIN_MAX_LOCATION, D, None, FOUND)),
      [holds(F, U32, [10]), found(FOUND, 30, 30, 1, 1, 0, 0, 0, 0)]),
-    # Slots are as different as images.
+    # Slots are separate images.
     ((inverse(SLOTS[1], SLOTS[0]), inverse(SLOTS[1], SLOTS[2])),
      in_slots(holds, DELAY, U8, [253, 2, 253])),
     ((inverse(SLOTS[0], SLOTS[1]), inverse(SLOTS[1], SLOTS[2])),
@@ -64,7 +64,7 @@ def runs():
     return rows
 
 
-# Functions of 204 and 170, where they are images, and what they give.
+# Functions of 204 and 170, if they are images, with their results.
 SAMPLES = (
     (AND_BITS, B, U8, 136), (OR_BITS, B, U8, 238), (XOR_BITS, B, U8, 102), (NOT_BITS, None, U8, 51),
     (ADD, B, S16, 374), (SUBTRACT, B, S16, 34), (MULTIPLY, B, S16, 32767),
@@ -76,7 +76,7 @@ SAMPLES = (
 
 
 def through_virtual_images():
-    """Each function of what two nodes give, into what others read."""
+    """Each function of the outputs of two nodes, read by other nodes."""
     rows = [*CAST, wrote(A, U8, [204]), wrote(B, U8, [170])]
     number = 1
     for function, in2, fmt, sample in SAMPLES:
@@ -95,7 +95,7 @@ def through_virtual_images():
 
 
 def squares():
-    """1 is an image of 3 by 3 U8 samples, 2 and 3 of S16, 4 one of U8; 5 is a graph, 6 to 8 are
+    """1 is an image of 3 by 3 U8 samples, 2 and 3 of S16, 4 one of U8; 5 is a graph, 6 to 8 are its
     virtual images."""
     whole, centre, count = (0, 0, 3, 3), (1, 1, 2, 2), [*range(1, 10)]
 
@@ -106,7 +106,7 @@ def squares():
     return [
         opened(), made(1, U8, 3, 3), made(2, S16, 3, 3), made(3, S16, 3, 3), made(4, U8, 3, 3),
         graph(5), *(virtual(number, 5) for number in (6, 7, 8)), wrote(1, U8, count, 3, 3),
-        # Two outputs, of which both, one or none is virtual.
+        # Two outputs, both, one or none of which is virtual.
         *in_graph(both_gradients, 5), processed(5), *shows(2, S16, centred(32), centre, 3, 3),
         removed(5, 1), added(5, 3, node(SOBEL, 1, None, 6, out2=3)), processed(5, INVALID_LINK),
         added(5, 4, inverse(1, 4)), removed(5, 2), added(5, 5, node(SUBTRACT, 6, 3, 2)),
@@ -120,7 +120,8 @@ def squares():
         added(5, 8, node(ADD, 7, 7, 3)), processed(5),
         *shows(3, S16, [24] * 3 + [48] * 3 + [24] * 3, whole, 3, 3), removed(5, 7), removed(5, 8),
         removed(5, 4),
-        # A window of what a window gives, whose border begins where that is valid.
+        # A window function of a window function's output. The border begins at the inner valid
+        # rectangle.
         added(5, 9, node(DILATE, 1, None, 6)), added(5, 10, node(DILATE, 6, None, 4, **REPLICATE)),
         processed(5), *shows(4, U8, centred(9), centre, 3, 3), removed(5, 10),
         added(5, 11, node(DILATE, 6, None, 4)), processed(5), *shows(4, U8, [0] * 9, NOWHERE, 3, 3),
@@ -131,7 +132,7 @@ def squares():
 
 def valid_in_graphs():
     """1 and 2 are images of four U8 samples in a row, 3 a distribution, 4 extremes, 5 a graph, 6 to
-    8 its images."""
+    8 its virtual images."""
     first, last, wide = (0, 0, 3, 1), (1, 0, 4, 1), {"width": 4}
     copy = (inverse(1, 6), inverse(6, 2))
     return [
@@ -140,12 +141,12 @@ def valid_in_graphs():
         confined(1, MIDDLE), wrote(2, U8, [99] * 4, 4), confined(2, (3, 0, 4, 1)),
         *in_graph(copy, 5), processed(5), *shows(2, U8, [0, 20, 30, 0], MIDDLE, **wide),
         *shows(1, U8, [0, 20, 30, 0], MIDDLE, **wide),
-        # No run needs another verdict for another rectangle, and none keeps one.
+        # A changed rectangle needs no other verdict, and a run keeps no rectangle.
         confined(1, WHOLE_ROW), processed(5), *shows(2, U8, [0, 20, 30, 0], WHOLE_ROW, **wide),
         confined(1, NOWHERE), verified(5), processed(5), *shows(2, U8, [0] * 4, NOWHERE, **wide),
         wrote(1, U8, TEN_TO_FORTY, 4), processed(5), *shows(2, U8, TEN_TO_FORTY, WHOLE_ROW, **wide),
         confined(1, MIDDLE), processed(5), *shows(2, U8, [0, 20, 30, 0], MIDDLE, **wide),
-        # What is valid in both of two virtual images; what is counted and found in one.
+        # The intersection of the rectangles of two virtual images; statistics of one.
         made(9, U8, 4), wrote(9, U8, TEN_TO_FORTY, 4), confined(9, last),
         wrote(1, U8, TEN_TO_FORTY, 4), confined(1, first), removed(5, 2),
         added(5, 3, inverse(9, 7)), added(5, 4, both(6, 7, 2)),

@@ -1,4 +1,4 @@
-"""Verdicts on graphs: each is that of a graph of these nodes, in a context of its own."""
+"""Verdicts on graphs, each in its own context."""
 
 from feqyldan.wire import (
     ACCUMULATE, ACCUMULATE_SQUARE, ADD, CONVERT_DEPTH, HISTOGRAM, INTEGRAL, INVALID_DIMENSION,
@@ -21,7 +21,7 @@ TWO_WRITERS = (
     (node(ACCUMULATE, A, None, D), node(ACCUMULATE, C, None, D)),
     (node(ACCUMULATE, A, None, D), node(ACCUMULATE_SQUARE, A, None, D)),
     (node(CONVERT_DEPTH, A, None, D), node(ACCUMULATE_SQUARE, C, None, D)),
-    # Before cycles, images that nobody writes, formats and sizes, whichever was added first.
+    # Before cycles, unwritten virtual images, formats and sizes, in any order of adding.
     (inverse(A, A), inverse(C, A)), (inverse(A, A), inverse(C, B), inverse(C, B)),
     (inverse(V, V), inverse(V, V)), (inverse(V, B), inverse(C, B)),
     (inverse(V, W), inverse(C, B), inverse(C, B)), (inverse(D, C), inverse(A, B), inverse(A, B)),
@@ -43,18 +43,18 @@ CYCLES = (
     (inverse(A, B), inverse(B, C), inverse(C, A)),
     (inverse(V, W), inverse(W, X), inverse(X, Y), inverse(Y, V)),
     (inverse(X, B), inverse(B, W), inverse(V, X), inverse(SLOTS[0], V), inverse(W, SLOTS[0])),
-    # By a second input, and by a second output.
+    # Through a second input, and through a second output.
     (inverse(V, W), both(A, W, V)),
     (node(SOBEL, V, None, D, out2=W), node(CONVERT_DEPTH, W, None, V)),
-    # What a node adds to isn't read by that, and may be by its in1.
+    # An accumulating node's output can't be its second input, but can be its first.
     (node(ACCUMULATE, A, None, A),), (node(ACCUMULATE_SQUARE, D, None, D),),
     (node(ACCUMULATE, A, None, D), node(CONVERT_DEPTH, D, None, A)),
     (node(CONVERT_DEPTH, D, None, V), node(ACCUMULATE_SQUARE, V, None, D)),
-    # With what leads to it, leaves it and stands beside it.
+    # With nodes before the cycle, after it and apart from it.
     (inverse(A, V), both(V, X, W), inverse(W, X), inverse(X, B)),
     (inverse(A, B), inverse(V, W), inverse(W, V)),
     (inverse(V, W), inverse(W, V), inverse(B, C), inverse(C, B)),
-    # Before images that nobody writes, formats and sizes.
+    # Before unwritten virtual images, formats and sizes.
     (inverse(A, A), inverse(V, B)), (inverse(V, B), inverse(A, A)), (both(V, B, B),),
     (inverse(D, D),), (inverse(E, E),), (inverse(D, B), inverse(A, A)),
     (both(A, E, B), inverse(C, C)), (inverse(A, E), both(E, D, A)),
@@ -66,7 +66,8 @@ UNWRITTEN = (
     (node(SOBEL, V, None, None, out2=D),), (node(THRESHOLD, V, LIMIT, B),),
     (inverse(V, W), inverse(W, B)), (inverse(A, W), both(W, V, B)),
     (inverse(A, B), inverse(A, W), inverse(X, C)),
-    # What a node adds to holds nothing as a run begins, whoever reads it after that.
+    # A node can't add to a virtual image, which has no contents when a run begins, even if others
+    # read it later.
     (node(ACCUMULATE, A, None, V),), (node(ACCUMULATE_SQUARE, A, None, V),),
     (node(ACCUMULATE, A, None, V), node(CONVERT_DEPTH, V, None, B)),
     (node(CONVERT_DEPTH, V, None, B), node(ACCUMULATE, A, None, V)),
@@ -88,14 +89,14 @@ WRONG_FORMATS = (
     (node(ACCUMULATE, A, None, SLOTS[0]),), (node(ACCUMULATE, A, None, E),),
     # Before sizes, in one node.
     (inverse(D, E),), (both(D, E, B),), (both(E, A, D),),
-    # The node that was added first decides, whichever would run first.
+    # The node that was added first decides, even if it would run later.
     (inverse(D, B), both(A, E, C)), (inverse(A, B), inverse(D, V), inverse(V, E)),
     (inverse(V, D), both(A, E, V)), (inverse(V, D), inverse(A, V), both(A, E, B)),
     (inverse(A, V), node(ADD, V, A, W), inverse(W, B), both(A, E, C)),
-    # What is open has the format of its function and the size of the first input, also where its
-    # node has a fault.
+    # An undeclared image gets the format of its function and the size of the first input, even if
+    # its node has a fault.
     (both(V, E, W), both(E, D, V)), (both(V, E, X), inverse(W, V), both(E, D, W)),
-    # A sum that is open is S16.
+    # An undeclared sum is S16.
     (node(ADD, A, C, V), inverse(V, B)), (inverse(V, B), node(ADD, A, C, V)),
     (node(ADD, A, C, V), both(A, V, B)), (node(ADD, A, C, V), node(HISTOGRAM, V, None, COUNTS)),
     (node(ADD, A, C, V), node(THRESHOLD, V, LIMIT, B)),
@@ -107,18 +108,18 @@ WRONG_SIZES = (
     (node(INTEGRAL, E, None, F),), (inverse(A, SLOTS[0]), inverse(E, SLOTS[1])),
     (inverse(E, V), inverse(V, B)), (inverse(E, V), both(A, V, B)),
     (inverse(V, B), inverse(E, V)), (inverse(E, V), inverse(V, W), inverse(W, X), inverse(X, B)),
-    # The node that was added first decides, whichever would run first.
+    # The node that was added first decides, even if it would run later.
     (both(A, E, C), inverse(D, B)), (inverse(V, E), inverse(A, B), inverse(D, V)),
     (inverse(V, E), both(A, D, V)),
-    # What is open has the format of its function and the size of the first input, also where its
-    # node has a fault.
+    # An undeclared image gets the format of its function and the size of the first input, even if
+    # its node has a fault.
     (inverse(V, B), both(E, D, V)), (inverse(W, B), inverse(V, W), both(E, D, V)),
 )
 
 
 def verdicts():
-    """Each table with its code: it is told twice, by VerifyGraph and by ProcessGraph, and nothing
-    is changed."""
+    """Tries each table with its code. VerifyGraph and ProcessGraph give the same code, twice, and
+    change nothing."""
     for words, code, table in (
         ("graphs in which an object is written twice", MULTIPLE_WRITERS, TWO_WRITERS),
         ("graphs with cycles", INVALID_GRAPH, CYCLES),

@@ -1,4 +1,4 @@
-"""Virtual images: what is declared, and what is open."""
+"""Sessions on virtual images: declared and undeclared fields."""
 
 from feqyldan import wire
 from feqyldan.wire import (
@@ -11,8 +11,7 @@ from checks.graphs.cast import (
     in_graph, inverse)
 from checks.sessions.rows import CLIENT, added, closed, name, processed, removed, verified, virtual
 
-# Nodes, and the verdict on them by the format that Z, name 18, is declared to have; it is left open
-# else.
+# Nodes, and the verdict on them for each declared format of Z, name 18; Z is undeclared otherwise.
 Z = NEXT
 DECLARED_FORMATS = (
     ((node(ADD, A, C, Z),), {OPEN: SUCCESS, U8: SUCCESS, S16: SUCCESS, U32: INVALID_FORMAT}),
@@ -21,13 +20,13 @@ DECLARED_FORMATS = (
      {OPEN: SUCCESS, U8: SUCCESS, S16: SUCCESS, U32: INVALID_FORMAT}),
     ((node(INTEGRAL, A, None, Z),), {OPEN: SUCCESS, U8: INVALID_FORMAT, U32: SUCCESS}),
     ((node(SOBEL, A, None, W, out2=Z),), {OPEN: SUCCESS, U8: INVALID_FORMAT, S16: SUCCESS}),
-    # It counts for those who read it, whether that is found first or last.
+    # The declaration counts for readers, whether their faults come first or last.
     ((node(ADD, A, C, Z), inverse(Z, B)), {OPEN: INVALID_FORMAT, U8: SUCCESS, S16: INVALID_FORMAT}),
     ((inverse(Z, B), node(ADD, A, C, Z)), {OPEN: INVALID_FORMAT, U8: SUCCESS, S16: INVALID_FORMAT}),
     ((node(ADD, A, C, Z), node(CONVERT_DEPTH, Z, None, B)),
      {OPEN: SUCCESS, U8: INVALID_FORMAT, S16: SUCCESS}),
 )
-# A format, a width and a height that Z is declared to have; then a verdict on these nodes.
+# Declared format, width and height of Z, with the verdict on these nodes.
 DECLARED = (
     *(((fmt, 0, 0), code, nodes) for nodes, codes in DECLARED_FORMATS
       for fmt, code in codes.items()),
@@ -41,16 +40,16 @@ DECLARED = (
     *((parts, SUCCESS, (inverse(E, Z),)) for parts in ((OPEN, 2, 0), (OPEN, 0, 1), (U8, 2, 1))),
     *((parts, INVALID_DIMENSION, (inverse(E, Z),))
       for parts in ((OPEN, 1, 0), (OPEN, 0, 2), (OPEN, 1, 2), (OPEN, 1, 1))),
-    # A writer that it doesn't fit makes it no other.
+    # A writer of another format doesn't change the declaration.
     ((OPEN, 2, 0), INVALID_DIMENSION, (inverse(A, Z), inverse(Z, E))),
     ((OPEN, 2, 1), INVALID_DIMENSION, (inverse(Z, W), inverse(A, Z))),
     ((U8, 2, 1), INVALID_DIMENSION, (inverse(Z, B), inverse(D, Z))),
     ((U8, 2, 1), INVALID_FORMAT, (both(Z, E, W), inverse(D, Z))),
     ((S16, 0, 0), INVALID_FORMAT, (inverse(Z, E), inverse(A, Z))),
     ((U8, 1, 1), INVALID_DIMENSION, (inverse(Z, E), inverse(D, Z))),
-    # Without a writer it makes a difference only to those who read it.
+    # Without a writer only the readers are affected.
     ((U8, 1, 1), INVALID_LINK, (inverse(Z, B),)), ((U8, 8192, 8192), SUCCESS, (inverse(A, B),)),
-    # Nothing that is declared has it hold what a node could add to.
+    # A declaration gives a virtual image no contents that a node could add to.
     *((parts, INVALID_LINK, (node(ACCUMULATE, A, None, Z),))
       for parts in ((OPEN, 0, 0), (S16, 0, 0), (S16, 1, 1), (U8, 1, 1), (S16, 2, 1))),
     ((S16, 1, 1), INVALID_LINK, (node(ACCUMULATE, A, None, Z), node(CONVERT_DEPTH, Z, None, B))),
@@ -58,7 +57,7 @@ DECLARED = (
 
 
 def declarations():
-    """QueryImage gives what was declared, and no verification changes it."""
+    """QueryImage returns the declaration, and no verification changes it."""
     rows = []
     for (fmt, width, height), code, nodes in DECLARED:
         wanted = b"" if code == SUCCESS else code
@@ -69,8 +68,8 @@ def declarations():
     return rows
 
 
-# A function, its inputs, and the format that its output has where that is open; first of nodes that
-# have no fault, then of nodes that have. Names 18 and 19 are a threshold and a table of S16.
+# A function, its inputs, and the format of its undeclared output; first for nodes without faults,
+# then for faulty ones. Names 18 and 19 are a threshold and a table of S16.
 SHORT_LIMIT, SHORT_TABLE = NEXT, NEXT + 1
 OF_BITS, OF_SUMS, OF_ONE_FORMAT = (
     (AND_BITS, OR_BITS, XOR_BITS), (ADD, SUBTRACT, MULTIPLY),
@@ -99,8 +98,8 @@ OPEN_OUTPUTS_OF_FAULTS = (
 
 
 def format_shown(number, writer, fmt, is_faulty):
-    """The rows of nodes, from this number on, that show the format of V, which the writer writes:
-    Not takes U8 alone, and ConvertDepth makes U8 of S16 alone."""
+    """Returns the rows of nodes, from this number on, that reveal the format of V, which the writer
+    writes. Not accepts only U8, and ConvertDepth to U8 accepts only S16."""
     rows = [added(G, number, writer), verified(G, INVALID_FORMAT if is_faulty else b""),
             removed(G, number)]
     for at, reader, taken in ((number + 1, NOT_BITS, U8), (number + 4, CONVERT_DEPTH, S16)):

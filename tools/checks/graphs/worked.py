@@ -15,8 +15,8 @@ from checks.sessions.rows import (
 
 
 def details():
-    """The example of docs/wire.md: 2 shows what differs in 1 from what is around it, by the
-    threshold 3."""
+    """The example of docs/wire.md: 2 marks the pixels of 1 that differ from their surroundings by
+    more than 3."""
     nodes = (node(GAUSSIAN, 1, None, 5, **REPLICATE), node(ABSOLUTE_DIFFERENCE, 1, 5, 6),
              node(THRESHOLD, 6, 3, 2))
     return [
@@ -25,7 +25,7 @@ def details():
         wrote(1, U8, [10, 10, 10, 90, 10, 10], 6), graph(4), virtual(5, 4), virtual(6, 4),
         *in_graph(nodes, 4), processed(4), holds(2, U8, [0, 0, 0, 255, 0, 0], 6),
         (wire.read_image(CLIENT, 5), OPTIMIZED_AWAY),
-        # What comes between, in an image.
+        # Intermediate results, in an image.
         made(7, U8, 6), removed(4, 3), added(4, 4, node(MAX_PIXEL, 6, 6, 7)), processed(4),
         holds(7, U8, [0, 0, 20, 40, 20, 0], 6), removed(4, 4),
         added(4, 5, node(MAX_PIXEL, 5, 5, 7)), processed(4),
@@ -36,7 +36,7 @@ def details():
 
 
 def graph_before_and_after_ageing():
-    """A run of a graph that reads slot -1, the same after AgeDelay, and reads that are refused."""
+    """A run of a graph that reads slot -1, the same run after AgeDelay, and refused reads."""
     return [
         opened(), made(1, U8), delayed(2, 1, 3), *in_slots(wrote, 2, U8, [1, 2, 3]), graph(3),
         added(3, 1, inverse(reference(2, 1), 1)), verified(3), processed(3), holds(1, U8, [253]),
@@ -47,12 +47,12 @@ def graph_before_and_after_ageing():
 
 
 def graphs_on_delays():
-    """A run reads and writes what stands in the slots then; ageing asks for no other verdict."""
+    """A run reads and writes the current images of the slots. Ageing needs no new verdict."""
     slots = [reference(2, k) for k in range(3)]
     return [
         *graph_before_and_after_ageing(), aged(2), verified(3),
         processed(3), holds(1, U8, [252]), *in_slots(holds, 2, U8, [2, 3, 1]),
-        # What is written in slot 0 is read from slot -1 in the run after an ageing.
+        # An image written in slot 0 is read from slot -1 in the run after an ageing.
         added(3, 2, inverse(slots[1], slots[0])), processed(3),
         *in_slots(holds, 2, U8, [252, 3, 1]), aged(2), *in_slots(holds, 2, U8, [1, 252, 3]),
         processed(3), *in_slots(holds, 2, U8, [3, 252, 3]), holds(1, U8, [3]),
@@ -61,7 +61,7 @@ def graphs_on_delays():
         confined(slots[0], NOWHERE), processed(3), told(slots[0], U8, (0, 0, 1, 1)),
         confined(slots[0], NOWHERE), aged(2), processed(3), *shows(slots[0], U8, [0], NOWHERE, 1),
         *shows(1, U8, [0], NOWHERE, 1), *shows(slots[2], U8, [3], (0, 0, 1, 1), 1),
-        # One slot can't be both, and two can.
+        # One slot can't be both input and output; two slots can.
         added(3, 3, inverse(slots[0], slots[1])), processed(3, INVALID_GRAPH), removed(3, 2),
         removed(3, 3), added(3, 4, inverse(1, slots[1])), processed(3, INVALID_GRAPH),
         removed(3, 1), wrote(1, U8, [9]), processed(3), holds(slots[1], U8, [246]),
@@ -69,8 +69,8 @@ def graphs_on_delays():
 
 
 def reused_buffers():
-    """Of 8 by 7 samples. What client 7 released shows in nothing that client 8 makes or runs a
-    graph through."""
+    """Images of 8 by 7 samples. No contents that client 7 released appear in objects or graph runs
+    of client 8."""
     size, nodes = (8, 7), (node(BOX, 1, None, 4), node(BOX, 4, None, 5), node(BOX, 5, None, 2))
     left = [9 if (x, y) in ((3, 3), (4, 3)) else 0 for y in range(7) for x in range(8)]
 
@@ -87,7 +87,7 @@ def reused_buffers():
     return [
         opened(), opened(8), made(1, U8, *size), wrote(1, U8, [255] * 56, *size), released(1),
         *second(), closed(8), opened(8),
-        # The same where a whole context is released, with a graph that has run.
+        # The same after a whole context is released, with a graph that has run.
         made(2, U8, *size), made(3, U8, *size), graph(4), virtual(5, 4),
         *(wrote(number, U8, [255] * 56, *size) for number in (2, 3)), added(4, 1, inverse(5, 3)),
         added(4, 2, inverse(2, 5)), processed(4), holds(3, U8, [255] * 56, *size), closed(),
@@ -96,7 +96,7 @@ def reused_buffers():
 
 
 def image_read_twice():
-    """Two nodes read what a third writes, and a fourth what both of them write, in two runs."""
+    """Two nodes read a third node's output, and a fourth reads both of theirs, in two runs."""
     nodes = (inverse(1, 4), inverse(4, 5), inverse(4, 6), both(5, 6, 2))
     return [
         opened(), made(1, U8), made(2, U8), graph(3), *(virtual(number, 3) for number in (4, 5, 6)),
@@ -106,7 +106,7 @@ def image_read_twice():
 
 
 def image_read_twice_and_released():
-    """The same, and then a verification, a node that goes, a convolution, and the context's end."""
+    """The same, then a verification, a removed node, a convolution, and the end of the context."""
     return [
         *image_read_twice(), verified(3), told(1, U8, (0, 0, 1, 1)), removed(3, 1),
         verified(3, INVALID_LINK), (SAME, name(7)), closed(),
@@ -114,8 +114,8 @@ def image_read_twice_and_released():
 
 
 def removed_nodes():
-    """1 and 2 are images of one U8 sample, 3 is a graph; VerifyGraph before each ProcessGraph makes
-    no difference."""
+    """1 and 2 are images of one U8 sample, 3 is a graph. VerifyGraph before ProcessGraph makes no
+    difference."""
     rows = []
     for verify in (False, True):
         def processes(wanted=b"", verify=verify):
@@ -126,7 +126,7 @@ def removed_nodes():
             wrote(1, U8, [10]), *processes(), holds(2, U8, [245]), wrote(1, U8, [20]),
             removed(3, 1), *processes(), holds(2, U8, [245]), removed(3, 1, INVALID_REFERENCE),
             added(3, 2, inverse(1, 2)), *processes(), holds(2, U8, [235]),
-            # A verdict is of the nodes that there are.
+            # A verdict is on the current nodes.
             added(3, 3, inverse(2, 1)), *processes(INVALID_GRAPH), removed(3, 2), *processes(),
             holds(1, U8, [20]), added(3, 4, inverse(1, 2)), *processes(INVALID_GRAPH),
             removed(3, 3), *processes(), holds(2, U8, [235]), added(3, 5, inverse(1, 2)),
@@ -140,8 +140,8 @@ def removed_nodes():
 
 
 def sums_that_wrap():
-    """A sum into an open virtual image is S16, so it doesn't wrap at 255; one into a U8 one isn't
-    converted."""
+    """A sum into an undeclared virtual image is S16, so it doesn't wrap at 255. A sum into a U8 one
+    isn't converted."""
     return [
         opened(), made(1, U8), made(2, U8), made(3, U8), graph(4), virtual(5, 4), virtual(6, 4, U8),
         wrote(1, U8, [200]), wrote(2, U8, [100]),
@@ -156,10 +156,9 @@ def sums_that_wrap():
 
 
 def long_graphs():
-    """Graphs of 256 nodes, each of which reads what another one writes, added in an order of their
-    own."""
+    """Graphs of 256 chained nodes, added in various orders."""
     images, count = (1, 2), 256
-    # Name 3 is the graph, and what node k reads is chain[k].
+    # Name 3 is the graph, and chain[k] is the input of node k.
     chain = [images[0], *range(4, 3 + count), images[1]]
     rows = [opened(), made(1, U8), made(2, U8), wrote(1, U8, [10]), graph(3),
             *(virtual(number, 3) for number in chain[1:-1])]
@@ -171,7 +170,7 @@ def long_graphs():
         processed(3), holds(2, U8, [10]), wrote(1, U8, [77]), verified(3), processed(3),
         holds(2, U8, [77]), removed(3, last), processed(3), holds(2, U8, [77]),
         added(3, count + 1, inverse(chain[-3], 2)), processed(3), holds(2, U8, [178]),
-        # Without its beginning, and with its end for a beginning.
+        # Without the first node, and with the last output as the first input.
         removed(3, first), processed(3, INVALID_LINK),
         added(3, count + 2, inverse(chain[-2], chain[1])), processed(3, INVALID_GRAPH),
         removed(3, order.index(99) + 1), processed(3, INVALID_LINK), holds(2, U8, [178]),

@@ -1,4 +1,4 @@
-"""Each allocation of the server refused in turn."""
+"""Refuses each allocation of the server in turn."""
 
 import os
 import subprocess
@@ -28,7 +28,7 @@ HERE = os.path.dirname(os.path.abspath(__file__))
 
 
 def streams() -> Iterator[Tuple[str, int, List[bytes]]]:
-    """The words for a stream, the quota under which it is served, and its frames."""
+    """Returns the arguments of a stream, its quota, and its frames."""
     yield "without graphs", DEFAULT, session()
     yield "with graphs", DEFAULT, graphs()
     yield "of first objects", DEFAULT, first_objects()
@@ -52,7 +52,8 @@ def streams() -> Iterator[Tuple[str, int, List[bytes]]]:
 
 
 def check_lost(program: str, library: str, counts: str) -> Iterator[str]:
-    """Refuses each growth of each stream. Every request occurs, and each that may be lost is."""
+    """Refuses each growth of each stream. Every request occurs, and each that takes memory is lost
+    at least once."""
     seen: Set[int] = set()
     lost: Set[int] = set()
     for words, quota, stream in streams():
@@ -60,13 +61,13 @@ def check_lost(program: str, library: str, counts: str) -> Iterator[str]:
         refusing = Refusing(command, library, counts)
         refused = refuse_each(refusing, stream, True)
         served = [each for each in refused if each.frame != NOT_STARTED]
-        # The growths before the stream come first; the program may do without some of them.
+        # Growths before the stream come first; the program may continue without some of them.
         first = next(at for at, each in enumerate(refused) if each in served and each.is_lost)
         without = [each.frame for each in refused[first:] if not each.is_lost]
         check(not without, f"{words}: growths of frames {without} are done without")
         seen.update(map(op_of, stream))
         lost.update(op_of(stream[each.frame]) for each in refused[first:])
-        # Refused alone, some are asked for again, with success, once free blocks are given up.
+        # If refused once, some are requested again successfully, after free blocks are given up.
         found = [each for each in refuse_each(refusing, stream, False)[first:] if not each.is_lost]
         yield (f"{words} {first} growths before the stream, {len(refused) - first} in it, of which "
                f"{len(found)} are found when they are asked for again")

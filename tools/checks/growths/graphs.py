@@ -5,7 +5,7 @@ from typing import List
 from feqyldan import wire
 
 SAMPLES = bytes(at * 37 % 256 for at in range(64))
-# The slots of the delay, from the newest on.
+# The slots of the delay, the newest first.
 SLOTS: List[wire.Reference] = [wire.reference(5, k) for k in range(3)]
 # The images that a run of the first graph writes, and the other slots.
 IMAGES: List[wire.Reference] = [2, 3, 4, *SLOTS]
@@ -17,7 +17,7 @@ READS = [
     wire.query_image(3, 9),
     wire.read_image(3, 9),
 ]
-# What a run of the first graph writes is read after it, and is something else before.
+# The outputs of the first graph are changed before each run, and read after it.
 RUNS = [
     *(wire.set_valid(3, named, (2, 1, 9, 3)) for named in IMAGES[:4]),
     wire.process_graph(3, 8),
@@ -27,8 +27,8 @@ RUNS = [
 
 
 def graphs() -> List[bytes]:
-    """A client with two graphs, which run through virtual images and slots to two outputs, counts
-    and extremes, and age delays."""
+    """A client with two graphs. They run through virtual images and slots to two outputs, a
+    distribution and extremes, and age delays."""
     return [
         *objects(),
         *nodes(),
@@ -37,7 +37,7 @@ def graphs() -> List[bytes]:
         *RUNS,
         wire.write_image(3, 1, wire.U8, 16, 4, SAMPLES[::-1]),
         *RUNS,
-        # What was released is used as before; then without a node, and without what it held.
+        # Released objects remain in use; then a node is removed, and with it the objects it used.
         wire.release(3, 1),
         wire.release(3, 9),
         *RUNS,
@@ -57,7 +57,7 @@ def graphs() -> List[bytes]:
 
 
 def objects() -> List[bytes]:
-    """The first graph, without nodes, and what its nodes are to name."""
+    """The first graph, without nodes, and the operands of its nodes."""
     return [
         wire.open_context(3),
         wire.create_image(3, wire.U8, 16, 4),
@@ -96,8 +96,8 @@ def nodes() -> List[bytes]:
 
 
 def registrations() -> List[bytes]:
-    """The second graph ages the delay, and others, so many that what it keeps of them grows more
-    than once; some of them are gone when the last is registered."""
+    """The second graph ages the delay and so many others that its list grows more than once. Some
+    of them are gone when the last one is registered."""
     return [
         wire.register_auto_aging(3, 12, 5),
         wire.register_auto_aging(3, 12, 5),
@@ -115,7 +115,7 @@ def registrations() -> List[bytes]:
 
 
 def another_graph() -> List[bytes]:
-    """Another graph, beside the first and after it."""
+    """Another graph, while the first one exists and after it."""
     return [
         wire.create_graph(3),
         wire.create_virtual_image(3, 12, wire.U8),

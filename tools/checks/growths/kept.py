@@ -1,4 +1,4 @@
-"""What takes no memory when it is asked for again, and what does."""
+"""Checks which repeated requests take no memory, and which do."""
 
 from typing import List
 
@@ -6,11 +6,11 @@ from feqyldan import wire
 from checks.growths.refusing import Refusing, check
 
 CLIENT, TIMES = 7, 20
-# How often a run of the graph below takes memory: for the list of its tables.
+# How often a run of the graph below takes memory: once, for its list of tables.
 OF_A_RUN = 1
 SAMPLES = bytes(range(256))
-# Images 1 and 2, graph 3 with virtual image 4, delay 5, extremes 6 and image 7 of S16. The graph
-# has run, so that it is known how it runs, and there are free blocks for its virtual image.
+# Images 1 and 2, graph 3 with virtual image 4, delay 5, extremes 6 and S16 image 7. The graph has
+# run, so its plan is kept, and a free block for its virtual image exists.
 BEFORE = [
     wire.open_context(CLIENT),
     wire.create_image(CLIENT, wire.U8, 64, 4),
@@ -24,8 +24,8 @@ BEFORE = [
     wire.add_node(CLIENT, 3, wire.NOT_BITS, 4, None, 2),
     wire.process_graph(CLIENT, 3),
 ]
-# Requests that take none once they were done. A picture is read into memory that is the image's
-# from then on, and what the image had is kept for the next.
+# Requests that take no memory when repeated. A picture is read into memory that becomes the
+# image's, and the image's old memory is kept for the next one.
 NONE = {
     "VerifyGraph of a graph that can run": wire.verify_graph(CLIENT, 3),
     "WriteImage of U8": wire.write_image(CLIENT, 1, wire.U8, 64, 4, SAMPLES),
@@ -42,8 +42,7 @@ NONE = {
 
 
 def growths_of(program: Refusing, asked: List[bytes]) -> int:
-    """Returns how often the program asks for memory, in all of a stream that is answered
-    SUCCESS."""
+    """Returns the number of allocations for a whole stream, whose replies are all SUCCESS."""
     served = program.run(b"".join([*BEFORE, *asked]))
     codes = {wire.code_of(reply) for reply in wire.replies(served.stdout)}
     check(served.returncode == 0 and codes == {wire.SUCCESS}, f"{asked[0].hex()}: {codes}")
@@ -51,23 +50,23 @@ def growths_of(program: Refusing, asked: List[bytes]) -> int:
 
 
 def images_in_turn() -> List[bytes]:
-    """New images, each of which is released before the next."""
+    """Creates images, and releases each before the next."""
     return [request for name in range(8, 8 + TIMES) for request in (
         wire.create_image(CLIENT, wire.U8, 64, 4), wire.release(CLIENT, name))]
 
 
 def changed_graphs() -> List[bytes]:
-    """A graph that is verified after a node came and went."""
+    """Verifies a graph after a node was added and removed."""
     return [request for number in range(3, 3 + TIMES) for request in (
         wire.add_node(CLIENT, 3, wire.MIN_MAX_LOCATION, 1, None, 6),
         wire.remove_node(CLIENT, 3, number), wire.verify_graph(CLIENT, 3))]
 
 
 def check_kept(program: Refusing) -> str:
-    """That what takes no memory takes none, that a run takes it for its own list alone, and that a
-    graph that has changed takes it again for how it runs."""
+    """Checks that these requests take no memory, that a run takes it only for its list, and that a
+    changed graph takes it again for its plan."""
     def more(asked: List[bytes], first: int = 1) -> int:
-        """How much more often it asks for memory than with the first of these requests alone."""
+        """Returns the additional allocations compared with only the first of these requests."""
         return growths_of(program, asked) - growths_of(program, asked[:first])
 
     for words, request in NONE.items():

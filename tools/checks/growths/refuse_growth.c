@@ -1,8 +1,7 @@
-/* Refuses growths: preloaded before the C library's allocator, the call with the number in
- * REFUSE_GROWTH (from 1) finds no memory. Where REFUSE_AGAIN is set, nor does any later call that
- * asks for as much or for less, until the program writes a reply. The file that GROWTHS names is
- * written when the program ends: the number of calls, and how many bytes of replies were written
- * before the one that was refused. */
+/* Refuses growths. It is preloaded before the C library's allocator. The call with the number in
+ * REFUSE_GROWTH (from 1) finds no memory. If REFUSE_AGAIN is set, neither does any later call for
+ * the same size or less, until the program writes a reply. When the program ends, the file GROWTHS
+ * gets the number of calls, and the number of reply bytes written before the refused one. */
 #include <errno.h>
 #include <fcntl.h>
 #include <stdio.h>
@@ -17,7 +16,7 @@ extern void *__libc_memalign(size_t, size_t);
 
 static long calls, written, written_before;
 static long refused = -1;
-/* The size that was refused last, until a reply is written. */
+/* The size of the last refused call, until a reply is written. */
 static size_t asked;
 
 static int is_refused(size_t size) {

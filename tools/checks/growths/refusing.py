@@ -1,4 +1,4 @@
-"""Each growth of the program's memory refused in turn."""
+"""Refuses each allocation of the program in turn."""
 
 import os
 import subprocess
@@ -17,24 +17,24 @@ def check(condition: object, what: str) -> None:
 
 
 class Refusing(NamedTuple):
-    """A program whose growths are refused by a library that is loaded before the C library."""
+    """A program with a preloaded library that refuses growths."""
 
     command: List[str]
     library: str
-    # The file to which the library writes what it counted.
+    # The file to which the library writes its counts.
     counts: str
 
     def run(self, stream: bytes, refused: int = 0, again: bool = False) -> Ended:
-        """Runs the program on a stream, refusing the growth of this number (0: none), and
-        where `again` every later asking for as much or less until a reply is written."""
+        """Runs the program on a stream and refuses the growth with this number (0: none). With
+        `again`, also refuses every later one of the same size or less, until a reply is written."""
         environment = dict(os.environ, LD_PRELOAD=self.library, REFUSE_GROWTH=str(refused),
                            GROWTHS=self.counts, **({"REFUSE_AGAIN": "1"} if again else {}))
         return subprocess.run(self.command, input=stream, capture_output=True, env=environment,
                               timeout=60)
 
     def counted(self) -> Tuple[int, int]:
-        """Returns how many growths the last run asked for, and how many bytes it had written when
-        one was refused."""
+        """Returns the number of growths in the last run, and the bytes written before the
+        refusal."""
         with open(self.counts) as text:
             growths, written = text.read().split()
         return int(growths), int(written)
@@ -48,7 +48,7 @@ NEVER_LOST = {
 
 
 class Refused(NamedTuple):
-    """What became of one growth that was refused."""
+    """The effect of one refused growth."""
 
     # The frame that was being answered, or NOT_STARTED.
     frame: int
@@ -60,7 +60,7 @@ def op_of(frame: bytes) -> int:
 
 
 def answers(program: Refusing, stream: List[bytes]) -> List[bytes]:
-    """Returns the replies to a stream that finds the memory that it needs."""
+    """Returns the replies to a stream without refusals."""
     ended = program.run(b"".join(stream))
     check(ended.returncode == 0, f"with ample memory: status {ended.returncode}")
     return wire.replies(ended.stdout)
@@ -68,9 +68,9 @@ def answers(program: Refusing, stream: List[bytes]) -> List[bytes]:
 
 def refuse(program: Refusing, stream: List[bytes], whole: List[bytes], number: int,
            again: bool) -> Refused:
-    """Refuses one growth, alone or each time that it is asked for: exactly one reply is NO_MEMORY,
-    and all others are those of the stream without that frame; or the growth is done without, and
-    all replies are those of the stream."""
+    """Refuses one growth, once or repeatedly. Then either exactly one reply is NO_MEMORY, and all
+    others are those of the stream without that frame; or the program continues without the growth,
+    and all replies are those of the stream."""
     ended = program.run(b"".join(stream), number, again)
     if ended.returncode == 5:
         check(ended.stdout == b"" and ended.stderr == b"NO_MEMORY\n",
@@ -96,7 +96,7 @@ def refuse(program: Refusing, stream: List[bytes], whole: List[bytes], number: i
 
 
 def refuse_each(program: Refusing, stream: List[bytes], again: bool) -> List[Refused]:
-    """Refuses each growth of a stream in turn, from the program's start on."""
+    """Refuses each growth of a stream in turn, from the start of the program on."""
     whole = answers(program, stream)
     check(all(wire.code_of(reply) != wire.NO_MEMORY for reply in whole),
           "with ample memory: a reply is NO_MEMORY")
@@ -105,7 +105,7 @@ def refuse_each(program: Refusing, stream: List[bytes], again: bool) -> List[Ref
 
 
 def refuse_in_apply(program: Refusing) -> Tuple[int, int]:
-    """Returns how many growths of `apply` were refused, and how many of these it did without."""
+    """Returns the number of refused growths of `apply`, and of those that it continued without."""
     text = b"P2 30 20 255" + b" 9" * 600
     whole = program.run(text)
     check((whole.returncode, whole.stderr) == (0, b""), f"apply with ample memory: {whole}")

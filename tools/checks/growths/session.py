@@ -27,7 +27,7 @@ def session() -> List[bytes]:
         wire.create_image(2, wire.S16, 10, 10),
         wire.write_image(2, 3, wire.S16, 10, 10, shorts),
         wire.read_image(2, 3),
-        # Where what is written is lost, the rectangle is as it was.
+        # If the write is lost, the rectangle is unchanged.
         wire.set_valid(2, 3, (2, 1, 9, 7)),
         wire.query_image(2, 3),
         wire.write_image(2, 3, wire.S16, 10, 10, shorts),
@@ -77,8 +77,8 @@ def session() -> List[bytes]:
 
 
 def texts() -> List[bytes]:
-    """PGM texts, short and long, of both formats and with faults, into images that the session has,
-    and out of them."""
+    """PGM texts, short and long, of both formats and with faults, written to and read from images
+    of the session."""
     byte, raster = b"P2 1 1 255 7", b"P5 16 4 255\n" + bytes(range(100, 164))
     plain = b"P2 # 64 samples\n16 4 999" + b" 7" * 64
     shorts = b"P5 10 10 32767\n" + bytes(range(100)) * 2
@@ -86,7 +86,7 @@ def texts() -> List[bytes]:
         wire.write_image_pgm(1, 1, byte),
         wire.read_image_pgm(1, 1),
         wire.write_image_pgm(1, wire.reference(4, 15), byte),
-        # Where what is written is lost, the rectangle is as it was.
+        # If the write is lost, the rectangle is unchanged.
         wire.set_valid(2, 2, (2, 1, 9, 3)),
         wire.write_image_pgm(2, 2, raster),
         wire.query_image(2, 2),
@@ -103,7 +103,7 @@ def texts() -> List[bytes]:
 
 def windows_and_statistics() -> List[bytes]:
     """Convolutions, distributions and extremes of client 2, from name 10 on, and the functions that
-    want them."""
+    use them."""
     return [
         wire.create_convolution(2, 9, 9, 6, range(-40, 41)),
         wire.create_convolution(2, 3, 3, 0, range(9)),
@@ -127,7 +127,7 @@ def windows_and_statistics() -> List[bytes]:
         wire.immediate(2, wire.HISTOGRAM, 2, None, 13),
         wire.immediate(2, wire.MIN_MAX_LOCATION, 15, None, 14),
         wire.immediate(2, wire.INTEGRAL, 2, None, 17),
-        # What is lost of the stream has added nothing, and what comes after it adds once.
+        # A lost request adds nothing, and the next one adds once.
         wire.immediate(2, wire.ACCUMULATE, 2, None, 16),
         wire.immediate(2, wire.ACCUMULATE_SQUARE, 2, None, 16, amount=4),
         wire.immediate(2, wire.ACCUMULATE, 2, None, 2),
@@ -144,7 +144,7 @@ def windows_and_statistics() -> List[bytes]:
 
 def first_objects() -> List[bytes]:
     """A threshold and extremes that are the first objects of their contexts, and virtual images
-    until the table of names grows: these creates take memory for their entry alone."""
+    until the table of names grows: these requests take memory only for their entry."""
     first = wire.create_threshold(4, wire.U8, (10,)), wire.create_min_max(4)
     return [
         *(frame for create in first

@@ -1,29 +1,29 @@
-"""What the same requests leave, again and again."""
+"""Measures the memory that repeated requests leave behind."""
 
 from typing import List
 
 from feqyldan import wire
-from checks.memory.server import QUOTA, Program, Server, TooMuchMemory, in_mib, serving
+from checks.memory.server import QUOTA, Program, Server, check_bounds, in_mib, serving
 
-# How many delays are registered with one graph, each of which is gone before the next.
+# Number of delays that are registered with one graph, each released before the next.
 REGISTERED = 60_000
-# How often all kinds of requests come, and the size of their images. A block that is kept each time
-# takes more than may be kept before it is compared again.
+# Number of repetitions of all requests, repetitions between comparisons, and side of the images. A
+# block leaked in each repetition would exceed the allowance by the next comparison.
 ROUNDS, BETWEEN, SIDE = 1_000, 50, 64
-# What the server may take for all of that.
+# The memory that the server may take for all of that.
 FOR_AGAIN = 128 * 1024
 
 
 class Compared:
-    """That a server takes nothing for what comes again and again, compared now and then: with what
-    it had when it was compared first."""
+    """Checks that repetition takes no memory. From time to time the memory is compared with its
+    value at the first comparison."""
 
     def __init__(self, server: Server, between: int) -> None:
         self.server, self.between = server, between
         self.at_first = self.done = 0
 
     def after(self, what: str) -> str:
-        """Once more is done."""
+        """Notes one more repetition."""
         self.done += 1
         if self.done == self.between:
             self.at_first = self.server.memory()
@@ -31,45 +31,44 @@ class Compared:
             return ""
         taken = self.server.memory() - self.at_first
         told = f"{in_mib(taken)} for {self.done} {what}, at most {in_mib(FOR_AGAIN)}"
-        if taken > FOR_AGAIN:
-            raise TooMuchMemory(told)
-        return told
+        return check_bounds(told, taken, FOR_AGAIN)
 
 
 def registered(program: Program) -> str:
-    """Delays that were registered with a graph and are gone."""
+    """Registers delays with a graph and releases them."""
     with serving(program, QUOTA) as server:
         server.ask(wire.open_context(1))
         image = server.create(wire.create_image(1, wire.U8, 1, 1))
         graph = server.create(wire.create_graph(1))
-        compared, told = Compared(server, 100), ""
+        growth, told = Compared(server, 100), ""
         for _ in range(REGISTERED):
             delay = server.create(wire.create_delay(1, image, 1))
             server.ask(wire.register_auto_aging(1, graph, delay))
             server.ask(wire.release(1, delay))
-            told = compared.after("registered delays that are gone") or told
+            told = growth.after("registered delays that are gone") or told
         server.ask(wire.process_graph(1, graph))
         return told
 
 
 def again(program: Program) -> str:
-    """A client that releases all that it made, and one that releases its context with all in it."""
+    """Runs a client that releases all of its objects, and one that releases its context with all of
+    them."""
     with serving(program, QUOTA) as server:
         server.ask(wire.open_context(1))
-        compared, told = Compared(server, BETWEEN), ""
+        growth, told = Compared(server, BETWEEN), ""
         for _ in range(ROUNDS):
             for name in made_and_run(server, 1):
                 server.ask(wire.release(1, name))
             server.ask(wire.open_context(2))
             made_and_run(server, 2)
             server.ask(wire.release_context(2))
-            told = compared.after("rounds of all kinds of requests") or told
+            told = growth.after("rounds of all kinds of requests") or told
         return told
 
 
 def made_and_run(server: Server, client: int) -> List[int]:
-    """Two images, a delay, and a graph with a virtual image, which runs and ages the delay; an
-    image is gone before the node that reads it. The names that are left."""
+    """Makes two images, a delay, and a graph with a virtual image, which runs and ages the delay.
+    An image is released before the node that reads it. Returns the remaining names."""
     new = wire.create_image(client, wire.U8, SIDE, SIDE)
     image, output = server.create(new), server.create(new)
     delay = server.create(wire.create_delay(client, image, 2))

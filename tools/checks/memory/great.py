@@ -1,26 +1,27 @@
-"""What great images take while they are written, and what they leave once they are released."""
+"""Measures the memory of large images while they are written, and after they are released."""
 
 from feqyldan import wire
+from checks.lockstep import WrongAnswer
 from checks.memory.server import (
-    MIB, QUOTA, Program, Server, TooLittleMemory, TooMuchMemory, WrongAnswer, in_mib, serving)
+    MIB, QUOTA, Program, Server, TooLittleMemory, check_bounds, in_mib, serving)
 
-# No image has a greater side.
+# The largest side of an image.
 GREATEST_SIDE = 8192
-# Great images, and how many of them a client has at once, all of which the server keeps free.
+# Large images, and the number of them that a client has; the server keeps all of their blocks when
+# they are freed.
 SIDE, AT_ONCE = 4096, 4
 GREAT = SIDE * SIDE * 4
-# What the allocator may take for an object and its block: a page.
+# The allocator's overhead for an object and its block: a page.
 OBJECT_BYTES = 4096
 OBJECTS = 1024
-# How many clients there are, and how often each of them has great images.
+# Number of clients, and of repetitions for each of them.
 SQUATTERS, ROUNDS = 4, 3
-# For how many samples of each format the server keeps free blocks, and what it may have beside
-# these.
+# Number of samples of each format for which the server keeps free blocks, and its other memory.
 KEPT, BESIDE = 1 << 26, 16 * MIB
 
 
 def small_in_great(program: Program) -> str:
-    """Small images that could stand in the blocks of great ones."""
+    """Creates small images while freed blocks of large ones are available."""
     with serving(program, AT_ONCE * GREAT + OBJECTS * 4) as server:
         server.ask(wire.open_context(0))
         at_first = server.memory()
@@ -33,7 +34,7 @@ def small_in_great(program: Program) -> str:
 
 
 def squat(server: Server, client: int, at_first: int) -> None:
-    """A client has great images again and again, and small ones after each time, up to 1,024."""
+    """A client creates large images repeatedly, and small ones after each time, up to 1,024."""
     server.ask(wire.open_context(client))
     small = wire.create_image(client, wire.U32, 1, 1)
     held = 0
@@ -52,7 +53,7 @@ def squat(server: Server, client: int, at_first: int) -> None:
 
 
 def compare_seen(server: Server, at_first: int) -> None:
-    """All samples of new images were set to 0, so the server has the memory for them."""
+    """Checks that the server's memory covers the samples of new images, which were all set to 0."""
     taken = server.memory() - at_first
     if taken < AT_ONCE * GREAT:
         raise TooLittleMemory(f"{in_mib(taken)} for {AT_ONCE} great images, at least "
@@ -60,18 +61,16 @@ def compare_seen(server: Server, at_first: int) -> None:
 
 
 def compare_held(server: Server, at_first: int, objects: int) -> str:
-    """What the server has taken for so many objects, which may be that and a great block."""
+    """Checks the memory of this many objects: their own, and at most one large block."""
     taken = server.memory() - at_first
-    bound = objects * OBJECT_BYTES + GREAT
-    told = f"{in_mib(taken)} for {objects} images of one sample, at most {in_mib(bound)}"
-    if taken > bound:
-        raise TooMuchMemory(told)
-    return told
+    most = objects * OBJECT_BYTES + GREAT
+    told = f"{in_mib(taken)} for {objects} images of one sample, at most {in_mib(most)}"
+    return check_bounds(told, taken, most)
 
 
 def written(program: Program) -> str:
-    """An image of each format that is written, written again and read: there is room for what comes
-    beside what the image has, and no more."""
+    """Writes, rewrites and reads an image of each format. Memory covers the image and one request
+    or reply, and no more."""
     return [written_in(program, fmt) for fmt in wire.Format][-1]
 
 
@@ -89,19 +88,15 @@ def written_in(program: Program, fmt: wire.Format) -> str:
             raise WrongAnswer(f"an image of {fmt.name}, {width} by {size[1]}, isn't what was "
                               "written last, bytes of 2")
         taken = server.memory("VmHWM") - at_first
-    bound = 2 * GREAT + BESIDE
+    most = 2 * GREAT + BESIDE
     told = (f"at most {in_mib(taken)} while an image of {in_mib(GREAT)} was written and read, for "
-            f"which {in_mib(bound)} are allowed")
-    if taken > bound:
-        raise TooMuchMemory(told)
-    if taken < GREAT:
-        raise TooLittleMemory(told)
-    return told
+            f"which {in_mib(most)} are allowed")
+    return check_bounds(told, taken, most, GREAT)
 
 
 def rising(program: Program) -> str:
-    """Images of each format that get greater and fewer, always as many as the quota allows, and
-    each time all of them are released."""
+    """Creates ever larger and fewer images of each format, as many as the quota allows, and
+    releases all of them each time."""
     with serving(program, QUOTA) as server:
         server.ask(wire.open_context(1))
         at_first, told = server.memory(), ""
@@ -113,7 +108,7 @@ def rising(program: Program) -> str:
 
 
 def had_at_once(server: Server, fmt: wire.Format, count: int) -> None:
-    """So many images that fill the quota, where these have no side that is too great."""
+    """Creates this many images that fill the quota, if their sides allow it, and releases them."""
     places = QUOTA // count // wire.sample_bytes(fmt)
     width = 1 << places.bit_length() // 2
     if max(width, places // width) <= GREATEST_SIDE:
@@ -124,8 +119,6 @@ def had_at_once(server: Server, fmt: wire.Format, count: int) -> None:
 
 def compare_free(server: Server, at_first: int) -> str:
     taken = server.memory() - at_first
-    bound = KEPT * sum(map(wire.sample_bytes, wire.Format)) + BESIDE
-    told = f"{in_mib(taken)} after images of rising sizes, at most {in_mib(bound)}"
-    if taken > bound:
-        raise TooMuchMemory(told)
-    return told
+    most = KEPT * sum(map(wire.sample_bytes, wire.Format)) + BESIDE
+    told = f"{in_mib(taken)} after images of rising sizes, at most {in_mib(most)}"
+    return check_bounds(told, taken, most)

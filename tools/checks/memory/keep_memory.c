@@ -1,6 +1,6 @@
-/* Keeps memory that a program gives back: preloaded before the C library's allocator. KEEP_MEMORY
- * says which: "small" or "great", what is freed, of fewer bytes than GREAT or of more; "shrunk",
- * what is made smaller; anything else, none. */
+/* Leaks memory that a program frees. It is preloaded before the C library's allocator. KEEP_MEMORY
+ * selects the blocks: "small" or "great" keeps freed blocks of fewer or more bytes than GREAT,
+ * "shrunk" keeps the rest of shrunk blocks, anything else keeps nothing. */
 #include <malloc.h>
 #include <stddef.h>
 #include <stdlib.h>

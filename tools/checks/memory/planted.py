@@ -1,4 +1,4 @@
-"""Wrong servers and wrong readings of their memory, each of which a measure has to find."""
+"""Faulty servers and wrong readings of their memory, each of which a measurement must find."""
 
 import os
 import subprocess
@@ -8,21 +8,22 @@ from typing import Callable, Dict, Iterator, List, NamedTuple, Tuple, Type
 
 from feqyldan import wire
 from checks.memory.again import SIDE, again, registered
+from checks.lockstep import Fault, WrongAnswer
 from checks.memory.great import rising, small_in_great, written
 from checks.memory.server import (
-    Fault, Program, Server, TooLittleMemory, TooMuchMemory, WrongAnswer, memory_of)
+    Program, Server, TooLittleMemory, TooMuchMemory, memory_of)
 from checks.memory.soak import soak
 
 HERE = os.path.dirname(os.path.abspath(__file__))
-# A request by its op; of one that releases an object, the op that made this.
+# A request, as its op; for a release, also the op that created the object.
 Event = Tuple[int, int]
 Measure = Callable[[Program], str]
-# The client whose images are the blocks that a wrong server keeps.
+# The client whose images are the blocks that a faulty server leaks.
 KEEPER = 65_535
 
 
 class Kinds(Server):
-    """Knows what each request is about."""
+    """A server that tracks the object of each request."""
 
     def __init__(self, process: "subprocess.Popen[bytes]") -> None:
         super().__init__(process)
@@ -42,7 +43,7 @@ class Kinds(Server):
 
 
 def keeping(*event: int) -> Type[Server]:
-    """A server that has one more block lent after each of these events."""
+    """A server that leaks one block after each of these events."""
     wanted = event if len(event) == 2 else (*event, 0)
 
     class Keeping(Kinds):
@@ -61,7 +62,7 @@ def keeping(*event: int) -> Type[Server]:
 
 
 def without(op: int) -> Type[Server]:
-    """A server that does nothing when it is asked for this, and says that it did."""
+    """A server that ignores this request, and replies SUCCESS."""
     class Without(Server):
         def answer(self, request: bytes) -> bytes:
             if request[6] != op:
@@ -72,7 +73,7 @@ def without(op: int) -> Type[Server]:
 
 
 def unclear(op: int) -> Type[Server]:
-    """A server of which what this makes isn't 0, but what was there before."""
+    """A server whose new objects of this kind contain old data instead of 0."""
     class Unclear(Server):
         def answer(self, request: bytes) -> bytes:
             reply = super().answer(request)
@@ -90,8 +91,8 @@ def unclear(op: int) -> Type[Server]:
 
 
 def making_more(op: int, at: int) -> Type[Server]:
-    """A server that makes an image of its own before each of these requests, which stays until it
-    ends: of the format and size that the request has at this byte."""
+    """A server that creates an extra image before each of these requests and keeps it until it
+    ends. Its format and size are the request's, at this byte."""
     class MakingMore(Server):
         def answer(self, request: bytes) -> bytes:
             if request[6] == op:
@@ -113,7 +114,7 @@ class OfTheCheck(Server):
 
 
 class AsAtFirst(Server):
-    """Tells the memory once and for all."""
+    """Returns the first reading of the memory forever."""
 
     def __init__(self, process: "subprocess.Popen[bytes]") -> None:
         super().__init__(process)
@@ -125,7 +126,7 @@ class AsAtFirst(Server):
 
 
 class Asking(Server):
-    """Is asked for an image that isn't there, before each request."""
+    """Before each request, asks for an image that doesn't exist."""
 
     def answer(self, request: bytes) -> bytes:
         super().answer(wire.query_image(int.from_bytes(request[4:6], "big"), 0))
@@ -133,8 +134,8 @@ class Asking(Server):
 
 
 class Planted(NamedTuple):
-    """What is wrong; the measure that finds it, and as what; and the server, or what its allocator
-    keeps."""
+    """A fault: its description, the measurement that finds it, the kind of finding, and the server
+    or the memory that its allocator keeps."""
 
     words: str
     measure: Measure
@@ -144,7 +145,7 @@ class Planted(NamedTuple):
 
 
 MEASURES: Tuple[Measure, ...] = (small_in_great, written, rising, registered, again, soak)
-# Those that find a memory that is too little.
+# Measurements that find a memory that is too small.
 READERS: Tuple[Measure, ...] = (small_in_great, soak)
 PLANTED = (
     Planted("blocks that are far too large stay so", small_in_great, TooMuchMemory, keeps="shrunk"),
@@ -175,13 +176,13 @@ PLANTED = (
     *(Planted(words, measure, TooLittleMemory, server) for words, server in (
         ("the memory is told in KiB", InKib), ("it is the check's own", OfTheCheck),
         ("it is told as it was at first", AsAtFirst)) for measure in READERS),
-    # Last, since the check itself takes memory for the pictures.
+    # Last, because the check itself takes memory for the pictures.
     Planted("a picture is copied", written, TooMuchMemory, making_more(wire.WRITE_IMAGE, 12)),
 )
 
 
 def failure(program: Program, measure: Measure) -> str:
-    """What a measure finds: of which kind it is, or nothing."""
+    """Returns the kind of fault that a measurement finds, or None."""
     try:
         measure(program)
     except Fault as fault:

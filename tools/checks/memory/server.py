@@ -1,76 +1,47 @@
-"""A server that is asked in lock step, and whose memory is read."""
+"""A server whose memory is read."""
 
-import contextlib
 import os
-import subprocess
-import threading
-from typing import Dict, Iterator, NamedTuple, Type
+from typing import ContextManager, Dict, NamedTuple, Type
 
 from feqyldan import wire
+from checks import lockstep
+from checks.lockstep import PATIENCE, Fault
 
-# Seconds after which a program that doesn't answer is ended.
-PATIENCE = 300
 MIB = 1 << 20
-# The C library gives what is freed back to the system at once, so that it isn't taken for what the
-# server keeps.
+# The C library returns freed memory to the system immediately, so that it isn't counted as the
+# server's.
 ENVIRONMENT = {**os.environ, "GLIBC_TUNABLES": "glibc.malloc.mmap_threshold=32768"}
 QUOTA = 256 * MIB
 
 
-class Fault(Exception):
-    """What is wrong with a server."""
-
-
-class WrongAnswer(Fault):
-    """It answers something else, or not at all."""
-
-
 class TooMuchMemory(Fault):
-    """It has more memory than it should."""
+    """More memory than allowed."""
 
 
 class TooLittleMemory(Fault):
-    """It has less memory than its samples take: what was read isn't its memory."""
+    """Less memory than the samples take: the reading isn't the server's memory."""
 
 
 def in_mib(count: int) -> str:
     return f"{count / MIB:.1f} MiB"
 
 
-class Server:
-    """A process of the program, which is asked in lock step."""
+def check_bounds(words: str, taken: int, most: int, least: int = 0) -> str:
+    """Returns the words, or raises them as a fault if the number of bytes is out of bounds."""
+    if taken > most:
+        raise TooMuchMemory(words)
+    if taken < least:
+        raise TooLittleMemory(words)
+    return words
 
-    def __init__(self, process: "subprocess.Popen[bytes]") -> None:
-        self.process = process
-        self.asked = 0
 
-    def answer(self, request: bytes) -> bytes:
-        """The reply to a request, whatever it is."""
-        assert self.process.stdin and self.process.stdout
-        try:
-            self.process.stdin.write(request)
-            self.process.stdin.flush()
-        except BrokenPipeError:
-            raise WrongAnswer(f"the server ended before request {self.asked}") from None
-        head = self.process.stdout.read(4)
-        reply = head + self.process.stdout.read(int.from_bytes(head, "big"))
-        if len(reply) < 8:
-            raise WrongAnswer(f"the server ended at request {self.asked}")
-        return reply
-
-    def ask(self, request: bytes) -> bytes:
-        """The reply to a request, which has to succeed."""
-        self.asked += 1
-        reply = self.answer(request)
-        if wire.code_of(reply) != wire.SUCCESS:
-            raise WrongAnswer(f"request {self.asked} is refused: {wire.say(reply)}")
-        return reply
-
+class Server(lockstep.Server):
     def create(self, request: bytes) -> int:
         return wire.name_of(self.ask(request))
 
     def memory(self, field: str = "VmRSS") -> int:
-        """A line of /proc/PID/status, in bytes: VmRSS now, VmHWM at most so far."""
+        """Returns a line of /proc/PID/status in bytes: VmRSS is the current memory, VmHWM the
+        peak."""
         return memory_of(self.process.pid, field)
 
 
@@ -81,30 +52,13 @@ def memory_of(process: int, field: str) -> int:
 
 
 class Program(NamedTuple):
-    """The server's program, with what is beside it where a fault is planted."""
+    """The server's program, with any preloaded library for a planted fault."""
 
     path: str
     environment: Dict[str, str] = {}
     server: Type[Server] = Server
 
 
-@contextlib.contextmanager
-def serving(program: Program, quota: int, patience: float = PATIENCE) -> Iterator[Server]:
-    process = subprocess.Popen([program.path, "serve", f"--quota={quota}"],
-                               env={**ENVIRONMENT, **program.environment},
-                               stdin=subprocess.PIPE, stdout=subprocess.PIPE)
-    watch = threading.Timer(patience, process.kill)
-    watch.start()
-    try:
-        with process:
-            try:
-                yield program.server(process)
-            except BaseException:
-                process.kill()
-                raise
-            assert process.stdin
-            process.stdin.close()
-            if process.wait() != 0:
-                raise WrongAnswer(f"the server ended with status {process.returncode}, not with 0")
-    finally:
-        watch.cancel()
+def serving(program: Program, quota: int, patience: float = PATIENCE) -> ContextManager[Server]:
+    return lockstep.serving(program.server, [program.path, "serve", f"--quota={quota}"], patience,
+                            {**ENVIRONMENT, **program.environment})

@@ -4,21 +4,20 @@ import random
 from typing import Dict, List, NamedTuple, Tuple
 
 from feqyldan import wire
-from checks.memory.server import (
-    MIB, PATIENCE, QUOTA, Program, Server, TooLittleMemory, TooMuchMemory, WrongAnswer, in_mib,
-    serving)
+from checks.lockstep import PATIENCE, WrongAnswer
+from checks.memory.server import MIB, QUOTA, Program, Server, check_bounds, in_mib, serving
 
 CLIENTS, REQUESTS, SEED = 8, 20_000, 1
 LONGEST_SIDE = 512
-# How many images and delays a client holds, about.
+# Approximate number of images and delays of a client.
 HELD = 24
-# What the server has beside samples: itself, the frame and the reply that it is at, objects, and
-# what the allocator doesn't give back.
+# The server's memory besides samples: its own, the current frame and reply, objects, and memory
+# that the allocator doesn't return.
 BESIDE = 16 * MIB
 
 
 class Image(NamedTuple):
-    """What a cell of a client's holds: the same byte everywhere."""
+    """The contents of an image: the same byte everywhere."""
 
     fmt: int
     width: int
@@ -33,12 +32,12 @@ class Image(NamedTuple):
 
 
 class Client:
-    """A client of the soak, and what it holds: under each name the images of its slots, or one."""
+    """A client of the soak, with its objects: each name has one image, or those of its slots."""
 
     def __init__(self, server: Server, number: int, rng: random.Random) -> None:
         self.server, self.number, self.rng = server, number, rng
         self.images: Dict[int, List[Image]] = {}
-        # The sample bytes of all of them, and of the virtual images of this step's run.
+        # The sample bytes of all images, and of the virtual images of this step's run.
         self.live = self.virtual = 0
         server.ask(wire.open_context(number))
 
@@ -89,7 +88,7 @@ class Client:
         self.compare(*self.any_cell())
 
     def compare(self, name: int, slot: int) -> None:
-        """What is read is what was written, or 0."""
+        """Checks that a read returns what was written, or 0."""
         image = self.images[name][slot]
         reply = self.server.ask(wire.read_image(self.number, self.cell(name, slot)))
         size = image.fmt, image.width, image.height
@@ -97,7 +96,7 @@ class Client:
             raise WrongAnswer(f"request {self.server.asked}: image {name} isn't {image}")
 
     def run(self) -> None:
-        """Not of an image of U8 three times, through two virtual images."""
+        """Inverts a U8 image three times, through two virtual images."""
         name, slot = self.any_cell()
         image = self.images[name][slot]
         if image.fmt != wire.U8:
@@ -129,14 +128,14 @@ class Client:
         del self.images[name]
 
     def end(self) -> None:
-        """Its context, with all that is in it; it opens another one."""
+        """Releases the context with all of its objects, and opens another one."""
         self.server.ask(wire.release_context(self.number))
         self.server.ask(wire.open_context(self.number))
         self.images = {}
 
 
 def soak(program: Program, requests: int = REQUESTS) -> str:
-    """Several clients that create, write, run and release at random."""
+    """Runs several clients that create, write, run and release at random."""
     rng = random.Random(SEED)
     peak = 0
     with serving(program, QUOTA, PATIENCE * max(1, requests / REQUESTS)) as server:
@@ -149,14 +148,10 @@ def soak(program: Program, requests: int = REQUESTS) -> str:
 
 
 def compare_peak(server: Server, peak: int) -> str:
-    """What the server had at most, which has to be at least the samples that were there at once:
-    new images are set to 0, so that none is without memory."""
+    """Checks the peak memory of the server. It must also cover the peak of live samples: new images
+    are set to 0, so all of them have memory."""
     most = server.memory("VmHWM")
     bound = 2 * peak + BESIDE
     told = (f"at most {in_mib(most)} while {server.asked} requests had at most {in_mib(peak)} of "
             f"samples, for which {in_mib(bound)} are allowed")
-    if most > bound:
-        raise TooMuchMemory(told)
-    if most < peak:
-        raise TooLittleMemory(told)
-    return told
+    return check_bounds(told, most, bound, peak)

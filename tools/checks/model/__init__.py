@@ -1,13 +1,13 @@
-"""What a client of the server is answered, in plain Python, written from docs/wire.md and
-docs/model.md: a second reading of them, with which tools/check_streams compares the program.
+"""A model of the server's replies to one client, in plain Python, written from docs/wire.md and
+docs/model.md. tools/check_streams compares the program with it.
 
-`answer` is the reply to one request of one client, and changes that client's state; it knows no
-other client, and never answers NO_MEMORY. `Clients` answers frames. A request is a row of REQUESTS:
-the fields of its body, what it comes to, and its codes.
+`answer` returns the reply to one request of one client, and changes that client's state. It knows
+no other client, and never returns NO_MEMORY. `Clients` answers frames. A request is a row of
+REQUESTS: the fields of its body, its effect, and its codes.
 
-`functions` has what images and vision functions are, `graphs` what graphs are; `state` is what a
-client has, `fields` and `texts` are how bodies and PGM texts are read, `requests` is what each
-request comes to, and `clients` the table of them. The names below are those that others use.
+`functions` has images and vision functions, `graphs` has graphs, `state` the state of a client,
+`fields` and `texts` the parsers of bodies and PGM texts, `requests` the effect of each request, and
+`clients` the table of requests. The names below are used elsewhere.
 """
 
 from checks.model.clients import Clients, codes_of, parts_of

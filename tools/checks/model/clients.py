@@ -1,4 +1,4 @@
-"""The table of requests, and clients that are answered by it."""
+"""The table of requests, and the clients that use it."""
 
 import struct
 from collections import namedtuple
@@ -26,13 +26,13 @@ from checks.model.state import (
     READ_MIN_MAX, REGISTER_AUTO_AGING, RELEASE, RELEASE_CONTEXT, REMOVE_NODE, SET_VALID, STANDING,
     VERIFY_GRAPH, WRITE_IMAGE, WRITE_IMAGE_PGM, Refused, State, refuse_if)
 
-# What takes the values of a body's fields; what the request comes to, of the limits, the client's
-# state and these values; and the codes that it can be answered with.
+# The reader of the body's fields; the effect of the request, from the limits, the client's state
+# and these values; and the codes of its replies.
 Request = namedtuple("Request", "take outcome codes")
 
 
 def each(*takes):
-    """The values of fields in order."""
+    """Returns a reader of fields in order."""
     return lambda fields: [take(fields) for take in takes]
 
 
@@ -84,12 +84,12 @@ REQUESTS = {
 
 
 def codes_of(op):
-    """The codes with which requests of an op can be answered."""
+    """Returns the codes of the replies to an op."""
     return REQUESTS[op].codes if op in STANDING else {INVALID_PARAMETERS}
 
 
 def parse(op, body):
-    """What a body says after an op's number: the request, and the values of its fields."""
+    """Parses a body after its op, and returns the request and the values of its fields."""
     refuse_if(op not in STANDING, INVALID_PARAMETERS)
     fields = Fields(body)
     values = REQUESTS[op].take(fields)
@@ -102,8 +102,8 @@ def needs_context(op):
 
 
 def answer(limits, state, op, body):
-    """The code and the body of the reply to a request of the client that has this state, which
-    becomes the new one."""
+    """Returns the code and the body of the reply to a request of the client with this state, and
+    updates the state."""
     try:
         request, values = parse(op, body)
         refuse_if(needs_context(op) and state.context is None, INVALID_REFERENCE)
@@ -116,13 +116,13 @@ def answer(limits, state, op, body):
 
 
 def parts_of(frame):
-    """The client, the op and the body of a request frame."""
+    """Returns the client, the op and the body of a request frame."""
     client, op = struct.unpack_from(">HB", frame, 4)
     return client, op, frame[7:]
 
 
 class Clients:
-    """The states of all clients, each of which begins without a context."""
+    """The states of all clients. Each begins without a context."""
 
     def __init__(self, limits=LIMITS):
         self.limits, self.states = limits, {}

@@ -1,4 +1,4 @@
-"""Fields of bodies: how each is taken, what refuses it, and the bytes of what is told."""
+"""Fields of bodies: parsing, refusals, and the bytes of replies."""
 
 import struct
 
@@ -12,8 +12,7 @@ from checks.model.state import Cell, refuse_if
 
 
 class Fields:
-    """A body, whose fields are taken from its front. The first that is cut short or not allowed
-    refuses it."""
+    """A body that is parsed from its front. The first truncated or disallowed field refuses it."""
 
     def __init__(self, body):
         self.body, self.at = body, 0
@@ -63,7 +62,7 @@ def take_description(fields):
 
 
 def take_open_description(fields):
-    """What is declared of a virtual image."""
+    """Parses the declaration of a virtual image."""
     fmt = take_format(fields, (OPEN, U8, S16, U32))
     return fmt, take_open_side(fields), take_open_side(fields)
 
@@ -115,7 +114,7 @@ def take_lut(fields):
 
 
 def take_limit(fields, fmt, least=None):
-    """A threshold's limit; with `least`, one that isn't below it."""
+    """Parses a threshold's limit, which must not be below `least` if that is given."""
     limit = fields.signed_short()
     refuse_if(not is_sample(limit, fmt) or (least is not None and limit < least), INVALID_VALUE)
     return limit
@@ -132,7 +131,7 @@ def take_threshold(fields):
 
 
 def take_length(fields):
-    """How many columns or rows a convolution has."""
+    """Parses the number of columns or rows of a convolution."""
     length = fields.byte()
     refuse_if(length not in (3, 5, 7, 9), INVALID_DIMENSION)
     return length
@@ -161,7 +160,7 @@ def take_bins(fields):
 
 
 def take_text(fields):
-    """All that is left, of which nothing is looked at yet."""
+    """Returns the rest of the body unparsed."""
     return fields.rest()
 
 
@@ -174,7 +173,7 @@ def rectangle_bytes(rectangle):
 
 
 def encoded_samples(image):
-    """By rows, since an image may be large."""
+    """Row by row, because an image may be large."""
     row = struct.Struct(f">{image.width}{wire.SAMPLE_LETTERS[image.fmt]}")
     starts = range(0, image.width * image.height, image.width)
     return b"".join(row.pack(*image.samples[start : start + image.width]) for start in starts)

@@ -1,8 +1,8 @@
-"""What the model computes with, and what knows no client: samples, rectangles, images and the other
-objects, and the vision functions on them.
+"""Samples, rectangles, images, the other objects, and the vision functions on them, independent of
+clients.
 
-A function is a row of FUNCTIONS: what its node has, its formats, and what it gives. The table
-stands below what it is made of.
+A function is a row of FUNCTIONS: its operands, its formats, and its formula. The table is at the
+end.
 """
 
 from array import array
@@ -33,13 +33,13 @@ def range_size(fmt):
 
 
 def wrap(value, fmt):
-    """The sample that agrees with a number modulo the number of samples."""
+    """Returns the sample that is congruent to a number modulo the number of samples."""
     least, _ = SAMPLES[fmt]
     return least + (value - least) % range_size(fmt)
 
 
 def clamp(value, fmt):
-    """The sample that is nearest to a number."""
+    """Returns the sample nearest to a number."""
     least, greatest = SAMPLES[fmt]
     return min(max(value, least), greatest)
 
@@ -48,7 +48,7 @@ def narrow(value, fmt, policy):
     return wrap(value, fmt) if policy == wire.WRAP else clamp(value, fmt)
 
 
-# ---- rectangles: a start that belongs to it, an end that doesn't; the empty one has one spelling
+# ---- rectangles: half-open; the empty one is always four zeros
 
 Rectangle = namedtuple("Rectangle", "left top right bottom")
 EMPTY = Rectangle(0, 0, 0, 0)
@@ -59,7 +59,7 @@ def whole(width, height):
 
 
 def is_rectangle(rectangle):
-    """Whether each start is below its end; the empty one is four zeros and nothing else."""
+    """Checks that each start is below its end; the empty rectangle is only four zeros."""
     return rectangle == EMPTY or (rectangle.left < rectangle.right
                                   and rectangle.top < rectangle.bottom)
 
@@ -73,72 +73,71 @@ def is_in(rectangle, x, y):
 
 
 def places(rectangle):
-    """The x and the y of each place, by rows from the top."""
+    """Yields x and y of each pixel, row by row from the top."""
     return [(x, y) for y in range(rectangle.top, rectangle.bottom)
             for x in range(rectangle.left, rectangle.right)]
 
 
 def rectangle_of(left, top, right, bottom):
-    """The places that aren't before a start or from an end on."""
+    """Returns the rectangle without the pixels before the starts and from the ends on."""
     return Rectangle(left, top, right, bottom) if left < right and top < bottom else EMPTY
 
 
 def meet(one, other):
-    """The places that are in both."""
+    """Returns the intersection of two rectangles."""
     left, top = max(one.left, other.left), max(one.top, other.top)
     return rectangle_of(left, top, min(one.right, other.right), min(one.bottom, other.bottom))
 
 
 def shrunk(rectangle, across, down):
-    """The places whose windows, of these radii, lie wholly in the rectangle."""
+    """Returns the pixels whose windows with these radii lie in the rectangle."""
     left, top, right, bottom = rectangle
     return rectangle_of(left + across, top + down, right - across, bottom - down)
 
 
 def windows_of(rectangle, across, down):
-    """The places in the windows of its places. It may reach beyond an image, and before its first
-    column and row."""
+    """Returns the union of the windows of the rectangle's pixels. It may extend beyond the
+    image."""
     left, top, right, bottom = rectangle
     if rectangle == EMPTY:
         return EMPTY
     return Rectangle(left - across, top - down, right + across, bottom + down)
 
 
-# ---- objects: values that never change; what changes is which of them a name has
+# ---- objects: immutable values; a change gives a name another object
 
-# An image has from 1 to so many columns, and as many rows.
+# The least and the greatest side of an image.
 GREATEST_SIDE = 8192
 
-# The samples by rows from the top, and where they are valid; they are 0 elsewhere.
+# The samples row by row from the top, and the valid rectangle. Samples outside it are 0.
 Image = namedtuple("Image", "fmt width height valid samples")
-# An entry for each sample of the format, the one for the least first.
+# An entry for each sample of the format, from the least one on.
 Lut = namedtuple("Lut", "fmt entries")
-# BINARY has one limit, RANGE the lower and the upper.
+# BINARY has one limit, RANGE a lower and an upper one.
 Threshold = namedtuple("Threshold", "fmt limits true_value false_value")
-# The coefficients by rows; what they give is divided by 2 to the exponent.
+# The coefficients row by row. Results are divided by 2 to the exponent.
 Convolution = namedtuple("Convolution", "columns rows exponent coefficients")
-# How many samples fell into each bin. The bins share a range of samples, which begins with the
-# offset.
+# The number of samples in each bin. The bins divide a range of samples that begins with the offset.
 Bins = namedtuple("Bins", "bins offset range")
 Distribution = namedtuple("Distribution", "bins counts")
-# The least and the greatest sample, how many places hold each, and the x and the y of the first of
-# them.
+# The least and the greatest sample, the number of pixels with each, and x and y of the first of
+# each.
 Extremes = namedtuple("Extremes", "min max min_count max_count min_at max_at")
 NO_EXTREMES = Extremes(0, 0, 0, 0, (0, 0), (0, 0))
-# The image in each slot, the newest first, so that the one in slot -k is number k.
+# The image of each slot, the newest first, so that slot -k has number k.
 Delay = namedtuple("Delay", "images")
-# The name of its graph, and what was declared: OPEN where something is left open.
+# The name of its graph, and the declaration: OPEN for each undeclared field.
 VirtualImage = namedtuple("VirtualImage", "graph fmt width height")
 
 
 def new_image(fmt, width, height):
-    # Zeros of one byte each: an image may be made only to use up a quota.
+    # One byte for each zero sample: some images are made only to use up a quota.
     return Image(fmt, width, height, whole(width, height), bytes(width * height))
 
 
 def made(fmt, width, height, valid, sample):
-    """The image whose sample at each valid place is what `sample` gives for the place's number by
-    rows; 0 elsewhere."""
+    """Makes an image. Each valid pixel gets `sample` of its number in row order; the others are
+    0."""
     samples = [0] * (width * height)
     for y in range(valid.top, valid.bottom):
         for place in range(y * width + valid.left, y * width + valid.right):
@@ -147,7 +146,8 @@ def made(fmt, width, height, valid, sample):
 
 
 def confined(image, valid):
-    """The image with another valid rectangle. What isn't in both this and the old one is 0."""
+    """Returns the image with another valid rectangle. Samples outside the old or the new one are
+    0."""
     return made(image.fmt, image.width, image.height, valid, lambda place: image.samples[place])
 
 
@@ -156,7 +156,7 @@ def sample_at(image, x, y):
 
 
 def valid_samples(image):
-    """The samples at the valid places, by rows."""
+    """Returns the valid samples row by row."""
     return [sample_at(image, x, y) for x, y in places(image.valid)]
 
 
@@ -165,12 +165,13 @@ def new_distribution(bins):
 
 
 def new_delay(image, slots):
-    """So many new images of the size and the format of this one."""
+    """Returns this many new images of this size and format."""
     return Delay((new_image(image.fmt, image.width, image.height),) * slots)
 
 
 def aged(delay):
-    """What was in slot 0 is in slot -1, and so on; what was in the last slot is in slot 0."""
+    """Ages a delay: the image of slot 0 moves to slot -1, and so on; that of the last slot moves to
+    slot 0."""
     return Delay(delay.images[-1:] + delay.images[:-1])
 
 
@@ -179,12 +180,12 @@ def same_size(one, other):
 
 
 def is_open(image):
-    """Whether something of a virtual image isn't declared."""
+    """Checks that a virtual image has an undeclared field."""
     return OPEN in (image.fmt, image.width, image.height)
 
 
 def object_bytes(thing):
-    """What an object is charged."""
+    """Returns the sample bytes that an object is charged."""
     if isinstance(thing, Delay):
         return sum(map(object_bytes, thing.images))
     return thing.width * thing.height * sample_bytes(thing.fmt) if isinstance(thing, Image) else 0
@@ -204,7 +205,7 @@ def passes(threshold, sample):
 
 # ---- nodes
 
-# The four cells are those of the operands, None where one is absent.
+# The four cells of the operands, None for an absent one.
 Node = namedtuple("Node", "function border policy amount cells")
 IN1, IN2, OUT1, OUT2 = range(4)
 INPUTS, OUTPUTS = (IN1, IN2), (OUT1, OUT2)
@@ -212,19 +213,19 @@ Border = namedtuple("Border", "mode constant")
 
 
 def format_of(thing):
-    """None where there is nothing, or an object that has no format."""
+    """Returns the format, or None for a missing object or one without a format."""
     return getattr(thing, "fmt", None)
 
 
-# ---- pixelwise functions: the value at a pixel, of in1's sample and of the one beside it, in2's or
-# that which the output held; or of in2 itself where it is no image
+# ---- pixelwise functions: the value at a pixel, from in1's sample and the second value: in2's
+# sample, the output's prior sample, or in2 itself if it isn't an image
 
-# What a value is narrowed by: the output's format, and the node's policy and amount.
+# The parameters of narrowing: the output's format, and the node's policy and amount.
 Way = namedtuple("Way", "fmt policy amount")
 
 
 def over_power(value, exponent):
-    """The quotient by a power of 2, rounded to zero."""
+    """Returns the quotient by a power of 2, rounded toward zero."""
     quotient = abs(value) // 2**exponent
     return -quotient if value < 0 else quotient
 
@@ -284,7 +285,7 @@ def converted(a, _, way):
 
 
 def accumulated(a, c, way):
-    """The sample is added to c, what the output held there."""
+    """Adds the sample to c, the output's prior sample."""
     return clamp(c + a, way.fmt)
 
 
@@ -293,8 +294,8 @@ def accumulated_square(a, c, way):
 
 
 def pixelwise(value, beside=IN2):
-    """What a node gives that has a value for each pixel, of in1 and of what is beside it: the image
-    that is out1's, valid where both are."""
+    """Makes a pixelwise node's output out1, valid where both inputs are, from a value of each pixel
+    of in1 and of the second operand."""
 
     def gives(node, things):
         first, second, output = things[IN1], things[beside], things[OUT1]
@@ -311,13 +312,13 @@ def pixelwise(value, beside=IN2):
     return gives
 
 
-# ---- window functions: the value at a pixel, of the samples that count in the window around it,
-# by rows
+# ---- window functions: the value at a pixel, from the samples in the window around it, row by
+# row
 
 
 def look(image, border, x, y):
-    """The sample that counts at a place, beside the valid rectangle too; with UNDEFINED nobody
-    looks there."""
+    """Returns the sample at a pixel, including the border. With UNDEFINED the border is never
+    read."""
     valid = image.valid
     if border.mode == wire.CONSTANT and not is_in(valid, x, y):
         return border.constant
@@ -326,12 +327,12 @@ def look(image, border, x, y):
 
 
 def valid_after(valid, border, across, down):
-    """Where a window function's output is valid, whose window has these radii."""
+    """Returns the valid rectangle of a window function's output, for these radii."""
     return shrunk(valid, across, down) if border.mode == wire.UNDEFINED else valid
 
 
 def window_image(image, border, radii, fmt, value):
-    """The image that has at each valid place the value of the samples in the window around it."""
+    """Makes the image whose valid pixels have the value of the samples in their windows."""
     across, down = radii
     valid = valid_after(image.valid, border, across, down)
     seen = windows_of(valid, across, down)
@@ -372,7 +373,8 @@ def gradient_y(nine):
 
 
 def windowed(value, second=None):
-    """What a node gives that has a value of nine samples for each pixel, and another for out2."""
+    """Makes a node's output from a value of nine samples for each pixel, and its out2 from
+    another."""
 
     def gives(node, things):
         values = {OUT1: value, OUT2: second}
@@ -383,8 +385,8 @@ def windowed(value, second=None):
 
 
 def turned(convolution):
-    """The weights in the window by rows. A column and a row of the convolution have that of
-    C/2 - column to the right and R/2 - row below."""
+    """Returns the weights of the window row by row. A coefficient applies to the sample C/2 -
+    column to the right and R/2 - row below."""
     columns, rows = convolution.columns, convolution.rows
     weights = [0] * (columns * rows)
     for row in range(rows):
@@ -409,29 +411,29 @@ def convolved(node, things):
 
 
 def bin_of(bins, sample):
-    """The number of the bin that counts a sample, or None."""
+    """Returns the bin of a sample, or None."""
     if not bins.offset <= sample < bins.offset + bins.range:
         return None
     return (sample - bins.offset) * bins.bins // bins.range
 
 
 def histogram(node, things):
-    """A run counts from 0."""
+    """Each run counts from 0."""
     bins = things[OUT1].bins
     found = Counter(bin_of(bins, sample) for sample in valid_samples(things[IN1]))
     return {OUT1: Distribution(bins, tuple(found[number] for number in range(bins.bins)))}
 
 
 def row_of_sums(above, samples):
-    """The sums at the places of a row, by those of the row above it and its own samples."""
+    """Returns the sums of a row, from those of the row above and its own samples."""
     return [(one + other) % 2**32 for one, other in zip(above, accumulate(samples))]
 
 
 def integral(node, things):
-    """For a valid place the sum of the valid samples that are neither to the right of it nor below
+    """Returns for a valid pixel the sum of the valid samples that are neither right of it nor below
     it, modulo 2^32."""
     image, valid = things[IN1], things[IN1].valid
-    # In as many bytes as samples have, since an image may be large.
+    # Compact arrays, because an image may be large.
     sums = array("I", [0]) * len(image.samples)
     above = [0] * (valid.right - valid.left)
     for y in range(valid.top, valid.bottom):
@@ -442,7 +444,7 @@ def integral(node, things):
 
 
 def extremes_of(samples, at):
-    """Of samples, each at one of as many places in order."""
+    """Returns the extremes of samples at these pixels."""
     if not samples:
         return NO_EXTREMES
     least, greatest = min(samples), max(samples)
@@ -454,8 +456,7 @@ def extremes(node, things):
     return {OUT1: extremes_of(valid_samples(things[IN1]), places(things[IN1].valid))}
 
 
-# ---- the format that an output has where it is left open, of in1's format, which is OPEN where
-# nobody knows it
+# ---- the format of an undeclared output, from in1's format, which is OPEN if it is unknown
 
 
 def always(fmt):
@@ -474,11 +475,11 @@ def other_depth(first):
 
 # ---- the table of functions
 
-# The kinds of in1, in2, out1 and out2, None where the function has none; its policies; its greatest
-# amount, None where it has none; the formats of the four that it takes, None where one has none;
-# the format of an output that is left open; what its node gives to its outputs, of what its inputs
-# hold and of what these outputs held as the run began; the operands of which one may be absent; and
-# whether it adds to its output, which is an image.
+# The kinds of in1, in2, out1 and out2, None for an operand that the function doesn't have; its
+# policies; its greatest amount or None; the accepted formats of the four operands; the format of an
+# undeclared output; the formula of its outputs, from its inputs and the prior contents of the
+# outputs; the operands one of which may be absent; and whether it accumulates into its output
+# image.
 Function = namedtuple(
     "Function", "kinds policies greatest_amount formats opened gives optional accumulates",
     defaults=((), False))

@@ -1,8 +1,7 @@
-"""The verdict on a graph, and its run: nodes that are linked by the cells which they read and
-write.
+"""The verdict on a graph, and its run. Nodes are linked by the cells that they read and write.
 
-It knows no client. `nodes` are those of a graph in the order of adding. `things` is what each of
-their cells holds, where a virtual image is what was declared of it.
+Independent of clients. `nodes` are those of a graph in the order of adding. `things` has the
+contents of each of their cells; a virtual image has its declaration.
 """
 
 from feqyldan.wire import (
@@ -14,7 +13,7 @@ from checks.model.functions import (
 
 
 def cells_of(node, operands=INPUTS + OUTPUTS):
-    """The cells of those operands that are there."""
+    """Returns the cells of those operands that are present."""
     return [node.cells[k] for k in operands if node.cells[k] is not None]
 
 
@@ -31,8 +30,7 @@ def cells_added_to(nodes):
 
 
 def in_order(nodes):
-    """The nodes, each after those that write what it reads; without those on a cycle, and those
-    after one."""
+    """Returns the nodes in topological order, without those on a cycle or after one."""
     order, left = [], [*nodes]
     while True:
         unwritten = {*cells_written(left)}
@@ -47,7 +45,8 @@ def in_order(nodes):
 
 
 def filled(thing, node, first):
-    """An output, with what is open in it taken from the node's in1 as far as that is known."""
+    """Resolves the undeclared fields of an output from the node's in1, as far as that is
+    resolved."""
     if not isinstance(thing, VirtualImage) or not is_open(thing):
         return thing
     fmt, width, height = node.function.opened(first.fmt), first.width, first.height
@@ -56,14 +55,14 @@ def filled(thing, node, first):
 
 
 def filled_by(nodes, things):
-    """What the nodes make of their outputs, all at once."""
+    """Resolves the outputs of all nodes in one pass."""
     return {cell: filled(things[cell], node, things[node.cells[IN1]])
             for node in nodes for cell in cells_of(node, OUTPUTS)}
 
 
 def described(nodes, things):
-    """What the cells hold, where what is open in a virtual image is filled by its writer: in as
-    many rounds as there are nodes, of which those after one that fills nothing may be left out."""
+    """Resolves the undeclared fields of virtual images from their writers, in as many passes as
+    there are nodes. It stops after a pass that changes nothing."""
     for _ in nodes:
         before, things = things, {**things, **filled_by(nodes, things)}
         if things == before:
@@ -75,7 +74,7 @@ def described(nodes, things):
 
 
 def two_writers(nodes, *_):
-    """Of one cell: outputs of two nodes, or of one."""
+    """Checks if one cell is written twice, by two nodes or by one."""
     written = cells_written(nodes)
     return MULTIPLE_WRITERS if len({*written}) < len(written) else None
 
@@ -85,7 +84,7 @@ def cycle(nodes, *_):
 
 
 def loose_end(nodes, things, _):
-    """A virtual image is read, and no node writes it; or a node adds to one."""
+    """Checks if a virtual image is read and no node writes it, or a node adds to one."""
     cells = ({*cells_read(nodes)} - {*cells_written(nodes)}) | {*cells_added_to(nodes)}
     return INVALID_LINK if any(isinstance(things[cell], VirtualImage) for cell in cells) else None
 
@@ -104,13 +103,13 @@ NODE_REFUSALS = ((has_other_formats, INVALID_FORMAT), (has_other_size, INVALID_D
 
 
 def faulty_node(nodes, things, _):
-    """The first fault of the first node that has one."""
+    """Returns the first fault of the first faulty node."""
     codes = (code for node in nodes for applies, code in NODE_REFUSALS if applies(node, things))
     return next(codes, None)
 
 
 def work_bytes(nodes, things):
-    """Of all the virtual images that the nodes write."""
+    """Returns the sample bytes of all virtual images that the nodes write."""
     images = [things[cell]
               for cell in cells_written(nodes) if isinstance(things[cell], VirtualImage)]
     return sum(image.width * image.height * sample_bytes(image.fmt) for image in images)
@@ -120,8 +119,8 @@ def too_much_work(nodes, things, work):
     return NO_RESOURCES if work_bytes(nodes, things) > work else None
 
 
-# Each gives the code with which it refuses a graph, or None: of the nodes, of what their cells hold
-# as it is described, and of the work bytes that are allowed. The first decides.
+# Each check returns the code with which it refuses a graph, or None, from the nodes, the resolved
+# contents of their cells, and the allowed work bytes. The first code decides.
 VERDICTS = (two_writers, cycle, loose_end, faulty_node, too_much_work)
 VERDICT_CODES = {
     MULTIPLE_WRITERS, INVALID_GRAPH, INVALID_LINK, INVALID_FORMAT, INVALID_DIMENSION, NO_RESOURCES,
@@ -138,22 +137,22 @@ def verdict(nodes, things, work):
 
 
 def started(nodes, things):
-    """What the cells hold when a run begins: a virtual image is a new one."""
+    """Returns the contents of the cells when a run begins: a virtual image is a new one."""
     return {cell: new_image(*thing[1:]) if isinstance(thing, VirtualImage) else thing
             for cell, thing in described(nodes, things).items()}
 
 
 def given(node, things, before):
-    """What a node gives to each cell that it writes, of what its inputs hold, and of what these
-    cells held before the run."""
+    """Returns the new contents of each cell that a node writes, from its inputs and the prior
+    contents."""
     operands = [None if cell is None else (before if k in OUTPUTS else things)[cell]
                 for k, cell in enumerate(node.cells)]
     return {node.cells[k]: thing for k, thing in node.function.gives(node, operands).items()}
 
 
 def run(nodes, things):
-    """What the cells hold after a run: each node runs once, after those that write what it
-    reads."""
+    """Returns the contents of the cells after a run: each node runs once, after the writers of its
+    inputs."""
     before = things
     for node in in_order(nodes):
         things = {**things, **given(node, things, before)}
@@ -161,8 +160,8 @@ def run(nodes, things):
 
 
 def run_in_rounds(nodes, things):
-    """The same: in each of as many rounds as there are nodes, all of them run on what the round
-    before left."""
+    """Computes the same in passes: in each of as many passes as there are nodes, all of them run on
+    the previous result."""
     before = things
     for _ in nodes:
         values = (given(node, things, before) for node in nodes)

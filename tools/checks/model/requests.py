@@ -1,4 +1,4 @@
-"""What each request comes to. It refuses before it changes anything, and gives the reply's body."""
+"""The effect of each request: checks that precede any change, and the body of the reply."""
 
 import struct
 from collections import namedtuple
@@ -63,7 +63,7 @@ def create_min_max(limits, state):
 
 
 def any_image_in(context, cell):
-    """The image or the virtual image that a reference names."""
+    """Returns the image or the virtual image of a reference."""
     thing = found(context, cell)
     refuse_if(thing is None, INVALID_REFERENCE)
     refuse_if(not is_of_kind(thing, Image), INVALID_TYPE)
@@ -72,7 +72,7 @@ def any_image_in(context, cell):
 
 
 def image_in(context, cell):
-    """The image that a reference names."""
+    """Returns the image of a reference."""
     thing = any_image_in(context, cell)
     refuse_if(isinstance(thing, VirtualImage), OPTIMIZED_AWAY)
     return thing
@@ -123,7 +123,7 @@ def release(_, state, name):
 
 
 def object_of(context, name, kind):
-    """The object of that name, which is to be of a kind."""
+    """Returns the object of that name, which must be of a kind."""
     thing = found(context, Cell(name, NO_SLOT))
     refuse_if(thing is None, INVALID_REFERENCE)
     refuse_if(not isinstance(thing, kind), INVALID_TYPE)
@@ -186,7 +186,7 @@ def take_node(fields):
     return Node(function, border, policy, amount, cells)
 
 
-# An operand of a request: its cell, what is found there, and the kind that is wanted.
+# An operand of a request: its cell, the object found there, and the required kind.
 Operand = namedtuple("Operand", "cell thing kind")
 
 
@@ -204,7 +204,7 @@ def is_of_other_kind(operands):
 
 
 def is_of_other_graph(operands):
-    """The graph is an operand too, and the first."""
+    """The graph is the first operand."""
     graph = operands[0].cell.name
     return any(isinstance(thing, VirtualImage) and thing.graph != graph for _, thing, _ in operands)
 
@@ -217,7 +217,7 @@ def names_virtual(operands):
     return any(isinstance(thing, VirtualImage) for _, thing, _ in operands)
 
 
-# Each is tried on all operands before the next.
+# Each check runs on all operands before the next check.
 ADD_NODE_REFUSALS = (
     (names_nothing, INVALID_REFERENCE),
     (is_of_other_kind, INVALID_TYPE),
@@ -270,7 +270,7 @@ def remove_node(_, state, name, number):
 
 
 def verified(limits, context, nodes):
-    """What the cells of some nodes hold, on which the verdict is SUCCESS."""
+    """Returns the contents of the cells of nodes whose verdict is SUCCESS."""
     things = {cell: held(context, cell) for node in nodes for cell in cells_of(node)}
     code = verdict(nodes, things, limits.work)
     refuse_if(code != SUCCESS, code)
@@ -331,7 +331,7 @@ def register_auto_aging(_, state, name, delay):
 
 
 def age_registered(context, name):
-    """After a run of the graph of that name: each of its delays that is still held ages once."""
+    """Ages each delay of the graph that still exists, after a run."""
     for delay in context.objects[name].delays:
         if delay in context.objects:
             context.objects[delay] = aged(context.objects[delay])

@@ -1,12 +1,11 @@
-"""What one client has: its limits, its objects, and what is charged."""
+"""The state of one client: limits, objects, and charges."""
 
 from collections import namedtuple
 
 from checks.model.functions import Delay, Image, VirtualImage, object_bytes
 from checks.model.graphs import cells_of
 
-# The ops that the program knows. Every other is answered INVALID_PARAMETERS, also where it has a
-# row in REQUESTS.
+# The ops of the protocol. All others get INVALID_PARAMETERS, even if they have a row in REQUESTS.
 STANDING = {*range(1, 28)}
 
 OPEN_CONTEXT, RELEASE_CONTEXT, CREATE_IMAGE, QUERY_IMAGE, WRITE_IMAGE = 1, 2, 3, 4, 5
@@ -18,15 +17,15 @@ CREATE_GRAPH, CREATE_VIRTUAL_IMAGE, ADD_NODE, REMOVE_NODE = 18, 19, 20, 21
 VERIFY_GRAPH, PROCESS_GRAPH = 22, 23
 IMMEDIATE, CREATE_DELAY, AGE_DELAY, REGISTER_AUTO_AGING = 24, 25, 26, 27
 
-# What one client may hold: sample bytes of its images and its delays, objects and graphs, and the
-# greatest name. What one graph may have: sample bytes of the virtual images that it writes, nodes,
-# and the greatest number of a node.
+# Limits of a client: sample bytes of its images and delays, objects and graphs, and the greatest
+# name. Limits of a graph: sample bytes of the virtual images that it writes, nodes, and the
+# greatest node number.
 Limits = namedtuple("Limits", "quota objects names work nodes numbers")
 LIMITS = Limits(268_435_456, 1024, 4_294_967_295, 268_435_456, 256, 4_294_967_295)
 
 
 class Refused(Exception):
-    """A request is refused with a code. Nothing was changed before."""
+    """The refusal of a request, with its code. The state is unchanged."""
 
     def __init__(self, code):
         super().__init__(code)
@@ -40,39 +39,38 @@ def refuse_if(applies, code):
 
 # ---- a client's state
 
-# An object or a graph, with NO_SLOT, or the image in a slot of a delay.
+# An object or a graph (with NO_SLOT), or the image in a slot of a delay.
 Cell = namedtuple("Cell", "name slot")
 NO_SLOT = 255
 
-# The nodes by their numbers, in the order of adding; and the names of the delays that were
-# registered to age after its runs, some of which may be gone.
+# The nodes by number, in the order of adding, and the names of delays registered for ageing after a
+# run. Some of those may be gone.
 Graph = namedtuple("Graph", "next_number nodes delays")
 NO_NODES = Graph(1, {}, frozenset())
 
 
 class Context:
-    """The next name; the objects and graphs that are held, by their names; and which of these names
-    aren't live."""
+    """The next name, the existing objects and graphs by name, and the released names among them."""
 
     def __init__(self):
         self.next_name, self.objects, self.released = 1, {}, set()
 
 
 class State:
-    """One client's state: its context, or None."""
+    """The state of one client: its context, or None."""
 
     def __init__(self):
         self.context = None
 
 
-# What a cell holds where its delay has no such slot, and where it is a slot of an object that is no
+# The contents of a cell whose delay has no such slot, and of a slot of an object that isn't a
 # delay.
 NO_SUCH_SLOT, NO_DELAY = "a slot that isn't there", "a slot of no delay"
 
 
 def held(context, cell):
-    """An object, the image in a slot of a delay, or one of the two above; None where nothing is
-    held by that name."""
+    """Returns an object, the image in a slot of a delay, one of the two values above, or None if no
+    object has the name."""
     thing = context.objects.get(cell.name)
     if thing is None or cell.slot == NO_SLOT:
         return thing
@@ -86,12 +84,12 @@ def is_live(context, name):
 
 
 def found(context, cell):
-    """What a request finds in a cell: None where its name isn't live."""
+    """Returns the object that a request finds in a cell, or None if its name isn't live."""
     return held(context, cell) if is_live(context, cell.name) else None
 
 
 def put(context, cell, value):
-    """Puts an object, or an image in a slot, in the place of the one that a cell holds."""
+    """Replaces the object, or the image in a slot, of a cell."""
     thing = context.objects[cell.name]
     if isinstance(thing, Delay):
         value = Delay(thing.images[: cell.slot] + (value,) + thing.images[cell.slot + 1 :])
@@ -99,7 +97,7 @@ def put(context, cell, value):
 
 
 def is_of_kind(thing, kind):
-    """Whether what a cell holds is of a kind. A virtual image is an image, and so is any slot of a
+    """Checks the kind of a cell's object. A virtual image is an image, and so is any slot of a
     delay."""
     if kind is Image and (thing is NO_SUCH_SLOT or isinstance(thing, VirtualImage)):
         return True
@@ -107,7 +105,7 @@ def is_of_kind(thing, kind):
 
 
 def names_used(context):
-    """The names in the nodes of the graphs that aren't released."""
+    """Returns the names in the nodes of unreleased graphs."""
     graphs = [thing for name, thing in context.objects.items()
               if isinstance(thing, Graph) and is_live(context, name)]
     return {cell.name for graph in graphs for node in graph.nodes.values()
@@ -115,7 +113,7 @@ def names_used(context):
 
 
 def forget(context):
-    """Drops what isn't held any more: its name isn't live, and no node uses it."""
+    """Drops objects that are released and that no node uses."""
     for name in context.released - names_used(context):
         context.released.remove(name)
         del context.objects[name]

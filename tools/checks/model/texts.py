@@ -1,4 +1,4 @@
-"""PGM texts: their grammar, and the pictures that they spell."""
+"""PGM texts: their grammar, and the pictures that they encode."""
 
 import re
 import struct
@@ -16,14 +16,14 @@ GREATEST_MAXVAL = 32767
 
 
 def number_of(digits):
-    """The number; a billion for one of more digits, since no limit is as great."""
+    """Returns the number, or a billion for ten or more digits, because no limit is that high."""
     digits = digits.lstrip(b"0")
     return int(digits or b"0") if len(digits) < 10 else 10**9
 
 
 def header_of(text):
-    """Its magic, its three numbers, and what follows them; with P5 a whitespace byte is still the
-    header's."""
+    """Returns the magic, the three numbers and the rest; with P5 the header includes one whitespace
+    byte."""
     header = re.match(HEADER, text)
     refuse_if(header is None, INVALID_FORMAT)
     magic, rest = header[1], text[header.end() :]
@@ -34,13 +34,14 @@ def header_of(text):
 
 
 def raster_samples(raster, fmt, count):
-    """The samples after P5's header, which take one byte or two."""
+    """Parses the samples after P5's header, of one or two bytes each."""
     refuse_if(len(raster) != count * sample_bytes(fmt), INVALID_FORMAT)
     return struct.unpack(f">{count}{'B' if fmt == U8 else 'H'}", raster)
 
 
 def plain_samples(rest, count):
-    """The samples after P2's header: each is a gap and a number, and a gap may follow the last."""
+    """Parses the samples after P2's header. Each is a gap and a number, and a gap may follow the
+    last."""
     refuse_if(re.fullmatch(PLAIN_RASTER, rest) is None, INVALID_FORMAT)
     numbers = re.sub(COMMENT, b" ", rest).split()
     refuse_if(len(numbers) != count, INVALID_FORMAT)
@@ -48,7 +49,7 @@ def plain_samples(rest, count):
 
 
 def picture_of(text):
-    """The picture of a PGM text, whose first fault refuses it."""
+    """Returns the picture of a PGM text, or refuses it with its first fault."""
     magic, (width, height, maxval), rest = header_of(text)
     are_sides = 1 <= width <= GREATEST_SIDE and 1 <= height <= GREATEST_SIDE
     refuse_if(not are_sides, INVALID_DIMENSION)
@@ -60,5 +61,5 @@ def picture_of(text):
 
 
 def text_of(image):
-    """The PGM text of an image of U8."""
+    """Returns the PGM text of a U8 image."""
     return b"P5\n%d %d\n255\n" % (image.width, image.height) + bytes(image.samples)

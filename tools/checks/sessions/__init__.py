@@ -1,5 +1,5 @@
-"""Sessions of clients: requests, and the code or the body of each reply, written from
-docs/wire.md."""
+"""Sessions of clients, written from docs/wire.md: requests, with the code or the body of each
+reply."""
 
 from functools import partial
 
@@ -25,7 +25,7 @@ from checks.sessions.texts import (
     faulty_pgm_texts, pgm_images, pgm_texts, refusals_of_texts, sizes_of_texts)
 from checks.sessions.windows import convolutions, two_outputs, windows, windows_beside_the_valid
 
-# The name of a session without graphs, and what gives its rows.
+# The name of a session without graphs, and the function that returns its rows.
 SESSIONS = (
     ("clients have their own", clients_have_their_own),
     ("without a context", without_context),
@@ -74,7 +74,7 @@ SESSIONS = (
         (U8, 1), (S16, 2), (U32, 4))),
     ("sizes of PGM texts", sizes_of_texts),
 )
-# Whatever Immediate runs or refuses in these, a graph of that node does too.
+# A graph of the same node gives the same result as Immediate in these sessions.
 BY_GRAPHS = (
     nodes_that_run, counts_and_tables, refusals_of_nodes, valid_outputs, valid_in_delays, delays,
     nodes_on_slots, refusals_of_slots, windows, windows_beside_the_valid, convolutions, two_outputs,
@@ -84,7 +84,7 @@ BY_GRAPHS = (
 
 
 def sessions():
-    """The names and the rows of all sessions."""
+    """Yields the names and the rows of all sessions."""
     for words, rows in SESSIONS:
         yield words, rows()
     yield from graphs.sessions()

@@ -1,4 +1,4 @@
-"""Sessions on Accumulate and AccumulateSquare, which add to what their output holds."""
+"""Sessions on Accumulate and AccumulateSquare, which add to the prior contents of their output."""
 
 from feqyldan.wire import (
     ACCUMULATE, ACCUMULATE_SQUARE, INVALID_DIMENSION, INVALID_FORMAT, INVALID_GRAPH,
@@ -12,8 +12,8 @@ LEFT, RIGHT = (0, 0, 2, 1), (2, 0, 4, 1)
 
 
 def adding(sample, *sums, function=ACCUMULATE, **beside):
-    """Nodes that run one after another, of a sample in image 1, where image 2 holds the first of
-    the sums before them and the next one after each."""
+    """Nodes that run in turn on a sample of image 1. Image 2 has the first sum before them, and the
+    next one after each."""
     return [wrote(1, U8, [sample]), wrote(2, S16, sums[:1]),
             *(row for after in sums[1:]
               for row in (ran(function, 1, None, 2, **beside), holds(2, S16, [after]))),
@@ -32,19 +32,19 @@ def sums():
         *adding(255, -100, 155, 410), *adding(1, -1, 0, 1, 2),
         *squaring(255, 0, 0, 32767, 32767), *squaring(255, 1, 0, 32512, 32767),
         *squaring(255, 15, -32768, -32767, -32766), *squaring(255, 0, -32768, 32257, 32767),
-        # A square is rounded down, and only then added.
+        # A square is rounded down, and then added.
         *squaring(3, 1, 0, 4, 8), *squaring(3, 1, 1, 5), *squaring(181, 15, 7, 7),
         *squaring(182, 15, 7, 8), *squaring(255, 14, -1, 2, 5), *squaring(16, 8, 0, 1, 2),
         *squaring(15, 8, 0, 0), *squaring(0, 0, -9, -9),
-        # A border makes no difference.
+        # The border mode makes no difference.
         *adding(7, 1, 8, 15, **REPLICATE), *adding(7, 1, 8, 15, **constant(255)),
-        # In slots of a delay, from which what was added comes to the next ones.
+        # In delay slots: one slot's sums are added to the next one.
         delayed(3, 2, 2), *in_slots(wrote, 3, S16, [1, 2]),
         ran(ACCUMULATE, 1, None, reference(3, 0)), *in_slots(holds, 3, S16, [8, 2]), aged(3),
         ran(ACCUMULATE, 1, None, reference(3, 0)), *in_slots(holds, 3, S16, [9, 8]),
         delayed(4, 1, 2), *in_slots(wrote, 4, U8, [20, 30]),
         ran(ACCUMULATE_SQUARE, reference(4, 1), None, 2, amount=1), holds(2, S16, [465]),
-        # A new image is 0, and so is one that was written so.
+        # A new image is 0, and so is one that was written with 0.
         made(5, S16), ran(ACCUMULATE, 1, None, 5), holds(5, S16, [7]), wrote(5, S16, [0]),
         ran(ACCUMULATE_SQUARE, 1, None, 5), holds(5, S16, [49]), ran(ACCUMULATE, 1, None, 5),
         holds(5, S16, [56]), holds(2, S16, [465]),
@@ -52,20 +52,20 @@ def sums():
 
 
 def sums_beside_the_valid():
-    """1 is an image of four U8 samples in a row, 2 of S16. A sum is valid where both are that it is
-    made of, and 0 elsewhere."""
+    """1 is an image of four U8 samples in a row, 2 of S16. A sum is valid in the intersection of
+    the rectangles, and 0 elsewhere."""
     return [
         opened(), made(1, U8, 4), made(2, S16, 4), wrote(1, U8, TEN_TO_FORTY, 4), confined(1, LEFT),
         wrote(2, S16, [1, 2, 3, 4], 4), ran(ACCUMULATE, 1, None, 2),
         *shows(2, S16, [11, 22, 0, 0], LEFT, 4), *shows(1, U8, [10, 20, 0, 0], LEFT, 4),
         ran(ACCUMULATE, 1, None, 2), *shows(2, S16, [21, 42, 0, 0], LEFT, 4),
-        # What isn't valid stays so, whatever is added, until it is written or made so.
+        # Invalid samples stay invalid, whatever is added, until they are written or made valid.
         wrote(1, U8, TEN_TO_FORTY, 4), ran(ACCUMULATE, 1, None, 2),
         *shows(2, S16, [31, 62, 0, 0], LEFT, 4), confined(2, MIDDLE),
         ran(ACCUMULATE_SQUARE, 1, None, 2, amount=2), *shows(2, S16, [0, 162, 225, 0], MIDDLE, 4),
         confined(2, WHOLE_ROW), ran(ACCUMULATE, 1, None, 2),
         *shows(2, S16, [10, 182, 255, 40], WHOLE_ROW, 4),
-        # Two that touch, and one that is empty.
+        # Two adjacent rectangles, and an empty one.
         *(row for one, other in ((LEFT, RIGHT), (RIGHT, LEFT), (WHOLE_ROW, NOWHERE),
                                  (NOWHERE, WHOLE_ROW), (NOWHERE, NOWHERE))
           for function in (ACCUMULATE, ACCUMULATE_SQUARE)
@@ -86,12 +86,12 @@ def sums_beside_the_valid():
 
 def refusals_of_sums():
     """1 and 2 are images of one U8 sample, 3 and 4 of S16, 5 of U32, 6 of two S16; 7 is a table, 8
-    a delay of images of S16; there is no 9. What is refused adds nothing."""
+    a delay of S16 images; 9 doesn't exist. A refused request adds nothing."""
     refused = (
         (9, 3, INVALID_REFERENCE), (1, 9, INVALID_REFERENCE), (7, 9, INVALID_REFERENCE),
         (1, 7, INVALID_TYPE), (7, 3, INVALID_TYPE), (1, 8, INVALID_TYPE),
         (reference(1, 0), 3, INVALID_TYPE), (1, reference(8, 2), INVALID_VALUE),
-        # What is read and written before formats, and what is added to isn't read.
+        # INVALID_GRAPH before formats if the input is also the output.
         (1, 1, INVALID_GRAPH), (3, 3, INVALID_GRAPH),
         (reference(8, 1), reference(8, 1), INVALID_GRAPH),
         (1, 2, INVALID_FORMAT), (1, 5, INVALID_FORMAT), (3, 4, INVALID_FORMAT),

@@ -1,4 +1,4 @@
-"""Sessions of several clients, and of contexts that are opened and released."""
+"""Sessions of several clients, and of opened and released contexts."""
 
 from feqyldan import wire
 from feqyldan.wire import (
@@ -18,14 +18,14 @@ def on_objects():
 
 
 def clients_have_their_own():
-    """Objects of one name, of three clients."""
+    """Three clients whose objects have the same names."""
     return [
         *(row for client, sample in ((1, 10), (7, 20)) for row in (
             opened(client), made(1, U8, client=client), wrote(1, U8, [sample], client=client))),
         (wire.create_lut(1, U8, range(256)), name(2)),
         ran(12, 1, 2, 1, INVALID_REFERENCE),
         holds(1, U8, [10], client=1), holds(1, U8, [20]),
-        # Their numbers have two bytes.
+        # Client numbers have two bytes.
         closed(256 + CLIENT, INVALID_REFERENCE), opened(256 + CLIENT),
         (wire.read_image(256 + CLIENT, 1), INVALID_REFERENCE), made(1, S16, client=256 + CLIENT),
         holds(1, U8, [20]),
@@ -33,7 +33,7 @@ def clients_have_their_own():
 
 
 def without_context():
-    """Before a context is opened, bodies are read, and nothing is there."""
+    """Without a context, bodies are checked, and no name is valid."""
     return [
         opened(8), made(1, U8, client=8),
         *((request, INVALID_REFERENCE)
@@ -52,7 +52,7 @@ def without_context():
 
 
 def contexts_released():
-    """A released context leaves none, and the next one has no object and starts at name 1; other
+    """After a release there is no context. The next one has no objects and starts at name 1. Other
     clients keep theirs."""
     return [
         closed(8, INVALID_REFERENCE), opened(), opened(8), made(1, U8), made(2, S16),
@@ -77,7 +77,7 @@ def contexts_released():
 
 
 def first_names(request):
-    """A create that is first in a context, and the first again in the next one."""
+    """A create that comes first in a context, and first again in the next context."""
     return [
         (request, INVALID_REFERENCE), opened(), (wire.open_context(CLIENT), INVALID_VALUE),
         (request, name(1)), closed(), opened(), (request, name(1)),

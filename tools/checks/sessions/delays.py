@@ -10,8 +10,8 @@ from checks.sessions.rows import (
 
 
 def delays():
-    """Slots hold what was written to them, and each image comes to the next slot when its delay
-    ages."""
+    """A slot keeps what was written to it. When the delay ages, each image moves to the next
+    slot."""
     return [
         opened(), made(1, U8), wrote(1, U8, [9]), delayed(2, 1, 3),
         *in_slots(holds, 2, U8, [0, 0, 0]), holds(1, U8, [9]), *in_slots(wrote, 2, U8, [1, 2, 3]),
@@ -20,8 +20,8 @@ def delays():
         holds(1, U8, [254]), (wire.read_image(CLIENT, reference(2, 3)), INVALID_VALUE),
         (wire.read_image(CLIENT, 2), INVALID_TYPE),
         (wire.read_image(CLIENT, reference(1, 0)), INVALID_TYPE),
-        # What is written into slot 0 is in slot -1 thereafter; after as many times as there are
-        # slots all is as it was.
+        # The image written to slot 0 is then in slot -1. After as many ageings as slots, all images
+        # are back.
         wrote(reference(2, 0), U8, [4]), aged(2), *in_slots(holds, 2, U8, [2, 4, 1]),
         aged(2), *in_slots(holds, 2, U8, [1, 2, 4]), aged(2), aged(2),
         *in_slots(holds, 2, U8, [2, 4, 1]),
@@ -31,7 +31,7 @@ def delays():
         made(4, S16), delayed(5, 4, 16), *in_slots(wrote, 5, S16, range(-8, 8)), aged(5),
         *in_slots(holds, 5, S16, [7, *range(-8, 7)]),
         (wire.read_image(CLIENT, reference(5, 16)), INVALID_VALUE),
-        # Another client's.
+        # Another client's delay.
         opened(8), aged(2, INVALID_REFERENCE, 8), made(1, U8, client=8), delayed(2, 1, 2, 8),
         *in_slots(wrote, 2, U8, [6, 7], 8), aged(2, client=8), *in_slots(holds, 2, U8, [7, 6], 8),
         *in_slots(holds, 2, U8, [2, 4, 1]),
@@ -40,7 +40,7 @@ def delays():
         wrote(reference(7, 1), U32, range(9, 15), 3, 2), aged(7),
         holds(reference(7, 0), U32, range(9, 15), 3, 2),
         holds(reference(7, 1), U32, range(6), 3, 2),
-        # A delay that is released is gone with its slots, and its name with it.
+        # A released delay is gone with its slots, and its name with it.
         released(2), aged(2, INVALID_REFERENCE), released(2, INVALID_REFERENCE),
         (wire.read_image(CLIENT, 2), INVALID_REFERENCE),
         (wire.read_image(CLIENT, reference(2, 0)), INVALID_REFERENCE), delayed(8, 1, 2),
@@ -49,8 +49,8 @@ def delays():
 
 
 def delays_as_exemplars():
-    """A delay is made after an image, or after one in a slot, whose samples don't count, and which
-    may be gone later."""
+    """Exemplars of delays: an image, and an image in a slot. Their samples don't count, and they
+    may be released later."""
     return [
         opened(), made(1, S16, 2), wrote(1, S16, [7, -7], 2), delayed(2, 1, 2),
         wrote(reference(2, 1), S16, [1, 2], 2), delayed(3, reference(2, 1), 3),
@@ -62,7 +62,7 @@ def delays_as_exemplars():
 
 
 def nodes_on_slots():
-    """1 is an image of one U8 sample, 2 a delay of two, whose slots are as different as two
+    """1 is an image of one U8 sample, 2 a delay of two slots, which are as separate as two
     images."""
     now, before = reference(2, 0), reference(2, 1)
     return [
@@ -82,11 +82,11 @@ def nodes_on_slots():
 
 
 def refusals_of_slots():
-    """1 is an image of one U8 sample, 2 a delay of two; 3 is a table, 4 a threshold of U8, 5 an
-    image of S16; there is no 9."""
+    """1 is an image of one U8 sample, 2 a delay of two slots; 3 is a table, 4 a threshold of U8, 5
+    an image of S16; 9 doesn't exist."""
     slot, missing = reference(2, 0), reference(2, 2)
     of_image, of_table, of_threshold = reference(1, 0), reference(3, 0), reference(4, 0)
-    # What names no image, and the code that tells it.
+    # References that are not images, with their codes.
     named = ((9, INVALID_REFERENCE), (reference(9, 2), INVALID_REFERENCE), (2, INVALID_TYPE),
              (3, INVALID_TYPE), (4, INVALID_TYPE), (of_image, INVALID_TYPE),
              (reference(1, 254), INVALID_TYPE),
@@ -109,12 +109,12 @@ def refusals_of_slots():
         ran(4, 2, None, 9, INVALID_REFERENCE),
         *(ran(4, missing, None, of, INVALID_TYPE) for of in (2, 3, of_image)),
         *(ran(4, of, None, missing, INVALID_TYPE) for of in (2, 3, of_image)),
-        # A slot is an image, whether or not it is there.
+        # A reference to a slot counts as an image, even if the slot doesn't exist.
         *(ran(function, 1, of, slot, INVALID_TYPE) for function in (11, 12)
           for of in (slot, missing, 2, of_table, of_threshold)),
         ran(12, missing, missing, 1, INVALID_TYPE), ran(12, missing, 3, 1, INVALID_VALUE),
         ran(11, slot, 4, missing, INVALID_VALUE),
-        # Slots before all that follows.
+        # Slots before all later checks.
         ran(4, missing, None, missing, INVALID_VALUE), ran(1, slot, missing, slot, INVALID_VALUE),
         ran(4, 5, None, missing, INVALID_VALUE), ran(4, missing, None, 5, INVALID_VALUE),
         ran(4, slot, None, 5, INVALID_FORMAT), ran(13, slot, None, 5),

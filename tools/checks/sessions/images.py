@@ -1,5 +1,5 @@
-"""Sessions on images and on how many objects there are: what is written and read, also in bodies of
-more than 64 bytes, released objects, full contexts, and pictures of all sizes."""
+"""Sessions on images and on the number of objects: written and read samples, also in bodies of more
+than 64 bytes, released objects, full contexts, and pictures of all sizes."""
 
 from feqyldan import wire
 from feqyldan.wire import (
@@ -13,7 +13,7 @@ from checks.sessions.texts import raw
 
 
 def pictures():
-    """What is written is read, until something else is."""
+    """A read returns the last written samples."""
     return [
         opened(), made(1, U8, 3, 1), made(2, S16, 1, 3), made(3, U32, 2, 1),
         wrote(1, U8, [7, 0, 255], 3, 1), wrote(2, S16, [-2, -32768, 258], 1, 3),
@@ -24,8 +24,8 @@ def pictures():
 
 
 def pictures_in_long_bodies():
-    """Pictures and texts in bodies of more than 64 bytes, each over another of its image; what is
-    refused, of a body as long, leaves what was there."""
+    """Pictures and texts in bodies of more than 64 bytes, each replacing the contents of its image.
+    A refused body of the same length changes nothing."""
     sizes = (1, U8, 13, 5), (2, S16, 7, 5), (3, U32, 5, 4)
     rows = [opened(), *(made(*image) for image in sizes)]
     for seed in 1, 2:
@@ -39,7 +39,7 @@ def pictures_in_long_bodies():
                  (1, picture(U8, 5, 13, [9] * 65), INVALID_DIMENSION),
                  (1, body + b"\x09", INVALID_PARAMETERS))]
     text = raw(13, 5, samples_from(3, U8, 13, 5))
-    # The last sample is above the greatest.
+    # The last sample is above maxval.
     faulty = b"P5\n13 5\n254\n" + bytes(64) + b"\xff"
     return [
         *rows, holds(1, U8, samples_from(2, U8, 13, 5), 13, 5), wrote_text(1, text),
@@ -53,7 +53,7 @@ def samples_from(seed, fmt, width, height):
 
 
 def refusals_of_pictures():
-    """WriteImage and ReadImage of what isn't an image of that format and size."""
+    """WriteImage and ReadImage of an image of another format or size, and of other objects."""
     return [
         opened(), made(1, U8), (TURNED, name(2)),
         *((wire.write_image(CLIENT, to, fmt, width, 1, bytes([10]) * width * fmt), code)
@@ -81,7 +81,7 @@ def refusals_beside_one_image():
 
 
 def sides():
-    """An image has from 1 to 8192 columns and rows, and so has a virtual image of a graph."""
+    """An image has from 1 to 8192 columns and rows, and so has a virtual image."""
     pairs = (0, 1), (1, 0), (8193, 1), (1, 8193), (8193, 8193), (16384, 1), (1, 65535)
     rows = [
         opened(), made(1, U8, 8192), made(2, U8, 1, 8192), made(3, S16, 4097),
@@ -92,7 +92,7 @@ def sides():
           for pair in pairs if 0 not in pair),
         told(6, U8, NOWHERE, 8192, 8192),
     ]
-    # The last place of a row, and of a column.
+    # The last pixel of a row, and of a column.
     samples, last = [7] * 8191 + [9], [0] * 8191 + [9]
     for number, size, place, beyond in (
         (1, (8192, 1), (8191, 0, 8192, 1), (0, 0, 8193, 1)),
@@ -105,7 +105,7 @@ def sides():
 
 
 def objects_released():
-    """Whatever is released is gone, and its name with it; what else there is stays."""
+    """A released object is gone with its name. All others stay."""
     return [
         opened(), made(1, U8), made(2, U8), (TURNED, name(3)), (threshold(U8), name(4)), opened(8),
         made(1, U8, client=8), wrote(1, U8, [204]), wrote(2, U8, [170]),
@@ -117,7 +117,7 @@ def objects_released():
         holds(2, U8, [170]), holds(1, U8, [0], client=8), ran(12, 2, 3, 1, INVALID_REFERENCE),
         made(5, U8), holds(5, U8, [0]), ran(12, 2, 3, 5), holds(5, U8, [85]), ran(11, 2, 4, 5),
         holds(5, U8, [7]),
-        # A table and a threshold; then the newest object, whose name isn't used again either.
+        # A table and a threshold; then the newest object, whose name isn't reused either.
         released(3), ran(12, 2, 3, 5, INVALID_REFERENCE), ran(11, 2, 4, 5), released(4),
         ran(11, 2, 4, 5, INVALID_REFERENCE), released(5), made(6, S16),
         (wire.read_image(CLIENT, 5), INVALID_REFERENCE), holds(6, S16, [0]),
@@ -133,14 +133,14 @@ def full_context():
         (SAME, name(5)), (THIRDS, name(6)), (EXTREMES, name(7)),
         *(made(number, U8) for number in range(8, 1025)),
         *((request, NO_RESOURCES) for request in (*CREATES, wire.create_delay(CLIENT, 3, 1))),
-        # What is wrong with the exemplar is told before.
+        # A fault of the exemplar has precedence.
         (wire.create_delay(CLIENT, reference(4, 16), 1), INVALID_VALUE),
         opened(8), made(1, U8, client=8), holds(1024, U8, [0]),
         (wire.read_image(CLIENT, 1025), INVALID_REFERENCE), released(1), (TURNED, name(1025)),
         (threshold(U8), NO_RESOURCES), released(1024), released(3), made(1026, U8), made(1027, U8),
         (TURNED, NO_RESOURCES), holds(1027, U8, [0]),
         (wire.read_image(CLIENT, 1024), INVALID_REFERENCE),
-        # A delay leaves one place, however many slots it has.
+        # A delay counts as one object, however many slots it has.
         released(4), delayed(1028, 1027, 2), (TURNED, NO_RESOURCES), released(1028), made(1029, U8),
         (TURNED, NO_RESOURCES),
     ]
@@ -156,12 +156,12 @@ def full_of_extremes():
 
 
 def sizes(fmt, size):
-    """Pictures whose bodies, with 10 bytes before the samples, are about 64 bytes and about a
+    """Pictures whose bodies, with 10 bytes before the samples, have about 64 bytes and about a
     buffer of 65,536."""
     rows, number = [opened()], 0
     shapes = [((body - 10) // size, 1) for body in range(56, 73, size)]
     # Of 65,535 and 65,536 samples, 32,767 and 32,768, 16,383 and 16,384; the longest row and
-    # column; and a large one.
+    # column; and a large picture.
     shapes += [(3855, 17), (4096, 16), (1057, 31), (4096, 8), (381, 43), (4096, 4), (8192, 1),
                (1, 8192), (1500, 2), (641, 479)]
     for width, height in shapes:

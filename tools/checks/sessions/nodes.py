@@ -1,4 +1,4 @@
-"""Sessions on the nodes of Immediate: those that run, and those that are refused."""
+"""Sessions on the nodes of Immediate, both successful and refused."""
 
 from feqyldan import wire
 from feqyldan.wire import (
@@ -41,7 +41,7 @@ def counts_and_tables():
 
 def refusals_of_nodes():
     """1 and 6 are images of one U8 sample, 2 one of S16, 3 of two U8; 4 is a table, 5 a threshold
-    of S16; there is no 9."""
+    of S16; 9 doesn't exist."""
     slot = reference(1, 0)
     return [
         opened(), made(1, U8), made(2, S16), made(3, U8, 2), (TURNED, name(4)),
@@ -50,12 +50,12 @@ def refusals_of_nodes():
         ran(4, slot, None, 9, INVALID_REFERENCE), ran(4, 9, None, slot, INVALID_REFERENCE),
         ran(4, slot, None, slot, INVALID_TYPE), ran(4, 1, None, slot, INVALID_TYPE),
         ran(12, 4, 9, 5, INVALID_REFERENCE),
-        # Kinds before all that follows.
+        # Kinds before all later checks.
         ran(12, 4, 4, 4, INVALID_TYPE), ran(12, 1, 4, 4, INVALID_TYPE),
         ran(12, 1, 6, 1, INVALID_TYPE), ran(12, 1, 5, 1, INVALID_TYPE),
         ran(11, 2, 6, 2, INVALID_TYPE), ran(11, 2, 4, 2, INVALID_TYPE),
         ran(1, 1, 5, 1, INVALID_TYPE),
-        # What is read and written before formats.
+        # An input that is also an output, before formats.
         ran(4, 1, None, 1, INVALID_GRAPH), ran(4, 2, None, 2, INVALID_GRAPH),
         ran(1, 1, 2, 2, INVALID_GRAPH), ran(1, 1, 6, 6, INVALID_GRAPH),
         # Formats before sizes.

@@ -16,25 +16,26 @@ def valid_rectangles():
         confined(1, MIDDLE),
         (wire.query_image(CLIENT, 1), bytes.fromhex("01 00 04 00 01 00 01 00 00 00 03 00 01")),
         *shows(1, U8, [0, 20, 30, 0], MIDDLE, 4),
-        # The same once more changes nothing; an output is valid where its input is, which stays as
-        # it is.
+        # A repetition changes nothing. An output is valid where its input is, and the input is
+        # unchanged.
         confined(1, MIDDLE), *shows(1, U8, [0, 20, 30, 0], MIDDLE, 4),
         ran(4, 1, None, 2), *shows(2, U8, [0, 235, 225, 0], MIDDLE, 4),
         *shows(1, U8, [0, 20, 30, 0], MIDDLE, 4),
-        # What is valid again is 0.
+        # Pixels that become valid again are 0.
         confined(1, WHOLE_ROW), *shows(1, U8, [0, 20, 30, 0], WHOLE_ROW, 4), ran(4, 1, None, 2),
         *shows(2, U8, [255, 235, 225, 255], WHOLE_ROW, 4),
-        # Another place of as many; beyond the image, which changes nothing; and none.
+        # A rectangle of the same size elsewhere; one beyond the image, which changes nothing; and
+        # the empty one.
         confined(1, (2, 0, 4, 1)), *shows(1, U8, [0, 0, 30, 0], (2, 0, 4, 1), 4),
         confined(1, (0, 0, 5, 1), INVALID_VALUE), *shows(1, U8, [0, 0, 30, 0], (2, 0, 4, 1), 4),
         confined(1, NOWHERE), *shows(1, U8, [0] * 4, NOWHERE, 4), ran(4, 1, None, 2),
         *shows(2, U8, [0] * 4, NOWHERE, 4), confined(1, WHOLE_ROW),
         *shows(1, U8, [0] * 4, WHOLE_ROW, 4),
-        # What is written is wholly valid, also where nothing was.
+        # A written image is wholly valid, even after the empty rectangle.
         confined(2, (3, 0, 4, 1)), wrote(2, U8, TEN_TO_FORTY, 4),
         *shows(2, U8, TEN_TO_FORTY, WHOLE_ROW, 4), confined(2, NOWHERE),
         wrote(2, U8, TEN_TO_FORTY, 4), *shows(2, U8, TEN_TO_FORTY, WHOLE_ROW, 4),
-        # Each client's are its own.
+        # Each client has its own rectangles.
         opened(8), made(1, U8, 4, client=8), confined(1, MIDDLE, client=8),
         confined(2, MIDDLE, INVALID_REFERENCE, 8), told(1, U8, MIDDLE, 4, client=8),
         told(1, U8, WHOLE_ROW, 4),
@@ -55,11 +56,11 @@ def valid_blocks():
 
         rows += [made(number, fmt, 4, 3), wrote(number, fmt, samples, 4, 3),
                  *kept((0, 0, 4, 3), *range(12))]
-        # Two that have two places in both, and a third that has none of these.
+        # Two rectangles that share two pixels, and a third one apart from these.
         for valid, places in (((0, 1, 3, 3), (4, 5, 6, 8, 9, 10)), ((1, 0, 4, 2), (5, 6)),
                               ((3, 2, 4, 3), ())):
             rows += [confined(number, valid), *kept(valid, *places)]
-        # The last place, the first, a row and a column.
+        # The last pixel, the first, a row and a column.
         for valid, places in (((3, 2, 4, 3), [11]), ((0, 0, 1, 1), [0]),
                               ((0, 2, 4, 3), range(8, 12)), ((1, 0, 2, 3), (1, 5, 9))):
             rows += [wrote(number, fmt, samples, 4, 3), confined(number, valid),
@@ -68,8 +69,8 @@ def valid_blocks():
 
 
 def valid_outputs():
-    """Outputs are valid where all inputs are, and 0 elsewhere, whatever they held; 5 is a table, 6
-    a threshold."""
+    """Outputs are valid where all inputs are, and 0 elsewhere, whatever their prior contents. 5 is
+    a table, 6 a threshold."""
     first, second = (0, 0, 3, 1), (1, 0, 4, 1)
     rows = [
         opened(), made(1, U8, 4), made(2, U8, 4), made(3, U8, 4), made(4, S16, 4),
@@ -90,7 +91,7 @@ def valid_outputs():
         for old in (WHOLE_ROW, (3, 0, 4, 1), NOWHERE):
             rows += [wrote(out1, fmt, [99] * 4, 4), confined(out1, old),
                      ran(function, 1, in2, out1), *shows(out1, fmt, samples, valid, 4)]
-    # Two that touch, and one that is empty.
+    # Two adjacent rectangles, and an empty one.
     for left, right in (((0, 0, 2, 1), (2, 0, 4, 1)), ((2, 0, 4, 1), (0, 0, 2, 1)),
                         (WHOLE_ROW, NOWHERE), (NOWHERE, (3, 0, 4, 1))):
         rows += [wrote(1, U8, TEN_TO_FORTY, 4), wrote(2, U8, TEN_TO_FORTY, 4), confined(1, left),
@@ -98,7 +99,7 @@ def valid_outputs():
         for function in (1, 2, 3, 5, 6, 7, 8, 9, 10):
             rows += [wrote(3, U8, [99] * 4, 4), ran(function, 1, 2, 3),
                      *shows(3, U8, [0] * 4, NOWHERE, 4)]
-    # Rows and columns, of images that aren't changed by it; and a node that reads one image twice.
+    # Rows and columns of inputs, which are unchanged; and a node that reads one image twice.
     block, one, other = [*range(1, 13)], (0, 0, 3, 2), (1, 1, 4, 3)
     return rows + [
         made(7, U8, 4, 3), made(8, U8, 4, 3), made(9, U8, 4, 3), wrote(7, U8, block, 4, 3),
@@ -112,8 +113,8 @@ def valid_outputs():
 
 
 def valid_in_delays():
-    """1 is an image of four U8 samples in a row, 2 a delay of three; a rectangle goes with its
-    image when the delay ages."""
+    """1 is an image of four U8 samples in a row, 2 a delay of three slots. A rectangle moves with
+    its image when the delay ages."""
     slots, whole = [reference(2, k) for k in range(3)], (TEN_TO_FORTY, WHOLE_ROW)
     part, none = ([0, 20, 30, 0], MIDDLE), ([0] * 4, NOWHERE)
 
@@ -123,19 +124,19 @@ def valid_in_delays():
     return [
         opened(), made(1, U8, 4), wrote(1, U8, TEN_TO_FORTY, 4), confined(1, MIDDLE),
         delayed(2, 1, 3),
-        # The slots are new images, whatever is valid in the exemplar.
+        # The slots are new images, whatever the exemplar's rectangle.
         *show(*[([0] * 4, WHOLE_ROW)] * 3), *(wrote(slot, U8, TEN_TO_FORTY, 4) for slot in slots),
         confined(slots[0], MIDDLE), *show(part, whole, whole), confined(slots[1], NOWHERE),
         *show(part, none, whole), aged(2), *show(whole, part, none), aged(2),
         *show(none, whole, part), aged(2), *show(part, none, whole),
-        # A slot that is written is whole again, and those that are read are as they were.
+        # A written slot is wholly valid again, and slots that are read are unchanged.
         wrote(slots[0], U8, TEN_TO_FORTY, 4), *show(whole, none, whole), ran(4, 1, None, slots[1]),
         *show(whole, ([0, 235, 225, 0], MIDDLE), whole), aged(2),
         *show(whole, whole, ([0, 235, 225, 0], MIDDLE)), ran(1, slots[0], slots[2], slots[1]),
         *show(whole, ([0, 0, 0, 0], MIDDLE), ([0, 235, 225, 0], MIDDLE)),
         confined(slots[0], (0, 0, 1, 1)), ran(2, slots[0], slots[2], 1),
         *shows(1, U8, [0] * 4, NOWHERE, 4),
-        # Another one, made after a slot, and a delay of one.
+        # Another delay, made from a slot, and a delay of one slot.
         delayed(3, slots[2], 1), *shows(reference(3, 0), U8, [0] * 4, WHOLE_ROW, 4),
         wrote(reference(3, 0), U8, TEN_TO_FORTY, 4), confined(reference(3, 0), MIDDLE), aged(3),
         *shows(reference(3, 0), U8, *part, 4),
@@ -144,8 +145,8 @@ def valid_in_delays():
 
 
 def refusals_of_rectangles():
-    """1 is an image of four by two U8 samples, 2 a delay of two; 3 is a table, 4 a threshold; there
-    is no 9."""
+    """1 is an image of four by two U8 samples, 2 a delay of two slots; 3 is a table, 4 a threshold;
+    9 doesn't exist."""
     part = (1, 0, 3, 2)
     named = ((9, INVALID_REFERENCE), (0, INVALID_REFERENCE), (reference(9, 2), INVALID_REFERENCE),
              (2, INVALID_TYPE), (3, INVALID_TYPE), (4, INVALID_TYPE),
@@ -159,7 +160,7 @@ def refusals_of_rectangles():
         *(row for of in (1, reference(2, 1))
           for row in (wrote(of, U8, range(1, 9), 4, 2), confined(of, part))), *left,
         *((wire.query_image(CLIENT, of), code) for of, code in named),
-        # A rectangle that is turned before the image, and the image before one that is beyond it.
+        # An inverted rectangle before the image, and the image before a rectangle beyond it.
         *(confined(of, (2, 0, 1, 1), INVALID_VALUE) for of, _ in named),
         *(confined(of, (0, 0, 5, 3), code) for of, code in named),
         *(confined(of, NOWHERE, code) for of, code in named), *left,

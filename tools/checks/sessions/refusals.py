@@ -1,4 +1,4 @@
-"""Sessions on refusals of what isn't of its kind."""
+"""Sessions on refusals of objects of the wrong kind."""
 
 from feqyldan import wire
 from feqyldan.wire import (
@@ -10,9 +10,9 @@ from checks.sessions.rows import (
     made, name, on_image, opened, ran, shows, threshold, wrote)
 from checks.sessions.windows import ONE_TO_NINE, WHOLE_SQUARE
 
-# 1 and 2 are images of 3 by 3 U8 samples, 3 of S16, 4 of U32, 5 of 2 by 2 of U8; 6 is a table, 7 a
-# threshold, 8 a convolution, 9 a distribution, 10 are extremes; 11 is a delay of two like 1, 12 of
-# two like 3; there is no 99.
+# 1 and 2 are images of 3 by 3 U8 samples, 3 of S16, 4 of U32, 5 of 2 by 2 U8 samples; 6 is a table,
+# 7 a threshold, 8 a convolution, 9 a distribution, 10 extremes; 11 is a delay of two slots like 1,
+# 12 of two like 3; 99 doesn't exist.
 KINDS = (
     opened(), made(1, U8, 3, 3), made(2, U8, 3, 3), made(3, S16, 3, 3), made(4, U32, 3, 3),
     made(5, U8, 2, 2), (TURNED, name(6)), (threshold(U8), name(7)), (SAME, name(8)),
@@ -21,8 +21,8 @@ KINDS = (
 )
 TABLE, LIMIT, MATRIX, COUNTS, FOUND = 6, 7, 8, 9, 10
 SLOT, SLOT_BEFORE, NO_SLOT = reference(11, 0), reference(11, 1), reference(11, 2)
-# What is no image: each of the others, with a slot too, a delay by itself, and an image with a
-# slot.
+# References that are not images: each of the other objects, also with a slot, a delay without a
+# slot, and an image with a slot.
 NO_IMAGES = (TABLE, LIMIT, MATRIX, COUNTS, FOUND, reference(MATRIX, 0), reference(COUNTS, 0),
              reference(FOUND, 254), 11,
              reference(1, 0))
@@ -36,8 +36,8 @@ UNCHANGED = (
 
 
 def refusals_of_other_objects():
-    """Objects of the other kinds are no images and no delays, and two of them are read by a request
-    of their own."""
+    """Objects of the other kinds are refused as images and delays. Two of them have their own read
+    request."""
     unknown = (99, 0, 2**32 - 1, reference(99, 0), reference(99, 254))
     return [
         *KINDS,
@@ -55,19 +55,19 @@ def refusals_of_other_objects():
     ]
 
 
-# A function with inputs and outputs that it takes.
+# A function with inputs and outputs that it accepts.
 TAKEN = (
     *((function, 1, None, 2, None) for function in (BOX, GAUSSIAN, MEDIAN, ERODE, DILATE)),
     (SOBEL, 1, None, 3, None), (SOBEL, 1, None, None, 3), (CONVOLVE, 1, MATRIX, 2, None),
     (HISTOGRAM, 1, None, COUNTS, None), (INTEGRAL, 1, None, 4, None),
     (MIN_MAX_LOCATION, 3, None, FOUND, None),
 )
-# Functions whose first output is no image, with what it is.
+# Functions whose first output isn't an image, with the output's kind.
 NO_PICTURES = {HISTOGRAM: COUNTS, MIN_MAX_LOCATION: FOUND}
 
 
 def refusals_of_kinds():
-    """Each operand in turn is none, or isn't of its kind."""
+    """Each operand in turn is missing, or of the wrong kind."""
     rows = [*KINDS]
     for function, in1, in2, out1, out2 in TAKEN:
         allowed = {MATRIX} if function == CONVOLVE else {NO_PICTURES.get(function)}
@@ -80,7 +80,7 @@ def refusals_of_kinds():
             rows += [ran(function, in1, in2, out1, code, out2=named) for named in wrong if out2]
             rows += [ran(function, in1, named, out1, code)
                      for named in (others if code == INVALID_TYPE else (99,)) if in2]
-    # Convolutions and what is counted into are no second images, tables or thresholds.
+    # Convolutions, distributions and extremes are refused as second images, tables or thresholds.
     rows += [ran(function, 1, named, 2, INVALID_TYPE) for function in (1, 11, 12)
              for named in (MATRIX, COUNTS, FOUND)]
     rows += [row for named in (MATRIX, COUNTS, FOUND)
@@ -90,11 +90,11 @@ def refusals_of_kinds():
 
 
 def refusals_in_order():
-    """Names before kinds, kinds before slots, two writers before what reads its output, then
+    """Names before kinds, kinds before slots, two writers before reads of a node's own output, then
     formats, then sizes."""
     rows = [*KINDS]
     for in1, out1, out2, code in (
-        # Sobel of these, into these two.
+        # Sobel of these images into these two outputs.
         (MATRIX, COUNTS, 99, INVALID_REFERENCE), (NO_SLOT, 99, 3, INVALID_REFERENCE),
         (99, 3, 3, INVALID_REFERENCE), (NO_SLOT, 3, COUNTS, INVALID_TYPE),
         (MATRIX, 3, 3, INVALID_TYPE), (1, NO_SLOT, FOUND, INVALID_TYPE),

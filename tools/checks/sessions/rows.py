@@ -1,7 +1,6 @@
-"""Rows of sessions: a request frame of a client, and what answers it, the body of a success or a
-code.
+"""Rows of sessions: a client's request frame, and the reply: the body of a success, or a code.
 
-The sessions here and in checks/graphs are written in them, from docs/wire.md.
+The sessions here and in checks/graphs are written with these, from docs/wire.md.
 """
 
 import struct
@@ -12,7 +11,7 @@ from feqyldan.wire import (
     NO_RESOURCES, OPEN, S16, SUCCESS, U32, U8, Reference, frame, reference, reply_frame)
 
 CLIENT = 7
-# What answers a request: the body of a success, or a code.
+# The expected reply: the body of a success, or a code.
 Wanted = Union[bytes, int]
 Row = Tuple[bytes, Wanted]
 
@@ -28,7 +27,7 @@ def name(number: int) -> bytes:
 
 
 def picture(fmt: int, width: int, height: int, samples: Sequence[int]) -> bytes:
-    """The body of the reply to ReadImage."""
+    """Returns the body of the reply to ReadImage."""
     return struct.pack(f">BHH{width * height}{wire.letter_of(fmt)}", fmt, width, height,
                        *samples)
 
@@ -81,19 +80,19 @@ def holds_text(named: Reference, text: bytes, client: int = CLIENT) -> Row:
 
 def told(named: Reference, fmt: int, valid: Sequence[int], width: int = 1, height: int = 1,
          client: int = CLIENT) -> Row:
-    """QueryImage, and the rectangle that it tells."""
+    """Returns QueryImage, with the returned rectangle."""
     return (wire.query_image(client, named), struct.pack(">BHH4H", fmt, width, height, *valid))
 
 
 def shows(named: Reference, fmt: int, samples: Sequence[int], valid: Sequence[int], width: int,
           height: int = 1) -> List[Row]:
-    """Both that are asked for: the rectangle and the samples."""
+    """Returns both queries: the rectangle and the samples."""
     return [told(named, fmt, valid, width, height), holds(named, fmt, samples, width, height)]
 
 
 def confined(named: Reference, valid: Sequence[int], wanted: Wanted = b"",
              client: int = CLIENT) -> Row:
-    """SetValid."""
+    """Returns SetValid."""
     return (wire.set_valid(client, named, valid), wanted)
 
 
@@ -109,13 +108,13 @@ def aged(number: int, wanted: Wanted = b"", client: int = CLIENT) -> Row:
 
 
 def registered(of: int, delay: int, wanted: Wanted = b"", client: int = CLIENT) -> Row:
-    """A delay that ages after the runs of a graph."""
+    """Returns the registration of a delay that ages after a graph's runs."""
     return (wire.register_auto_aging(client, of, delay), wanted)
 
 
 def in_slots(row: Callable[..., Row], number: int, fmt: int, samples: Sequence[int],
              client: int = CLIENT) -> List[Row]:
-    """The row for each slot of a delay of images of one sample, from slot 0 on."""
+    """Returns the row for each slot of a delay of images of one sample, from slot 0 on."""
     return [row(reference(number, k), fmt, [sample], client=client)
             for k, sample in enumerate(samples)]
 
@@ -130,7 +129,7 @@ NOTHING_FOUND = (0,) * 8
 
 
 def threshold(fmt: int) -> bytes:
-    """7 for samples above 100, else 3."""
+    """Returns a threshold that gives 7 for samples above 100, and 3 otherwise."""
     return wire.create_threshold(CLIENT, fmt, (100,), 7, 3)
 
 
@@ -153,7 +152,8 @@ def extremes(number: int, client: int = CLIENT) -> Row:
 
 
 def found(number: int, *numbers: int, client: int = CLIENT) -> Row:
-    """The least, the greatest, how many places hold each, and the x and y of the first of each."""
+    """Returns the least and the greatest sample, the number of pixels with each, and x and y of the
+    first of each."""
     return (wire.read_min_max(client, number), struct.pack(">hhII4H", *numbers))
 
 
@@ -181,12 +181,12 @@ def virtual(number: int, of: int, fmt: int = OPEN, width: int = OPEN, height: in
 
 
 def added(of: int, number: int, node: bytes, client: int = CLIENT) -> Row:
-    """A node, in bytes, in a graph, and the number that it gets."""
+    """Returns a row that adds a node, in bytes, to a graph, and its number."""
     return (frame(client, wire.ADD_NODE, name(of) + node), name(number))
 
 
 def unadded(of: int, code: int, node: bytes, client: int = CLIENT) -> Row:
-    """A node that a graph doesn't take."""
+    """Returns a row that adds a node which the graph refuses."""
     return (frame(client, wire.ADD_NODE, name(of) + node), code)
 
 
@@ -202,17 +202,17 @@ def processed(of: int, wanted: Wanted = b"", client: int = CLIENT) -> Row:
     return (wire.process_graph(client, of), wanted)
 
 
-# ---- requests by what they name
+# ---- requests by the objects that they name
 
-# Requests that make an object and name none.
+# Requests that create an object and name none.
 CREATES = (
     wire.create_image(CLIENT, U8, 1, 1), TURNED, threshold(U8), SAME, THIRDS, EXTREMES,
     wire.create_graph(CLIENT))
 
 
 def on_image(named: Reference) -> Tuple[bytes, ...]:
-    """Requests that name an image, each with what an image of one U8 sample takes, or a text that
-    none takes."""
+    """Requests that name an image. Each has a body that fits an image of one U8 sample, or a text
+    that fits none."""
     return (
         wire.query_image(CLIENT, named), wire.write_image(CLIENT, named, U8, 1, 1, b"\n"),
         wire.read_image(CLIENT, named), wire.write_image_pgm(CLIENT, named, b"P2 1 1 255 1"),
@@ -221,7 +221,8 @@ def on_image(named: Reference) -> Tuple[bytes, ...]:
 
 
 def on_graph(of: int) -> Tuple[bytes, ...]:
-    """Requests that name a graph, and but AddNode and RegisterAutoAging nothing else."""
+    """Requests that name a graph. Except for AddNode and RegisterAutoAging they name nothing
+    else."""
     return (
         wire.create_virtual_image(CLIENT, of), wire.add_node(CLIENT, of, wire.NOT_BITS, 1, None, 2),
         wire.remove_node(CLIENT, of, 1), wire.verify_graph(CLIENT, of),

@@ -1,4 +1,4 @@
-"""Sessions on histograms, integrals and extremes."""
+"""Sessions on histograms, integral images and extremes."""
 
 from feqyldan import wire
 from feqyldan.wire import (
@@ -11,8 +11,7 @@ from checks.sessions.windows import CENTRE, ONE_TO_NINE, WHOLE_SQUARE, centred
 
 
 def histograms():
-    """A run counts from 0, and valid samples alone; the bins are fractions of the range, rounded
-    down."""
+    """Each run counts from 0, and counts only valid samples. Bin numbers are rounded down."""
     rows = [
         opened(), made(1, U8, 3), (THIRDS, name(2)), counted(2, [0] * 3),
         wrote(1, U8, [85, 86, 255], 3), ran(HISTOGRAM, 1, None, 2),
@@ -40,8 +39,8 @@ def histograms():
 
 
 def integrals():
-    """1 is an image of 2 by 2 U8 samples, 2 of U32, 3 of 3 by 3 of U8, 4 of U32. What isn't valid
-    counts nowhere."""
+    """1 is an image of 2 by 2 U8 samples, 2 of U32, 3 of 3 by 3 U8 samples, 4 of U32. Invalid
+    samples are never counted."""
     rows = [
         opened(), made(1, U8, 2, 2), made(2, U32, 2, 2), made(3, U8, 3, 3), made(4, U32, 3, 3),
         wrote(1, U8, [1, 2, 3, 4], 2, 2), ran(INTEGRAL, 1, None, 2),
@@ -67,8 +66,7 @@ def integrals():
 
 
 def places_of_extremes():
-    """1 is an image of 2 by 2 U8 samples, 2 are extremes; the first place is that of the first row
-    that has one."""
+    """1 is an image of 2 by 2 U8 samples, 2 extremes. The first pixel is the first in row order."""
     rows = [
         opened(), made(1, U8, 2, 2), (EXTREMES, name(2)), found(2, *NOTHING_FOUND),
         wrote(1, U8, [7, 7, 3, 7], 2, 2), ran(MIN_MAX_LOCATION, 1, None, 2),
@@ -103,8 +101,8 @@ def places_of_extremes():
 
 
 def statistics_of_slots():
-    """1 is an image of one U8 sample, 2 a delay of two, 3 a distribution, 4 extremes; client 8 has
-    its own."""
+    """1 is an image of one U8 sample, 2 a delay of two slots, 3 a distribution, 4 extremes. Client
+    8 has its own objects."""
     now, before = reference(2, 0), reference(2, 1)
     eight = (wire.immediate(8, HISTOGRAM, 1, None, 3),
              wire.immediate(8, MIN_MAX_LOCATION, 1, None, 4))
@@ -118,7 +116,7 @@ def statistics_of_slots():
         counted(3, [0, 1], client=8), found(4, 255, 255, 1, 1, 0, 0, 0, 0, client=8),
         counted(3, [0, 0, 1]), found(4, 10, 10, 1, 1, 0, 0, 0, 0), aged(2),
         ran(HISTOGRAM, now, None, 3), counted(3, [1, 0, 0]), *in_slots(holds, 2, U8, [10, 200]),
-        # What is released is gone, and what another client has isn't.
+        # Released objects are gone, and another client's objects aren't.
         released(3), (wire.read_distribution(CLIENT, 3), INVALID_REFERENCE),
         ran(HISTOGRAM, now, None, 3, INVALID_REFERENCE), released(4),
         (wire.read_min_max(CLIENT, 4), INVALID_REFERENCE),

@@ -10,14 +10,14 @@ from checks.sessions.rows import (
     CLIENT, MIDDLE, NOWHERE, REPLICATE, TEN_TO_FORTY, TURNED, WHOLE_ROW, aged, confined, delayed,
     holds, holds_text, in_slots, made, name, opened, ran, shows, told, wrote, wrote_text)
 
-# Texts, and what they stand for: a format, a width and a height, and the samples.
+# Texts, and the pictures that they encode: a format, a width, a height, and the samples.
 TEXTS = (
     (b"P5\n# a\n2 1\n255\n\x0a\x14", U8, 2, 1, [10, 20]), (b"P2 1 1 300 300\n", S16, 1, 1, [300]),
     (b"P5 1 1 300\n\x01\x2c", S16, 1, 1, [300]), (b"P2 1 1 255 5 # x\n", U8, 1, 1, [5]),
     (b"P2 1 1 255 5", U8, 1, 1, [5]), (b"P5\n1 2\n255\n\x01\x02", U8, 1, 2, [1, 2]),
     (b"P2\n2 2\n9\n1 2\n3 4\n", U8, 2, 2, [1, 2, 3, 4]),
     (b"P5 3 2 255\n\x01\x02\x03\x04\x05\xff", U8, 3, 2, [1, 2, 3, 4, 5, 255]),
-    # Whitespace, and comments that follow at once.
+    # Whitespace, and comments that follow it directly.
     (b"P2\t1\r1\n255\r\n \t5", U8, 1, 1, [5]),
     (b"P5#\r\n2#a\r1\n255\t\x0a\x14", U8, 2, 1, [10, 20]), (b"P5 1 1 255 \x07", U8, 1, 1, [7]),
     (b"P2#x\n1#y\n1#z\r255#\n5#\n", U8, 1, 1, [5]),
@@ -28,7 +28,7 @@ TEXTS = (
     (b"P5 1 1 255\n\n", U8, 1, 1, [10]), (b"P5 1 1 255\r\n", U8, 1, 1, [10]),
     (b"P5 1 1 255 #", U8, 1, 1, [35]), (b"P5 3 1 255\n5 #", U8, 3, 1, [53, 32, 35]),
     (b"P5 2 1 300\n\x00\x0a\x00\x20", S16, 2, 1, [10, 32]),
-    # Zeros in front, and maxvals at the ends; samples stay as they are.
+    # Leading zeros, and the least and greatest maxvals; samples aren't scaled.
     (b"P5 00001 0001 000255\n\x07", U8, 1, 1, [7]),
     (b"P2 1 1 255 " + b"0" * 100 + b"7", U8, 1, 1, [7]), (b"P5 1 1 1\n\x01", U8, 1, 1, [1]),
     (b"P5 2 1 1\n\x00\x01", U8, 2, 1, [0, 1]), (b"P2 1 1 1 0", U8, 1, 1, [0]),
@@ -38,14 +38,14 @@ TEXTS = (
     (b"P2 2 1 32767 32767 0", S16, 2, 1, [32767, 0]), (b"P2 1 2 100 100 99", U8, 1, 2, [100, 99]),
 )
 
-# Texts with a fault, by its code.
+# Texts with a fault, by code.
 FAULTY_TEXTS = {
     INVALID_FORMAT: (
         b"", b"P", b"P5", b"P2", b"P5 ", b"P5 1 1 255", b"P5 1 1", b"5", b"p5 1 1 255\n\x07",
         b"P1 1 1 1", b"P3 1 1 255 5", b"P6 1 1 255\n\x07", b"P7 1 1 255\n\x07",
         b" P5 1 1 255\n\x07", b"\xef\xbb\xbfP5 1 1 255\n\x07", b"# a\nP5 1 1 255\n\x07",
         b"P51 1 255\n\x07", b"P5 1 1255\n\x07", b"P5 1 1 255\x07", b"P5 1 1 2555\x07",
-        # Maxvals and what follows.
+        # Maxvals and the bytes after them.
         b"P5 1 1 40000\n\x00\x05", b"P5 1 1 32768\n\x00\x05", b"P5 1 1 65535\n\x00\x05",
         b"P5 1 1 65536\n\x00\x05", b"P2 1 1 32768 5", b"P2 1 1 0 0", b"P5 1 1 0\n\x00",
         b"P5 1 1 99999999999999999999\n", b"P5 1 1 4294967551\n\x07", b"P5 1 1 255\n\x07\x07",
@@ -64,7 +64,7 @@ FAULTY_TEXTS = {
         b"P5 1 1 255 #x\n\x07", b"P5 1 1\x0b255\n\x07", b"P5\x0c1 1 255\n\x07",
         b"P5 1 1 255\x00\x07", b"P5 1 1 255\x0b\x07", b"P2 1 1 255 5\x00", b"P2 1 1 255 5\x0b",
         b"P2 1 1 255\xa05",
-        # These are told before what follows them, or after what stands before.
+        # These faults are reported before later ones, and after earlier ones.
         b"P5 0 1 255", b"P5 0 1 255x", b"P5 0 1", b"P2 0 1", b"P2 0 1 x", b"P2 1 1 255 256 x",
         b"P2 1 1 255 256 5", b"P2 2 1 255 256", b"P5 2 1 100\n\x65", b"P2 1 1 0 5 5",
         b"P2 1 1 40000 x",
@@ -88,12 +88,12 @@ FAULTY_TEXTS = {
 
 
 def raw(width, height, samples):
-    """The one form in which a text is written."""
+    """Returns the only form in which a text is written."""
     return b"P5\n%d %d\n255\n" % (width, height) + bytes(samples)
 
 
 def pgm_texts():
-    """Each text of the table into an image of its own."""
+    """Writes each text of the table to its own image."""
     rows = [opened()]
     for number, (text, fmt, width, height, samples) in enumerate(TEXTS, 1):
         rows += [made(number, fmt, width, height), wrote_text(number, text),
@@ -116,14 +116,14 @@ def faulty_pgm_texts():
 
 
 def pgm_images():
-    """1 is an image of four U8 samples in a row, 2 a delay of two; 3 and 4 are of 2 by 2."""
+    """1 is an image of four U8 samples in a row, 2 a delay of two slots; 3 and 4 are of 2 by 2."""
     slot, other = reference(2, 1), reference(2, 0)
     four, middle = raw(4, 1, TEN_TO_FORTY), raw(4, 1, [0, 20, 30, 0])
     return [
         opened(), made(1, U8, 4), delayed(2, 1, 2), made(3, U8, 2, 2), made(4, U8, 2, 2),
         holds_text(1, raw(4, 1, [0] * 4)), wrote_text(1, four), holds_text(1, four),
         *shows(1, U8, TEN_TO_FORTY, WHOLE_ROW, 4), confined(1, MIDDLE), holds_text(1, middle),
-        # What is written is wholly valid, and what isn't valid is 0.
+        # A written image is wholly valid, and invalid samples are 0.
         wrote_text(1, four), *shows(1, U8, TEN_TO_FORTY, WHOLE_ROW, 4), confined(1, NOWHERE),
         holds_text(1, raw(4, 1, [0] * 4)), wrote_text(1, b"P2 4 1 40 10 20 30 40"),
         *shows(1, U8, TEN_TO_FORTY, WHOLE_ROW, 4), wrote_text(slot, middle),
@@ -131,10 +131,10 @@ def pgm_images():
         holds_text(other, raw(4, 1, [0] * 4)), confined(slot, MIDDLE), aged(2),
         holds_text(other, middle), told(other, U8, MIDDLE, 4), wrote_text(other, four),
         told(other, U8, WHOLE_ROW, 4),
-        # Another client's.
+        # Another client's image.
         opened(8), wrote_text(1, four, INVALID_REFERENCE, 8), made(1, U8, 4, client=8),
         wrote_text(1, middle, client=8), holds_text(1, middle, 8), holds_text(1, four),
-        # A picture that is smoothed, from a text to a text.
+        # A smoothed picture, from text to text.
         wrote_text(3, raw(2, 2, TEN_TO_FORTY)), ran(BOX, 3, None, 4, **REPLICATE),
         holds_text(4, raw(2, 2, [20, 23, 26, 30])), ran(4, 3, None, 4),
         holds_text(4, raw(2, 2, [245, 235, 225, 215])), ran(BOX, 3, None, 4),
@@ -143,12 +143,12 @@ def pgm_images():
 
 
 def refusals_of_texts():
-    """1 is an image of one U8 sample, 2 of S16, 3 of U32, 4 of two of U8, 5 a delay of two like 1,
-    6 a table."""
+    """1 is an image of one U8 sample, 2 of S16, 3 of U32, 4 of two U8 samples, 5 a delay of two
+    slots like 1, 6 a table."""
     rows = [opened(), made(1, U8), made(2, S16), made(3, U32), made(4, U8, 2), delayed(5, 1, 2),
             (TURNED, name(6)),
             wrote(1, U8, [9])]
-    # A text's fault is told whatever the image is, after what names no image.
+    # A text's fault is reported for any image, but after a reference that isn't an image.
     for code, texts in FAULTY_TEXTS.items():
         for text in texts:
             rows += [wrote_text(of, text, code) for of in (1, 2, 4)]
@@ -179,7 +179,7 @@ def refusals_of_texts():
 
 
 def sizes_of_texts():
-    """Texts in bodies of about 64 bytes, and of about a buffer of 65,536; and long ones of few
+    """Texts in bodies of about 64 bytes, and of about a buffer of 65,536; and long texts of few
     samples."""
     rows, number = [opened()], 0
     shapes = [(size, 1) for size in range(38, 56)]

@@ -1,4 +1,4 @@
-"""Sessions on the functions of windows, on convolutions and on Sobel's two outputs."""
+"""Sessions on window functions, convolutions and Sobel's two outputs."""
 
 from feqyldan.wire import (
     BOX, CONVOLVE, DILATE, ERODE, GAUSSIAN, MEDIAN, MULTIPLE_WRITERS, S16, SOBEL, U8, reference)
@@ -43,7 +43,7 @@ def windows():
                      *shows(4, U8, samples, valid, 3, 3)]
             rows += [wrote(6, U8, [99]), ran(function, 5, None, 6, **border),
                      *shows(6, U8, [one], one_valid, 1)]
-    # The median of the medians of the rows would be 4.
+    # The median of the rows' medians would be 4.
     return rows + [
         *shows(1, U8, TEN_TO_FORTY, (0, 0, 2, 2), 2, 2),
         *shows(3, U8, ONE_TO_NINE, WHOLE_SQUARE, 3, 3),
@@ -53,8 +53,8 @@ def windows():
 
 
 def windows_beside_the_valid():
-    """1 and 2 are rows of four U8 samples, 4 and 5 of S16, 3 is a convolution. A border begins
-    where the valid ends."""
+    """1 and 2 are rows of four U8 samples, 4 and 5 of S16, 3 is a convolution. The border begins at
+    the valid rectangle."""
     middle = [20, 30]
     rows = [
         opened(), made(1, U8, 4), made(2, U8, 4), (SAME, name(3)), made(4, S16, 4), made(5, S16, 4),
@@ -77,7 +77,7 @@ def windows_beside_the_valid():
         rows += [ran(SOBEL, 1, None, 4, out2=5, **border),
                  *shows(4, S16, [0, *across, 0], MIDDLE, 4),
                  *shows(5, S16, [0] * 4, MIDDLE, 4)]
-    # What is valid again is 0, and counts.
+    # Pixels that become valid again are 0, and are used.
     rows += [confined(1, WHOLE_ROW), ran(DILATE, 1, None, 2), *shows(2, U8, [0] * 4, NOWHERE, 4),
              ran(ERODE, 1, None, 2, **REPLICATE), *shows(2, U8, [0] * 4, WHOLE_ROW, 4),
              ran(DILATE, 1, None, 2, **REPLICATE), *shows(2, U8, [20, 30, 30, 30], WHOLE_ROW, 4)]
@@ -85,8 +85,8 @@ def windows_beside_the_valid():
 
 
 def nothing_valid():
-    """1 and 2 are as above, 3 is a convolution; where nothing is valid no border makes anything
-    so."""
+    """1 and 2 are as above, 3 is a convolution. Without valid pixels no border mode makes any
+    valid."""
     rows = [confined(1, NOWHERE)]
     for border in (UNDEFINED, REPLICATE, constant(0), constant(255)):
         for function in (BOX, GAUSSIAN, MEDIAN, ERODE, DILATE, CONVOLVE):
@@ -100,8 +100,8 @@ def nothing_valid():
 
 
 def blocks_valid():
-    """6 and 7 are images of 5 by 4 U8 samples. Under UNDEFINED the rectangle loses a row and a
-    column at each side."""
+    """6 and 7 are images of 5 by 4 U8 samples. With UNDEFINED the rectangle loses a row and a
+    column on each side."""
     rows = [made(6, U8, 5, 4), made(7, U8, 5, 4)]
     for valid, left, samples in (
         ((0, 0, 5, 4), (1, 1, 4, 3), {6: 13, 7: 14, 8: 15, 11: 18, 12: 19, 13: 20}),
@@ -122,7 +122,7 @@ def one_at(place, count=9, value=1):
 
 
 def convolutions():
-    """The coefficients are turned half round: each is for the sample that is opposite to it in the
+    """The kernel is rotated by half a turn: each coefficient applies to the opposite sample of the
     window."""
     rows = [opened(), made(1, U8, 3, 3), made(2, S16, 3, 3), made(3, U8, 3, 3),
             wrote(1, U8, ONE_TO_NINE, 3, 3)]
@@ -152,7 +152,8 @@ def convolutions():
 
 
 def scales(number):
-    """The exponent: rounded to zero, and narrowed after that. The next name is `number`."""
+    """The result is divided by the scale, rounded toward zero, and then narrowed. The next name is
+    `number`."""
     one, short, byte = number, number + 1, number + 2
     rows = [made(one, U8), wrote(one, U8, [1]), made(short, S16), made(byte, U8)]
     number += 3
@@ -170,7 +171,7 @@ def scales(number):
 
 
 def greatest_sums(number):
-    """81 times 255 times -32768, and as much above 0."""
+    """81 times 255 times -32768, and the largest positive sum."""
     image, short, byte = number, number + 1, number + 2
     rows = [made(image, U8, 9, 9), wrote(image, U8, [255] * 81, 9, 9), made(short, S16, 9, 9),
             made(byte, U8, 9, 9)]
@@ -198,7 +199,7 @@ def two_outputs():
         *shows(2, S16, centred(8), CENTRE, 3, 3), *shows(3, S16, centred(24), CENTRE, 3, 3),
         ran(SOBEL, 1, None, 3, out2=2, **REPLICATE), *shows(3, S16, across, WHOLE_SQUARE, 3, 3),
         *shows(2, S16, down, WHOLE_SQUARE, 3, 3),
-        # An output that isn't asked for stays as it is.
+        # An output that isn't requested is unchanged.
         wrote(3, S16, [99] * 9, 3, 3), confined(3, (0, 1, 3, 3)), ran(SOBEL, 1, None, None, out2=2),
         *shows(2, S16, centred(24), CENTRE, 3, 3), ran(SOBEL, 1, None, 2),
         *shows(2, S16, centred(8), CENTRE, 3, 3),
@@ -210,7 +211,7 @@ def two_outputs():
         holds(slots[1], S16, across, 3, 3), holds(slots[0], S16, down, 3, 3),
         holds(2, S16, centred(8), 3, 3), aged(4), holds(slots[0], S16, across, 3, 3),
         holds(slots[1], S16, down, 3, 3),
-        # The greatest of both, and the least.
+        # The greatest value of both outputs, and the least.
         wrote(1, U8, [0, 0, 255] * 3, 3, 3), ran(SOBEL, 1, None, 2, out2=3),
         *shows(2, S16, centred(1020), CENTRE, 3, 3), *shows(3, S16, centred(0), CENTRE, 3, 3),
         wrote(1, U8, [255] * 3 + [9] * 3 + [0] * 3, 3, 3), ran(SOBEL, 1, None, 2, out2=3),

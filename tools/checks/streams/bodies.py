@@ -1,4 +1,4 @@
-"""Random bodies of requests: for each op a function that draws one."""
+"""Draws random bodies of requests, with a function for each op."""
 
 import struct
 
@@ -29,7 +29,7 @@ def other_size(draw, image):
 
 
 def description_for(draw, thing):
-    """A format, a width and a height: mostly those of an image."""
+    """Draws a format, a width and a height, mostly those of an image."""
     if not isinstance(thing, model.Image):
         return draw.fmt(), *draw.size()
     is_other_format, is_other_size = draw.pick([(0, 0)] * 16 + [(1, 0), (0, 1), (0, 1), (1, 1)])
@@ -44,7 +44,7 @@ def are_sides(width, height):
 def write_image(draw):
     cell = draw.cell(model.Image)
     fmt, width, height = description_for(draw, draw.thing(cell))
-    # Samples of a picture that can't be are few, so that a body isn't long for nothing.
+    # An invalid picture has few samples, so that the body isn't long for nothing.
     is_picture = fmt in SAMPLES and are_sides(width, height)
     samples = draw.samples(fmt, width * height) if is_picture else b"\x07\x08"
     return [*cell_fields(cell), byte(fmt), short(width), short(height), samples]
@@ -56,7 +56,7 @@ def comment(draw):
 
 
 def gap(draw):
-    """Mostly one byte."""
+    """Draws whitespace, mostly one byte."""
     if draw.chance(0.8):
         return draw.pick((b" ", b"\n", b"\t", b"\r"))
     pieces = [draw.pick((b" ", b"\t", b"\r\n", comment(draw), comment(draw)))
@@ -77,8 +77,8 @@ def pgm_maxval(draw, fmt):
 
 
 def pgm_samples(draw, maxval, count):
-    """Mostly none is above maxval. Some are whitespace, a comment's start or digits, where they are
-    bytes."""
+    """Draws samples, mostly up to maxval. Single-byte samples may be whitespace, a comment's start
+    or digits."""
     values = [min(value, maxval)
               for value in (0, 1, 9, 10, 11, 13, 32, 35, 53, 127, 200, maxval, maxval)]
     samples = draw.rng.choices(values, k=count)
@@ -93,14 +93,14 @@ def plain_raster(draw, samples):
 
 
 def raw_raster(samples, maxval):
-    """As far as samples fit their one byte or two."""
+    """Encodes samples in one or two bytes, clamped if they don't fit."""
     letter, greatest = ("B", 255) if maxval < 256 else ("H", 65535)
     return struct.pack(f">{len(samples)}{letter}", *(min(sample, greatest) for sample in samples))
 
 
 def pgm_parts(draw, fmt, width, height):
-    """The magic, three gaps and numbers, what stands between the last of them and the raster, and
-    the raster."""
+    """Returns the magic, three gaps and numbers, the separator before the raster, and the
+    raster."""
     maxval = pgm_maxval(draw, fmt)
     samples = pgm_samples(draw, maxval,
                           width * height if are_sides(width, height) else draw.pick((0, 2)))
@@ -116,7 +116,7 @@ def pgm_parts(draw, fmt, width, height):
 
 
 def spoil_part(draw, parts):
-    """Something else at the start of a PGM text, between two of its parts, or in one of them."""
+    """Spoils the magic, a number or a gap of a PGM text."""
     k = draw.pick((0, *range(len(parts) - 1)))
     part = parts[k]
     magics = (
@@ -130,7 +130,7 @@ def spoil_part(draw, parts):
 
 
 def spoil_end(draw, parts):
-    """One byte more or less, or a few."""
+    """Appends bytes to the end of a PGM text, or removes some."""
     end = parts[-1]
     more = [b"\0", b"\n", b" ", b"#", b"# 7", b" 5", b"\n5", b"x", comment(draw) + b"5",
             comment(draw)]
@@ -139,7 +139,7 @@ def spoil_end(draw, parts):
 
 
 def pgm_text(draw, fmt, width, height):
-    """Mostly a good one; else with one fault or two."""
+    """Draws a text, mostly a good one, or one with one or two faults."""
     if draw.chance(0.06):
         width, height = draw.pick(((10**20, height), (width, 2**32 + height), (0, 0),
                                    (2**16 + width, height), (GREATEST_SIDE, 1), (1, GREATEST_SIDE)))
@@ -162,14 +162,14 @@ def read_image(draw):
 
 
 def part_of(draw, start, end):
-    """The start and the end of a part of some places in a row: mostly of most of them."""
+    """Draws the start and the end of a range, mostly a large part of the whole."""
     cut = (end - start) // 4 if draw.chance(0.6) else end - start - 1
     first = start + draw.rng.randint(0, cut)
     return first, max(end - draw.rng.randint(0, cut), first + 1)
 
 
 def within(draw, rectangle):
-    """A rectangle in one that isn't empty."""
+    """Draws a rectangle within one that isn't empty."""
     left, right = part_of(draw, rectangle.left, rectangle.right)
     top, bottom = part_of(draw, rectangle.top, rectangle.bottom)
     return model.Rectangle(left, top, right, bottom)
@@ -181,15 +181,15 @@ def one_place(draw, whole):
 
 
 def with_more(draw, valid, whole):
-    """The least rectangle that has in it what is valid and another part of the image."""
+    """Returns the bounding rectangle of the valid rectangle and another part of the image."""
     part = within(draw, whole)
     return part if valid == model.EMPTY else model.Rectangle(*map(min, valid[:2], part[:2]),
                                                              *map(max, valid[2:], part[2:]))
 
 
 def allowed_rectangle(draw, image):
-    """Part of the image, or of what is valid; more than that; one place; the whole image; or
-    none."""
+    """Draws a part of the image or of its valid rectangle, a larger one, one pixel, the whole
+    image, or the empty rectangle."""
     whole = model.whole(image.width, image.height)
     valid = whole if image.valid == model.EMPTY else image.valid
     parts = (within(draw, whole), within(draw, valid), with_more(draw, image.valid, whole),
@@ -198,7 +198,7 @@ def allowed_rectangle(draw, image):
 
 
 def beyond(draw, rectangle, image):
-    """A rectangle with an end above the image's: often by one, or for it is that of another
+    """Draws a rectangle that exceeds the image, often by one, or because it is that of another
     image."""
     width = image.width + draw.pick((1, 1, 2, 256))
     height = image.height + draw.pick((1, 1, 2, 256))
@@ -210,7 +210,8 @@ def beyond(draw, rectangle, image):
 
 
 def turned(draw, rectangle):
-    """Four numbers of which a start isn't below its end, and which aren't all 0."""
+    """Draws four numbers that are not a rectangle: a start isn't below its end, and not all are
+    0."""
     left, top, right, bottom = rectangle
     return draw.pick((
         (right, top, left, bottom), (left, bottom, right, top), (right, bottom, left, top),
@@ -228,7 +229,7 @@ def set_valid(draw):
     if not draw.chance(0.12):
         return [*cell_fields(cell), model.rectangle_bytes(rectangle)]
     field = struct.pack(">4H", *turned(draw, rectangle))
-    # It is one field: one that is cut short isn't looked at.
+    # A rectangle is one field, so a truncated one isn't checked.
     return [*cell_fields(cell), field[: draw.pick((1, 3, 6, 7))] if draw.chance(0.3) else field]
 
 
@@ -237,7 +238,7 @@ def release(draw):
 
 
 def create_lut(draw):
-    # A table of S16 is long, and so is rarer than one of U8.
+    # A table of S16 is long, and therefore rarer than one of U8.
     fmt = draw.rng.choices((U8, S16, draw.pick((0, U32, 4, 255))), (10, 3, 1))[0]
     count = model.range_size(fmt) * model.sample_bytes(fmt) if fmt in (U8, S16) else 1
     return [byte(fmt), draw.rng.randbytes(count)]
@@ -245,7 +246,7 @@ def create_lut(draw):
 
 def create_threshold(draw):
     kind, fmt = draw.pick((wire.BINARY, wire.RANGE)), draw.fmt((U8, S16))
-    # Mostly of the samples that pictures have too.
+    # Mostly samples that also occur in pictures.
     limits = [draw.sample(fmt if fmt in (U8, S16) else S16, 0.85) for _ in range(1 + kind)]
     if draw.chance(0.85):
         limits.sort()
@@ -257,7 +258,7 @@ def create_threshold(draw):
 
 
 def any_length(draw):
-    """How many columns or rows a convolution has."""
+    """Draws the number of columns or rows of a convolution."""
     lengths = (0, 1, 2, 4, 6, 8, 10, 11, 255) if draw.chance(0.04) else (3, 3, 3, 5, 7, 9)
     return draw.pick(lengths)
 
@@ -269,7 +270,7 @@ def any_exponent(draw):
 
 
 def coefficients(draw, count):
-    """One that isn't 0, small ones, or any."""
+    """Draws coefficients: one that isn't 0, small ones, or any."""
     if draw.chance(0.25):
         values = [0] * count
         values[draw.rng.randrange(count)] = draw.pick((1, 1, -1, -3, 32767, -32768))
@@ -286,7 +287,7 @@ def create_convolution(draw):
 
 
 def create_distribution(draw):
-    """Often with bins about the samples that pictures have."""
+    """Draws a distribution, often with bins around the samples of pictures."""
     offset = draw.sample(U8, 0.8)
     ends = [end - offset for end in (*ENDS[U8], 256) if end > offset]
     good = ((1, 2, 3, 5, 16, 255, 256, draw.rng.randint(1, 256)), (offset,),
@@ -315,7 +316,7 @@ def age_delay(draw):
 
 
 def register_auto_aging(draw):
-    """Mostly a graph and a delay; else with something else in the place of one of them or both."""
+    """Draws a graph and a delay, or replaces one or both of them."""
     kinds = draw.pick([(model.Graph, model.Delay)] * 6 + [
         (model.Delay, model.Graph), (object, model.Delay), (model.Graph, object),
         (object, object)])
@@ -327,7 +328,7 @@ def create_virtual_image(draw):
 
 
 def remove_node(draw):
-    """Mostly a node that is in the graph; else one that isn't any more, or not yet."""
+    """Draws a node of the graph, or a removed or future number."""
     name = draw.name(model.Graph)
     graph = draw.live().get(name)
     graph = graph if isinstance(graph, model.Graph) else model.NO_NODES
@@ -341,14 +342,14 @@ def verify_graph(draw):
 
 
 def spoiled(draw, fields):
-    """A body of the fields: mostly as they are; else with one replaced, cut short, or with a byte
-    too many."""
+    """Draws a body of the fields, sometimes with one field replaced, truncated, or with an extra
+    byte."""
     if fields and draw.chance(0.03):
         k = draw.rng.randrange(len(fields))
-        # A short may be a side: it becomes small or too great, so that no image is large by chance.
+        # A short may be a side: it becomes small or too large, so that no image is large by chance.
         last, others = draw.pick((b"\0", b"\xff", draw.rng.randbytes(1))), (b"\0", b"\xff")
         fields[k] = last.rjust(len(fields[k]), draw.pick(others))
-        # A body that is cut there too has two faults, of which the first decides.
+        # A body that is also truncated has two faults, the first of which decides.
         fields = fields[: k + 1] if draw.chance(0.3) else fields
     body = b"".join(fields)
     if body and draw.chance(0.03):

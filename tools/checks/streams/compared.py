@@ -1,4 +1,4 @@
-"""Streams that are compared, and what they had in them."""
+"""Compares streams, and counts what occurred in them."""
 
 import collections
 import sys
@@ -17,8 +17,8 @@ from checks.streams.requests import UNKNOWN
 
 
 class Counts:
-    """What was compared: streams and frames; replies by way of sending; codes by op; runs by
-    function and border; runs of graphs by nodes."""
+    """Counts streams and frames, replies by way of sending, codes by op, runs by function and
+    border mode, and graph runs by number of nodes."""
 
     def __init__(self):
         self.streams = self.frames = 0
@@ -40,7 +40,7 @@ class Counts:
         return sum(self.functions[number, mode] for mode in BORDERS)
 
     def table(self):
-        """A line for each op, and one for those that aren't known."""
+        """Returns a line for each op, and one for unknown ops."""
         for op in [*sorted(model.STANDING), UNKNOWN]:
             codes = sorted((code, count) for (of, code), count in self.codes.items() if of == op)
             line = ", ".join(f"{wire.CODES[code]} {count}" for code, count in codes)
@@ -54,7 +54,7 @@ class Counts:
         yield f"  graphs that ran, by nodes: {ran}"
 
     def lacks(self):
-        """What should have occurred, and hasn't; and codes that the model's table has not."""
+        """Returns the cases that never occurred, and codes that the model's table doesn't have."""
         for op in sorted(model.STANDING):
             seen = {code for of, code in self.codes if of == op}
             codes = model.codes_of(op)
@@ -70,7 +70,7 @@ class Counts:
 
 
 def sent(stream):
-    """What is sent of a stream: each time the way, the frames and the model's replies."""
+    """Yields each way to send a stream, with the frames and the model's replies."""
     for way in WAYS:
         if way != ALONE:
             yield way, stream.frames, stream.replies
@@ -92,7 +92,7 @@ def check_stream(program, seed, counts):
 
 
 def check_streams(program, seconds, streams, seed):
-    """So many streams, or where it is None as many as the seconds allow."""
+    """Compares this many streams, or as many as the seconds allow if the number is None."""
     counts, end, following = Counts(), time.monotonic() + seconds, seed
     while following < seed + (streams or TURN) or (streams is None and time.monotonic() < end):
         check_stream(program, following, counts)

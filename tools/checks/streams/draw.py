@@ -1,4 +1,4 @@
-"""Random values: fields, and what the objects of a client are."""
+"""Draws random values: fields, and references to the objects of a client."""
 
 import struct
 
@@ -24,8 +24,8 @@ def long(value):
     return struct.pack(">I", value)
 
 
-# Samples about the ends of the formats, of their bytes and of each other; few, so that two are
-# often equal.
+# Samples near the limits of the formats, of their bytes and of each other; few, so that equal ones
+# are frequent.
 ENDS = {
     U8: (0, 1, 2, 9, 10, 11, 127, 128, 200, 254, 255),
     S16: (-32768, -32767, -256, -129, -3, -1, 0, 1, 9, 10, 11, 127, 255, 256, 32766, 32767),
@@ -39,19 +39,18 @@ def is_large(thing):
 
 
 def cells_of(name, thing):
-    """The cell of an object, and those of a delay's slots, with what they hold."""
+    """Returns the cell of an object and those of a delay's slots, with their contents."""
     images = thing.images if isinstance(thing, model.Delay) else ()
     slots = [(model.Cell(name, slot), image) for slot, image in enumerate(images)]
     return [(model.Cell(name, model.NO_SLOT), thing), *slots]
 
 
 class Draw:
-    """Random values for the requests of one client, most of which fit what it has and what its
-    limits are."""
+    """Random values for the requests of one client, most of which fit its objects and limits."""
 
     def __init__(self, rng, state, limits, size):
         self.rng, self.state, self.limits = rng, state, limits
-        # Few sizes, so that images often have the same; and a small one that is given, as graphs
+        # Few sizes, so that images often have the same one, and a given small one, because graphs
         # run on small images.
         near = [(size[0] + 1, size[1])] if rng.random() < 0.3 else []
         self.sizes = [size, *near, *(self.any_size() for _ in range(rng.choice((0, 0, 1, 1, 2))))]
@@ -63,7 +62,7 @@ class Draw:
         return self.rng.choice(list(values))
 
     def live(self):
-        """The objects and graphs whose names are live, by these."""
+        """Returns the graphs and other objects whose names are live, by name."""
         context = self.state.context
         if context is None:
             return {}
@@ -71,24 +70,23 @@ class Draw:
                 for name, thing in context.objects.items() if name not in context.released}
 
     def objects(self, kind=object):
-        """Names of the objects of a kind, with the objects; without images that are there only to
-        use up a quota."""
+        """Returns names and objects of a kind, without images that only use up a quota."""
         return [(name, thing)
                 for name, thing in self.live().items() if isinstance(thing, kind)
                 and not is_large(thing)]
 
     def thing(self, cell):
-        """What a cell holds, as the model tells it."""
+        """Returns the contents of a cell, from the model."""
         return None if self.state.context is None else model.found(self.state.context, cell)
 
     def cells(self, kind=object):
-        """The cells that hold one of a kind, with what they hold: objects, and images in slots of
-        delays."""
+        """Returns the cells that contain an object of a kind, with the contents: objects, and
+        images in delay slots."""
         cells = [pair for name, thing in self.objects() for pair in cells_of(name, thing)]
         return [(cell, thing) for cell, thing in cells if isinstance(thing, kind)]
 
     def slots_of(self, names):
-        """The cells of the slots of delays by these names."""
+        """Returns the cells of the slots of these delays."""
         return [cell for cell, _ in self.cells(model.Image)
                 if cell.name in names and cell.slot != model.NO_SLOT]
 
@@ -114,21 +112,21 @@ class Draw:
         return self.pick(((bad, height), (width, bad), (bad, bad)))
 
     def declared(self):
-        """The fields of what is declared of a virtual image: often nothing, and often a part."""
+        """Draws a declaration of a virtual image: often nothing, and often some fields."""
         width, height = self.bad_size() if self.chance(0.03) else self.size()
         fields = byte(self.fmt()), short(width), short(height)
         share = self.pick((0, 0, 0, 0.5, 0.5, 1))
         return [field if self.chance(share) else bytes(len(field)) for field in fields]
 
     def name(self, kind=object):
-        """Mostly that of an object of the kind; else any object's, or none's."""
+        """Draws the name of an object of the kind, sometimes any object's or none's."""
         objects = self.objects() if self.chance(0.1) else self.objects(kind)
         if objects and self.chance(0.95):
             return self.pick(objects)[0]
         return self.no_name()
 
     def no_name(self):
-        """No object's name: 0, one that wasn't given yet, or one whose object is gone."""
+        """Draws a name without an object: 0, a future one, or a released one."""
         live = self.live()
         following = 1 if self.state.context is None else self.state.context.next_name
         gone = [name for name in range(max(1, following - 50), following) if name not in live]
@@ -140,14 +138,14 @@ class Draw:
                           self.rng.randrange(255))) if self.chance(share) else model.NO_SLOT
 
     def slot_of(self, delay):
-        """Mostly one that the delay has; else one that it hasn't, or none."""
+        """Draws a slot, mostly one that the delay has."""
         count = len(delay.images)
         has_not = self.pick((count, count, count + 1, 16, 254, self.rng.randrange(count, 255)))
         return self.rng.choices((self.rng.randrange(count), has_not, model.NO_SLOT), (7, 3, 2))[0]
 
     def cell(self, kind):
-        """Mostly one that holds one of the kind; one of no object has a slot often, so that two
-        things are wrong with it."""
+        """Draws a cell, mostly one of the kind. A name without an object often has a slot, so that
+        there are two faults."""
         kinds = (kind, model.Delay) if kind is model.Image else kind
         name = self.name(model.VirtualImage if self.chance(0.07)
                          and self.objects(model.VirtualImage) else kinds)
@@ -163,7 +161,7 @@ class Draw:
         return self.rng.randint(*SAMPLES[fmt])
 
     def samples(self, fmt, count):
-        """The bytes of samples: any, or the ends of the format, or all the same."""
+        """Draws the bytes of samples: any, the limits of the format, or all the same."""
         if self.chance(0.4):
             return self.rng.randbytes(count * model.sample_bytes(fmt))
         if self.chance(0.1):

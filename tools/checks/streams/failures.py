@@ -1,4 +1,4 @@
-"""Streams that fail, cut down to few frames."""
+"""Reduces failing streams to few frames."""
 
 import collections
 import os
@@ -14,24 +14,23 @@ from checks.streams.draw import long
 from checks.streams.requests import NAMES_AT
 from checks.streams.serving import WAYS, first_difference, model_replies, shown, words_for
 
-# Seconds in which a stream is cut down.
+# Seconds for which a stream is reduced.
 CUTTING = 60
 
-# What was sent in which way, with which limits; the model's replies; and the first of the program's
-# that is another.
+# The frames, the way of sending, the limits, the model's replies, and the program's first different
+# reply.
 Failure = collections.namedtuple("Failure", "way limits frames replies at got")
 
 
 def failure_of(program, way, limits, stream, replies, seed):
-    """Where the program's replies to frames that are sent in a way aren't the model's; None where
-    all are."""
+    """Returns the program's first reply that differs from the model's, or None."""
     command = [program, "serve", *words_for(limits)]
     found = first_difference(WAYS[way](command, stream, seed), replies)
     return None if found is None else Failure(way, limits, stream, replies, *found)
 
 
 def cut_down(program, failure, seed):
-    """A failure of fewer frames, as far as dropping parts of halved sizes finds one."""
+    """Returns a failure of fewer frames, by removing parts of halved sizes."""
     end, size = time.monotonic() + CUTTING, len(failure.frames)
     while size > 0:
         shorter = without_parts(program, failure, seed, size, end)
@@ -41,8 +40,8 @@ def cut_down(program, failure, seed):
 
 
 def without_parts(program, failure, seed, size, end):
-    """A failure without those parts of a size that can be dropped one after another, from the last
-    on."""
+    """Returns a failure without those parts of a size that can be removed one after another, the
+    last one first."""
     at = len(failure.frames)
     while at > 0 and time.monotonic() < end:
         at = max(0, at - size)
@@ -56,8 +55,8 @@ def without_parts(program, failure, seed, size, end):
 
 
 def shorter_streams(failure, at, size):
-    """The frames without a part. Where it is a create, also with the names that follow its own
-    less by one; and so with nodes."""
+    """Returns the frames without a part. If a create is removed, later names decrease by one; so do
+    node numbers."""
     before, after = failure.frames[:at], failure.frames[at + size :]
     yield before + after
     client, op, body = model.parts_of(failure.frames[at])
@@ -70,7 +69,7 @@ def shorter_streams(failure, at, size):
 
 
 def with_less_names(frame, client, name):
-    """A frame in which the names above one of its client's are less by one."""
+    """Decreases the names above one of the client's by one in a frame."""
     of, op, body = model.parts_of(frame)
     if of != client:
         return frame
@@ -80,7 +79,7 @@ def with_less_names(frame, client, name):
 
 
 def with_less_nodes(frame, client, graph, number):
-    """A frame in which a number above one of its graph's nodes is less by one."""
+    """Decreases the node numbers above one of the graph's by one in a frame."""
     of, op, body = model.parts_of(frame)
     is_of_graph = of == client and op == REMOVE_NODE and body[:4] == graph
     return wire.frame(client, op, with_less_at(body, 4, number)) if is_of_graph else frame
@@ -94,7 +93,7 @@ def with_less_at(body, at, number):
 
 
 def tell(program, failure, seed):
-    """Cuts a failure down, writes it to a file and ends."""
+    """Reduces a failure, writes it to a file and ends."""
     failure = cut_down(program, failure, seed)
     wanted = failure.replies[failure.at] if failure.at < len(failure.replies) else None
     path = os.path.join(tempfile.gettempdir(), f"check_streams-{seed}.txt")

@@ -15,12 +15,12 @@ from checks.streams.draw import byte, is_large, long
 from checks.streams.requests import FEW, MANY
 from checks.streams.stream import Stream
 
-# Client numbers, some of which have a byte alike.
+# Client numbers, some of which share a byte.
 CLIENTS = (0, 1, 2, 7, 255, 256, 257, 263, 512, 1793, 65535)
 
 
 def mixed(stream):
-    """Anything, of one to five clients."""
+    """Any requests, of one to five clients."""
     clients = stream.rng.sample(CLIENTS, stream.rng.randint(1, 5))
     client = clients[0]
     for _ in range(40 + len(clients) * stream.rng.randint(60, 220)):
@@ -30,8 +30,8 @@ def mixed(stream):
 
 
 def hold_by_graphs(stream, client):
-    """Images and a virtual image that some graphs hold, and nothing else does; and delays that are
-    gone, though they were registered with these graphs."""
+    """Images and a virtual image that only graphs still use, and released delays that were
+    registered with these graphs."""
     for _ in range(3):
         for op, body in ((CREATE_IMAGE, struct.pack(">BHH", U8, 2, 1)),
                          (CREATE_IMAGE, struct.pack(">BHH", U8, 2, 1)),
@@ -49,7 +49,7 @@ def hold_by_graphs(stream, client):
 
 
 def to_all_objects(stream):
-    """A client comes to as many objects as it may hold; another has a few."""
+    """One client reaches its limit of objects; another one has a few."""
     full, other = stream.rng.sample(CLIENTS, 2)
     stream.ask(full, OPEN_CONTEXT, b"")
     draw = stream.draw_of(full)
@@ -60,7 +60,7 @@ def to_all_objects(stream):
             stream.ask_something(other)
         stream.ask_any(full, stream.rng.choices([*MANY], MANY.values())[0])
     for k in range(30):
-        # The first creates find no room, whatever is released after them.
+        # The first creates are refused, whatever is released after them.
         if k >= 5:
             stream.ask_something(draw.pick((full, other)))
         for op in FEW:
@@ -68,23 +68,23 @@ def to_all_objects(stream):
 
 
 def fits(left):
-    """The format and the size of an image that takes much of what is left of a quota, and in the
-    end all of it."""
+    """Returns the format and the size of an image that takes a large part of the remaining quota,
+    and in the end all of it."""
     if left >= 4 * SIDE * SIDE:
         return U32, SIDE, SIDE
     return (U8, SIDE, min(SIDE, left // SIDE)) if left >= SIDE else (U8, left, 1)
 
 
 def exceeds(left):
-    """Those of an image that takes more than what is left, by as little as can be, where an image
-    can."""
+    """Returns the format and the size of an image that exceeds the remaining quota by as little as
+    possible."""
     if left >= SIDE * SIDE:
         return U32, SIDE, min(SIDE, left // (4 * SIDE) + 1)
     return (U8, SIDE, left // SIDE + 1) if left >= SIDE else (U8, left + 1, 1)
 
 
 def to_the_quota(stream):
-    """A client comes to all the sample bytes that it may have; another has a few images."""
+    """One client uses up its quota; another one has a few images."""
     full, other = stream.rng.sample(CLIENTS, 2)
     for client in (full, other):
         stream.ask(client, OPEN_CONTEXT, b"")
@@ -116,8 +116,8 @@ def fill(stream, full, other):
 
 
 def fill_by_delay(stream, full):
-    """Delays after the newest image, of one slot more than what is left allows, and of as many as
-    it does."""
+    """Creates delays like the newest image, of one slot more than the quota allows, and of as many
+    as it allows."""
     context = stream.clients.state_of(full).context
     name, thing = list(stream.draw_of(full).live().items())[-1]
     if isinstance(thing, model.Image):
@@ -128,7 +128,7 @@ def fill_by_delay(stream, full):
 
 
 def to_great_sums(stream):
-    """Sums over a large picture, and of great samples with great coefficients."""
+    """Sums over a large picture, and of large samples with large coefficients."""
     client = stream.rng.choice(CLIENTS)
     draw = stream.draw_of(client)
     width, height = draw.rng.randint(17, 64), draw.rng.randint(17, 64)
@@ -158,8 +158,7 @@ def to_great_sums(stream):
 
 
 def to_all_nodes(stream):
-    """A graph comes to all the nodes that it may have: a row, in which each reads what the one
-    before writes."""
+    """A graph reaches its limit of nodes, in a chain."""
     client = stream.rng.choice(CLIENTS)
     draw, most = stream.draw_of(client), model.LIMITS.nodes
     stream.ask(client, OPEN_CONTEXT, b"")
@@ -188,12 +187,12 @@ def to_all_nodes(stream):
         stream.ask(client, ADD_NODE, long(1) + node)
 
 
-# The sizes of white pictures whose samples have a sum above 2^32, by little.
+# Sizes of white pictures whose samples have a sum slightly above 2^32.
 GREAT_SIZES = (4097, 4112), (4112, 4097), (SIDE, 2057), (2057, SIDE)
 
 
 def to_sums_that_wrap(stream):
-    """The integral of a picture whose samples' sum is no number of U32."""
+    """The integral image of a picture whose sum exceeds U32."""
     client = stream.rng.choice(CLIENTS)
     width, height = stream.rng.choice(GREAT_SIZES)
     stream.ask(client, OPEN_CONTEXT, b"")
@@ -205,14 +204,14 @@ def to_sums_that_wrap(stream):
     stream.ask(client, READ_IMAGE, wire.reference(2))
 
 
-# Of so many seeds in turn one gives each kind of stream that is not mixed.
+# One seed of each this many gives each kind of stream that isn't mixed.
 TURN = 48
 KINDS = {5: to_all_objects, 8: to_great_sums, 11: to_the_quota, 14: to_all_nodes,
          17: to_sums_that_wrap}
 
 
 def is_slow(seed):
-    """Whether the model takes seconds for a stream."""
+    """Checks if the model takes seconds for a stream."""
     return KINDS.get(seed % TURN) is to_sums_that_wrap
 
 

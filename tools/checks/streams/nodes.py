@@ -1,6 +1,5 @@
-"""Random nodes: those of Immediate; those of AddNode, which are linked with others of the graph;
-and those that give a graph a certain fault. Most fit what a client has.
-"""
+"""Draws random nodes: for Immediate, for AddNode (linked with other nodes of the graph), and for a
+graph with a given fault. Most fit the client's objects."""
 
 from feqyldan import wire
 from feqyldan.wire import (
@@ -13,8 +12,7 @@ from checks.streams.draw import byte, cell_bytes, long
 
 
 def cells_like(cells, image, kind, fmt):
-    """Those of the cells that hold one of a kind and a format; of images those of an image's
-    size."""
+    """Returns the cells of a kind and a format; for images also of an image's size."""
     if kind is None or (kind is model.Image and fmt is None):
         return [None]
     return [cell for cell, thing in cells if isinstance(thing, kind) and format_of(thing) == fmt
@@ -22,19 +20,19 @@ def cells_like(cells, image, kind, fmt):
 
 
 def are_apart(cells):
-    """Whether no output is an input, or the other output too."""
+    """Checks that no output is an input or the other output."""
     written = [cell for cell in cells[OUT1:] if cell is not None]
     return len({*written}.difference(cells[:OUT1])) == len(written)
 
 
 def formats_for(draw, allowed):
-    """Formats that a function takes, mostly those with two outputs where it may have them."""
+    """Draws formats that a function accepts, preferably those with two outputs."""
     weights = [6 ** sum(fmt is not None for fmt in formats) for formats in allowed]
     return draw.rng.choices(allowed, weights)[0]
 
 
 def fitting(draw, function):
-    """Cells of operands that the function takes, or None where none are found."""
+    """Draws operands that the function accepts, or None if there are none."""
     cells = draw.cells()
     images = [thing for _, thing in cells if isinstance(thing, model.Image)]
     for _ in range(12 if images else 0):
@@ -48,7 +46,7 @@ def fitting(draw, function):
 
 
 def of_kinds(draw, function):
-    """Cells of operands of the function's kinds, of different images as far as there are any."""
+    """Draws operands of the function's kinds, with different images if possible."""
     images = [cell for cell, _ in draw.cells(model.Image)]
     draw.rng.shuffle(images)
 
@@ -61,14 +59,14 @@ def of_kinds(draw, function):
 
 
 def missing_slots(draw):
-    """Cells of slots that delays haven't."""
+    """Returns cells of slots that delays don't have."""
     return [model.Cell(name, slot) for name, delay in draw.objects(model.Delay)
             for slot in (len(delay.images), 254)]
 
 
 def other_cell(draw, cell, kind):
-    """Another cell in the place of one: of another size or format, any of the kind, any at all, or
-    no object's."""
+    """Draws a replacement of a cell: of another size or format, any of the kind, any object, or
+    none."""
     thing = draw.thing(cell)
     images = draw.cells(model.Image) if isinstance(thing, model.Image) else []
     resized = [cell for cell, image in images
@@ -85,24 +83,24 @@ def other_cell(draw, cell, kind):
 
 
 def disturbed(draw, function, cells):
-    """Operands, often with some that don't fit."""
+    """Draws operands, often with some that don't fit."""
     if draw.chance(0.3):
         for k in draw.rng.sample(range(4), draw.pick((1, 2, 3))):
             cells[k] = None if cells[k] is None else other_cell(draw, cells[k], function.kinds[k])
     if function.kinds[OUT2] is not None and draw.chance(0.2):
-        # Two outputs that are one image, or of which the second is the input.
+        # Two outputs that are one image, or a second output that is the input.
         cells[OUT1] = cells[OUT1] or cells[OUT2]
         cells[OUT2] = cells[draw.pick((OUT1, OUT1, IN1))]
     if draw.chance(0.02):
-        # One that is required and absent, or that the function hasn't and is there.
+        # A required operand is absent, or an extra one is present.
         k = draw.rng.randrange(4)
         cells[k] = draw.cell(model.Image) if cells[k] is None else None
     return cells
 
 
 def refused_cell(draw, name, kind):
-    """A cell that no node of a graph of that name may have in the place of one of the kind, nor
-    Immediate's node."""
+    """Draws a cell that a node of this graph, or Immediate, must refuse in place of one of the
+    kind."""
     cells = draw.cells()
     foreign = [cell for cell, thing in cells
                if isinstance(thing, model.VirtualImage) and thing.graph != name]
@@ -115,7 +113,7 @@ def refused_cell(draw, name, kind):
 
 
 def with_refused(draw, name, function, cells):
-    """Operands with some for which a node isn't added to a graph of that name."""
+    """Draws operands that AddNode refuses for this graph."""
     chosen = draw.rng.sample(range(4), draw.pick((1, 2, 2, 3, 4)))
     return [refused_cell(draw, name, function.kinds[k]) if k in chosen and cell is not None
             else cell
@@ -124,17 +122,17 @@ def with_refused(draw, name, function, cells):
 
 # ---- nodes
 
-# The functions that look at the border.
+# The functions with a border mode.
 WINDOWED = range(wire.BOX, wire.CONVOLVE + 1)
 BORDERS = (wire.UNDEFINED, wire.CONSTANT, wire.REPLICATE)
-# Functions that run more often, since there is more about them.
+# Functions that run more often, because they have more cases.
 MANIFOLD = (
     wire.SOBEL, wire.SOBEL, wire.CONVOLVE, wire.CONVOLVE, wire.HISTOGRAM, wire.ACCUMULATE,
     wire.ACCUMULATE_SQUARE)
 
 
 def border(draw, number):
-    """A mode and a constant."""
+    """Draws a mode and a constant."""
     if draw.chance(0.02):
         return draw.pick(((3, 0), (255, 0), (wire.UNDEFINED, 1), (wire.REPLICATE, 255)))
     mode = draw.rng.choices(BORDERS, (4, 4, 5) if number in WINDOWED else (7, 2, 1))[0]
@@ -172,19 +170,19 @@ def immediate(draw):
 
 # ---- nodes of a graph
 
-# Images of more samples aren't taken, since a graph may have many nodes.
+# Largest images in graphs, because a graph may have many nodes.
 MOST_SAMPLES = 150
 
 
 def fits_graph(thing, name):
-    """Whether a graph of that name may name it, and would run on it soon."""
+    """Checks that a graph may name the object, and would run on it quickly."""
     if isinstance(thing, model.VirtualImage):
         return thing.graph == name
     return not isinstance(thing, model.Image) or thing.width * thing.height <= MOST_SAMPLES
 
 
 def things_for(draw, name, nodes):
-    """What nodes of a graph may name, as its nodes describe it."""
+    """Returns the objects that nodes of a graph may name, resolved by its nodes."""
     things = {cell: thing for cell, thing in draw.cells() if fits_graph(thing, name)}
     of_nodes = {cell: model.held(draw.state.context, cell) for node in nodes
                 for cell in cells_of(node)}
@@ -193,8 +191,7 @@ def things_for(draw, name, nodes):
 
 
 def as_output(thing, function, first):
-    """What an output is that a node of the function writes, where a virtual image becomes an
-    image."""
+    """Returns the resolved output of a node of the function; a virtual image becomes an image."""
     if not isinstance(thing, model.VirtualImage) or function.opened is None:
         return thing
     return new_image(thing.fmt or function.opened(first.fmt), thing.width or first.width,
@@ -202,15 +199,15 @@ def as_output(thing, function, first):
 
 
 def as_input(thing):
-    """What is read; None of a virtual image of which too little is known."""
+    """Returns the input, or None for a virtual image with undeclared fields."""
     if not isinstance(thing, model.VirtualImage):
         return thing
     return None if is_open(thing) else new_image(thing.fmt, thing.width, thing.height)
 
 
 def operands_in_graph(draw, number, things, written):
-    """Cells of operands that the function takes where these are written already; None where none
-    are found."""
+    """Draws operands that the function accepts after these cells are written, or None if there are
+    none."""
     function = FUNCTIONS[number]
     readable = [(cell, as_input(thing)) for cell, thing in things.items()
                 if cell in written or not isinstance(thing, model.VirtualImage)]
@@ -239,7 +236,7 @@ def operands_in_graph(draw, number, things, written):
 
 
 def node_of(fields):
-    """The node that these fields spell; None where they are refused."""
+    """Returns the node of these fields, or None if they are refused."""
     try:
         return model.take_node(model.Fields(b"".join(fields)))
     except model.Refused:
@@ -253,8 +250,8 @@ def verdict_on(draw, nodes, work):
 
 
 def of_other_size(things, cells):
-    """The images that haven't in1's size, and in most cases have a format that one of the operands
-    has."""
+    """Returns the images whose size differs from in1's, in most cases with the format of one of the
+    operands."""
     first, formats = things[cells[IN1]], [format_of(things.get(cell)) for cell in cells]
     images = [(cell, as_input(thing)) for cell, thing in things.items()]
     return [cell for cell, image in images if isinstance(image, model.Image)
@@ -262,7 +259,7 @@ def of_other_size(things, cells):
 
 
 def spoiled_operands(draw, cells, number, things, nodes, wanted):
-    """Operands of which one is such that the verdict may be this one."""
+    """Replaces one operand so that the verdict may be this one."""
     written = cells_written(nodes)
     others = [cell for cell in cells[OUT1:] if cell is not None]
     virtual = [cell for cell, thing in things.items() if isinstance(thing, model.VirtualImage)]
@@ -282,7 +279,7 @@ def spoiled_operands(draw, cells, number, things, nodes, wanted):
     return [draw.pick(pool) if at == k and pool else cell for at, cell in enumerate(cells)]
 
 
-# Functions that give a graph these faults more often than others do.
+# Functions that cause these faults more often than others.
 ACCUMULATORS = tuple(number for number, function in FUNCTIONS.items() if function.accumulates)
 OFTEN_BY = {
     MULTIPLE_WRITERS: (*(wire.HISTOGRAM, wire.MIN_MAX_LOCATION) * 3, *ACCUMULATORS),
@@ -290,8 +287,8 @@ OFTEN_BY = {
 
 
 def node_for(draw, name, nodes, wanted=SUCCESS, work=None):
-    """The fields of a node with which the verdict on a graph is this one, and the node; None where
-    none is found."""
+    """Draws the fields of a node that gives a graph this verdict, and the node, or None if none is
+    found."""
     things, written = things_for(draw, name, nodes), {*cells_written(nodes)}
     for _ in range(16 if wanted == SUCCESS else 60):
         number = any_function(draw)
@@ -302,7 +299,7 @@ def node_for(draw, name, nodes, wanted=SUCCESS, work=None):
             cells = spoiled_operands(draw, cells, number, things, nodes, wanted)
         fields = cells and node_fields(draw, number, cells)
         node = fields and node_of(fields)
-        # Its number may be another's by now, with operands of kinds that no graph has there.
+        # The number may since have become another function's, whose operand kinds don't fit.
         if not node or node.function is not FUNCTIONS[number]:
             continue
         if verdict_on(draw, [*nodes, node], draw.limits.work if work is None else work) == wanted:
@@ -311,8 +308,8 @@ def node_for(draw, name, nodes, wanted=SUCCESS, work=None):
 
 
 def any_nodes(draw, name, count, work):
-    """Nodes that make a graph whose verdict is SUCCESS, as many as are found, in an order in which
-    they run."""
+    """Draws nodes of a graph with the verdict SUCCESS, as many as are found, in topological
+    order."""
     found = []
     for _ in range(count):
         following = node_for(draw, name, [node for _, node in found], work=work)
@@ -323,8 +320,8 @@ def any_nodes(draw, name, count, work):
 
 
 def with_virtual_sum(draw, nodes):
-    """The nodes, of which one that writes a virtual image that is read adds to it instead, and what
-    there is of such a node: one or none."""
+    """Returns the nodes, one of which now adds to a virtual image that is read, and the list of
+    such nodes: one or none."""
     read = {*cells_read([node for _, node in nodes])}
     places = [at for at, (_, node) in enumerate(nodes) if node.cells[OUT1] in read
               and isinstance(draw.thing(node.cells[OUT1]), model.VirtualImage)]
@@ -342,8 +339,7 @@ FAULTS = (MULTIPLE_WRITERS, INVALID_GRAPH, INVALID_GRAPH, INVALID_LINK, INVALID_
 
 
 def some_faults(draw):
-    """What is wrong with a graph: one thing, more of them, or two nodes of which the order
-    decides."""
+    """Draws the fault of a graph: one fault, several, or two nodes whose order decides."""
     if draw.chance(0.35):
         return INVALID_FORMAT, INVALID_DIMENSION
     return draw.rng.sample(FAULTS, draw.pick((1, 1, 1, 2, 2, 3)))
@@ -358,7 +354,7 @@ def refused_node(draw, name):
 
 
 def add_node(draw):
-    """Mostly one that is refused; else often one that fits a graph."""
+    """Draws a node for AddNode, mostly one that is refused, or one that fits a graph."""
     name = draw.name(model.Graph)
     if draw.chance(0.7):
         return refused_node(draw, name)

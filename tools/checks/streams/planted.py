@@ -1,4 +1,4 @@
-"""Wrong readings of the protocol, each planted in the model, and the streams that tell."""
+"""Misreadings of the protocol, each planted in the model, and the streams that find it."""
 
 import contextlib
 import sys
@@ -10,13 +10,13 @@ from checks.streams.failures import failure_of, tell
 from checks.streams.kinds import TURN, is_slow, stream_of
 from checks.streams.serving import AT_ONCE
 
-# A fault is found in so many streams, or never.
+# Number of streams within which a fault must be found.
 FAULT_STREAMS = 2 * TURN
 
 
 @contextlib.contextmanager
 def planted(changes):
-    """A model in which names stand for something else."""
+    """Replaces some names of the model."""
     places = [(vars(module), name) for module in MODULES
               for name in changes if name in vars(module)]
     right = [module[name] for module, name in places]
@@ -30,8 +30,8 @@ def planted(changes):
 
 
 class Outputs:
-    """Streams, and what the program answers to them: each is run once, when it is first asked for.
-    Those for which the model takes long come last."""
+    """Streams with the program's replies. Each is run once, when it is first needed. Streams that
+    are slow in the model come last."""
 
     def __init__(self, program, seed):
         self.program, self.found = program, []
@@ -50,7 +50,7 @@ class Outputs:
 
 
 def found_at(changes, outputs):
-    """The first stream and reply that a wrong model hasn't; None where there is none."""
+    """Returns the first stream and reply that a faulty model doesn't have, or None."""
     for at in range(FAULT_STREAMS):
         limits, asked, replies = outputs[at]
         with planted(changes):
@@ -61,8 +61,8 @@ def found_at(changes, outputs):
 
 
 def first_other(limits, asked, replies):
-    """The number of the first reply that a model with a fault gives otherwise; what comes after it
-    can be anything."""
+    """Returns the number of the first reply that differs in a faulty model. Later replies can be
+    anything."""
     clients = model.Clients(limits)
     return next((k
                  for k, (frame, reply) in enumerate(zip(asked, replies))

@@ -1,4 +1,5 @@
-"""The table of random requests: what draws the body of each, and how often each is asked."""
+"""The table of random requests: the function that draws each body, and the frequency of each
+request."""
 
 from checks import model
 from checks.model.functions import FUNCTIONS
@@ -41,8 +42,7 @@ BODIES = {
     REGISTER_AUTO_AGING: bodies.register_auto_aging,
 }
 
-# The creates, with how often each is asked for by a client that has few objects, and by one that is
-# to have many.
+# The creates, with their frequency for a client with few objects, and for one that collects many.
 FEW = {
     CREATE_IMAGE: 16, CREATE_LUT: 3, CREATE_THRESHOLD: 4, CREATE_CONVOLUTION: 3,
     CREATE_DISTRIBUTION: 3, CREATE_MIN_MAX: 2, CREATE_DELAY: 4, CREATE_GRAPH: 2,
@@ -52,7 +52,7 @@ MANY = {
     CREATE_DISTRIBUTION: 5, CREATE_MIN_MAX: 15, CREATE_DELAY: 2, CREATE_GRAPH: 10,
     CREATE_VIRTUAL_IMAGE: 15}
 
-# Where in a body the names stand, and where those of what is written; a node's four operands are of
+# The positions of names in a body, and those of written objects. Each of a node's four operands has
 # 5 bytes.
 NAMES_AT = {
     QUERY_IMAGE: (0,), WRITE_IMAGE: (0,), WRITE_IMAGE_PGM: (0,), READ_IMAGE: (0,),
@@ -61,24 +61,24 @@ NAMES_AT = {
     CREATE_VIRTUAL_IMAGE: (0,), ADD_NODE: (0, 9, 14, 19, 24), REMOVE_NODE: (0,),
     VERIFY_GRAPH: (0,), PROCESS_GRAPH: (0,), REGISTER_AUTO_AGING: (0, 4)}
 WRITTEN_AT = {WRITE_IMAGE: (0,), WRITE_IMAGE_PGM: (0,), SET_VALID: (0,), IMMEDIATE: (15, 20)}
-# Where the operands stand whose samples a node takes, by the byte of its function: those that it
-# reads, and one that it adds to.
+# The positions of operands whose samples a node reads, by the byte of its function: inputs, and an
+# output that it adds to.
 TAKEN_AT = {bytes([number]): (5, 10, 15) if function.accumulates else (5, 10)
             for number, function in FUNCTIONS.items()}
 
-# What is asked about an object of a kind, or about an image in a slot.
+# The queries about an object of a kind, or about an image in a slot.
 QUESTIONS = {
     model.Image: (QUERY_IMAGE, READ_IMAGE), model.VirtualImage: (QUERY_IMAGE,),
     model.Distribution: (READ_DISTRIBUTION,), model.Extremes: (READ_MIN_MAX,)}
 
-# What isn't an op: an op that isn't known, and the first request of many about a graph.
+# Entries that are not ops: an unknown op, and the first of many requests about a graph.
 UNKNOWN, GRAPH = None, "graph"
-# What counts where a client is to have some objects.
+# The objects that count when a client collects objects.
 NO_GRAPH = (
     model.Image, model.Delay, model.Lut, model.Threshold, model.Convolution, model.Distribution,
     model.Extremes)
 
-# How often each op is asked for by a client that has some objects.
+# The frequency of each op for a client with some objects.
 WEIGHTS = {
     OPEN_CONTEXT: 2,
     RELEASE_CONTEXT: 1,

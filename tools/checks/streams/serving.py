@@ -1,4 +1,4 @@
-"""The program's replies to a stream, sent in several ways, and the model's."""
+"""Runs the program on a stream, sent in several ways, for comparison with the model."""
 
 import contextlib
 import random
@@ -7,22 +7,22 @@ import threading
 
 from checks import model
 
-# Seconds after which a program that doesn't answer is ended.
+# Seconds after which a program that doesn't answer is killed.
 PATIENCE = 120
-# How the words begin that stand for a program's end: as no frame does, since its length would be
-# too great.
+# The prefix of an entry that describes the end of the program. As the start of a frame its length
+# would be too large.
 ENDED = b"it ended with status"
 
 
 def shown(reply):
-    """In hex, unless it is no frame."""
+    """Returns a frame in hex, or the description of an end."""
     if reply is None:
         return "nothing"
     return reply.decode() if reply.startswith(ENDED) else reply.hex(" ")
 
 
 def words_for(limits):
-    """The words of the command line for limits that aren't the program's own."""
+    """Returns the command line arguments for limits other than the default."""
     names = [name for name in ("quota", "work")
              if getattr(limits, name) != getattr(model.LIMITS, name)]
     return [word for name in names for word in (f"--{name}", str(getattr(limits, name)))]
@@ -30,7 +30,7 @@ def words_for(limits):
 
 @contextlib.contextmanager
 def running(command):
-    """A process of the program, which is ended where it doesn't end by itself."""
+    """A process of the program, which is killed if it doesn't end by itself."""
     pipes = dict.fromkeys(("stdin", "stdout", "stderr"), subprocess.PIPE)
     process = subprocess.Popen(command, bufsize=0, **pipes)
     watch = threading.Timer(PATIENCE, process.kill)
@@ -43,7 +43,7 @@ def running(command):
 
 
 def write(process, data):
-    """Writes all of the data, unless the program has ended, of which its replies tell."""
+    """Writes all data, unless the program has ended, which its replies then show."""
     with contextlib.suppress(BrokenPipeError):
         left = memoryview(data)
         while left:
@@ -51,7 +51,7 @@ def write(process, data):
 
 
 def read(process, count):
-    """So many bytes of the program's output, or those that come before its end."""
+    """Reads this many bytes of the program's output, or fewer at its end."""
     got = bytearray()
     while len(got) < count:
         part = process.stdout.read(count - len(got))
@@ -94,7 +94,7 @@ def in_pieces(command, stream, seed):
 
 
 def write_pieces(process, data, rng):
-    """Mostly of some bytes, but not more than so many pieces."""
+    """Cuts data into pieces of mostly a few bytes, with a limit on their number."""
     at = 0
     while at < len(data):
         most = max(rng.choice((1, 7, 30, 300, 5000)), len(data) // 200)
@@ -105,18 +105,18 @@ def write_pieces(process, data, rng):
 
 
 def ended(status, line):
-    """What is put after the replies where the program ended otherwise than at the end of a
+    """Returns an entry after the replies if the program ended otherwise than at the end of a
     stream."""
     return b"" if (status, line) == (0, b"") else f"{ENDED.decode()} {status}, {line!r}".encode()
 
 
-# The last is of a stream without the frames of the other clients.
+# The last way is a stream without the frames of the other clients.
 AT_ONCE, ALONE = "at once", "a client alone"
 WAYS = {AT_ONCE: at_once, "in lock step": in_lock_step, "in pieces": in_pieces, ALONE: at_once}
 
 
 def split(output):
-    """The reply frames of an output, with what is no whole frame at its end as the last."""
+    """Returns the reply frames of an output; an incomplete frame at the end is the last one."""
     replies, at = [], 0
     while at < len(output):
         length = 4 + int.from_bytes(output[at : at + 4], "big")
@@ -126,8 +126,8 @@ def split(output):
 
 
 def first_difference(output, replies):
-    """The index of the first reply that isn't the model's, and the program's one there; None where
-    there is none."""
+    """Returns the index of the first reply that differs from the model's, with the program's reply,
+    or None."""
     if output == b"".join(replies):
         return None
     got = split(output)

@@ -1,4 +1,4 @@
-"""A part of a random stream in which a client makes a graph, runs it and changes it."""
+"""A part of a random stream in which a client creates a graph, runs it and changes it."""
 
 from feqyldan import wire
 from feqyldan.wire import SUCCESS
@@ -11,18 +11,16 @@ from checks.streams import nodes as random_nodes
 from checks.streams.bodies import spoiled
 from checks.streams.draw import cell_bytes, long
 
-# What a session gives when it has ended.
+# The value of a session that has ended.
 ENDED = object()
 
 
 class Session:
-    """What a client asks about one graph: to make it, to run it, to change it and to run it
-    again."""
+    """The requests of a client about one graph: create it, run it, change it and run it again."""
 
     def __init__(self, stream, client):
         self.stream, self.client, self.draw = stream, client, stream.draw_of(client)
-        # The fields of the nodes that were added, by their numbers, and which of them made the
-        # graph faulty.
+        # The fields of the added nodes by number, and those that made the graph faulty.
         self.name, self.added, self.faulty = None, {}, []
 
     def ask(self, op, *fields):
@@ -30,7 +28,7 @@ class Session:
         return self.stream.ask(self.client, op, body)
 
     def graph(self):
-        """None where it was released, or its context was."""
+        """Returns the graph, or None if it or its context was released."""
         thing = self.draw.live().get(self.name)
         return thing if isinstance(thing, model.Graph) else None
 
@@ -38,7 +36,7 @@ class Session:
         return [*self.graph().nodes.values()]
 
     def steps(self):
-        """Goes on after each request, so that others come between them."""
+        """Yields after each request, so that others can come between."""
         if self.stream.ask_any(self.client, CREATE_GRAPH) != SUCCESS:
             return
         self.name = max(self.draw.live())
@@ -51,7 +49,7 @@ class Session:
             yield from step(self)
 
     def change(self):
-        """Often what makes the graph faulty is removed first."""
+        """Changes the graph. Often removes a node that makes it faulty first."""
         if self.draw.chance(0.6) and any(number in self.graph().nodes for number in self.faulty):
             return self.remove()
         return self.draw.rng.choices([*CHANGES], CHANGES.values())[0](self)
@@ -68,7 +66,7 @@ class Session:
         work = draw.limits.work if draw.chance(0.5) else model.LIMITS.work
         nodes = random_nodes.any_nodes(draw, self.name, count, work)
         faults = self.faults_for(nodes) if draw.chance(0.25) else []
-        # Often beside another fault, so that it shows which of both is told.
+        # Often combined with another fault, to see which of them is reported.
         has_sum = draw.chance(0.3 if faults else 0.06)
         nodes, sums = random_nodes.with_virtual_sum(draw, nodes) if has_sum else (nodes, [])
         nodes, faults = [*nodes, *faults], [*faults, *sums]
@@ -79,7 +77,7 @@ class Session:
             yield
 
     def faults_for(self, nodes):
-        """Nodes that each make a graph of these faulty by itself."""
+        """Returns nodes, each of which makes the graph faulty by itself."""
         nodes = [node for _, node in nodes]
         found = [random_nodes.node_for(self.draw, self.name, nodes, code)
                  for code in random_nodes.some_faults(self.draw)]
@@ -106,11 +104,12 @@ class Session:
         self.stream.ask_about(self.client, [cell_bytes(cell) for cell in written], share)
 
     def used(self):
-        """The names that its nodes have."""
+        """Returns the names in its nodes."""
         return {cell.name for node in self.nodes() for cell in cells_of(node)}
 
     def delays(self):
-        """Those that its nodes read; where there are none, and now and then, all."""
+        """Returns the names that its nodes read. If there are none, and sometimes otherwise,
+        returns all names."""
         read = {cell.name for cell in cells_read(self.nodes())}
         delays = [name for name, _ in self.draw.objects(model.Delay)]
         those = [] if self.draw.chance(0.15) else [name for name in delays if name in read]
@@ -124,8 +123,8 @@ class Session:
             yield from self.run_again()
 
     def register(self):
-        """Delays that age after each run from then on; now and then one of them twice, or with
-        another graph too, or it is released after that."""
+        """Registers delays for ageing; sometimes one of them twice, or with another graph too, or
+        followed by its release."""
         delays, graphs = self.delays(), [name for name, _ in self.draw.objects(model.Graph)]
         count = self.draw.pick((1, 1, 2, 3)) if delays else 0
         for delay in self.draw.rng.choices(delays, k=count):
@@ -141,7 +140,7 @@ class Session:
                 yield from self.run_again()
 
     def release_registered(self):
-        """What is registered, and used by no node, is gone."""
+        """Registers a delay that no node uses, and releases it. Its bytes are then free."""
         used = self.used()
         delays = [(name, thing)
                   for name, thing in self.draw.objects(model.Delay) if name not in used]
@@ -155,7 +154,7 @@ class Session:
         yield from self.run_again()
 
     def write(self):
-        """An image that is read, or added to, becomes another one, or valid in another part."""
+        """Replaces an image that is read or added to, or its valid rectangle."""
         taken = {*cells_read(self.nodes()), *cells_added_to(self.nodes())}
         images = [(cell, image) for cell, image in self.draw.cells(model.Image) if cell in taken]
         if images:
@@ -169,7 +168,7 @@ class Session:
             yield from self.run_again()
 
     def release(self):
-        """What a node uses: others can't name it, and it is still there for the node."""
+        """Releases an object in use: its name is gone, but the nodes keep it."""
         used = [name for name in sorted(self.used()) if name in self.draw.live()]
         if used:
             self.ask(RELEASE, long(self.draw.pick(used)))
@@ -178,7 +177,7 @@ class Session:
             yield from self.run_again()
 
     def release_at_quota(self):
-        """It is charged, and counted, until no node uses it."""
+        """Releases an object in use. It is charged and counted until no node uses it."""
         used = self.used()
         used = [(name, thing)
                 for name, thing in self.draw.objects() if name in used
@@ -201,7 +200,7 @@ class Session:
         yield
 
     def remove(self):
-        """Mostly a node that made the graph faulty; now and then it is added again."""
+        """Removes a node, mostly a faulty one; sometimes it is added again."""
         nodes = self.graph().nodes
         numbers = [number for number in self.faulty if number in nodes] or [*nodes]
         if numbers:
@@ -213,7 +212,7 @@ class Session:
             yield from self.run_again()
 
     def add_another(self):
-        """One that fits, or that makes the graph faulty."""
+        """Adds a node that fits, or one that makes the graph faulty."""
         wanted = SUCCESS if self.draw.chance(0.6) else self.draw.pick(random_nodes.FAULTS)
         found = random_nodes.node_for(self.draw, self.name, self.nodes(), wanted)
         if found:
@@ -226,7 +225,7 @@ class Session:
             yield from self.run()
 
     def end(self):
-        """Its virtual images outlive it."""
+        """Releases the graph; its virtual images outlive it."""
         self.ask(RELEASE, long(self.name))
         yield
         self.stream.ask_create(self.client)

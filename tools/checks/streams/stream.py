@@ -1,4 +1,4 @@
-"""A random stream of several clients while it is made: frames, each with the model's reply."""
+"""A random stream of several clients under construction: frames, each with the model's reply."""
 
 import random
 import struct
@@ -20,8 +20,7 @@ from checks.streams.session import ENDED, Session
 
 
 def any_limits(rng, size):
-    """Mostly the program's own; else of few bytes, often just as many as some images of a size
-    have."""
+    """Draws limits, mostly the default ones, or few bytes, often the size of a few images."""
     width, height = size
     quota, work = (max(1, width * height * rng.randint(1, most) + rng.choice((0, 0, -1, -1, 1)))
                    for most in (60, 4))
@@ -34,8 +33,8 @@ def any_limits(rng, size):
 
 
 class Stream:
-    """A stream while it is made: every request is asked of the model, whose state says what may
-    come next."""
+    """A stream under construction. Every request is also given to the model, whose state guides the
+    next one."""
 
     def __init__(self, seed, has_any_limits):
         self.rng = random.Random(seed)
@@ -43,7 +42,7 @@ class Stream:
         self.limits = any_limits(self.rng, self.size) if has_any_limits else model.LIMITS
         self.clients = model.Clients(self.limits)
         self.frames, self.replies, self.draws, self.sessions = [], [], {}, {}
-        # How many nodes the graphs had that ran.
+        # The number of nodes of the graphs that ran.
         self.runs = []
 
     def draw_of(self, client):
@@ -53,7 +52,7 @@ class Stream:
         return self.draws[client]
 
     def ask(self, client, op, body):
-        """The code of the reply."""
+        """Adds a request, and returns the code of the reply."""
         frame = wire.frame(client, op, body)
         self.frames.append(frame)
         self.replies.append(self.clients.reply(frame))
@@ -66,8 +65,8 @@ class Stream:
         return self.draw_of(client).live()[int.from_bytes(name, "big")]
 
     def ask_any(self, client, op):
-        """The code of the reply to a random request of an op; what it wrote or moved is often asked
-        for right after."""
+        """Adds a random request of an op, and returns the code. Often reads the result right
+        after."""
         draw = self.draw_of(client)
         body = spoiled(draw, BODIES[op](draw))
         taken = [body[at : at + 5] for at in TAKEN_AT.get(body[:1], ())]
@@ -90,8 +89,7 @@ class Stream:
         return code
 
     def ask_about(self, client, references, share=0.5):
-        """Often the samples of images, and often their rectangles; and often the numbers that other
-        objects hold."""
+        """Reads samples of images, rectangles, and the contents of other objects, each often."""
         draw = self.draw_of(client)
         for kind, ops in QUESTIONS.items():
             cells = [cell for cell, _ in draw.cells(kind) if cell_bytes(cell) in references]
@@ -103,8 +101,7 @@ class Stream:
                                  else long(cell.name))
 
     def confine(self, client, references, share_of_none=0):
-        """Mostly makes the images that are among these valid in a part; or all of them valid
-        nowhere."""
+        """Mostly makes the images among these valid in a part, or all of them valid nowhere."""
         draw = self.draw_of(client)
         is_none = draw.chance(share_of_none)
         for cell, image in draw.cells(model.Image):
@@ -131,7 +128,7 @@ class Stream:
             self.ask_by_weight(client)
 
     def ask_of_graph(self, client):
-        """The next request of a session, which begins if the client has none."""
+        """Adds the next request of a session, which begins if the client has none."""
         if client not in self.sessions:
             self.sessions[client] = Session(self, client).steps()
         if next(self.sessions[client], ENDED) is ENDED:
@@ -147,7 +144,7 @@ class Stream:
             self.ask_any(client, op)
 
     def ask_create(self, client):
-        """A random create; and often, images that it makes are written, and are valid in a part."""
+        """Adds a random create. Often writes the new images, and makes them valid in a part."""
         op = self.rng.choices([*FEW], FEW.values())[0]
         draw = self.draw_of(client)
         if self.ask_any(client, op) == SUCCESS and op in (CREATE_IMAGE, CREATE_DELAY):
@@ -161,12 +158,12 @@ class Stream:
                     self.confine(client, [cell_bytes(cell)])
 
     def ask_for_bytes(self, client, count):
-        """The code of the reply to CreateImage, for an image of so many bytes."""
+        """Creates an image of this many bytes, and returns the code."""
         return self.ask(client, CREATE_IMAGE, struct.pack(">BHH", U8, min(count, GREATEST_SIDE), 1))
 
     def use_up_quota(self, client):
-        """Whether the client has used up its quota, or does so now by one image, since no more is
-        left."""
+        """Checks if the client has used up its quota, and otherwise tries to do so with one
+        image."""
         left = self.limits.quota - model.charge(self.clients.state_of(client).context)
         is_little = left <= GREATEST_SIDE
         return left == 0 or (is_little and self.ask_for_bytes(client, left) == SUCCESS)

@@ -1,5 +1,4 @@
-"""Tables of streams, which are written from docs/wire.md, and every byte that the program
-answers."""
+"""Tables of streams, written from docs/wire.md, with every byte of the program's replies."""
 
 import sys
 

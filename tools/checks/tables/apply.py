@@ -1,4 +1,4 @@
-"""What `apply` makes of PGM texts: the text of what one function gives out."""
+"""Checks `apply` on PGM texts: its output is the text of one function's result."""
 
 import array
 import fcntl
@@ -15,8 +15,8 @@ from checks.sessions.windows import ONE_TO_NINE, centred
 from checks.tables.program import Program, check, shown
 
 SQUARE, COUNT = raw(2, 2, TEN_TO_FORTY), raw(3, 3, ONE_TO_NINE)
-# The words after `apply`, the text that is read, and the width, the height and the samples of what
-# is written.
+# The arguments after `apply`, the input text, and the width, the height and the samples of the
+# output.
 APPLIED = (
     (("box", "--border", "replicate"), SQUARE, (2, 2, [20, 23, 26, 30])),
     (("box", "--border=replicate"), SQUARE, (2, 2, [20, 23, 26, 30])),
@@ -42,7 +42,7 @@ APPLIED = (
       for function in ("box", "gaussian", "median", "erode", "dilate")),
 )
 
-# The longest text that is read.
+# The longest text that is accepted.
 LONGEST = 536_870_912
 
 
@@ -66,20 +66,20 @@ def check_apply(program: Program) -> None:
 
 
 def waiting_in(pipe: IO[bytes]) -> int:
-    """The bytes of a pipe that nobody has read yet."""
+    """Returns the number of unread bytes in a pipe."""
     count = array.array("i", [0])
     fcntl.ioctl(pipe, termios.FIONREAD, count)
     return count[0]
 
 
 def sleeps(process: int) -> bool:
-    """Whether a process waits for something."""
+    """Checks if a process is waiting."""
     with open(f"/proc/{process}/stat", encoding="utf-8") as file:
         return file.read().rpartition(")")[2].split()[0] == "S"
 
 
 def check_pieces(program: Program) -> None:
-    """A text that comes in pieces; the program waits for its end."""
+    """Sends a text in pieces; the program waits for its end."""
     with subprocess.Popen([program.path, "apply", "not"], stdin=subprocess.PIPE,
                           stdout=subprocess.PIPE, bufsize=0) as process:
         assert process.stdin is not None and process.stdout is not None
@@ -96,8 +96,9 @@ def check_pieces(program: Program) -> None:
 
 
 def check_longest(program: Program) -> None:
-    """Texts as long as may be, and one byte longer, which is told whatever the text is: of zeros,
-    which a comment may have. No byte beyond that one is read, and none is waited for."""
+    """Sends texts of the greatest length, and one byte longer. The longer one is refused regardless
+    of its contents, which are zeros in a comment. The program reads no byte beyond the limit, and
+    waits for none."""
     apply, too_long = ("apply", "not"), (5, b"", b"NO_RESOURCES\n", LONGEST + 1)
     for front, length, end, wanted in (
         (b"P2 1 1 255 5#", LONGEST, b"\n", (0, raw(1, 1, [250]), b"", LONGEST)),

@@ -1,6 +1,6 @@
-"""Bodies field by field, each cut at every byte; and what each function's node has.
+"""Bodies field by field, each cut at every byte, and the parameters of each function's node.
 
-A client without a context is answered INVALID_REFERENCE where the body spells a request.
+A client without a context gets INVALID_REFERENCE if the body is well-formed.
 """
 
 from typing import Any, Iterable, Iterator, Tuple
@@ -14,8 +14,7 @@ from checks.tables.program import Program, check, shown
 
 SPELLED = INVALID_REFERENCE
 
-# Bodies that spell a request; each of them that is cut short, or has a byte more, is answered
-# INVALID_PARAMETERS.
+# Well-formed bodies. Each of them that is truncated, or has an extra byte, gets INVALID_PARAMETERS.
 WHOLE = (
     ("ReleaseContext", 2, ""),
     ("CreateImage", 3, "01 00 01 00 01"),
@@ -100,7 +99,7 @@ WHOLE = (
     ("RegisterAutoAging of the greatest numbers", 27, "ff ff ff ff  ff ff ff ff"),
 )
 
-# The first field whose value isn't allowed decides, however much of what follows is cut or wrong.
+# The first field with a disallowed value decides, however truncated or wrong the rest is.
 REFUSED = (
     ("CreateImage, fmt 0", 3, "00 00 01 00 01", INVALID_FORMAT),
     ("CreateImage, fmt 4", 3, "04 00 01 00 01", INVALID_FORMAT),
@@ -132,7 +131,7 @@ REFUSED = (
      INVALID_VALUE),
     ("SetValid, turned and a byte more", 9, "00 00 00 01 ff 00 03 00 04 00 01 00 02 00",
      INVALID_VALUE),
-    # A rectangle is one field: cut short it isn't looked at.
+    # A rectangle is one field, so a truncated one isn't checked.
     *((f"SetValid, turned and cut to {length} bytes", 9,
        "00 00 00 01 ff 00 03 00 04 00 01 00"[: 3 * length - 1], INVALID_PARAMETERS)
       for length in range(5, 13)),
@@ -226,8 +225,8 @@ REFUSED = (
     ("CreateDelay, 0 slots and a byte more", 25, "00 00 00 01 ff 00 01", INVALID_VALUE),
 )
 
-# What a function's node has beside its first input and its output: a second input, a policy, the
-# greatest amount.
+# The parameters of a function's node besides in1 and out1: a second input, a policy, the greatest
+# amount.
 FUNCTIONS = (
     (1, True, False, None), (2, True, False, None), (3, True, False, None), (4, False, False, None),
     (5, True, True, None), (6, True, True, None), (7, True, True, 15), (8, True, False, None),
@@ -265,7 +264,8 @@ def function_rows() -> Iterator[Tuple[bytes, int]]:
 
 
 def nodes_in_graphs(rows: Iterable[Tuple[Any, ...]]) -> Iterator[Tuple[Any, ...]]:
-    """The rows with their bodies in bytes, and those of Immediate once more as nodes of a graph."""
+    """Returns the rows with their bodies in bytes, and those of Immediate again as nodes of a
+    graph."""
     for words, op, body, *code in rows:
         body = bytes.fromhex(body)
         yield words, op, body, *code
@@ -274,7 +274,7 @@ def nodes_in_graphs(rows: Iterable[Tuple[Any, ...]]) -> Iterator[Tuple[Any, ...]
 
 
 def body_rows() -> Iterator[Tuple[str, int, bytes, int]]:
-    """Each op, body and code."""
+    """Yields each op, body and code."""
     for fmt, size in ((U8, 256), (S16, 131_072)):
         table = bytes([fmt]) + bytes(range(256)) * (size // 256)
         yield "a table", 11, table, SPELLED
@@ -291,14 +291,14 @@ def body_rows() -> Iterator[Tuple[str, int, bytes, int]]:
     for body, code in function_rows():
         yield f"function {body[0]}", IMMEDIATE, body, code
         yield f"function {body[0]} in a graph", ADD_NODE, name(1) + body, code
-    # The text is all that is left, whatever it is, about 64 bytes of body and beyond.
+    # The text is the rest of the body, whatever it is, at about 64 bytes of body and beyond.
     for size in (0, 1, 58, 59, 60, 61, 4096, 65_531, 1_000_000):
         yield f"WriteImagePgm of {size} bytes", 6, reference(1) + bytes(size), SPELLED
     for length in range(5):
         yield f"WriteImagePgm, cut to {length} bytes", 6, reference(1)[:length], INVALID_PARAMETERS
     for op in (op for op in range(256) if op not in OPS):
         yield f"op {op}", op, b"", INVALID_PARAMETERS
-    # Bodies about 64 bytes, and long ones, of ops that have none.
+    # Bodies of about 64 bytes, and long ones, for ops without a body.
     for op in (1, 2, 18, 200):
         for size in (1, 63, 64, 65, 66, 4096, 65_536, 1_000_000):
             yield f"{size} bytes to op {op}", op, bytes(size), INVALID_PARAMETERS

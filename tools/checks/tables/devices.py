@@ -1,5 +1,5 @@
-"""Devices that fail: a folder that is read, and a full one that is written; and those that move few
-bytes at a call, one of which fails."""
+"""Devices that fail: a directory as input, and a full device as output; and devices that move few
+bytes per call, one call of which fails."""
 
 import os
 import subprocess
@@ -22,7 +22,7 @@ STORED = [
 
 
 def run_on_a_folder(program: Program, words: Sequence[str]) -> Tuple[int, bytes, bytes]:
-    """A folder can't be read."""
+    """Checks that a directory can't be read."""
     with tempfile.TemporaryDirectory() as folder:
         entry = os.open(folder, os.O_RDONLY)
         run = subprocess.run([program.path, *words], stdin=entry, capture_output=True, timeout=60)
@@ -32,7 +32,7 @@ def run_on_a_folder(program: Program, words: Sequence[str]) -> Tuple[int, bytes,
 
 def run_into_a_full_device(program: Program, words: Sequence[str],
                            stream: bytes) -> Tuple[int, bytes]:
-    """/dev/full takes nothing."""
+    """Checks that /dev/full can't be written."""
     with open("/dev/full", "wb") as full:
         run = subprocess.run([program.path, *words], input=stream, stdout=full,
                              stderr=subprocess.PIPE, timeout=60)
@@ -40,8 +40,8 @@ def run_into_a_full_device(program: Program, words: Sequence[str],
 
 
 def check_pieces(program: Program) -> None:
-    """Streams in pieces of all sizes, and a byte at a call with each read and each write failing in
-    turn."""
+    """Runs streams in pieces of all sizes, and in single bytes with each read and each write
+    failing in turn."""
     with tempfile.TemporaryDirectory() as folder:
         shim = os.path.join(folder, "fail_call.so")
         subprocess.run(["cc", "-O1", "-shared", "-fPIC", "-o", shim,
@@ -53,12 +53,12 @@ def check_pieces(program: Program) -> None:
 
 
 def joined(pairs: Pairs) -> Tuple[bytes, bytes]:
-    """The stream of the requests, and that of the replies."""
+    """Returns the stream of the requests, and that of the replies."""
     return b"".join(request for request, _ in pairs), b"".join(reply for _, reply in pairs)
 
 
 def check_sizes(program: Program, shim: str, pairs: Pairs) -> None:
-    """In pieces of at most so many bytes, up to the longest frame."""
+    """Runs in pieces of at most this many bytes, up to the longest frame."""
     stream, output = joined(pairs)
     for size in range(1, max(len(frame) for pair in pairs for frame in pair) + 1):
         got = run_in_pieces(program, shim, stream, PIECE=size)
@@ -66,8 +66,8 @@ def check_sizes(program: Program, shim: str, pairs: Pairs) -> None:
 
 
 def check_failing_reads(program: Program, shim: str, pairs: Pairs) -> None:
-    """The replies of the frames that were read whole are there. The last read is that which finds
-    the end of the stream."""
+    """Fails each read. The replies to completely read frames are there. The last read finds the end
+    of the stream."""
     stream, output = joined(pairs)
     number = 0
     for k, (request, _) in enumerate(pairs):
@@ -81,8 +81,8 @@ def check_failing_reads(program: Program, shim: str, pairs: Pairs) -> None:
 
 
 def check_failing_writes(program: Program, shim: str, pairs: Pairs) -> None:
-    """All that was written before is there, and nothing after the reply whose write failed: what is
-    left of that one the program may still write as it ends."""
+    """Fails each write. All earlier bytes are there, and nothing after the reply whose write
+    failed, the rest of which the program may still write at its end."""
     stream, number = joined(pairs)[0], 0
     for k, (_, reply) in enumerate(pairs):
         before, most = number, joined(pairs[:k + 1])[1]
@@ -95,8 +95,8 @@ def check_failing_writes(program: Program, shim: str, pairs: Pairs) -> None:
 
 def run_in_pieces(program: Program, shim: str, stream: bytes,
                   **told: int) -> Tuple[int, bytes, bytes]:
-    """The program's status, output and line where pieces have so many bytes, or a call with this
-    number fails."""
+    """Returns the program's status, output and line with pieces of this size, or with a failure of
+    this call."""
     environment = {**os.environ, "LD_PRELOAD": shim}
     environment.update({variable: str(number) for variable, number in told.items()})
     program.runs += 1
@@ -110,7 +110,7 @@ def check_devices(program: Program) -> None:
     for words in (("serve",), ("apply", "not")):
         got = run_on_a_folder(program, words)
         check(got == (4, b"", b"read failed\n"), f"a reader that fails under {words}: {got}")
-    # The words are refused before anything is read, and a text before anything is written.
+    # Arguments are refused before anything is read, and a text before anything is written.
     got = run_on_a_folder(program, ("apply", "sobel"))
     check(got[:2] == (2, b"") and got[2].startswith(b"error: "),
           f"a word that is refused before a reader that fails: {got}")

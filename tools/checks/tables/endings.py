@@ -1,4 +1,4 @@
-"""How a stream ends: what is read, what is written, the status and the line; and turns."""
+"""Ends of streams: bytes read, bytes written, the status and the line; and clients in turn."""
 
 import subprocess
 from typing import List, Sequence, Tuple
@@ -8,7 +8,7 @@ from checks.sessions.images import pictures_in_long_bodies
 from checks.sessions.rows import Row, reply_to
 from checks.tables.program import Program, check, shown
 
-# Requests, each with its reply.
+# Requests with their replies.
 Pairs = List[Tuple[bytes, bytes]]
 
 TRUNCATED, BAD_LENGTH = (3, b"truncated\n"), (3, b"bad length\n")
@@ -39,8 +39,8 @@ ENDINGS = (
      "00 00 00 04 00 07 01 02  00 00 00 04 00 07 c8 02  00 00 00 04 00 07 01 00", 0, b""),
 )
 
-# Clients 1 and 2 in turn: each opens a context, makes an image of one U8 sample, writes 10 or 20
-# and reads.
+# Clients 1 and 2 in turn: each opens a context, creates an image of one U8 sample, writes 10 or 20
+# and reads it.
 TURNS = (
     ("00 00 00 03 00 01 01", "00 00 00 04 00 01 01 00"),
     ("00 00 00 03 00 02 01", "00 00 00 04 00 02 01 00"),
@@ -70,8 +70,8 @@ def check_streams(program: Program) -> None:
 
 
 def check_long_frames(program: Program) -> None:
-    """Frames above 2^27 bytes, and as long as may be, of zeros after their ops; and what follows
-    them, OpenContext."""
+    """Sends frames above 2^27 bytes, and of the greatest length, with zeros after their ops,
+    followed by OpenContext."""
     opened, then = bytes.fromhex("00 00 00 03 00 07 01"), "00 00 00 04 00 07 01 00"
     for words, head, reply in (
         ("a body above 2^27 bytes for an op that has none", "08 00 00 01 00 07 01",
@@ -88,8 +88,8 @@ def check_long_frames(program: Program) -> None:
 
 
 def check_prefixes(program: Program, words: str, pairs: Pairs) -> None:
-    """As much of a stream as has so many bytes, for each number of them: the replies of its whole
-    frames are there, and it is truncated unless it ends between frames."""
+    """Sends each prefix of a stream. The replies to its complete frames are there, and it is
+    truncated unless it ends between frames."""
     stream, ends = b"".join(request for request, _ in pairs), {0: b""}
     for request, reply in pairs:
         ends[max(ends) + len(request)] = ends[max(ends)] + reply
@@ -100,8 +100,8 @@ def check_prefixes(program: Program, words: str, pairs: Pairs) -> None:
 
 
 def check_turns(program: Program, turns: Pairs) -> None:
-    """Each reply is there before a byte of the next request is sent, which comes a byte at a
-    time."""
+    """Checks that each reply is there before any byte of the next request is sent. Requests are
+    sent one byte at a time."""
     process = subprocess.Popen([program.path, "serve"], stdin=subprocess.PIPE,
                                stdout=subprocess.PIPE, bufsize=0)
     assert process.stdin is not None and process.stdout is not None

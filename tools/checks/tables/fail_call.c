@@ -1,7 +1,6 @@
-/* Moves the program's input and output in pieces, one of which fails: preloaded before the C
- * library, `read` of standard input and `write` to standard output take at most PIECE bytes at a
- * call, or one, and the call of either with the number in FAIL_READ or FAIL_WRITE (from 1) fails.
- */
+/* Moves the program's input and output in pieces, one of which fails. It is preloaded before the C
+ * library. Each `read` of standard input and `write` to standard output moves at most PIECE bytes
+ * (default: 1). The call with the number in FAIL_READ or FAIL_WRITE (from 1) fails. */
 #define _GNU_SOURCE
 #include <dlfcn.h>
 #include <errno.h>

@@ -1,4 +1,4 @@
-"""The default limits, and others that the program is told."""
+"""The default limits, and others."""
 
 from typing import Iterator, List, Tuple
 
@@ -11,15 +11,15 @@ from checks.sessions.rows import (
 from checks.tables.program import Program
 
 QUOTA_ROWS = (
-    # Four images of 67,108,864 bytes take all of it: no fifth, and no other image, but what is
-    # charged nothing.
+    # Four images of 67,108,864 bytes use up the quota: a fifth is refused, and so is any other
+    # image, but not objects that are charged nothing.
     *(made(number, U32, 4096, 4096) for number in (1, 2, 3, 4)),
     (wire.create_image(CLIENT, U32, 4096, 4096), NO_RESOURCES),
     (wire.create_image(CLIENT, U8, 1, 1), NO_RESOURCES),
     (TURNED, name(5)),
     (wire.create_image(CLIENT, S16, 1, 1), NO_RESOURCES),
     (threshold(S16), name(6)),
-    # What a table leaves is no room; what an image leaves is as much as it took.
+    # Releasing a table frees no quota; releasing an image frees its bytes.
     released(5),
     (wire.create_image(CLIENT, U8, 1, 1), NO_RESOURCES),
     released(2),
@@ -29,7 +29,7 @@ QUOTA_ROWS = (
 )
 
 
-# Images of the greatest sides: one of U32 takes all of it, as two of S16 and four of U8 do.
+# Images with the greatest sides: one of U32 uses up the quota, as two of S16 or four of U8 do.
 GREATEST_ROWS = (
     *(made(number, U8, 8192, 8192) for number in (1, 2, 3, 4)), no_room(U8, 1, 1),
     *(released(number) for number in (1, 2, 3, 4)),
@@ -53,22 +53,23 @@ def check_quota(program: Program) -> None:
 
 
 def quotas() -> Iterator[Tuple[str, List[Row]]]:
-    """The words of quotas, and the rows of a stream under each of them."""
+    """Yields the arguments for quotas, and the rows of a stream for each of them."""
     two = [opened(), made(1, U8, 2, 2), made(2, U8, 2, 2)]
-    # Each client has all of it, what is released is free again, and a refused create uses no name.
+    # Each client has the whole quota, released bytes are free again, and a refused create uses no
+    # name.
     eight = [*two, no_room(U8, 1, 1), (TURNED, name(3)), opened(8), made(1, S16, 2, 2, client=8),
              no_room(U8, 1, 1, client=8),
              released(1), no_room(U32, 2, 1), made(4, U32, 1, 1), no_room(U8, 1, 1), closed(),
              opened(), made(1, U32, 2, 1)]
     for word in ("8", "08", "0" * 30 + "8"):
         yield (word, eight)
-    # A delay is charged all of its slots, and leaves as much; one that finds no room uses no name.
+    # A delay is charged for all of its slots, and frees as much. A refused one uses no name.
     four = (wire.create_delay(CLIENT, 1, 4), NO_RESOURCES)
     yield ("16",
            [opened(), made(1, U8, 2, 2), four, delayed(2, 1, 3), no_room(U8, 1, 1), aged(2),
             no_room(U8, 1, 1),
             released(2), four, made(3, U8, 3, 4), no_room(U8, 1, 1)])
-    # What isn't an image is charged nothing, and finds room where there is none for images.
+    # Objects other than images are charged nothing, and are accepted even if the quota is used up.
     yield ("4", [opened(), made(1, U8, 2, 2), no_room(U8, 1, 1),
                  *((request, name(number)) for number, request in enumerate(CREATES[1:], 2)),
                  no_room(U8, 1, 1), ran(HISTOGRAM, 1, None, 5), counted(5, [4, 0, 0]), released(1),

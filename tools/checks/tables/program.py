@@ -1,4 +1,4 @@
-"""The server's program, run on streams of bytes, and what its answers are compared with."""
+"""Runs the server on streams of bytes, and compares its replies."""
 
 import os
 import subprocess
@@ -9,7 +9,7 @@ from typing import Sequence, Tuple, Union
 from feqyldan import wire
 from checks.sessions.rows import Row, reply_to
 
-# A word of a command line.
+# An argument of a command line.
 Word = Union[str, bytes]
 
 
@@ -29,16 +29,16 @@ class Program:
         self.path, self.runs = os.path.abspath(path), 0
 
     def run(self, stream: bytes, words: Sequence[Word] = ("serve",)) -> Tuple[int, bytes, bytes]:
-        """The program's status, output and line on standard error."""
+        """Returns the program's status, output and line on standard error."""
         self.runs += 1
         run = subprocess.run([self.path, *words], input=stream, capture_output=True, timeout=120)
         return run.returncode, run.stdout, run.stderr
 
     def run_on_file(self, front: bytes, length: int, end: bytes = b"",
                     words: Sequence[Word] = ("serve",)) -> Tuple[int, bytes, bytes, int]:
-        """The program's status, output and line on standard error, and how much it has read, of a
-        file of so many bytes, which are 0 between its front and its end. Nobody has all of them in
-        memory but, perhaps, the program."""
+        """Returns the program's status, output and line on standard error, and the number of bytes
+        read, for a file of this length with zeros between its front and its end. Only the program,
+        if any, has the whole file in memory."""
         self.runs += 1
         with tempfile.TemporaryFile() as stream:
             stream.write(front)
@@ -60,7 +60,8 @@ class Program:
 
     def check_rows(self, name: str, rows: Sequence[Row],
                    words: Sequence[Word] = ("serve",)) -> None:
-        """Rows of a request and its reply, each a code or the body of a success, in one stream."""
+        """Sends the requests of rows in one stream, and compares the replies, each a code or the
+        body of a success."""
         status, output, _ = self.run(b"".join(request for request, _ in rows), words)
         replies = wire.replies(output)
         check(status == 0 and len(replies) == len(rows),

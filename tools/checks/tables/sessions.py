@@ -1,4 +1,4 @@
-"""Every session, request by request; and the integrals of the greatest sums."""
+"""Every session, request by request, and integral images with the greatest sums."""
 
 import struct
 
@@ -17,9 +17,8 @@ def check_sessions(program: Program) -> int:
     return asked
 
 
-# The width and the height of a white picture, and the last sample of its integral: the greatest sum
-# whose rows and columns are alike and that isn't above 2^32 - 1, one that is just above that, and
-# the greatest.
+# Width and height of white pictures, and the last sample of the integral image: the greatest sum up
+# to 2^32 - 1 of a square picture, one just above that, and the greatest of all.
 GREATEST_INTEGRALS = (
     (4096, 4096, 4_278_190_080), (4097, 4112, 983_024), (8192, 8192, 4_227_858_432))
 
@@ -30,7 +29,7 @@ def check_greatest_integrals(program: Program) -> None:
 
 
 def check_integral(program: Program, width: int, height: int, last: int) -> None:
-    """Of so many samples of 255: 255 * (x + 1) * (y + 1) modulo 2^32."""
+    """Checks the integral image of samples of 255: 255 * (x + 1) * (y + 1) modulo 2^32."""
     name, quota = f"the integral of {width} by {height}", f"--quota={2**30}"
     status, output, _ = program.run(b"".join((
         wire.open_context(CLIENT), wire.create_image(CLIENT, U8, width, height),

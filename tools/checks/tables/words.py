@@ -1,4 +1,4 @@
-"""Words of the command line: those that are refused, and what the others are told."""
+"""Command line arguments: refused ones, and the effect of the others."""
 
 import os
 import subprocess
@@ -9,7 +9,7 @@ from feqyldan import wire
 from checks.sessions.rows import CLIENT
 from checks.tables.program import Program, Word, check
 
-# Words that are no number from 1 to 2^40 in decimal digits.
+# Arguments that are not a number from 1 to 2^40 in decimal digits.
 NO_BYTES = (
     "", "0", "00", "1099511627777", "18446744073709551615", "18446744073709551616",
     "18446744073709551624", "9" * 40, "+8", "-8", "--8", "++8", "8+", "eight", "8k", "k8", "0x8",
@@ -18,7 +18,7 @@ NO_BYTES = (
 
 
 def refused_for(option: str) -> Tuple[Tuple[Word, ...], ...]:
-    """Words that name an option of a number, and are refused."""
+    """Returns arguments of numeric options that are refused."""
     return (
         *(("serve", option, word) for word in NO_BYTES),
         *(("serve", f"{option}={word}") for word in NO_BYTES),
@@ -67,7 +67,7 @@ REFUSED_APPLY_WORDS: Tuple[Tuple[Word, ...], ...] = (
     ("appl", "box"), (b"apply\xff", "box"),
 )
 WORDS: Tuple[Tuple[Tuple[Word, ...], int, bytes, bytes], ...] = (
-    # The words, the status, and what standard output and standard error have in them.
+    # Arguments, the status, and the expected standard output and standard error.
     (("--version",), 0, b"vx_main 0.1.0\n", b""),
     (("--help",), 0, b"Usage: vx_main", b""),
     (("serve", "--help"), 0, b"Usage: vx_main serve", b""),
@@ -96,7 +96,7 @@ WORDS: Tuple[Tuple[Tuple[Word, ...], int, bytes, bytes], ...] = (
 
 
 def check_refused_words(program: Program) -> None:
-    """Nothing is read, and nothing is written to standard output."""
+    """Checks that nothing is read, and nothing is written to standard output."""
     with tempfile.TemporaryFile() as stream:
         stream.write(wire.open_context(CLIENT))
         stream.flush()

@@ -16,36 +16,36 @@ from .loop import Broker, Plan
 
 MOST_SERVERS, MOST_SERVERS_UNLESS_TOLD = 256, 8
 BYTES_HELD = 268_500_992
-# The parts of the memory that all servers, the broker itself, and the frames and replies that it
-# holds may take unless told.
+# Default shares of the memory: for all servers, for the broker itself, and for the frames and
+# replies that it buffers.
 SERVERS_PART, OWN_PART, HELD_PART = 3 / 4, 1 / 4, 1 / 8
-# Python itself has some 40 MB of addresses.
+# Python itself takes about 40 MB of address space.
 LEAST_OWN_MEMORY = 2**27
-# The pipes to a server and from it, and those while another one starts in its place.
+# The pipes to and from a server, with those of its replacement while that one starts.
 FILES_OF_SERVER = 6
 USAGE = """
-Bytes held: of each connection the broker holds at most one request frame and one reply, of at most
---bytes-held bytes each, and 131,072 bytes more of each; of all connections at most --total-held
-bytes of long frames and replies. They are taken as they come, not ahead. A connection with a longer
-frame is ended, and so is one that lets more of its replies wait, and the one that has most where
-the total would be passed. The system's own socket buffers aren't counted, nor what the servers'
-clients hold (their --quota).
+Memory: for each connection the broker buffers at most one request frame and one reply. Each has at
+most --bytes-held bytes and 131,072 more. Long frames and replies of all connections together take
+at most --total-held bytes. Buffers grow as bytes arrive and aren't allocated in advance. The broker
+closes a connection whose frame or waiting replies exceed its limit. If the total would be exceeded,
+it closes the connection with the most bytes. Not counted: the kernel's socket buffers, and the
+images of the servers' clients (their --quota).
 
-Signals: after SIGTERM or SIGINT it ends with status 0, once the servers have answered what they
-were asked, or after the grace. After SIGHUP it starts new servers for new connections; the ones
-before end with their last connection.
+Signals: SIGTERM and SIGINT stop the broker with status 0 once its servers have answered all pending
+requests, or after --grace seconds. After SIGHUP it starts new servers for new connections. An old
+server ends with its last connection.
 
-A server that ends takes its connections with it, and is started again. Where servers end at once
-three times in a row the broker ends with their status, or 1 where that is 0. It ends with status 2
-where it can't begin.
+Failures: if a server ends, its connections end too, and the broker starts another server. If three
+servers in a row end right after they start, the broker ends with the status of the last one, or 1
+if that is 0. It ends with status 2 if it can't start itself.
 
-Instead of --socket and --status a service manager may hand over one or two listening sockets
-(LISTEN_FDS).
+Socket activation: a service manager may pass one or two listening sockets (LISTEN_FDS) instead of
+--socket and --status.
 """
 
 
 def most_held(connections: int, bytes_held: int) -> int:
-    """Returns the most bytes of frames that the broker would hold without a total limit."""
+    """Returns the most bytes of frames that the broker could buffer without a total limit."""
     return 2 * connections * (bytes_held + 2 * AHEAD)
 
 
@@ -60,13 +60,13 @@ def memory_each(servers: int) -> int:
 
 
 def parser() -> argparse.ArgumentParser:
-    made = options.parser("feqyldan-broker", "Shares vision servers among several programs: each "
-                          "connection to a Unix socket is a client of its own.", USAGE)
+    made = options.parser("feqyldan-broker", "Shares vision servers among several programs. Each "
+                          "connection to a Unix socket is one client.", USAGE)
     add = made.add_argument
     add("--servers", type=partial(number_from, 1, MOST_SERVERS), metavar="N",
         help=f"number of servers, 1 to {MOST_SERVERS} (default: one for each processor, at most "
              f"{MOST_SERVERS_UNLESS_TOLD})")
-    options.add_admission(made, ", with those whose context is still being released")
+    options.add_admission(made, ", including those whose context is still being released")
     add_memory(made)
     add_times(made)
     return made
@@ -75,34 +75,34 @@ def parser() -> argparse.ArgumentParser:
 def add_memory(made: argparse.ArgumentParser) -> None:
     add = made.add_argument
     add("--memory", type=memory_from, default=0, metavar="BYTES",
-        help="most bytes of address space of each server, which answers NO_MEMORY beyond it, or "
-             "'unlimited' (default: all servers together three quarters of the memory of the "
-             "machine, or of this program's control group)")
+        help="most bytes of address space of each server, or 'unlimited'; a request that needs "
+             "more gets NO_MEMORY (default: three quarters of the memory of the machine, or of the "
+             "broker's control group, divided among the servers)")
     add("--own-memory", type=memory_from, default=0, metavar="BYTES",
         help="most bytes of address space of the broker itself, or 'unlimited' (default: a "
-             "quarter of that memory)")
+             "quarter of the same memory)")
     add("--bytes-held", type=partial(number_from, 7, GREATEST_LENGTH + 4), default=BYTES_HELD,
         metavar="BYTES", help="most bytes of a request frame, and of a reply (default: "
                               f"{BYTES_HELD}, enough for an image of 8192x8192 U32)")
     add("--total-held", type=partial(number_from, 1, options.MOST_MEMORY), metavar="BYTES",
-        help="most bytes of long frames and of waiting replies, of all connections together "
-             "(default: an eighth of that memory)")
+        help="most bytes of long frames and waiting replies of all connections together "
+             "(default: an eighth of the same memory)")
 
 
 def add_times(made: argparse.ArgumentParser) -> None:
     add = made.add_argument
     add("--patience", type=seconds_from, default=options.PATIENCE, metavar="SECONDS",
-        help="seconds after which a connection is ended that sends no more of a frame, or takes "
-             f"none of its replies (default: {options.PATIENCE:g}); between frames it may wait "
-             "without limit")
+        help="seconds after which a connection that sends no more of an unfinished frame, or "
+             f"takes none of its replies, is closed (default: {options.PATIENCE:g}); between "
+             "frames there is no limit")
     add("--idle", type=seconds_from, metavar="SECONDS",
-        help="seconds without a request after which a connection is ended (default: never)")
+        help="seconds without a request after which a connection is closed (default: never)")
     add("--longest", type=seconds_from, metavar="SECONDS",
-        help="seconds for one request after which its server is killed and started again "
-             "(default: never)")
+        help="seconds that one request may take before its server is killed and another one "
+             "started (default: no limit)")
     add("--grace", type=seconds_from, default=options.GRACE, metavar="SECONDS",
-        help="seconds for pending requests once the broker is told to end; then the servers are "
-             f"killed (default: {options.GRACE:g})")
+        help="seconds for pending requests after the broker is told to stop; then the servers "
+             f"are killed (default: {options.GRACE:g})")
 
 
 def limits_of(told: argparse.Namespace) -> Limits:
@@ -132,15 +132,9 @@ def main(words: Optional[List[str]] = None) -> int:
         raise_file_limit(f"{limits.connections} connections and {servers} servers",
                          limits.connections + FILES_OF_SERVER * servers)
         listener, status = options.listeners(told)
+        broker = Broker(listener, status, plan, limits)
+        limit_own_memory(told.own_memory)
+        return broker.run()
     except Unusable as reason:
         print(f"feqyldan broker: {reason}", file=sys.stderr)
-        return 2
-    broker = Broker(listener, status, plan, limits)
-    limit_own_memory(told.own_memory)
-    try:
-        return broker.run()
-    except OSError as error:
-        broker.finish()
-        print(f"feqyldan broker: {told.command[0]} can't be started: {error.strerror or error}; "
-              "give the server's path after --", file=sys.stderr)
         return 2

@@ -10,6 +10,7 @@ from typing import Any, Deque, Dict, List, NamedTuple, Optional, Set
 from ..service.admission import ACCEPT_PAUSE, Owner
 from ..service.events import READ, WRITE
 from ..service.front import Front
+from ..service.lines import Unusable
 from ..service.listener import Listener
 from ..service.metrics import memory_of
 from ..service.signals import Signals
@@ -65,24 +66,38 @@ class Broker(Front):
 
     def run(self) -> int:
         """Serves until a signal comes or the servers fail, and returns the exit status. Raises
-        OSError if the first server can't be started."""
-        with self.signals:
+        Unusable if the first servers can't be started."""
+        try:
+            with self.signals:
+                self.begin_first()
+                while not self.is_over:
+                    self.go_round()
+        finally:
+            status = self.finish()
+        return status
+
+    def begin_first(self) -> None:
+        try:
             self.begin_servers()
-            most = self.plan.memory
-            memory = "" if most is None else f", of at most {most} bytes each"
-            servers = "1 server" if self.plan.servers == 1 else f"{self.plan.servers} servers"
-            self.lines.say(f"listening at {self.listener.path}, with {servers}{memory}")
-            self.manager.is_listening()
-            while not self.is_over:
-                self.listen_or_not()
-                ready = self.events.ready(self.timeout())
-                self.now = time.monotonic()
-                for handler, mask in ready:
-                    handler(mask)
-                for server in self.servers:
-                    self.pass_on(server)
-                self.look_at_clock()
-        return self.finish()
+        except OSError as error:
+            raise Unusable(f"{self.plan.command[0]} can't be started: {error.strerror or error}; "
+                           "give the server's path after --") from error
+        most = self.plan.memory
+        memory = "" if most is None else f", of at most {most} bytes each"
+        servers = "1 server" if self.plan.servers == 1 else f"{self.plan.servers} servers"
+        self.lines.say(f"listening at {self.listener.path}, with {servers}{memory}")
+        self.manager.is_listening()
+
+    def go_round(self) -> None:
+        """Handles what is ready, or waits for it."""
+        self.listen_or_not()
+        ready = self.events.ready(self.timeout())
+        self.now = time.monotonic()
+        for handler, mask in ready:
+            handler(mask)
+        for server in self.servers:
+            self.pass_on(server)
+        self.look_at_clock()
 
     def timeout(self) -> Optional[float]:
         """Returns the seconds until the clock must be checked; None if nothing can be late."""

@@ -13,28 +13,28 @@ from ..service.options import memory_from, number_from, part_of_memory, seconds_
 from .loop import Door, Limits
 from .server import Plan
 
-# The part of the memory that all servers together may take unless told.
+# The default share of the memory for all servers together.
 SERVERS_PART = 3 / 4
 USAGE = """
-Memory: each server has a limit of its own on addresses (--memory), and answers NO_MEMORY to what
-would pass it. A connection is turned away where the limits of all servers would be more than
---total-memory. The door itself holds nothing of what programs send.
+Memory: --memory limits each server's address space. A request that needs more gets NO_MEMORY. The
+door refuses a connection if the limits of all servers would exceed --total-memory. The door itself
+buffers no requests or replies; it neither sees nor counts them.
 
-Signals: after SIGTERM or SIGINT it ends with status 0. The servers' inputs are ended: what they
-were sent they answer, within the grace, and then they are killed. After a second signal that is at
-once. After SIGHUP it looks again which program is to be started.
+Signals: SIGTERM and SIGINT stop the door with status 0. It closes the servers' inputs. They answer
+the requests that they have received, and are killed after --grace seconds. A second signal kills
+them immediately. After SIGHUP the door looks up the program again, for new connections.
 
-Where the door is killed, or ends by a fault, servers and their programs go on. Nothing of requests
-is seen or counted. It ends with status 2 where it can't begin.
+Failures: if the door is killed or crashes, its servers and their programs keep running. It ends
+with status 2 if it can't start itself.
 
-Instead of --socket and --status a service manager may hand over one or two listening sockets
-(LISTEN_FDS).
+Socket activation: a service manager may pass one or two listening sockets (LISTEN_FDS) instead of
+--socket and --status.
 """
 
 
 def parser() -> argparse.ArgumentParser:
-    made = options.parser("feqyldan-door", "Gives each connection to a Unix socket a vision server "
-                          "of its own.", USAGE)
+    made = options.parser("feqyldan-door", "Starts a vision server for each connection to a Unix "
+                          "socket.", USAGE)
     options.add_admission(made, "")
     add = made.add_argument
     add("--memory", type=memory_from, default=0, metavar="BYTES",
@@ -42,12 +42,12 @@ def parser() -> argparse.ArgumentParser:
              "divided by --connections)")
     add("--total-memory", type=memory_from, default=0, metavar="BYTES",
         help="most bytes that the limits of all servers may add up to, or 'unlimited' (default: "
-             "three quarters of the memory of the machine, or of this program's control group)")
+             "three quarters of the memory of the machine, or of the door's control group)")
     add("--nice", type=partial(number_from, 0, 19), default=0, metavar="N",
         help="nice value of the servers, 0 to 19 (default: 0)")
     add("--user-of-peer", action="store_true",
         help="run each server as the user of its connection's process; needs root (default: as "
-             "this user)")
+             "the door's user)")
     add_times(made)
     return made
 
@@ -55,14 +55,14 @@ def parser() -> argparse.ArgumentParser:
 def add_times(made: argparse.ArgumentParser) -> None:
     add = made.add_argument
     add("--patience", type=seconds_from, default=options.PATIENCE, metavar="SECONDS",
-        help="seconds after which a connection is ended that takes none of its replies (default: "
-             f"{options.PATIENCE:g})")
+        help="seconds after which a connection that takes none of its replies is closed "
+             f"(default: {options.PATIENCE:g})")
     add("--idle", type=seconds_from, metavar="SECONDS",
-        help="seconds after which a connection is ended that sends nothing while its server waits "
-             "for it, also within a frame (default: never)")
+        help="seconds after which a connection that sends nothing while its server waits for "
+             "input, even within a frame, is closed (default: never)")
     add("--grace", type=seconds_from, default=options.GRACE, metavar="SECONDS",
-        help="seconds for pending requests once a connection has ended, or the door is told to "
-             f"end; then the server is killed (default: {options.GRACE:g})")
+        help="seconds for pending requests after a connection has ended, or the door is told to "
+             f"stop; then the server is killed (default: {options.GRACE:g})")
 
 
 def plan_of(told: argparse.Namespace) -> Plan:

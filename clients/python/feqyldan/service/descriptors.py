@@ -115,9 +115,10 @@ class Closer:
         return True
 
     def kill(self) -> None:
-        os.kill(self.process, signal.SIGKILL)
         self.sock.close()
-        with contextlib.suppress(ChildProcessError):
+        # The door has waited for it if it ended by itself.
+        with contextlib.suppress(ProcessLookupError, ChildProcessError):
+            os.kill(self.process, signal.SIGKILL)
             os.waitpid(self.process, 0)
 
 

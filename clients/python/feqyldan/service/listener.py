@@ -148,6 +148,9 @@ def remove_stale(path: str) -> None:
         probe.setblocking(False)
         try:
             probe.connect(path)
+        except BlockingIOError:
+            # So many others wait to be accepted that there is no room for one more.
+            pass
         except ConnectionRefusedError:
             os.unlink(path)
             return

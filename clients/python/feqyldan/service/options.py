@@ -59,15 +59,15 @@ def parser(name: str, description: str, epilog: str) -> argparse.ArgumentParser:
     add = made.add_argument
     add("--socket", metavar="PATH", help="path of the Unix socket that programs connect to")
     add("--mode", type=mode_from, default=0o600, metavar="OCTAL",
-        help="mode of the sockets' files, which says who may connect (default: 0600, their owner "
-             "alone)")
+        help="permissions of the socket files; a program needs write permission to connect "
+             "(default: 0600, the owner only)")
     add("--status", metavar="PATH",
-        help="path of a second socket that reports the state (default: none): a line of JSON to "
-             "anyone who sends a line or ends its writing; by HTTP the same at GET /status, and "
-             "Prometheus' text at GET /metrics")
+        help="path of a second socket that reports the state (default: none). A client that "
+             "sends a line, or shuts down its side, gets one line of JSON. HTTP clients get the "
+             "same from GET /status, and Prometheus text from GET /metrics")
     add("--report", type=seconds_from, default=REPORT, metavar="SECONDS",
         help="seconds between two lines of counts on standard error (default: "
-             f"{REPORT:g}); there is no line if nothing has happened")
+             f"{REPORT:g}); a line is left out if nothing has happened")
     add("command", nargs="+", metavar="PROGRAM serve ..",
         help="the server's program and its arguments")
     return made
@@ -78,11 +78,11 @@ def add_admission(made: argparse.ArgumentParser, among: str) -> None:
     connections = partial(number_from, 1, MOST_CONNECTIONS)
     add = made.add_argument
     add("--connections", type=connections, default=CONNECTIONS, metavar="N",
-        help=f"most connections at once{among} (default: {CONNECTIONS})")
+        help=f"most open connections{among} (default: {CONNECTIONS})")
     add("--per-process", type=connections, default=PER_PROCESS, metavar="N",
         help=f"most connections of one process (default: {PER_PROCESS})")
     add("--per-user", type=connections, default=PER_USER, metavar="N",
-        help="most connections of all processes of one user (default: as many as --connections)")
+        help="most connections of all processes of one user (default: same as --connections)")
 
 
 def listeners(told: argparse.Namespace) -> Tuple[Listener, Optional[Listener]]:

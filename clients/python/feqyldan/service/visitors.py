@@ -9,7 +9,7 @@ from typing import Any, Callable, Dict, List, Optional
 
 from .. import wire
 from .descriptors import Descriptors
-from .events import READ, Events
+from .events import READ, WRITE, Events
 from .listener import Listener
 
 # A frame's length, its client and its op; the least bytes of a frame.
@@ -29,6 +29,17 @@ PAGE = "HTTP/1.0 {}\r\nContent-Type: {}\r\nContent-Length: {}\r\nConnection: clo
 Answer = Callable[[bytes, bool], Optional[bytes]]
 
 
+class Visitor:
+    """A connection that is answered once: the bytes that have come, what is left of the answer once
+    there is one, and when the connection is ended in any case."""
+
+    __slots__ = ("heard", "answer", "until")
+
+    def __init__(self, until: float) -> None:
+        self.heard, self.until = b"", until
+        self.answer: Optional[memoryview] = None
+
+
 class Visitors:
     """Connections that are each answered once and closed."""
 
@@ -37,41 +48,49 @@ class Visitors:
         self.events, self.descriptors = events, descriptors
         self.most, self.answer = most, answer
         # Who came first is first.
-        self.present: Dict[socket.socket, bytes] = {}
-        self.until: Dict[socket.socket, float] = {}
+        self.present: Dict[socket.socket, Visitor] = {}
 
     def add(self, sock: socket.socket) -> None:
         """Adds a connection; if there are too many, the first one is closed."""
         if len(self.present) >= VISITORS_AT_ONCE:
             self.end(next(iter(self.present)))
         sock.setblocking(False)
-        self.present[sock], self.until[sock] = b"", time.monotonic() + VISIT_SECONDS
-        self.events.watch(sock.fileno(), READ, lambda _: self.hear(sock))
+        self.present[sock] = Visitor(time.monotonic() + VISIT_SECONDS)
+        self.events.watch(sock.fileno(), READ, lambda _: self.serve(sock))
 
-    def hear(self, sock: socket.socket) -> None:
-        if sock not in self.present:
+    def serve(self, sock: socket.socket) -> None:
+        """Reads what a visitor asks, sends as much of the answer as its socket takes, and ends it
+        after the last byte."""
+        visitor = self.present.get(sock)
+        if visitor is None:
             return
         try:
-            data = self.descriptors.read(sock, self.most - len(self.present[sock]))
-            self.present[sock] += data
-            answer = self.answer(self.present[sock],
-                                 not data or len(self.present[sock]) >= self.most)
-            if answer:
-                sock.send(answer)
+            if visitor.answer is None:
+                self.hear(sock, visitor)
+            if visitor.answer:
+                visitor.answer = visitor.answer[sock.send(visitor.answer) :]
         except BlockingIOError:
-            return
+            pass
         except OSError:
-            answer = b""
-        if answer is not None:
+            visitor.answer = memoryview(b"")
+        if visitor.answer:
+            self.events.watch(sock.fileno(), WRITE, lambda _: self.serve(sock))
+        elif visitor.answer is not None:
             self.end(sock)
+
+    def hear(self, sock: socket.socket, visitor: Visitor) -> None:
+        data = self.descriptors.read(sock, self.most - len(visitor.heard))
+        visitor.heard += data
+        answer = self.answer(visitor.heard, not data or len(visitor.heard) >= self.most)
+        visitor.answer = None if answer is None else memoryview(answer)
 
     def end(self, sock: socket.socket) -> None:
         self.events.forget(sock.fileno())
-        del self.present[sock], self.until[sock]
+        del self.present[sock]
         self.descriptors.close(sock)
 
     def end_late(self, now: float) -> None:
-        for sock in [sock for sock, until in self.until.items() if now > until]:
+        for sock in [sock for sock, visitor in self.present.items() if now > visitor.until]:
             self.end(sock)
 
     def end_all(self) -> None:

@@ -1,4 +1,4 @@
-"""Wrong readings of docs/wire.md, which random streams have to tell from the right one."""
+"""Misreadings of docs/wire.md, which random streams must tell from the right reading."""
 
 from checks.model.faults.bodies import BODY_FAULTS
 from checks.model.faults.clients import CLIENT_FAULTS

@@ -1,8 +1,8 @@
-"""Wrong readings on bodies."""
+"""Misreadings of request bodies."""
 
 from feqyldan.wire import INVALID_PARAMETERS, INVALID_REFERENCE, REPLICATE
 from checks import model
-from checks.model.faults.fault import Fault, right
+from checks.model.faults.fault import Fault, at_once, right
 
 
 class EndlessFields(model.Fields):
@@ -14,14 +14,6 @@ def answer_context_first(limits, state, op, body):
     if op in model.STANDING and right.needs_context(op) and state.context is None:
         return INVALID_REFERENCE, b""
     return right.answer(limits, state, op, body)
-
-
-def description_at_once(fields):
-    """All of its fields are there before one is looked at."""
-    at = fields.at
-    fields.bytes(5)
-    fields.at = at
-    return right.take_description(fields)
 
 
 def description_is(take):
@@ -57,7 +49,7 @@ BODY_FAULTS = (
     Fault("a byte after the last field is passed over", None, {"Fields": EndlessFields}),
     Fault("a missing context is told before the fields", None, {"answer": answer_context_first}),
     Fault("a description that is cut short is told before its format", None,
-          description_is(description_at_once)),
+          description_is(at_once(right.take_description, 5))),
     Fault("a side is 4096 at most", None, {"GREATEST_SIDE": 4096}),
     Fault("a side may be 8193", None, {"GREATEST_SIDE": 8193}),
     Fault("a range may end below its start", None, {"take_limit": limit_unordered}),

@@ -1,4 +1,4 @@
-"""Wrong readings on clients."""
+"""Misreadings about clients."""
 
 from checks import model
 from checks.model.faults.fault import Fault, right, with_outcome

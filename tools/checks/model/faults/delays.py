@@ -1,4 +1,4 @@
-"""Wrong readings on delays."""
+"""Misreadings about delays."""
 
 from feqyldan.wire import INVALID_VALUE
 from checks import model
@@ -15,7 +15,7 @@ def aged_to_new(delay):
 
 
 def with_cells_at(place):
-    """Cells that stand for other ones."""
+    """Replaces the cells of a request by others."""
     def held(context, cell):
         return right.held(context, place(context, cell))
 

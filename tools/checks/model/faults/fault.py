@@ -1,4 +1,4 @@
-"""What a wrong reading is, and how those that have other rows in the model's tables are written."""
+"""Misreadings of the protocol, and helpers for those that change a row of the model's tables."""
 
 from collections import namedtuple
 from types import SimpleNamespace
@@ -6,11 +6,11 @@ from types import SimpleNamespace
 from checks import model
 from checks.model import clients, fields, functions, graphs, requests, state, texts
 
-# What is wrong; the op without which nobody can tell, or None; and what stands for which names of
-# the model.
+# The description of the misreading; the op that is needed to notice it, or None; and the replaced
+# names of the model.
 Fault = namedtuple("Fault", "words needs changes")
 
-# The model as it is, also while a fault is planted.
+# The right model, available while a fault is planted.
 MODULES = functions, graphs, state, fields, texts, requests, clients, model
 right = SimpleNamespace(**{name: value for module in MODULES
                            for name, value in vars(module).items()})
@@ -21,16 +21,27 @@ def whole_of(image):
 
 
 def with_row(number, **changes):
-    """A function whose row has something else."""
+    """Replaces fields of a function's row."""
     return {"FUNCTIONS": {**right.FUNCTIONS, number: right.FUNCTIONS[number]._replace(**changes)}}
 
 
 def with_outcome(op, outcome):
-    """A request that comes to something else."""
+    """Replaces the effect of a request."""
     return {"REQUESTS": {**right.REQUESTS, op: right.REQUESTS[op]._replace(outcome=outcome)}}
 
 
+def at_once(take, size):
+    """Reads fields after a check that all of their bytes are there."""
+    def taken(fields):
+        at = fields.at
+        fields.bytes(size)
+        fields.at = at
+        return take(fields)
+
+    return taken
+
+
 def with_fields(op, *takes):
-    """A request whose body has other fields."""
+    """Replaces the fields of a request's body."""
     return {"REQUESTS": {**right.REQUESTS,
                          op: right.REQUESTS[op]._replace(take=right.each(*takes))}}

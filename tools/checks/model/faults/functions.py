@@ -1,4 +1,4 @@
-"""Wrong readings on samples and functions."""
+"""Misreadings of samples and functions."""
 
 from feqyldan import wire
 from feqyldan.wire import S16
@@ -12,12 +12,12 @@ def with_value(number, value):
 
 
 def with_sum(number, value):
-    """A function that adds to its output, with another value."""
+    """An accumulating function with another value."""
     return with_row(number, gives=right.pixelwise(value, OUT1))
 
 
 def narrowed_by(narrow):
-    """Both policies are one."""
+    """Treats both policies as one."""
     return {"narrow": lambda value, fmt, _: narrow(value, fmt)}
 
 
@@ -96,12 +96,12 @@ def square_rounded_up(a, c, way):
 
 
 def square_clamped(a, c, way):
-    """A square is S16 before it is added."""
+    """A square is narrowed to S16 before it is added."""
     return right.clamp(c + right.clamp(a * a // 2**way.amount, way.fmt), way.fmt)
 
 
 def sum_of_samples_from_zero(a, c, way):
-    """What is below 0 counts as 0."""
+    """Negative values count as 0."""
     return right.clamp(max(c, 0) + a, way.fmt)
 
 

@@ -1,4 +1,4 @@
-"""Wrong readings on objects."""
+"""Misreadings about objects."""
 
 from feqyldan import wire
 from feqyldan.wire import NO_RESOURCES, SUCCESS, U32
@@ -32,7 +32,7 @@ def write_as_many_samples(limits, state, cell, picture):
 
 
 def with_room_for(objects=0, quota=0):
-    """Limits that are greater by so much."""
+    """Raises limits by this much."""
     def has_room(limits, context, thing):
         greater = limits._replace(objects=limits.objects + objects, quota=limits.quota + quota)
         return right.has_room(greater, context, thing)
@@ -45,13 +45,13 @@ def bytes_of_four(thing):
 
 
 def with_bytes(kind, count):
-    """Objects of a kind that are charged so much."""
+    """Charges objects of a kind this much."""
     return {"object_bytes": lambda thing: count(thing) if isinstance(thing, kind)
             else right.object_bytes(thing)}
 
 
 def without_count(*kinds):
-    """Objects of some kinds that don't count among those that a client may hold."""
+    """Doesn't count objects of some kinds among a client's objects."""
     def has_room(limits, context, thing):
         more = sum(isinstance(held, kinds) for held in (thing, *context.objects.values()))
         return right.has_room(limits._replace(objects=limits.objects + more), context, thing)
@@ -89,7 +89,7 @@ def release_to_give_again(limits, state, name):
 
 
 def still_charged():
-    """Objects that are gone and charged."""
+    """Charges objects that are gone."""
     def release(limits, state, name):
         before = dict(state.context.objects)
         body = right.release(limits, state, name)

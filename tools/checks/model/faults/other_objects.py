@@ -1,9 +1,9 @@
-"""Wrong readings on convolutions, distributions and extremes."""
+"""Misreadings about convolutions, distributions and extremes."""
 
 from feqyldan.wire import (
     INVALID_DIMENSION, INVALID_PARAMETERS, INVALID_REFERENCE, INVALID_VALUE, S16)
 from checks import model
-from checks.model.faults.fault import Fault, right, with_fields, with_outcome
+from checks.model.faults.fault import Fault, at_once, right, with_fields, with_outcome
 from checks.model.state import (
     CREATE_CONVOLUTION, CREATE_DISTRIBUTION, READ_DISTRIBUTION, READ_MIN_MAX)
 
@@ -33,16 +33,8 @@ def exponent_to(greatest, code=INVALID_VALUE):
     return {"take_exponent": take}
 
 
-def convolution_at_once(fields):
-    """Its three numbers are there before one is looked at."""
-    at = fields.at
-    fields.bytes(3)
-    fields.at = at
-    return right.take_convolution(fields)
-
-
 def convolution_of_rows(fields):
-    """It has its rows before its columns."""
+    """Rows come before columns."""
     rows, columns = right.take_length(fields), right.take_length(fields)
     exponent = right.take_exponent(fields)
     return model.Convolution(columns, rows, exponent,
@@ -75,17 +67,10 @@ def bins_by_range(fields):
 
 
 def bins_to_256(fields):
-    """They don't go beyond the samples."""
+    """Bins don't extend beyond the samples of the format."""
     bins = right.take_bins(fields)
     model.refuse_if(bins.offset + bins.range > 256, INVALID_VALUE)
     return bins
-
-
-def bins_at_once(fields):
-    at = fields.at
-    fields.bytes(6)
-    fields.at = at
-    return right.take_bins(fields)
 
 
 def distribution_of_ones(bins):
@@ -102,7 +87,7 @@ def counts_of_shorts(limits, state, name):
 
 
 def read_and_clear(op, cleared):
-    """What is read is then as it was at first."""
+    """A read returns the initial contents."""
     def read(limits, state, name):
         body = right.REQUESTS[op].outcome(limits, state, name)
         state.context.objects[name] = cleared(state.context.objects[name])
@@ -112,7 +97,7 @@ def read_and_clear(op, cleared):
 
 
 def told_extremes(order):
-    """ReadMinMax that tells its numbers otherwise, by what stands at which bytes."""
+    """ReadMinMax with the fields in another order, given as byte positions."""
     def read_min_max(limits, state, name):
         body = right.read_min_max(limits, state, name)
         return b"".join(body[start:end] for start, end in order)
@@ -139,7 +124,7 @@ CONVOLUTION_FAULTS = tuple(Fault(words, CREATE_CONVOLUTION, changes) for words, 
     ("an exponent may be 32", exponent_to(32)),
     ("an exponent is told as INVALID_PARAMETERS", exponent_to(31, INVALID_PARAMETERS)),
     ("a convolution that is cut short is told before its sides",
-     with_fields(CREATE_CONVOLUTION, convolution_at_once)),
+     with_fields(CREATE_CONVOLUTION, at_once(right.take_convolution, 3))),
     ("a convolution has its rows before its columns",
      with_fields(CREATE_CONVOLUTION, convolution_of_rows)),
 ))
@@ -152,7 +137,7 @@ STATISTIC_OBJECT_FAULTS = tuple(Fault(words, CREATE_DISTRIBUTION, changes) for w
     ("bins have their range before their offset", with_fields(CREATE_DISTRIBUTION, bins_by_range)),
     ("bins may not go beyond 255", with_fields(CREATE_DISTRIBUTION, bins_to_256)),
     ("bins that are cut short are told before their numbers",
-     with_fields(CREATE_DISTRIBUTION, bins_at_once)),
+     with_fields(CREATE_DISTRIBUTION, at_once(right.take_bins, 6))),
     ("a new distribution isn't 0", {"new_distribution": distribution_of_ones}),
     ("ReadDistribution doesn't tell how many bins there are",
      with_outcome(READ_DISTRIBUTION, counts_without_bins)),

@@ -1,6 +1,5 @@
-"""Wrong readings on valid rectangles: without SetValid and QueryImage all of them are whole, and
-nobody is told of one.
-"""
+"""Misreadings about valid rectangles. They show only after SetValid or QueryImage: without these
+all rectangles are whole, and none is returned."""
 
 from feqyldan.wire import INVALID_PARAMETERS, INVALID_VALUE
 from checks import model
@@ -14,7 +13,7 @@ def uncleared(image, valid):
 
 
 def hidden_samples(image):
-    """The bytes of samples that are 0 only for now where they aren't valid."""
+    """Samples outside the valid rectangle are only hidden, and keep their bytes."""
     return right.encoded_samples(right.confined(image, image.valid))
 
 
@@ -32,7 +31,7 @@ def confined_further(image, valid):
 
 
 def is_within_if(applies):
-    """What is beyond an image and isn't refused is cut off."""
+    """The part beyond the image is cut off instead of refused."""
     def confined(image, valid):
         return right.confined(image, right.meet(valid, whole_of(image)))
 
@@ -91,7 +90,7 @@ def rectangle_by_axes(fields):
 
 
 def rectangle_by_numbers(fields):
-    """It is refused as soon as its first three numbers are there."""
+    """Refuses as soon as the first three numbers are known."""
     left, _, end = (fields.short() for _ in range(3))
     model.refuse_if(left > end, INVALID_VALUE)
     fields.at -= 6
@@ -99,7 +98,7 @@ def rectangle_by_numbers(fields):
 
 
 def rectangle_after_image():
-    """A rectangle that is turned is refused where one beyond the image is."""
+    """An inverted rectangle has the code of one beyond the image."""
     def set_valid(limits, state, cell, rectangle):
         right.image_in(state.context, cell)
         model.refuse_if(not right.is_rectangle(rectangle), INVALID_VALUE)
@@ -116,7 +115,7 @@ def query_of_whole(_, state, cell):
 
 
 def query_of_samples(_, state, cell):
-    """The least rectangle with all samples that aren't 0."""
+    """Returns the bounding rectangle of all nonzero samples."""
     image = right.image_in(state.context, cell)
     places = [divmod(place, image.width)
               for place, sample in enumerate(image.samples) if sample != 0]
@@ -126,7 +125,7 @@ def query_of_samples(_, state, cell):
 
 
 def told_as(order):
-    """Rectangles whose numbers are told otherwise."""
+    """Changes the numbers of returned rectangles."""
     return {"rectangle_bytes": lambda rectangle: right.rectangle_bytes(order(*rectangle))}
 
 
@@ -160,7 +159,7 @@ def delay_with_rectangle(image, slots):
 
 
 def joined(one, other):
-    """The least rectangle that has both in it."""
+    """Returns the bounding rectangle of two rectangles."""
     if EMPTY in (one, other):
         return other if one == EMPTY else one
     return model.Rectangle(*map(min, one[:2], other[:2]), *map(max, one[2:], other[2:]))
@@ -173,8 +172,8 @@ def meet_in_any_spelling(one, other):
 
 
 def with_output(change, numbers=right.FUNCTIONS):
-    """Functions whose images are changed: by one of them, the one in whose place it is put, and the
-    inputs."""
+    """Changes the output images of functions, as a function of the new image, the prior contents
+    and the inputs."""
     def changed(function):
         def gives(node, things):
             given = function.gives(node, things)
@@ -188,7 +187,7 @@ def with_output(change, numbers=right.FUNCTIONS):
 
 
 def valid_as(k):
-    """An output with the rectangle that an input had."""
+    """Gives an output the rectangle of an input."""
     return lambda image, _, inputs: image._replace(valid=inputs[k].valid)
 
 
@@ -212,7 +211,7 @@ def over_the_old(image, before, _):
 
 
 def rectangles_of(number):
-    """Wrong rectangles of what one function gives."""
+    """Replaces the rectangles of one function's outputs."""
     kinds = right.FUNCTIONS[number].kinds
     if kinds[OUT1] is model.Image:
         yield Fault(f"function {number} gives an image that is wholly valid", SET_VALID,

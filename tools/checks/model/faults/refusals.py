@@ -1,4 +1,4 @@
-"""Wrong readings on refusals."""
+"""Misreadings about refusals."""
 
 from feqyldan import wire
 from feqyldan.wire import (
@@ -14,7 +14,7 @@ def refusals_in(*order):
 
 
 def one_after_another(refusals):
-    """All that is wrong with one operand before the next. A graph is the first."""
+    """Checks each operand completely before the next. A graph comes first."""
     def of_one(applies, k):
         return lambda operands: applies([operands[0], *operands[k : k + 1]])
 
@@ -23,7 +23,7 @@ def one_after_another(refusals):
 
 
 def immediate_with(refusal, code, after):
-    """An Immediate that tries something on its node after so many of its refusals."""
+    """Adds a check of the node to Immediate after this many of its refusals."""
     def immediate(limits, state, node):
         right.refuse_first(right.IMMEDIATE_REFUSALS[:after], right.operands_of(state.context, node))
         model.refuse_if(refusal(node), code)
@@ -46,14 +46,14 @@ def verdicts_in(*order):
 
 
 def verdict_at(k, refusal):
-    """One of the verdicts, for something else."""
+    """Replaces the condition of one of the verdicts."""
     rows = [*right.VERDICTS]
     rows[k] = refusal
     return {"VERDICTS": rows}
 
 
 def without_second(node):
-    """It has no out2."""
+    """The function has no out2."""
     return node._replace(cells=[*node.cells[:OUT2], None])
 
 
@@ -80,7 +80,7 @@ def window_clamped(image, border, radii, fmt, value):
 
 
 def is_of_any_kind(thing, kind):
-    """A slot that isn't there is of any kind."""
+    """A missing slot is of any kind."""
     return thing is model.NO_SUCH_SLOT or right.is_of_kind(thing, kind)
 
 

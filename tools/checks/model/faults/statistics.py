@@ -1,4 +1,4 @@
-"""Wrong readings on statistics."""
+"""Misreadings about statistics."""
 
 from itertools import accumulate
 
@@ -10,7 +10,7 @@ from checks.model.state import SET_VALID
 
 
 def with_bin(bin_of):
-    """A histogram that counts a sample in the bin that is given by its distance from the offset."""
+    """A histogram whose bin is another function of the distance from the offset."""
     def bin_there(bins, sample):
         return None if right.bin_of(bins, sample) is None else bin_of(bins, sample - bins.offset)
 
@@ -18,19 +18,19 @@ def with_bin(bin_of):
 
 
 def bin_of_last(bins, sample):
-    """What is beyond the last bin counts there."""
+    """Samples beyond the last bin count there."""
     if sample < bins.offset:
         return None
     return right.bin_of(bins, min(sample, bins.offset + bins.range - 1))
 
 
 def bin_of_first(bins, sample):
-    """What is before the first bin counts there."""
+    """Samples before the first bin count there."""
     return right.bin_of(bins, max(sample, bins.offset))
 
 
 def bin_to_range(bins, sample):
-    """The range is an end, and not a length."""
+    """The range is an end, not a length."""
     return right.bin_of(bins, sample) if sample < bins.range else None
 
 
@@ -45,14 +45,14 @@ def histogram_added(node, things):
 
 
 def of_whole(gives):
-    """A function that looks at all samples, also at those that aren't valid."""
+    """A function that also uses samples that aren't valid."""
     return lambda node, things: gives(node,
                                       [things[IN1]._replace(valid=whole_of(things[IN1])),
                                        *things[1:]])
 
 
 def unless_empty(gives):
-    """A function that writes nothing where nothing is valid."""
+    """A function that writes nothing if nothing is valid."""
     return lambda node, things: {} if things[IN1].valid == EMPTY else gives(node, things)
 
 
@@ -61,7 +61,7 @@ def nearest_bin(bins, distance):
 
 
 def with_sums(sum_at):
-    """An integral that has something else, of the image and a valid place."""
+    """An integral image with another formula of the image and a valid pixel."""
     def gives(_, things):
         image = things[IN1]
         return {OUT1: right.made(U32, image.width, image.height, image.valid,
@@ -72,7 +72,7 @@ def with_sums(sum_at):
 
 
 def sum_of(image, x, y):
-    """Of the valid samples that are to the left of a place and above it."""
+    """Sums the valid samples strictly left of and above a pixel."""
     part = image.valid._replace(right=x, bottom=y)
     return sum(right.sample_at(image, x, y) for x, y in right.places(part))
 
@@ -90,18 +90,18 @@ def with_extremes(extremes_of):
 
 
 def extremes_at_last(samples, at):
-    """The last place of each."""
+    """Returns the last pixel with each extreme."""
     return right.extremes_of(samples[::-1], at[::-1])
 
 
 def extremes_by_columns(samples, at):
-    """The first place of each by columns from the left."""
+    """Returns the first pixel with each extreme in column order."""
     found = sorted(zip(samples, at), key=lambda one: one[1])
     return right.extremes_of([sample for sample, _ in found], [place for _, place in found])
 
 
 def extremes_from_start(samples, at):
-    """Places that are counted from the valid rectangle's start."""
+    """Counts coordinates from the start of the valid rectangle."""
     left, top = at[0] if at else (0, 0)
     return right.extremes_of(samples, [(x - left, y - top) for x, y in at])
 

@@ -1,4 +1,4 @@
-"""Wrong readings on PGM texts."""
+"""Misreadings of PGM texts."""
 
 import re
 
@@ -12,7 +12,7 @@ from checks.model.state import READ_IMAGE_PGM, WRITE_IMAGE_PGM
 
 def with_grammar(space=right.SPACE, comment=right.COMMENT, number=right.NUMBER, gap=None,
                  plain_gap=None, end=None):
-    """Texts of other parts: with another gap between P2's samples, or at its end."""
+    """Changes the grammar of texts: their parts, the gap between P2's samples, or the ending."""
     gap = gap or b"(?:" + space + b"|" + comment + b")+"
     header = b"(P2|P5)" + 3 * (gap + b"(" + number + b")")
     raster = b"(?:" + (plain_gap or gap) + number + b")*(?:" + (gap if end is None else end) + b")?"
@@ -21,7 +21,7 @@ def with_grammar(space=right.SPACE, comment=right.COMMENT, number=right.NUMBER, 
 
 
 def with_picture(change):
-    """Texts that stand for another picture, by the one that they stand for and maxval."""
+    """Replaces the parsed picture, as a function of the picture and maxval."""
     return {"picture_of": lambda text: change(right.picture_of(text), right.header_of(text)[1][2])}
 
 
@@ -31,7 +31,7 @@ def rescaled(picture, maxval):
 
 
 def texts_of_shorts(first):
-    """Texts whose samples are S16 from another maxval on."""
+    """Samples are S16 from another maxval on."""
     def picture_of(text):
         picture, maxval = right.picture_of(text), right.header_of(text)[1][2]
         fmt = U8 if maxval < first else S16
@@ -42,7 +42,7 @@ def texts_of_shorts(first):
 
 
 def texts_to(greatest):
-    """Another greatest maxval. Samples that are no samples of S16 wrap."""
+    """Another greatest maxval. Samples beyond S16 wrap."""
     def picture_of(text):
         picture = right.picture_of(text)
         return picture._replace(samples=[right.wrap(sample, picture.fmt)
@@ -52,7 +52,7 @@ def texts_to(greatest):
 
 
 def above_maxval(text):
-    """A sample above maxval is maxval."""
+    """A sample above maxval becomes maxval."""
     magic, (width, height, maxval), rest = right.header_of(text)
     try:
         return right.picture_of(text)
@@ -82,7 +82,7 @@ def maxval_is_value(text):
 
 
 def sides_to(greatest):
-    """Other greatest sides of a text's picture."""
+    """Other greatest sides of a picture."""
     def picture_of(text):
         sides = right.header_of(text)[1][:2]
         model.refuse_if(any(side > greatest for side in sides), INVALID_DIMENSION)
@@ -101,7 +101,7 @@ def raster_before_sides(text):
 
 
 def sample_before_raster(text):
-    """A sample above maxval is told also of a P2 text that is wrong after it."""
+    """Reports a sample above maxval even in a P2 text with a later fault."""
     try:
         return right.picture_of(text)
     except model.Refused as refusal:
@@ -115,7 +115,7 @@ def sample_before_raster(text):
 
 
 def header_after(taken):
-    """P5's header ends with something else than one whitespace byte."""
+    """P5's header ends with something other than one whitespace byte."""
     def header_of(text):
         header = re.match(right.HEADER, text)
         end = re.match(taken, text[header.end() :]) if header and header[1] == b"P5" else None
@@ -128,17 +128,17 @@ def header_after(taken):
 
 
 def with_text(change):
-    """Texts that are read after something was done to them."""
+    """Transforms texts before they are parsed."""
     return {"picture_of": lambda text: right.picture_of(change(text))}
 
 
 def with_whitespace_at_end(text):
-    """A P2 text that ends with a number becomes one that isn't right."""
+    """A P2 text that ends with a number gets a wrong ending."""
     return text + b"#" if text[:2] == b"P2" and text[-1:].isdigit() else text
 
 
 def without_comments(text):
-    """A comment is no more than left out. What looks like one in P5's raster stays."""
+    """Only removes comments, which then don't separate numbers. P5's raster is not changed."""
     return re.sub(right.COMMENT, b"", text) if text[:2] == b"P2" else text
 
 
@@ -162,13 +162,13 @@ def plain_of_any(rest, count):
 
 
 def plain_until_fault(rest, count):
-    """What follows the last sample isn't looked at."""
+    """Bytes after the last sample are ignored."""
     found = re.match(b"(?:" + right.GAP + right.NUMBER + b"){%d}" % count, rest)
     return right.plain_samples(rest if found is None else found[0], count)
 
 
 def write_pgm(before):
-    """A WriteImagePgm that tries something before what else it refuses for."""
+    """Adds a check to WriteImagePgm before its other refusals."""
     def write_image_pgm(limits, state, cell, text):
         before(state, cell, text)
         return right.write_image_pgm(limits, state, cell, text)
@@ -181,7 +181,7 @@ def text_before_image(state, cell, text):
 
 
 def format_before_text(state, cell, text):
-    """The format as soon as maxval tells it."""
+    """Checks the format as soon as maxval is known."""
     image = right.image_in(state.context, cell)
     _, _, maxval = right.header_of(text)[1]
     is_told = 1 <= maxval <= right.GREATEST_MAXVAL
@@ -189,7 +189,7 @@ def format_before_text(state, cell, text):
 
 
 def size_before_raster(state, cell, text):
-    """The size as soon as it is told."""
+    """Checks the size as soon as it is known."""
     image = right.image_in(state.context, cell)
     model.refuse_if(right.header_of(text)[1][:2] != [image.width, image.height], INVALID_DIMENSION)
 
@@ -228,13 +228,13 @@ def read_pgm_of_any(_, state, cell):
 
 
 def read_pgm_of_bytes(limits, state, cell):
-    """An image that isn't U8 is refused as one whose kind is wrong."""
+    """An image that isn't U8 is refused as the wrong kind."""
     model.refuse_if(right.image_in(state.context, cell).fmt != U8, INVALID_TYPE)
     return right.read_image_pgm(limits, state, cell)
 
 
 def with_header(header):
-    """Texts that begin otherwise."""
+    """Texts with another magic."""
     return {"text_of": lambda image: header(image) + right.text_of(image).split(b"\n", 3)[3]}
 
 

@@ -1,4 +1,4 @@
-"""Wrong readings on windows."""
+"""Misreadings about window functions."""
 
 from feqyldan import wire
 from feqyldan.wire import CONSTANT, REPLICATE, S16, UNDEFINED
@@ -14,7 +14,7 @@ def with_window(number, value):
 
 
 def cross_of(nine):
-    """The middle one, and those above, below and beside it."""
+    """Uses the middle sample and its four neighbours."""
     return [nine[k] for k in (1, 3, 4, 5, 7)]
 
 
@@ -27,7 +27,7 @@ def median_of_rows(nine):
 
 
 def gaussian_by_steps(nine):
-    """It is rounded along rows, and then along columns."""
+    """Rounds along rows, and then along columns."""
     above, there, below = (right.weighted(nine[k : k + 3], (1, 2, 1)) // 4 for k in (0, 3, 6))
     return (above + 2 * there + below) // 4
 
@@ -49,7 +49,7 @@ def size_of(gradient):
 
 
 def gradients_in_order(node, things):
-    """What the first output has is gx, also where it is gy's."""
+    """The first output has gx, even if it should have gy."""
     written = [k for k in OUTPUTS if things[k] is not None]
     values = zip(written, (right.gradient_x, right.gradient_y))
     return {k: right.window_image(things[IN1], node.border, (1, 1), things[k].fmt, value)
@@ -57,7 +57,8 @@ def gradients_in_order(node, things):
 
 
 def convolved_to(result):
-    """Convolve that gives something else of a sum, the exponent and the output's format."""
+    """Convolve with another result, as a function of the sum, the exponent and the output's
+    format."""
     def gives(node, things):
         convolution, fmt = things[IN2], things[OUT1].fmt
         weights = right.turned(convolution)
@@ -90,14 +91,14 @@ def turned_across(convolution):
 
 
 def turned_by_columns(convolution):
-    """Its coefficients stand by columns."""
+    """The coefficients are in column order."""
     rows = convolution.rows
     return [convolution.coefficients[column * rows + row] for row in range(rows)
             for column in range(convolution.columns)][::-1]
 
 
 def look_from_image(mode):
-    """With one mode a place counts as beside only where it is beside the image."""
+    """With one mode the border begins only outside the image."""
     def look(image, border, x, y):
         return right.look(image._replace(valid=whole_of(image)) if border.mode == mode else image,
                           border, x, y)
@@ -126,7 +127,7 @@ def valid_after_with(radii):
 
 
 def shrunk_by(mode):
-    """One more mode with which a rectangle shrinks."""
+    """The rectangle also shrinks with this mode."""
     def valid_after(valid, border, *radii):
         shrinking = border._replace(mode=UNDEFINED) if border.mode == mode else border
         return right.valid_after(valid, shrinking, *radii)
@@ -135,7 +136,7 @@ def shrunk_by(mode):
 
 
 def window_within_image(image, border, radii, fmt, value):
-    """With UNDEFINED it is the image whose ends aren't valid."""
+    """With UNDEFINED the rectangle shrinks from the sides of the image."""
     if border.mode != UNDEFINED:
         return right.window_image(image, border, radii, fmt, value)
     wide = right.window_image(image._replace(valid=whole_of(image)), border, radii, fmt, value)
@@ -143,7 +144,7 @@ def window_within_image(image, border, radii, fmt, value):
 
 
 def window_of_constant(image, border, radii, fmt, value):
-    """With CONSTANT an image that is valid nowhere has a border everywhere."""
+    """With CONSTANT an image without valid pixels has a border everywhere."""
     if border.mode != CONSTANT or image.valid != EMPTY:
         return right.window_image(image, border, radii, fmt, value)
     constant = value([border.constant] * ((2 * radii[0] + 1) * (2 * radii[1] + 1)))

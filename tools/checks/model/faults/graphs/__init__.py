@@ -1,6 +1,4 @@
-"""Wrong readings of what docs/wire.md says on graphs and virtual images; and right ones in other
-words.
-"""
+"""Misreadings of docs/wire.md on graphs and virtual images, and right readings in other words."""
 
 from checks.model.faults.fault import right
 from checks.model.faults.graphs.accumulators import ACCUMULATOR_FAULTS
@@ -16,7 +14,7 @@ GRAPH_FAULTS = (
     *HOLD_FAULTS, *NODE_FAULTS, *ADD_NODE_FAULTS, *VIRTUAL_FAULTS, *VERDICT_FAULTS, *OPEN_FAULTS,
     *KEPT_FAULTS, *RUN_FAULTS, *AGEING_FAULTS, *ACCUMULATOR_FAULTS)
 
-# Each is right, and isn't to be found.
+# Right readings, which must not be found.
 IN_OTHER_WORDS = (
     ("a run is as many rounds of all nodes at once as there are nodes",
      {"run": right.run_in_rounds}),

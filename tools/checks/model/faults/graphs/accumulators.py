@@ -1,4 +1,4 @@
-"""Wrong readings on nodes that add to what their outputs hold."""
+"""Misreadings about accumulating nodes."""
 
 from feqyldan import wire
 from checks.model.faults.fault import right, with_outcome
@@ -10,17 +10,17 @@ from checks.model.state import PROCESS_GRAPH
 
 
 def writers_that_add_not(nodes, *graph):
-    """Of an image to which nodes add there may be several."""
+    """Several nodes may add to one image."""
     return right.two_writers([node for node in nodes if not node.function.accumulates], *graph)
 
 
 def cycle_of_sums(nodes, *graph):
-    """A node that adds to its output reads it."""
+    """An accumulating node counts as a reader of its output."""
     return wire.INVALID_GRAPH if right.cells_added_to(nodes) else right.cycle(nodes, *graph)
 
 
 def missing_writer(nodes, things, _):
-    """A node may add to a virtual image, which is 0 as a run begins."""
+    """A node may add to a virtual image, which is 0 when a run begins."""
     unwritten = {*right.cells_read(nodes)} - {*right.cells_written(nodes)}
     return wire.INVALID_LINK if any(is_virtual(things[cell]) for cell in unwritten) else None
 
@@ -39,23 +39,23 @@ def virtual_sum(nodes, things, _):
 
 
 def virtual_sum_at(at):
-    """A node that adds to a virtual image is told in a place of its own."""
+    """A node that adds to a virtual image is reported at this position among the verdicts."""
     rows = [right.two_writers, right.cycle, missing_writer, right.faulty_node, right.too_much_work]
     return {"VERDICTS": [*rows[:at], virtual_sum, *rows[at:]]}
 
 
 def sum_of_other_format(node, things):
-    """A virtual image to which a node adds hasn't the format that it has to have."""
+    """A virtual image to which a node adds is reported as a wrong format."""
     return bool(virtual_sum([node], things, None)) or right.has_other_formats(node, things)
 
 
 def order_without_sums(nodes):
-    """Nodes that read sums don't wait for those that add to them; these come last."""
+    """Nodes that read sums run before the accumulating nodes, which come last."""
     return sorted(right.in_order(nodes), key=lambda node: node.function.accumulates)
 
 
 def run_adding(times):
-    """Nodes that add do so as often, each time to what they left."""
+    """Accumulating nodes run several times, each time on the previous result."""
     def run(nodes, things):
         for node in right.in_order(nodes):
             for _ in range(times(nodes) if node.function.accumulates else 1):
@@ -72,7 +72,7 @@ def run_from_zero(nodes, things):
 
 
 def process_adding(limits, state, name):
-    """A graph that is refused has added to what it would have added to."""
+    """A refused graph adds anyway."""
     try:
         return right.process_graph(limits, state, name)
     except right.Refused:
@@ -83,7 +83,7 @@ def process_adding(limits, state, name):
 
 
 def add_alone(limits, context, nodes):
-    """Runs each node that adds by itself, if it can."""
+    """Runs each accumulating node by itself, if possible."""
     for node in nodes:
         if node.function.accumulates:
             try:

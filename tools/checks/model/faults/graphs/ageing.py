@@ -1,4 +1,4 @@
-"""Wrong readings on delays that age by themselves."""
+"""Misreadings about automatic ageing."""
 
 from collections import Counter
 
@@ -32,7 +32,7 @@ def age_and_process(limits, state, name):
 
 
 def process_or_age(limits, state, name):
-    """A graph that is refused ages its delays too."""
+    """A refused graph ages its delays too."""
     try:
         return right.process_graph(limits, state, name)
     except model.Refused:
@@ -63,7 +63,8 @@ def counting():
 
 
 def registering(change):
-    """A graph's delays are something else after one is registered: of those before and that one."""
+    """Changes the effect of a registration on a graph's delays, as a function of the old delays and
+    the new one."""
     def register(limits, state, name, delay):
         graph = graphs_of(state.context).get(name)
         body = right.register_auto_aging(limits, state, name, delay)
@@ -74,7 +75,7 @@ def registering(change):
 
 
 def register_with_one(limits, state, name, delay):
-    """A delay is registered with the graph that came last alone."""
+    """A delay is registered only with the latest graph."""
     body = right.register_auto_aging(limits, state, name, delay)
     for other, graph in graphs_of(state.context).items():
         if other != name:
@@ -83,7 +84,7 @@ def register_with_one(limits, state, name, delay):
 
 
 def register_graph_first(limits, state, name, delay):
-    """All that is wrong with the graph is told before the delay is looked at."""
+    """All faults of the graph are checked before the delay."""
     right.object_of(state.context, name, model.Graph)
     right.object_of(state.context, delay, model.Delay)
     return right.register_auto_aging(limits, state, name, delay)
@@ -108,7 +109,7 @@ def age_all(context, _):
 
 
 def age_used(context, name):
-    """What its own nodes don't use stays as it is."""
+    """Delays that the graph's own nodes don't use don't age."""
     graph = context.objects[name]
     used = {cell.name for node in graph.nodes.values() for cell in right.cells_of(node)}
     age_each(context, graph.delays & used)

@@ -1,4 +1,4 @@
-"""What the wrong readings on graphs have in common."""
+"""Common helpers for misreadings about graphs."""
 
 from checks import model
 from checks.model.faults.fault import Fault, right
@@ -6,7 +6,7 @@ from checks.model.state import CREATE_GRAPH
 
 
 def with_outcomes(outcomes):
-    """Requests that come to something else."""
+    """Replaces the effects of requests."""
     rows = {op: right.REQUESTS[op]._replace(outcome=outcome) for op, outcome in outcomes.items()}
     return {"REQUESTS": {**right.REQUESTS, **rows}}
 
@@ -16,7 +16,7 @@ def graph_faults(*rows):
 
 
 def graphs_of(context):
-    """The graphs whose names are live, by these."""
+    """Returns the graphs whose names are live, by name."""
     return {name: thing for name, thing in context.objects.items()
             if isinstance(thing, model.Graph) and right.is_live(context, name)}
 

@@ -1,6 +1,5 @@
-"""Wrong readings on what is held: a change may leave a node without what it names, of which a run
-then tells.
-"""
+"""Misreadings about objects in use: a change may leave a node without its object, which a later run
+detects."""
 
 from feqyldan import wire
 from checks import model
@@ -11,7 +10,7 @@ from checks.model.state import RELEASE, REMOVE_NODE
 
 
 def verified_if(is_there):
-    """A graph one of whose cells isn't there is refused."""
+    """A graph with a missing object is refused."""
     def verified(limits, context, nodes):
         missing = [cell for node in nodes
                    for cell in right.cells_of(node) if not is_there(context, cell)]
@@ -29,7 +28,7 @@ def cells_without_slots(node):
 
 
 def used_by(cells_of):
-    """Nodes that hold the objects of these cells alone."""
+    """Nodes keep only the objects of these cells in use."""
     def names_used(context):
         nodes = [node for graph in graphs_of(context).values() for node in graph.nodes.values()]
         return {cell.name for node in nodes for cell in cells_of(node)}
@@ -48,7 +47,7 @@ def room_for_live(limits, context, thing):
 
 
 def used_for_good(op):
-    """What nodes use before such a request is held for good."""
+    """Objects in use before such a request remain forever."""
     def outcome(limits, state, *values):
         used = getattr(state.context, "used", set()) | right.names_used(state.context)
         body = right.REQUESTS[op].outcome(limits, state, *values)
@@ -62,7 +61,7 @@ def used_for_good(op):
 
 
 def release_with_virtual(limits, state, name):
-    """With a graph the names of its virtual images go."""
+    """Releasing a graph releases the names of its virtual images."""
     body = right.release(limits, state, name)
     gone = [other for other, thing in state.context.objects.items()
             if is_virtual(thing) and thing.graph == name]

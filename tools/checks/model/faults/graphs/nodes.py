@@ -1,4 +1,4 @@
-"""Wrong readings on the nodes of a graph, and on refusals of AddNode."""
+"""Misreadings about the nodes of a graph, and refusals of AddNode."""
 
 import struct
 
@@ -10,7 +10,8 @@ from checks.model.state import ADD_NODE, IMMEDIATE, REMOVE_NODE
 
 
 def add_node_as(number_for):
-    """A node whose number is given by the graph, which may have it already, and by the context."""
+    """Numbers a new node by a function of the graph, which may have the number already, and the
+    context."""
     def add_node(limits, state, name, node):
         context = state.context
         right.add_node(limits, state, name, node)
@@ -46,7 +47,7 @@ def add_node_to(most):
 
 
 def add_node_of_all(limits, state, name, node):
-    """The nodes that were removed count too."""
+    """Removed nodes count too."""
     graph = state.context.objects.get(name)
     given = graph.next_number - 1 if isinstance(graph, model.Graph) else 0
     full = limits._replace(nodes=len(graph.nodes) if given >= limits.nodes else limits.nodes)
@@ -76,7 +77,7 @@ def add_node_verified(limits, state, name, node):
 
 
 def remove_node_at(limits, state, name, place):
-    """The nodes are counted anew."""
+    """The nodes are renumbered."""
     numbers = [*right.object_of(state.context, name, model.Graph).nodes]
     return right.remove_node(limits, state, name,
                              numbers[place - 1] if 1 <= place <= len(numbers) else 0)
@@ -118,14 +119,14 @@ def add_refusals_in(*order):
 
 
 def add_refusal_at(k, applies=None, code=None):
-    """One of AddNode's refusals, for something else or with another code."""
+    """Replaces the condition or the code of one of AddNode's refusals."""
     rows = [*right.ADD_NODE_REFUSALS]
     rows[k] = (applies or rows[k][0], code or rows[k][1])
     return {"ADD_NODE_REFUSALS": rows}
 
 
 def one_after_another(refusals):
-    """All that is wrong with the graph or with one operand before the next."""
+    """Checks the graph, and then each operand, completely before the next."""
     def of_one(applies, k):
         return lambda operands: applies([operands[0], *operands[k : k + 1]])
 
@@ -138,7 +139,7 @@ def add_node_to_graph_first(limits, state, name, node):
 
 
 def add_node_if_not_full(after):
-    """A full graph is told after so many of the refusals."""
+    """Checks for a full graph after this many of the refusals."""
     def add_node(limits, state, name, node):
         context, cell = state.context, model.Cell(name, model.NO_SLOT)
         graph = model.Operand(cell, right.found(context, cell), model.Graph)
@@ -159,7 +160,7 @@ NAMES, KINDS, SLOTS, AWAY = right.IMMEDIATE_REFUSALS
 
 
 def immediate_away_last(limits, state, node):
-    """A virtual image is told after the verdict."""
+    """Virtual images are checked after the verdict."""
     right.refuse_first((NAMES, KINDS, SLOTS), right.operands_of(state.context, node))
     right.verified(limits, state.context, [node])
     return right.immediate(limits, state, node)

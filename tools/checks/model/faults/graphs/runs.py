@@ -1,4 +1,4 @@
-"""Wrong readings on runs, and on verifications that are kept."""
+"""Misreadings about runs and kept verifications."""
 
 from feqyldan import wire
 from feqyldan.wire import SUCCESS
@@ -10,8 +10,8 @@ from checks.model.state import ADD_NODE, AGE_DELAY, PROCESS_GRAPH, REMOVE_NODE, 
 
 
 def keeping(dropped_by, is_kept):
-    """What VerifyGraph and ProcessGraph tell and run is the graph as it was first verified, until
-    such a request."""
+    """VerifyGraph and ProcessGraph use the graph as it was first verified, until one of these
+    requests."""
     def kept(state):
         if not hasattr(state.context, "kept"):
             state.context.kept = {}
@@ -72,7 +72,7 @@ KEPT_FAULTS = graph_faults(
 
 
 def run_in(order):
-    """Once through the nodes in another order."""
+    """Runs all nodes once, in another order."""
     def run(nodes, things):
         before = things
         for node in order(nodes):
@@ -95,7 +95,7 @@ def run_for(rounds):
 
 
 def run_on_old_images(limits, context, nodes):
-    """What isn't virtual is read as it was before the run."""
+    """Inputs that aren't virtual are read as they were before the run."""
     things = right.verified(limits, context, nodes)
     before = after = right.started(nodes, things)
     for node in right.in_order(nodes):
@@ -109,8 +109,7 @@ def run_on_old_images(limits, context, nodes):
 
 
 def run_with(change):
-    """Values of cells that are something else after a run, of what they held before and hold
-    then."""
+    """Changes the contents of cells after a run, as a function of the contents before and after."""
     def run(nodes, things):
         after = right.run(nodes, things)
         return {cell: change(things[cell], thing, nodes, cell) for cell, thing in after.items()}
@@ -129,7 +128,7 @@ def valid_as_before(before, after, *_):
 
 
 def unless_read(before, after, nodes, cell):
-    """What a node of the graph reads stays as it was."""
+    """Cells that a node of the graph reads stay unchanged."""
     return before if cell in right.cells_read(nodes) else after
 
 
@@ -138,7 +137,7 @@ def verify_and_run(limits, state, name):
 
 
 def process_in_part(limits, state, name):
-    """The nodes before the first faulty one have run where a graph is refused."""
+    """The nodes before the first faulty one run even if the graph is refused."""
     try:
         return right.process_graph(limits, state, name)
     except model.Refused as refusal:
@@ -157,7 +156,7 @@ def run_before_fault(limits, context, nodes):
 
 
 def age_with_nodes(limits, state, name):
-    """A node that names a slot goes on with its image."""
+    """A node that names a slot keeps its image when the delay ages."""
     body = right.age_delay(limits, state, name)
     count = len(state.context.objects[name].images)
     for graph_name, graph in graphs_of(state.context).items():
@@ -169,7 +168,7 @@ def age_with_nodes(limits, state, name):
 
 
 def process_and_age(limits, state, name):
-    """The delays whose slots are written are aged."""
+    """Delays with a written slot age."""
     nodes = right.nodes_of(state, name)
     body = right.process_graph(limits, state, name)
     for delay in {cell.name for cell in right.cells_written(nodes) if cell.slot != model.NO_SLOT}:

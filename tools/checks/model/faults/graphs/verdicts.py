@@ -1,4 +1,4 @@
-"""Wrong readings on the verdict."""
+"""Misreadings about the verdict."""
 
 from feqyldan import wire
 from checks import model
@@ -12,7 +12,7 @@ TWO_WRITERS, CYCLE, LINK, NODE, WORK = range(5)
 
 
 def with_cells(nodes, change):
-    """Nodes with other cells."""
+    """Replaces the cells of nodes."""
     return [node._replace(cells=[cell and change(cell) for cell in node.cells]) for node in nodes]
 
 
@@ -21,26 +21,26 @@ def of_delay(cell):
 
 
 def of_other_nodes(nodes, *_):
-    """Of two nodes alone."""
+    """Checks only pairs of nodes."""
     written = [cell for node in nodes for cell in {*right.cells_of(node, OUTPUTS)}]
     return wire.MULTIPLE_WRITERS if len({*written}) < len(written) else None
 
 
 def of_one_node(nodes, *_):
-    """Of one node alone."""
+    """Checks only single nodes."""
     return wire.MULTIPLE_WRITERS if any(map(right.two_writers,
                                             ([node] for node in nodes))) else None
 
 
 def of_images(nodes, things, _):
-    """What isn't an image may have two writers."""
+    """An object that isn't an image may have two writers."""
     images = (model.Image, model.VirtualImage)
     written = [cell for cell in right.cells_written(nodes) if isinstance(things[cell], images)]
     return wire.MULTIPLE_WRITERS if len({*written}) < len(written) else None
 
 
 def of_virtual(nodes, things, _):
-    """What isn't virtual may have two writers."""
+    """An object that isn't virtual may have two writers."""
     written = [cell for cell in right.cells_written(nodes) if is_virtual(things[cell])]
     return wire.MULTIPLE_WRITERS if len({*written}) < len(written) else None
 
@@ -54,7 +54,7 @@ def feeds(one, other):
 
 
 def cycle_of_others(nodes, *_):
-    """A node that reads what it writes is none."""
+    """A node that reads its own output isn't a cycle."""
     def without_own(node):
         own = right.cells_of(node, OUTPUTS)
         return node._replace(cells=[None if k in INPUTS and cell in own else cell
@@ -68,13 +68,13 @@ def cycle_of_one(nodes, *_):
 
 
 def cycle_of_two(nodes, *_):
-    """Cycles of one node and of two alone."""
+    """Only cycles of one and two nodes count."""
     pairs = ((one, other) for one in nodes for other in nodes if feeds(one, other))
     return wire.INVALID_GRAPH if any(feeds(other, one) for one, other in pairs) else None
 
 
 def cycle_of_virtual(nodes, things, _):
-    """Only over virtual images."""
+    """Only cycles through virtual images count."""
     real = {cell for cell, thing in things.items() if not is_virtual(thing)}
     nodes = [node._replace(cells=[None if cell in real else cell for cell in node.cells])
              for node in nodes]
@@ -82,7 +82,7 @@ def cycle_of_virtual(nodes, things, _):
 
 
 def without(k):
-    """What one of the operands is makes no cycle."""
+    """This output makes no cycle."""
     def cycle(nodes, *_):
         return right.cycle([node._replace(cells=[None if at == k else cell
                                                  for at, cell in enumerate(node.cells)])
@@ -92,7 +92,8 @@ def without(k):
 
 
 def is_cyclic(nodes, *_):
-    """A node from which one comes back to it, by those that read what it writes and so on."""
+    """A node that can be reached again from itself, through readers of its outputs, is on a
+    cycle."""
     after = {k: {j for j, other in enumerate(nodes) if feeds(node, other)}
              for k, node in enumerate(nodes)}
     for middle in after:
@@ -103,7 +104,7 @@ def is_cyclic(nodes, *_):
 
 
 def missing_first_writer(nodes, things, _):
-    """What isn't in1 may have no writer."""
+    """Inputs other than in1 may be unwritten."""
     read = {cell for node in nodes for cell in right.cells_of(node, (IN1,))}
     unwritten = read - {*right.cells_written(nodes)}
     return wire.INVALID_LINK if any(is_virtual(things[cell]) for cell in unwritten) else None
@@ -118,7 +119,7 @@ def missing_reader(nodes, things, work):
 
 
 def missing_open_writer(nodes, things, work):
-    """A virtual image of which all is declared needs no writer."""
+    """A fully declared virtual image needs no writer."""
     is_open = {cell: thing
                for cell, thing in things.items() if not is_virtual(thing) or right.is_open(thing)}
     read = {*right.cells_read(nodes)} - {*right.cells_written(nodes)}
@@ -134,7 +135,7 @@ def first_faulty_in_run(nodes, things, work):
 
 
 def by_codes(order):
-    """One code of any node before the other one."""
+    """Checks one code on all nodes before the other one."""
     def faulty_node(nodes, things, _):
         codes = (code for applies, code in right.NODE_REFUSALS[::order]
                  for node in nodes if applies(node, things))
@@ -174,14 +175,15 @@ def work_of_read(nodes, things):
 
 
 def work_of_all(nodes, things):
-    """Of all images that are written."""
+    """Charges all written images."""
     images = [things[cell] for cell in right.cells_written(nodes)]
     return sum(bytes_of(image)
                for image in images if isinstance(image, (model.Image, model.VirtualImage)))
 
 
 def work_at_once(nodes, things):
-    """Of those that are there at one step, from their writers to their last readers."""
+    """Charges only images that are live at the same step, from their writers to their last
+    readers."""
     order = right.in_order(nodes)
     lives = []
     for step, node in enumerate(order):
@@ -201,7 +203,7 @@ def work_of_largest(nodes, things):
 
 
 def verified_within_quota(limits, context, nodes):
-    """Work bytes are charged, too."""
+    """Charges work bytes to the quota, too."""
     things = right.verified(limits, context, nodes)
     work = right.work_bytes(nodes, right.described(nodes, things))
     model.refuse_if(right.charge(context) + work > limits.quota, wire.NO_RESOURCES)

@@ -1,9 +1,9 @@
-"""Wrong readings on virtual images, and on what of them is open."""
+"""Misreadings about virtual images and their undeclared fields."""
 
 from feqyldan import wire
 from feqyldan.wire import OPEN, S16, U8
 from checks import model
-from checks.model.faults.fault import right, with_outcome, with_row
+from checks.model.faults.fault import at_once, right, with_outcome, with_row
 from checks.model.faults.graphs.fault import graph_faults, is_virtual
 from checks.model.state import CREATE_VIRTUAL_IMAGE, PROCESS_GRAPH, QUERY_IMAGE, VERIFY_GRAPH
 
@@ -24,13 +24,13 @@ def virtual_as(code):
 
 
 def image_or_declared(context, cell):
-    """Of a virtual image what is declared."""
+    """Returns the declaration of a virtual image."""
     thing = right.any_image_in(context, cell)
     return right.new_image(*thing[1:]) if is_virtual(thing) else thing
 
 
 def write_declared(limits, state, cell, picture):
-    """A virtual image has a format and a size, as far as they are declared."""
+    """A virtual image has its declared format and size, as far as there are any."""
     image = right.any_image_in(state.context, cell)
     if is_virtual(image):
         model.refuse_if(image.fmt not in (OPEN, picture.fmt), wire.INVALID_FORMAT)
@@ -55,7 +55,7 @@ def set_valid_declared(limits, state, cell, rectangle):
 
 
 def delay_of_declared(limits, state, cell, slots):
-    """A virtual image of which all is declared may be the exemplar."""
+    """A fully declared virtual image may be the exemplar."""
     image = right.any_image_in(state.context, cell)
     if is_virtual(image) and not right.is_open(image):
         return right.create(limits, state, right.new_delay(right.new_image(*image[1:]), slots))
@@ -68,7 +68,7 @@ def query_of_images(_, state, cell):
 
 
 def query_of_declared(limits, state, cell):
-    """What is declared of it is valid."""
+    """The whole declared size is valid."""
     image = right.any_image_in(state.context, cell)
     if not is_virtual(image):
         return right.query_image(limits, state, cell)
@@ -77,7 +77,7 @@ def query_of_declared(limits, state, cell):
 
 
 def declared_by(op):
-    """A verdict of SUCCESS declares what was open."""
+    """A verdict of SUCCESS declares the undeclared fields."""
     def outcome(limits, state, name):
         nodes = right.nodes_of(state, name)
         body = right.REQUESTS[op].outcome(limits, state, name)
@@ -111,14 +111,6 @@ def no_room_at_quota(limits, context, thing):
                                           and right.charge(context) == limits.quota)
 
 
-def declared_at_once(fields):
-    """All of its fields are there before one is looked at."""
-    at = fields.at
-    fields.bytes(9)
-    fields.at = at
-    return right.take_virtual_image(fields)
-
-
 def taken_as(take):
     rows = {**right.REQUESTS,
             CREATE_VIRTUAL_IMAGE: right.REQUESTS[CREATE_VIRTUAL_IMAGE]._replace(take=take)}
@@ -131,14 +123,14 @@ def take_by_height(fields):
 
 
 def take_smaller(fields):
-    """Its sides are 4096 at most."""
+    """Its sides are at most 4096."""
     name, fmt, *sides = right.take_virtual_image(fields)
     model.refuse_if(any(side > 4096 for side in sides), wire.INVALID_DIMENSION)
     return name, fmt, *sides
 
 
 def take_whole_or_none(fields):
-    """It has a format and a size, or all of it is open."""
+    """Either format and size are declared, or nothing."""
     name, *declared = right.take_virtual_image(fields)
     model.refuse_if(any(declared) and not all(declared), wire.INVALID_PARAMETERS)
     return name, *declared
@@ -149,7 +141,7 @@ def take_declared(fields):
 
 
 def virtual_of(code):
-    """What isn't a graph is told otherwise."""
+    """Changes the refusal of a name that isn't a graph."""
     def create_virtual_image(limits, state, graph, *declared):
         thing = right.found(state.context, model.Cell(graph, model.NO_SLOT))
         model.refuse_if(thing is not None and not isinstance(thing, model.Graph), code)
@@ -184,7 +176,8 @@ VIRTUAL_FAULTS = graph_faults(
     ("a virtual image isn't counted among the objects", without_count(model.VirtualImage)),
     ("a graph isn't counted among the objects", without_count(model.Graph)),
     ("at the quota no virtual image finds room", {"has_room": no_room_at_quota}),
-    ("a virtual image that is cut short is told before its format", taken_as(declared_at_once)),
+    ("a virtual image that is cut short is told before its format",
+     taken_as(at_once(right.take_virtual_image, 9))),
     ("a virtual image has its height before its width", taken_as(take_by_height)),
     ("a virtual image's sides are 4096 at most", taken_as(take_smaller)),
     ("a virtual image is wholly open or not at all", taken_as(take_whole_or_none)),
@@ -196,7 +189,7 @@ VIRTUAL_FAULTS = graph_faults(
 
 
 def filled_over(thing, node, first):
-    """What is declared is filled too."""
+    """Declared fields are resolved again too."""
     return right.filled(thing._replace(fmt=OPEN, width=OPEN, height=OPEN) if is_virtual(thing)
                         else thing, node, first)
 
@@ -211,12 +204,12 @@ def filled_formats(thing, node, first):
 
 
 def filled_if_open(thing, node, first):
-    """Where something is open, all is."""
+    """Treats all fields as undeclared if one is."""
     return filled_over(thing, node, first) if is_virtual(thing) and right.is_open(thing) else thing
 
 
 def described_once(nodes, things):
-    """In the order of adding."""
+    """Resolves in the order of adding."""
     for node in nodes:
         things = {**things, **right.filled_by([node], things)}
     return things
