@@ -73,21 +73,21 @@ line_near valid y line e = known (int_le (pos valid.y0) y && int_lt y (pos valid
     known false outside e = cc
 
 -- the border's sample in a row that takes the samples of a valid row
-beside_line : (image : ImageValue) (border : Border) (x y : ℤ) (line edge : ℕ) → row_seen image.valid border y ≡ Some line → clamp_coordinate image.valid.x0 image.valid.x1 x ≡ edge → border_sample image border x y ≡ border_value border (pixel_at image edge line)
-beside_line image Undefined x y line edge e near = refl
-beside_line image (Constant value) x y line edge e near = refl
-beside_line image Replicate x y line edge e near = ap (λ n. pixel_at image n (clamp_coordinate image.valid.y0 image.valid.y1 y)) near ∙ ap (pixel_at image edge) (line_near image.valid y line e)
+elsewhere_line : (image : ImageValue) (border : Border) (x y : ℤ) (line edge : ℕ) → row_seen image.valid border y ≡ Some line → clamp_coordinate image.valid.x0 image.valid.x1 x ≡ edge → border_sample image border x y ≡ border_value border (pixel_at image edge line)
+elsewhere_line image Undefined x y line edge e near = refl
+elsewhere_line image (Constant value) x y line edge e near = refl
+elsewhere_line image Replicate x y line edge e near = ap (λ n. pixel_at image n (clamp_coordinate image.valid.y0 image.valid.y1 y)) near ∙ ap (pixel_at image edge) (line_near image.valid y line e)
 
 -- outside the valid columns
-look_beside : (image : ImageValue) (border : Border) (x y : ℤ) (line edge : ℕ) → row_seen image.valid border y ≡ Some line → clamp_coordinate image.valid.x0 image.valid.x1 x ≡ edge → (int_le (pos image.valid.x0) x && int_lt x (pos image.valid.x1)) ≡ false → sample_or_border image border x y ≡ border_value border (pixel_at image edge line)
-look_beside image border x y line edge e near out = rw out (beside_line image border x y line edge e near)
+look_elsewhere : (image : ImageValue) (border : Border) (x y : ℤ) (line edge : ℕ) → row_seen image.valid border y ≡ Some line → clamp_coordinate image.valid.x0 image.valid.x1 x ≡ edge → (int_le (pos image.valid.x0) x && int_lt x (pos image.valid.x1)) ≡ false → sample_or_border image border x y ≡ border_value border (pixel_at image edge line)
+look_elsewhere image border x y line edge e near out = rw out (elsewhere_line image border x y line edge e near)
 
 -- in the columns
 inner_row : (image : ImageValue) (border : Border) (x y : ℤ) (line : ℕ) (b : Bool) → cond b (Some (unsigned_abs y)) (border_row image.valid border y) ≡ Some line → row_seen image.valid border y ≡ Some line → clamp_coordinate image.valid.x0 image.valid.x1 x ≡ unsigned_abs x → cond b (pixel_at image (unsigned_abs x) (unsigned_abs y)) (border_sample image border x y) ≡ pixel_at image (unsigned_abs x) line
 inner_row image border x y line true e seen near = let same : unsigned_abs y ≡ line = cc in ap (pixel_at image (unsigned_abs x)) same
 inner_row image Undefined x y line false e seen near = cc
 inner_row image (Constant value) x y line false e seen near = cc
-inner_row image Replicate x y line false e seen near = beside_line image Replicate x y line (unsigned_abs x) seen near
+inner_row image Replicate x y line false e seen near = elsewhere_line image Replicate x y line (unsigned_abs x) seen near
 
 pub look_inside : (image : ImageValue) (border : Border) (x y : ℤ) (line : ℕ) → row_seen image.valid border y ≡ Some line → pos image.valid.x0 ≤ℤ x → x <ℤ pos image.valid.x1 → sample_or_border image border x y ≡ pixel_at image (unsigned_abs x) line
 look_inside image border x y line e a b =
@@ -100,7 +100,7 @@ look_along image border x y line some e = by_lt_z x (pos image.valid.x0) left (�
   where
     left : x <ℤ pos image.valid.x0 → sample_or_border image border x y ≡ seen_along image border line x
     left h =
-        look_beside image border x y line image.valid.x0 e (nearest_below image.valid.x0 image.valid.x1 x some h) (cc (not_at_most (pos image.valid.x0) x h))
+        look_elsewhere image border x y line image.valid.x0 e (nearest_below image.valid.x0 image.valid.x1 x some h) (cc (not_at_most (pos image.valid.x0) x h))
         ∙ sym (seen_left image border x line h)
 
     between : pos image.valid.x0 ≤ℤ x → x <ℤ pos image.valid.x1 → sample_or_border image border x y ≡ seen_along image border line x
@@ -108,7 +108,7 @@ look_along image border x y line some e = by_lt_z x (pos image.valid.x0) left (�
 
     right : pos image.valid.x0 ≤ℤ x → pos image.valid.x1 ≤ℤ x → sample_or_border image border x y ≡ seen_along image border line x
     right a b =
-        look_beside image border x y line (image.valid.x1 - 1) e (nearest_above image.valid.x0 image.valid.x1 x some b) (cc (at_most (pos image.valid.x0) x a, not_below x (pos image.valid.x1) b))
+        look_elsewhere image border x y line (image.valid.x1 - 1) e (nearest_above image.valid.x0 image.valid.x1 x some b) (cc (at_most (pos image.valid.x0) x a, not_below x (pos image.valid.x1) b))
         ∙ sym (seen_right image border x line a b)
 
 -- where the border takes no valid row
@@ -177,10 +177,10 @@ seen_nowhere image border x count y all off same room =
 
 -- ---- outside the valid columns the border depends on the nearest one
 
-beside_again : (border : Border) (z : ℤ) → border_value border (border_value border z) ≡ border_value border z
-beside_again Undefined z = refl
-beside_again (Constant value) z = refl
-beside_again Replicate z = refl
+elsewhere_again : (border : Border) (z : ℤ) → border_value border (border_value border z) ≡ border_value border z
+elsewhere_again Undefined z = refl
+elsewhere_again (Constant value) z = refl
+elsewhere_again Replicate z = refl
 
 -- column x outside the valid ones; column e is the nearest of them
 look_from_edge : (image : ImageValue) (border : Border) (x y : ℤ) (e : ℕ) (seen : Option ℕ) → row_seen image.valid border y ≡ seen → image.valid.x0 < image.valid.x1
@@ -188,7 +188,7 @@ look_from_edge : (image : ImageValue) (border : Border) (x y : ℤ) (e : ℕ) (s
 look_from_edge image border x y e (Some line) is some along left right =
     rw (look_along image border x y line some is, along line, look_inside image border (pos e) y line is (omega (arith, ints)) (omega (arith, ints))) refl
 look_from_edge image border x y e None is some along left right =
-    rw (look_off image border x y is, look_off image border (pos e) y is) (sym (beside_again border (pos 0)))
+    rw (look_off image border x y is, look_off image border (pos e) y is) (sym (elsewhere_again border (pos 0)))
 
 pub look_left : (image : ImageValue) (border : Border) (x y : ℤ) → image.valid.x0 < image.valid.x1 → x <ℤ pos image.valid.x0 → sample_or_border image border x y ≡ border_value border (sample_or_border image border (pos image.valid.x0) y)
 look_left image border x y some h =

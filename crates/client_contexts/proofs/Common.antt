@@ -6,7 +6,7 @@ pub use Rattle.client_contexts.specs.Lookup.{IsFound, IsImageFor, IsImageOf, IsN
 pub use Rattle.client_contexts.specs.Steps.{MayComeTo, all_operands, first_class, client_result}
 pub use Rattle.client_contexts.specs.World.{ClientContext, World}
 pub use Rattle.client_contexts.specs.declared.fault.RequestFault.{RequestFault}
-pub use Rattle.client_contexts.specs.declared.kept.Kept.{Kept}
+pub use Rattle.client_contexts.specs.declared.kept.KeptGraph.{KeptGraph}
 pub use Rattle.client_model.proofs.HoldLaws.{OperandsStand}
 pub use Rattle.client_model.proofs.OutcomeLaws.{KeepsBut}
 pub use Rattle.client_model.proofs.StateLaws.{with_new_keeps}

@@ -1,7 +1,7 @@
 -- Pictures that are read from a source: the samples, and then the client's context and the world.
 use Rattle.std.specs.Prelude.{⊤}
 use Rattle.std.proofs.Common.{◌≡◌, ◌∙◌, ℕ, false, List, ℤ, Some, length, Result, Ok, Err, inl, inr, OnOk, OnErr, IfErr, refl, sym, ap, subst, ne_eqb}
-use Rattle.client_contexts.proofs.Common.{is_at, lookup, nat_cmp, option_map, AppliesToKept, Reference, Description, Format, Context, Empty, Request, Reply, WriteImage, reply_and_state, write_image, LimitsValue, KeepsLimits, AreKept, Kept, ClientContext, World}
+use Rattle.client_contexts.proofs.Common.{is_at, lookup, nat_cmp, option_map, AppliesToKept, Reference, Description, Format, Context, Empty, Request, Reply, WriteImage, reply_and_state, write_image, LimitsValue, KeepsLimits, AreKept, KeptGraph, ClientContext, World}
 use Rattle.vx_base.specs.Reference.{IsReference}
 use Rattle.vx_base.specs.Picture.{PictureValue, IsPicture, Describes, values, samples_format}
 use Rattle.vx_base.specs.declared.code.Code.{Code}
@@ -39,7 +39,7 @@ module _ {S E : Type 0} (fills : S → S → Format → List ℤ → Result ⊤ 
   unwritten_weaker P Q (Source fault) weaker read = read
 
   -- the kept graphs can still run
-  pub incoming_keeps : (limits : LimitsValue) (c later : Context) (cell : Reference) (kept : List (ℕ × Kept)) (result : Result ⊤ (WriteFault E)) → KeepsLimits limits c → IsReference cell
+  pub incoming_keeps : (limits : LimitsValue) (c later : Context) (cell : Reference) (kept : List (ℕ × KeptGraph)) (result : Result ⊤ (WriteFault E)) → KeepsLimits limits c → IsReference cell
       → OnOk result ((p : PictureValue) × IsPicture p × IsRead fills d old new p (Ok tt) × (write_image c cell p ≡ Ok (Empty, Some later))) → OnErr result (later ≡ c) → AreKept c kept → AreKept later kept
   incoming_keeps limits c later cell kept (Ok x) h is (p, picture, read, done) back are =
       let written : Result Reply ⊤ = Ok Empty in

@@ -1,6 +1,6 @@
 -- How a graph runs is kept, and stays right through the requests that leave its nodes.
 use Rattle.std.proofs.Common.{◌≡◌, ◌≢◌, ℕ, ◌<◌, false, List, [], ◌∷◌, Option, Some, None, IfSome, Result, Ok, Err, get_or, refl, sym, ap, subst, ◌∙◌, arith, All, MatchOption, is_some, IfOk, OnErr}
-use Rattle.client_contexts.proofs.Common.{option_map, All-nil, All-cons, Node, ObjectValue, Context, object_held, nodes_in, verdict, operand_held, IsReady, Request, Reply, LimitsValue, reply_and_state, Outcome, KeepsLimits, Kept, IsKept, AreKept, forgotten_by}
+use Rattle.client_contexts.proofs.Common.{option_map, All-nil, All-cons, Node, ObjectValue, Context, object_held, nodes_in, verdict, operand_held, IsReady, Request, Reply, LimitsValue, reply_and_state, Outcome, KeepsLimits, KeptGraph, IsKept, AreKept, forgotten_by}
 use Rattle.buffer_plan.specs.Places.{plan_view}
 use Rattle.buffer_plan.specs.Plan.{IsPlan}
 use Rattle.graph_run.specs.Schedule.{IsSchedule}
@@ -42,7 +42,7 @@ module _ (limits : LimitsValue) (c later : Context) (request : Request) (h : Kee
       (All-cons (λ r. changes_nodes r name ≡ false) request [] leaves (All-nil (λ r. changes_nodes r name ≡ false))) known
 
   -- the cells that its nodes name hold objects of the same skeletons, so that its schedule is still one
-  schedule_after_one : (name : ℕ) (k : Kept) (nodes : List Node) → IsReady c.objects nodes k.verified → IsPlan k.verified.steps.items k.verified.virtual_outputs.items (plan_view k.plan)
+  schedule_after_one : (name : ℕ) (k : KeptGraph) (nodes : List Node) → IsReady c.objects nodes k.verified → IsPlan k.verified.steps.items k.verified.virtual_outputs.items (plan_view k.plan)
       → option_map nodes_in (object_held c.objects name) ≡ Some nodes → option_map nodes_in (object_held later.objects name) ≡ Some nodes
       → IsSchedule c.objects k.verified (plan_view k.plan) k.schedule → IsSchedule later.objects k.verified (plan_view k.plan) k.schedule
   schedule_after_one name k nodes ready plan was now scheduled =
@@ -51,7 +51,7 @@ module _ (limits : LimitsValue) (c later : Context) (request : Request) (h : Kee
       (n, AllIn-permutation_back nodes k.verified.steps.items ready.verified.order.same_nodes n i, named))
       k.schedule scheduled
 
-  pub kept_after_one : (name : ℕ) (k : Kept) → changes_nodes request name ≡ false → IsKept c name k → IsKept later name k
+  pub kept_after_one : (name : ℕ) (k : KeptGraph) → changes_nodes request name ≡ false → IsKept c name k → IsKept later name k
   kept_after_one name k leaves kept =
       let stayed = had_nodes name leaves kept.below in
       record {
@@ -73,13 +73,13 @@ module _ (limits : LimitsValue) (c later : Context) (request : Request) (h : Kee
       }
 
   -- what is left of all that is kept, once the request is done
-  pub left_are_kept : (kept left : List (ℕ × Kept)) → AreKept c kept → left ≡ forgotten_by request kept → All (λ k. changes_nodes request k.0 ≡ false) left → AreKept later left
+  pub left_are_kept : (kept left : List (ℕ × KeptGraph)) → AreKept c kept → left ≡ forgotten_by request kept → All (λ k. changes_nodes request k.0 ≡ false) left → AreKept later left
   left_are_kept kept left are forgotten leave =
       let held : AreKept c left = subst (AreKept c) (sym forgotten) (left_by (λ k. IsKept c k.0 k.1) request kept are) in
       λ n d below. kept_after_one (get_or left n d).0 (get_or left n d).1 (leave n d below) (held n d below)
 
 -- so is all of it where a picture or a text is written, which leaves the nodes of all graphs
-pub kept_written : {E : Type 0} (limits : LimitsValue) (c later : Context) (request : Request) (outcome : Outcome) (result : Result Reply E) (kept : List (ℕ × Kept)) → KeepsLimits limits c → IsRequest request
+pub kept_written : {E : Type 0} (limits : LimitsValue) (c later : Context) (request : Request) (outcome : Outcome) (result : Result Reply E) (kept : List (ℕ × KeptGraph)) → KeepsLimits limits c → IsRequest request
     → answer_to limits (Some c) request ≡ reply_and_state c outcome → ((name : ℕ) → changes_nodes request name ≡ false) → forgotten_by request kept ≡ kept
     → IfOk result (λ reply. outcome ≡ Ok (reply, Some later)) → OnErr result (later ≡ c) → AreKept c kept → AreKept later kept
 kept_written limits c later request outcome (Ok reply) kept h is answers leaves forgets done back are =

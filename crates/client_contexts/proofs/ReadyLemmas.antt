@@ -1,6 +1,6 @@
 -- What is kept of a graph: what it says of the graph's verdict and run, and that it is so once the graph is verified.
 use Rattle.std.proofs.Common.{◌≡◌, ℕ, ◌<◌, ◌^◌, List, [], ◌∷◌, Option, Some, None, Result, Ok, Err, Ordering, Less, Equal, Greater, refl, ap, subst, ◌∙◌, All, arith}
-use Rattle.client_contexts.proofs.Common.{graph_under, insert_entry, is_at, lookup, option_map, nat_cmp, All-nil, All-cons, All-head, All-tail, All-weaker, exact_unsigned, GraphValue, nodes_of, ObjectValue, GraphObject, Context, with_objects, object_held, graph_value, graph_of_kind, verdict, IsVerified, IsReady, operand_held, Refusal, Reply, Empty, ProcessGraph, LimitsValue, reply_and_state, graph_named, graph_verdict, Outcome, KeepsLimits, RequestFault, Kept, IsKept, AreKept, IsNamed, MayComeTo, map_some}
+use Rattle.client_contexts.proofs.Common.{graph_under, insert_entry, is_at, lookup, option_map, nat_cmp, All-nil, All-cons, All-head, All-tail, All-weaker, exact_unsigned, GraphValue, nodes_of, ObjectValue, GraphObject, Context, with_objects, object_held, graph_value, graph_of_kind, verdict, IsVerified, IsReady, operand_held, Refusal, Reply, Empty, ProcessGraph, LimitsValue, reply_and_state, graph_named, graph_verdict, Outcome, KeepsLimits, RequestFault, KeptGraph, IsKept, AreKept, IsNamed, MayComeTo, map_some}
 use Rattle.client_laws.proofs.RunLaws.{graph_stays}
 use Rattle.object_table.specs.Ageing.{aged_under}
 use Rattle.std.specs.Ordering.{match_ordering, eq_by_cmp}
@@ -36,16 +36,16 @@ module _ {X : Type 0} (name : ℕ) (value : X) where
 -- ---- what is kept under a name
 
 -- what is found under a name is kept of the graph of that name
-pub kept_there : (c : Context) (name : ℕ) (k : Kept) (entries : List (ℕ × Kept)) → AreKept c entries → lookup (is_at (nat_cmp name)) entries ≡ Some k → IsKept c name k
+pub kept_there : (c : Context) (name : ℕ) (k : KeptGraph) (entries : List (ℕ × KeptGraph)) → AreKept c entries → lookup (is_at (nat_cmp name)) entries ≡ Some k → IsKept c name k
 kept_there c name k entries are is =
-    All-contains (λ (entry : ℕ × Kept). IsKept c entry.0 entry.1) entries (name, k) are
+    All-contains (λ (entry : ℕ × KeptGraph). IsKept c entry.0 entry.1) entries (name, k) are
     (Contains-from_lookup {eq = eq_by_cmp nat_cmp} (tells_apart exact_unsigned) name k entries is)
 
 -- so is what was found within so many work bytes
-pub found_kept : (c : Context) (name work : ℕ) (entries : List (ℕ × Kept)) → AreKept c entries → option_map (λ (k : Kept). k.work) (lookup (is_at (nat_cmp name)) entries) ≡ Some work
-    → (k : Kept) × (k.work ≡ work) × IsKept c name k
+pub found_kept : (c : Context) (name work : ℕ) (entries : List (ℕ × KeptGraph)) → AreKept c entries → option_map (λ (k : KeptGraph). k.work) (lookup (is_at (nat_cmp name)) entries) ≡ Some work
+    → (k : KeptGraph) × (k.work ≡ work) × IsKept c name k
 found_kept c name work entries are same =
-    let (k, is, so) = map_some (λ (k : Kept). k.work) (lookup (is_at (nat_cmp name)) entries) work same in
+    let (k, is, so) = map_some (λ (k : KeptGraph). k.work) (lookup (is_at (nat_cmp name)) entries) work same in
     (k, so, kept_there c name k entries are is)
 
 -- ---- a graph that is found under its name
@@ -60,11 +60,11 @@ module _ (limits : LimitsValue) (c : Context) (name : ℕ) (x : ObjectValue) (h 
   allowed_verifies within allowed = rw (graph_is_named limits c name x h named, allowed)
 
   -- what is kept of it is its verdict
-  pub kept_verifies : (within : LimitsValue) (k : Kept) → IsKept c name k → k.work ≡ within.work → verify_graph within c name ≡ Ok (Empty, Some c)
+  pub kept_verifies : (within : LimitsValue) (k : KeptGraph) → IsKept c name k → k.work ≡ within.work → verify_graph within c name ≡ Ok (Empty, Some c)
   kept_verifies within k kept same = allowed_verifies within (rw (held_graph, same) at kept.allowed)
 
   -- once it is verified, so much is kept of it
-  pub verified_is_kept : (k : Kept) → IsVerified (operand_held c.objects) (nodes_of (graph_value x)) k.verified
+  pub verified_is_kept : (k : KeptGraph) → IsVerified (operand_held c.objects) (nodes_of (graph_value x)) k.verified
       → verdict k.work (operand_held c.objects) (nodes_of (graph_value x)) ≡ None → IsPlan k.verified.steps.items k.verified.virtual_outputs.items (plan_view k.plan)
       → IsSchedule c.objects k.verified (plan_view k.plan) k.schedule → IsKept c name k
   verified_is_kept k verified allowed planned scheduled =
@@ -113,7 +113,7 @@ module _ (limits : LimitsValue) (c : Context) (name : ℕ) where
       runs_to graph after is allowed (rw (aged, graph_left h graph ran is allowed e, e))
 
   -- what is kept of a graph that is verified runs its nodes, as it is scheduled
-  pub kept_runs : KeepsLimits limits c → (done : Reply × Option Context) → verify_graph limits c name ≡ Ok done → (k : Kept) (entries : List (ℕ × Kept)) → AreKept c entries
+  pub kept_runs : KeepsLimits limits c → (done : Reply × Option Context) → verify_graph limits c name ≡ Ok done → (k : KeptGraph) (entries : List (ℕ × KeptGraph)) → AreKept c entries
       → lookup (is_at (nat_cmp name)) entries ≡ Some k
       → (graph : GraphValue) × (graph_named c.objects name ≡ Ok graph) × (graph_verdict limits c.objects graph ≡ None) × IsReady c.objects (nodes_of graph) k.verified
       × IsSchedule c.objects k.verified (plan_view k.plan) k.schedule
@@ -125,7 +125,7 @@ module _ (limits : LimitsValue) (c : Context) (name : ℕ) where
 
 -- what is kept of each graph holds after a run
 pub kept_after_run : (limits : LimitsValue) (c later : Context) (name : ℕ) → KeepsLimits limits c → name < 2 ^ 32 → process_graph limits c name ≡ Ok (Empty, Some later)
-    → (entries : List (ℕ × Kept)) → AreKept c entries → AreKept later entries
+    → (entries : List (ℕ × KeptGraph)) → AreKept c entries → AreKept later entries
 kept_after_run limits c later name h fits done entries are =
-    All-weaker (λ (e : ℕ × Kept). IsKept c e.0 e.1) (λ (e : ℕ × Kept). IsKept later e.0 e.1)
+    All-weaker (λ (e : ℕ × KeptGraph). IsKept c e.0 e.1) (λ (e : ℕ × KeptGraph). IsKept later e.0 e.1)
     (λ e kept. kept_after_one limits c later (ProcessGraph name) h fits (ap (λ (o : Outcome). (reply_and_state c o).1) done) e.0 e.1 refl kept) entries are

@@ -1,6 +1,6 @@
 -- The graphs that are kept as verified, through a client's requests.
 use Rattle.std.proofs.Common.{◌≡◌, ◌≢◌, ◌∙◌, ℕ, true, false, cond, List, Some, Result, Ok, Err, ◌⊎◌, inl, inr, sym, ap, subst, IfErr, OnOk, OnErr, arith}
-use Rattle.client_contexts.proofs.Common.{cases_Bool, is_at, lookup, nat_cmp, Reply, Request, VerifyGraph, ProcessGraph, RequestFault, Kept, verified_in, IsKeptWithin, KeepsVerified, ends_verification, client_result}
+use Rattle.client_contexts.proofs.Common.{cases_Bool, is_at, lookup, nat_cmp, Reply, Request, VerifyGraph, ProcessGraph, RequestFault, KeptGraph, verified_in, IsKeptWithin, KeepsVerified, ends_verification, client_result}
 use Rattle.std.proofs.lemmas.Map.Made.{lookup-map_values}
 use Rattle.vx_base.specs.declared.code.Code.{Code}
 use Rattle.client_model.specs.declared.reply.Reply.TheVariants as reply
@@ -12,20 +12,20 @@ use Rattle.client_contexts.specs.Steps.{WantsMemory}
 -- ---- entries
 
 -- the work bytes listed for a name are those of its kept graph
-pub shown : (graph : ℕ) (kept : List (ℕ × Kept)) → lookup (is_at (nat_cmp graph)) (verified_in kept) ≡ kept_within graph kept
-shown graph kept = lookup-map_values (λ (k : Kept). k.work) (is_at (nat_cmp graph)) kept
+pub shown : (graph : ℕ) (kept : List (ℕ × KeptGraph)) → lookup (is_at (nat_cmp graph)) (verified_in kept) ≡ kept_within graph kept
+shown graph kept = lookup-map_values (λ (k : KeptGraph). k.work) (is_at (nat_cmp graph)) kept
 
 -- a graph that is still kept is still listed
-shown_still : (work graph : ℕ) (old new : List (ℕ × Kept)) → (kept_within graph old ≡ Some work → kept_within graph new ≡ Some work)
+shown_still : (work graph : ℕ) (old new : List (ℕ × KeptGraph)) → (kept_within graph old ≡ Some work → kept_within graph new ≡ Some work)
     → IsKeptWithin work graph (verified_in old) → IsKeptWithin work graph (verified_in new)
 shown_still work graph old new still is = shown graph new ∙ still (sym (shown graph old) ∙ is)
 
-pub shown_same : (work graph : ℕ) (old new : List (ℕ × Kept)) → kept_within graph new ≡ kept_within graph old
+pub shown_same : (work graph : ℕ) (old new : List (ℕ × KeptGraph)) → kept_within graph new ≡ kept_within graph old
     → IsKeptWithin work graph (verified_in old) → IsKeptWithin work graph (verified_in new)
 shown_same work graph old new same = shown_still work graph old new (λ is. same ∙ is)
 
 -- after a graph is kept with the work bytes, all others that were still are
-pub stay_with_one : (work graph : ℕ) (k : Kept) → k.work ≡ work → (old new : List (ℕ × Kept))
+pub stay_with_one : (work graph : ℕ) (k : KeptGraph) → k.work ≡ work → (old new : List (ℕ × KeptGraph))
     → ((q : ℕ) → lookup (is_at (nat_cmp q)) new ≡ cond (is_at (nat_cmp graph) q) (Some k) (lookup (is_at (nat_cmp q)) old))
     → StayKept work (verified_in old) (verified_in new)
 stay_with_one work graph k same old new updates = λ q.
@@ -39,7 +39,7 @@ on_err (Ok value) said = tt
 on_err (Err error) said = said
 
 -- VerifyGraph takes no memory while its graph is kept, so it lacks memory only if the graph wasn't kept
-pub lost_unkept : (work graph : ℕ) (request : Request) (kept : List (ℕ × Kept)) (result : Result Reply RequestFault) → request ≡ VerifyGraph graph
+pub lost_unkept : (work graph : ℕ) (request : Request) (kept : List (ℕ × KeptGraph)) (result : Result Reply RequestFault) → request ≡ VerifyGraph graph
     → IfErr result (λ f. WantsMemory f (kept_within graph kept ≢ Some work))
     → OnErr (client_result result) ((name : ℕ) → request ≡ VerifyGraph name → IsKeptWithin work name (verified_in kept) → ⊥)
 lost_unkept work graph request kept (Err fault.NoMemory) is takes = λ name asks verified.
@@ -52,7 +52,7 @@ pub lost_none : (P : ℕ → Type 0) (graph : ℕ) (request : Request) (result :
 lost_none P graph request result is = on_err result (λ name asks. let other : ProcessGraph graph ≡ VerifyGraph name = sym is ∙ asks in absurd (cc))
 
 -- a request to verify or to run a graph
-pub ran_keeps : (work graph : ℕ) (request : Request) (old new : List (ℕ × Kept)) (result : Result Reply RequestFault) → (request ≡ VerifyGraph graph) ⊎ (request ≡ ProcessGraph graph)
+pub ran_keeps : (work graph : ℕ) (request : Request) (old new : List (ℕ × KeptGraph)) (result : Result Reply RequestFault) → (request ≡ VerifyGraph graph) ⊎ (request ≡ ProcessGraph graph)
     → OnErr (client_result result) ((name : ℕ) → request ≡ VerifyGraph name → IsKeptWithin work name (verified_in old) → ⊥) → OnOk result (kept_within graph new ≡ Some work)
     → StayKept work (verified_in old) (verified_in new) → KeepsVerified work request (verified_in old) (verified_in new) (client_result result)
 ran_keeps work graph request old new result is lost found stay =

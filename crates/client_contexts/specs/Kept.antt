@@ -18,13 +18,13 @@ use Rattle.client_model.specs.declared.request.Request.TheVariants.{ReleaseConte
 use Rattle.client_model.specs.declared.reply.Reply.{Reply}
 use Rattle.client_model.specs.declared.reply.Reply.TheVariants.{Refused, Empty}
 use Rattle.client_model.specs.States.{changes_nodes}
-use Rattle.client_contexts.specs.declared.kept.Kept.{Kept}
+use Rattle.client_contexts.specs.declared.kept.KeptGraph.{KeptGraph}
 use Rattle.client_contexts.specs.declared.memory.NoMemory.{NoMemory}
 
 -- What is kept under a name is a verification of the graph that has the name now, and nothing refuses this graph within the quota of
 -- work bytes. The plan gives slots to the virtual images along the order of the nodes. The schedule is one of a run on the objects that
 -- the nodes name.
-pub record IsKept (c : Context) (name : ℕ) (k : Kept) : Type 0 where
+pub record IsKept (c : Context) (name : ℕ) (k : KeptGraph) : Type 0 where
   pub below : name < c.next
   pub ready : IfSome (object_held c.objects name) (λ object. IsReady c.objects (nodes_in object) k.verified)
   pub plan : IsPlan k.verified.steps.items k.verified.virtual_outputs.items (plan_view k.plan)
@@ -32,11 +32,11 @@ pub record IsKept (c : Context) (name : ℕ) (k : Kept) : Type 0 where
   pub allowed : IfSome (object_held c.objects name) (λ object. verdict k.work (operand_held c.objects) (nodes_in object) ≡ None)
 
 -- the same of each graph that is kept
-abbrev pub AreKept : Context → List (ℕ × Kept) → Type 0
+abbrev pub AreKept : Context → List (ℕ × KeptGraph) → Type 0
 AreKept c kept = All (λ k. IsKept c k.0 k.1) kept
 
 -- the quota of work bytes with which a graph was verified, if it is kept
-abbrev pub kept_within : ℕ → List (ℕ × Kept) → Option ℕ
+abbrev pub kept_within : ℕ → List (ℕ × KeptGraph) → Option ℕ
 kept_within graph kept = option_map (λ k. k.work) (lookup (is_at (nat_cmp graph)) kept)
 
 -- whether a request verifies or runs a graph
@@ -46,7 +46,7 @@ runs_graph (ProcessGraph graph) = true
 runs_graph other = false
 
 -- the graphs that are kept after a request: it forgets a graph whose nodes it changes or whose name it ends
-abbrev pub forgotten_by : Request → List (ℕ × Kept) → List (ℕ × Kept)
+abbrev pub forgotten_by : Request → List (ℕ × KeptGraph) → List (ℕ × KeptGraph)
 forgotten_by (AddNode graph n) kept = remove_entry (is_at (nat_cmp graph)) kept
 forgotten_by (RemoveNode graph number) kept = remove_entry (is_at (nat_cmp graph)) kept
 forgotten_by (Release name) kept = remove_entry (is_at (nat_cmp name)) kept
@@ -55,7 +55,7 @@ forgotten_by other kept = kept
 -- ---- what shows of it
 
 -- the names of the kept graphs, each with the quota of work bytes with which it was verified
-abbrev pub verified_in : List (ℕ × Kept) → List (ℕ × ℕ)
+abbrev pub verified_in : List (ℕ × KeptGraph) → List (ℕ × ℕ)
 verified_in kept = map (λ k. (k.0, k.1.work)) kept
 
 -- the graph is kept as verified with this quota of work bytes

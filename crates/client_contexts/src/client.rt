@@ -33,7 +33,7 @@ use crate::images::{
 };
 use crate::immediate::run_at_once;
 use crate::incoming::{write_from, write_text};
-use crate::kept::{Kept, forget};
+use crate::kept::{KeptGraph, forget};
 use crate::lookup::find_image;
 use crate::objects::release;
 use crate::source::{FillsSamples, WriteFault};
@@ -53,7 +53,7 @@ use vx_base::{Desc, ObjRef};
 #[derive(Drop)]
 pub struct Client {
     table: Table,
-    kept: BTreeMap<u32, Kept>,
+    kept: BTreeMap<u32, KeptGraph>,
 }
 
 impl Model for Client {
@@ -80,7 +80,7 @@ impl Client {
 
     /// Returns what is kept of the graph of a name, if anything: its verification, the slots of its
     /// virtual images and the schedule of its runs, all for the nodes that the graph has now.
-    pub fn kept(&self, graph: u32) -> Option<&Kept>
+    pub fn kept(&self, graph: u32) -> Option<&KeptGraph>
         ensures holds { IfSome result (λ kept. IsKept self.now.context graph kept.now) }
         ensures work { option_map (λ kept. kept.now.work) result
             ≡ lookup (is_at (nat_cmp graph)) self.now.verified }
@@ -133,7 +133,7 @@ impl Client {
             ),
             _ => {
                 // The laws of requests need this fact.
-                request.is_request();
+                request.prove_request();
                 let reply = answer(&mut self.table, pool, limits, alloc, request)?;
                 forget(&mut self.kept, request);
                 Ok(reply)
@@ -164,7 +164,7 @@ impl Client {
         ensures verified { self.new.verified ≡ self.old.verified }
     {
         // The laws of requests need this fact.
-        reference.is_cell();
+        reference.prove_reference();
         write_from(&mut self.table, pool, reference, desc, source)
     }
 
@@ -184,7 +184,7 @@ impl Client {
         ensures verified { self.new.verified ≡ self.old.verified }
     {
         // The laws of requests need this fact.
-        reference.is_cell();
+        reference.prove_reference();
         write_text(&mut self.table, pool, reference, text)
     }
 

@@ -12,7 +12,7 @@ ghost use Rattle.client_contexts.specs.Kept.{AreKept, kept_within, verified_in, 
 ghost use Rattle.client_contexts.specs.Steps.{ComesTo, MayComeTo, WantsMemory, IsContext, Keeps};
 
 use crate::fault::RequestFault;
-use crate::kept::Kept;
+use crate::kept::KeptGraph;
 use crate::lookup::{find_graph_for, find_named};
 use crate::room::{hold, look_for_room};
 use buffer_plan::Plan;
@@ -52,7 +52,7 @@ pub fn create_virtual_image(
 {
     find_named(table, graph, Kind::Graph)?;
     look_for_room(table, limits, 0)?;
-    declared.has_sides();
+    declared.prove_sides();
     let image = VirtualImage { graph, declared };
     hold(table, limits, Object::new(Content::Virtual(image)))
 }
@@ -95,7 +95,7 @@ pub fn remove_node(
 /// and the request takes no memory.
 pub fn verify_graph(
     table: &Table,
-    kept: &mut BTreeMap<u32, Kept>,
+    kept: &mut BTreeMap<u32, KeptGraph>,
     limits: Limits,
     alloc: Global,
     graph: u32,
@@ -120,7 +120,7 @@ pub fn verify_graph(
     let verified = verify_in(alloc, table, object.graph(), work)?;
     let plan = Plan::new(alloc, &verified)?;
     let schedule = schedule_of(alloc, table, &verified, &plan)?;
-    let found = Kept {
+    let found = KeptGraph {
         work,
         verified,
         plan,
@@ -133,7 +133,7 @@ pub fn verify_graph(
 }
 
 /// Returns whether a graph is kept that was verified with this quota of work bytes.
-fn is_kept(kept: &BTreeMap<u32, Kept>, graph: u32, work: u64) -> bool
+fn is_kept(kept: &BTreeMap<u32, KeptGraph>, graph: u32, work: u64) -> bool
     ensures kept { result ≡ true → kept_within graph kept.now.entries ≡ Some work }
     ensures other { result ≡ false → kept_within graph kept.now.entries ≢ Some work }
 {
@@ -148,7 +148,7 @@ fn is_kept(kept: &BTreeMap<u32, Kept>, graph: u32, work: u64) -> bool
 /// run of any graph.
 pub fn process_graph(
     table: &mut Table,
-    kept: &mut BTreeMap<u32, Kept>,
+    kept: &mut BTreeMap<u32, KeptGraph>,
     lists: &mut Workspace,
     pool: &mut Pool,
     limits: Limits,

@@ -184,7 +184,7 @@ pub fn set_valid(table: &mut Table, reference: ObjRef, valid: Rect) -> Result<Re
     if let Some(refusal) = valid_refusal(desc, valid) {
         return Err(refusal);
     }
-    valid.is_rectangle();
+    valid.prove_bounds();
     table.set_valid(reference, valid);
     Ok(Reply::Empty)
 }

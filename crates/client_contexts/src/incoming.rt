@@ -72,7 +72,7 @@ pub fn write_text(
     ensures balances { Balances pool.old pool.new table.old.objects table.new.objects }
 {
     find_image(table, reference)?;
-    let desc = pgm_images::described(text)?;
+    let desc = pgm_images::read_description(text)?;
     let mut block = take_block(pool, desc)?;
     let written = give_text(table, reference, desc, text, &mut block);
     pool.give_back(block);
@@ -111,7 +111,7 @@ fn fill_block<F: FillsSamples>(block: &mut Block, source: &mut F) -> Result<(), 
 }
 
 /// Fills a block with the samples of a text.
-fn read_text(block: &mut Block, text: &[u8]) -> Result<(), PgmFault>
+fn fill_from_text(block: &mut Block, text: &[u8]) -> Result<(), PgmFault>
     requires { SamplesFitHeader text.now block.old }
     ensures ok { OnOk result ((d : _) → description_in text.now ≡ Ok d →
         read_result text.now ≡ Ok (record { description = d; samples = values block.new })) }
@@ -142,7 +142,7 @@ fn give_text(
     ensures blocks { KeepsBlocks table.old.objects table.new.objects }
     ensures format { samples_format block.new ≡ samples_format block.old }
 {
-    read_text(block, text)?;
+    fill_from_text(block, text)?;
     find_image_for(table, reference, desc)?;
     exchange(table, reference, desc, block);
     Ok(Reply::Empty)
@@ -164,8 +164,8 @@ fn exchange(table: &mut Table, reference: ObjRef, desc: Desc, block: &mut Block)
 {
     let samples = block.lift();
     // The prover learns from these calls that sides and samples are in range.
-    desc.has_sides();
-    samples.are_samples();
+    desc.prove_sides();
+    samples.prove_samples();
     let (_, left) = table.take(reference);
     table.put(reference, samples, desc.whole());
     block.put(left);

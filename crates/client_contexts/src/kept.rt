@@ -13,7 +13,7 @@ use std::collections::BTreeMap;
 /// run. `work` is the quota of work bytes with which it was verified. It is valid until the graph's
 /// nodes change.
 #[derive(Drop)]
-pub struct Kept {
+pub struct KeptGraph {
     pub work: u64,
     pub verified: Verified,
     pub plan: Plan,
@@ -21,7 +21,7 @@ pub struct Kept {
 }
 
 /// Drops what is kept of a graph whose nodes the request has changed, or whose name it has ended.
-pub fn forget(kept: &mut BTreeMap<u32, Kept>, request: &Request)
+pub fn forget(kept: &mut BTreeMap<u32, KeptGraph>, request: &Request)
     ensures forgotten { kept.new.entries ≡ forgotten_by request.now kept.old.entries }
     ensures stay { (name : ℕ) → ends_verification request.now name ≡ false →
         kept_within name kept.new.entries ≡ kept_within name kept.old.entries }

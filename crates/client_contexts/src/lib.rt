@@ -53,7 +53,7 @@ mod source;
 mod statistics;
 mod tables;
 
-pub use kept::Kept;
+pub use kept::KeptGraph;
 pub use memory::NoMemory;
 pub use runtime::Runtime;
 pub use source::{FillsSamples, WriteFault};

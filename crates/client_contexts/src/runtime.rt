@@ -22,7 +22,7 @@ ghost use Rattle.object_table.specs.Context.{Context};
 
 use crate::client::Client;
 use crate::fault::RequestFault;
-use crate::kept::Kept;
+use crate::kept::KeptGraph;
 use crate::memory::NoMemory;
 use crate::source::{FillsSamples, WriteFault};
 use client_model::{Limits, Reply, Request};
@@ -89,7 +89,7 @@ impl Runtime {
     /// virtual images and the schedule of its runs, all for the nodes that the graph has now.
     /// VerifyGraph and ProcessGraph keep them when they succeed. They are dropped when the graph's
     /// nodes change or the graph ends.
-    pub fn kept(&self, client: u16, graph: u32) -> Option<&Kept>
+    pub fn kept(&self, client: u16, graph: u32) -> Option<&KeptGraph>
         ensures holds { IfSome result (λ kept. (context : Context) ×
             (state_of client self.now ≡ Some context) × IsKept context graph kept.now) }
         ensures work { option_map (λ kept. kept.now.work) result

@@ -51,7 +51,7 @@ pub fn create_convolution(
     ensures blocks { KeepsBlocks table.old.objects table.new.objects }
 {
     look_for_room(table, limits, 0)?;
-    convolution.is_convolution();
+    convolution.prove_convolution();
     hold(
         table,
         limits,

@@ -44,12 +44,12 @@ module _ (work : ℕ) (is : Reference → Operand) (nodes others : List Node) (s
       let none = can.no_cycle in
       cc)
 
-  no_loose_end : has_unwritten_input is others ≡ false
-  no_loose_end =
+  no_unwritten_input : has_unwritten_input is others ≡ false
+  no_unwritten_input =
       ap (λ (written : Reference → Bool). list_any (λ n. list_any (λ c. is_virtual (is c) && not (written c)) (inputs n) || adds_to_virtual is n) others)
       (fun_ext (λ c. sym (list_any-IsPermutation (λ n. writes n c) nodes others same)))
       ∙ sym (list_any-IsPermutation (λ n. reads_unwritten is nodes n || adds_to_virtual is n) nodes others same)
-      ∙ can.no_loose_end
+      ∙ can.no_unwritten_input
 
   none_at_fault : first_fault (resolved_operand is others) others ≡ None
   none_at_fault =
@@ -69,7 +69,7 @@ module _ (work : ℕ) (is : Reference → Operand) (nodes others : List Node) (s
 
   pub others_run : verdict work is others ≡ None
   others_run =
-      by_fault work is others (two_writers-permutation nodes others same can.one_writer) no_cycle (sym no_loose_end) None (sym none_at_fault)
+      by_fault work is others (two_writers-permutation nodes others same can.one_writer) no_cycle (sym no_unwritten_input) None (sym none_at_fault)
       ∙ there_is_room work is others room
 
 -- ---- graphs

@@ -184,10 +184,10 @@ module _ (objects : List NamedObject) (nodes : List Node) (are : All (λ o. IsOb
       to_output first second None writes_it o suits = subst (λ a. CanGiveTo n.function a (option_and_then look n.in2) None) (sym first.found) tt
       to_output first second (Some cell) writes_it o suits =
           let seen = sees graph cell output o.taken o.stood (λ virtual. written cell writes_it) in
-          let beside = option_and_then look n.in2 in
-          subst (λ a. CanGiveTo n.function a beside (look cell)) (sym first.found)
-          (subst (λ b. IfSome b (CanGive n.function first.operand beside)) (sym seen.found)
-          (give_as_taken n node (found_to_be n.in1) first.operand (found_to_be cell) seen.operand (option_map found_to_be n.in2) beside
+          let elsewhere = option_and_then look n.in2 in
+          subst (λ a. CanGiveTo n.function a elsewhere (look cell)) (sym first.found)
+          (subst (λ b. IfSome b (CanGive n.function first.operand elsewhere)) (sym seen.found)
+          (give_as_taken n node (found_to_be n.in1) first.operand (found_to_be cell) seen.operand (option_map found_to_be n.in2) elsewhere
           (second_if_given n node found_to_be) first.taken seen.taken (as_second n.in2 second) suits))
 
 -- ---- as a run ends
@@ -219,7 +219,7 @@ process_graph_keeps limits c name h =
     let runs = can_run limits.work operand nodes (not_rejected (graph_verdict limits objects graph) allowed) in
     let are_nodes : All IsNode nodes = All-map IsNode (λ (n : Numbered). n.node) graph.nodes is.nodes in
     let faultless = each_faultless known nodes runs.no_fault in
-    let tied = each_fails (λ n. reads_unwritten operand nodes n || adds_to_virtual operand n) nodes runs.no_loose_end in
+    let tied = each_fails (λ n. reads_unwritten operand nodes n || adds_to_virtual operand n) nodes runs.no_unwritten_input in
     let can : All (CanRunOn (operand_in begin)) nodes = λ k d below.
     node_can objects nodes h.objects h.names name (get_or nodes k d) (are_nodes k d below) (stood k d below) (faultless k d below)
     (or_parts (reads_unwritten operand nodes (get_or nodes k d)) (adds_to_virtual operand (get_or nodes k d)) (tied k d below)).0

@@ -78,8 +78,8 @@ module _ (nodes : List Node) where
         (All-from_In _ (outputs n) (λ cell j. ap is_virtual (same cell (n, i, named_by_output n cell j)))))
 
     -- the same nodes have loose ends
-    loose_alike : has_unwritten_input one nodes ≡ has_unwritten_input other nodes
-    loose_alike =
+    unwritten_alike : has_unwritten_input one nodes ≡ has_unwritten_input other nodes
+    unwritten_alike =
         any_alike (λ n. reads_unwritten one nodes n || adds_to_virtual one n) (λ n. reads_unwritten other nodes n || adds_to_virtual other n) nodes
         (All-from_In _ nodes
         (λ n i. ap (λ b. b || adds_to_virtual one n) (reads_alike n i) ∙ ap (λ b. reads_unwritten other nodes n || b) (adds_alike n i)))
@@ -101,7 +101,7 @@ module _ (nodes : List Node) where
         (All-filter (λ cell. is_virtual (other cell)) IsNamed (flat_map outputs nodes) (written_named nodes (λ n i. i))))
 
     pub verdict_alike : (work : ℕ) → verdict work one nodes ≡ verdict work other nodes
-    verdict_alike work = rw (loose_alike, fault_alike nodes (λ n i. i), work_alike) refl
+    verdict_alike work = rw (unwritten_alike, fault_alike nodes (λ n i. i), work_alike) refl
 
     -- the same order and the same descriptions are found
     pub verified_alike : (v : Verified) → IsVerified one nodes v → IsVerified other nodes v

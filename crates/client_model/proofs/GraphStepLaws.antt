@@ -87,8 +87,8 @@ module _ (limits : LimitsValue) (c : Context) (name : ℕ) (graph new : GraphVal
   graph_told = map-with_object told c.objects (reference_to name) (GraphObject new) (λ k d below e. grind (arith, alone k d below e))
 
   -- the nodes under another name don't change
-  beside : (other : ℕ) → (name == other) ≡ false → option_map nodes_in (object_held after other) ≡ option_map nodes_in (object_held c.objects other)
-  beside other apart = grind (arith, object_held-with_object c.objects (reference_to name) (GraphObject new) other, eqb-true)
+  elsewhere : (other : ℕ) → (name == other) ≡ false → option_map nodes_in (object_held after other) ≡ option_map nodes_in (object_held c.objects other)
+  elsewhere other apart = grind (arith, object_held-with_object c.objects (reference_to name) (GraphObject new) other, eqb-true)
 
   -- the objects are valid if the new graph is
   graph_are : IsGraph new → All (λ o. IsObject o.object) after
@@ -120,7 +120,7 @@ with_node_leaves limits c name n graph h node stand found is stood room =
     (All-map (OperandsStand c.objects name) (λ (k : Numbered). k.node) new.nodes
     (All-push (λ (k : Numbered). OperandsStand c.objects name k.node) graph.nodes added
     (All-from_map (OperandsStand c.objects name) (λ (k : Numbered). k.node) graph.nodes stood) stand)))
-    (beside limits c name graph new h found)
+    (elsewhere limits c name graph new h found)
     (All-with_object (λ o. IsTrue (is_held more o)) (λ _. Unit {0}) c.objects (reference_to name) (GraphObject new) (λ o any was e. was) (λ k d below. tt)
     (All-weaker (λ o. IsTrue (is_held c.objects o)) (λ o. IsTrue (is_held more o)) (λ o held. grind (arith, used_more o.name)) c.objects h.held))
   where
@@ -169,7 +169,7 @@ remove_node_keeps limits c name number h =
     (All-map (OperandsStand c.objects name) (λ (k : Numbered). k.node) new.nodes
     (All-filter (λ (k : Numbered). not (k.number == number)) (λ k. OperandsStand c.objects name k.node) graph.nodes
     (All-from_map (OperandsStand c.objects name) (λ (k : Numbered). k.node) graph.nodes stood))))
-    (beside limits c name graph new h found))
+    (elsewhere limits c name graph new h found))
     (λ absent. tt))
 
 -- ---- requests that leave the graphs

@@ -75,12 +75,12 @@ module _ (objects : List NamedObject) (n : Node) (node : IsNode n) (second : Opt
   output_fits : (output : Output) (cell : Reference) (first out : ObjectValue) → IsObject first → IsObject out → option_map lasting_part (object_at objects cell) ≡ Some (lasting_part out)
       → CanGive n.function (operand_of first) (option_map operand_of second) (operand_of out) → IsReplacement objects (cell, node_output n output first second out)
   output_fits output cell (ImageObject a) (ImageObject out) is_first is_out found can =
-      let beside = second_or_output n second (ImageObject out) in
-      let e : description_of (node_image n output out.format a beside) ≡ description_of out =
-      described_node n output out.format a beside ∙ same_description (record { width = a.width; height = a.height; format = out.format }) (description_of out) can.size refl in
+      let elsewhere = second_or_output n second (ImageObject out) in
+      let e : description_of (node_image n output out.format a elsewhere) ≡ description_of out =
+      described_node n output out.format a elsewhere ∙ same_description (record { width = a.width; height = a.height; format = out.format }) (description_of out) can.size refl in
       record {
         is_object = image_is (accumulates n.function) refl;
-        lasts = found ∙ ap Some (sym (images-last (node_image n output out.format a beside) out e));
+        lasts = found ∙ ap Some (sym (images-last (node_image n output out.format a elsewhere) out e));
       }
     where
       right : (object : Option ObjectValue) → IfSome (option_map operand_of object) (λ o. (parameters n.function).second_input ≡ operand_kind o) → IfSome object (λ o. (parameters n.function).second_input ≡ Some (object_kind o))

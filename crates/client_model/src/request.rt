@@ -74,7 +74,7 @@ impl Request {
     /// States for the prover that the request's fields are in range, as the laws of requests
     /// require. It does nothing: the prover learns a type's invariant by reading a field of that
     /// type.
-    pub fn is_request(&self)
+    pub fn prove_request(&self)
         ensures { IsRequest self.now }
     {
         match self {
@@ -82,20 +82,20 @@ impl Request {
             | Request::ReleaseContext
             | Request::CreateMinMax
             | Request::CreateGraph => {}
-            Request::CreateImage(desc) => desc.has_sides(),
+            Request::CreateImage(desc) => desc.prove_sides(),
             Request::WriteImage(image, picture) => {
-                image.is_cell();
+                image.prove_reference();
                 let _samples = picture.samples();
             }
             Request::WriteImagePgm(image, text) => {
-                image.is_cell();
-                are_bytes(text.bytes());
+                image.prove_reference();
+                prove_bytes(text.bytes());
             }
             Request::QueryImage(image) | Request::ReadImage(image) | Request::ReadImagePgm(image) =>
-                { image.is_cell() }
+                { image.prove_reference() }
             Request::SetValid(image, valid) => {
-                image.is_cell();
-                valid.is_rectangle();
+                image.prove_reference();
+                valid.prove_bounds();
             }
             Request::Release(name) | Request::ReadDistribution(name) | Request::ReadMinMax(name) =>
                 {
@@ -107,13 +107,13 @@ impl Request {
             Request::CreateThreshold(threshold) => {
                 let _format = threshold.format();
             }
-            Request::CreateConvolution(convolution) => convolution.is_convolution(),
+            Request::CreateConvolution(convolution) => convolution.prove_convolution(),
             Request::CreateDistribution(bins) => {
                 let _numbers = (bins.bins(), bins.offset(), bins.range());
             }
             Request::CreateVirtualImage(graph, declared) => {
                 let _graph = *graph;
-                declared.has_sides();
+                declared.prove_sides();
             }
             Request::AddNode(graph, node) => {
                 let _graph = *graph;
@@ -129,7 +129,7 @@ impl Request {
                 let _fields = node.node();
             }
             Request::CreateDelay(exemplar, slots) => {
-                exemplar.is_cell();
+                exemplar.prove_reference();
                 let _count = slots.get();
             }
             Request::AgeDelay(name) => {
@@ -142,6 +142,6 @@ impl Request {
     }
 }
 
-fn are_bytes(bytes: &[u8])
+fn prove_bytes(bytes: &[u8])
     ensures { All (λ byte. byte < 2 ^ 8) bytes.now }
 {}

@@ -6,7 +6,7 @@ use Rattle.graph_run.specs.Bind.{AreAllApart, AreFor, HoldImages, bare_images, i
 use Rattle.graph_run.proofs.ObjectLaws.{shown}
 use Rattle.graph_run.proofs.HeldLaws.{IsWrite, AreWrites, last_to, or_none, seen, seen-with_written, labels-with_written, form-with_written}
 use Rattle.graph_run.proofs.NameLaws.{Rising, rising, same_objects}
-use Rattle.graph_run.proofs.CellLemmas.{object_beside, image_beside, held_image}
+use Rattle.graph_run.proofs.CellLemmas.{object_elsewhere, image_elsewhere, held_image}
 
 -- a context of which the objects alone have changed, twice
 pub next_context : (start t after : Context) (objects : List NamedObject) → t ≡ with_objects start t.objects → after ≡ with_objects t objects → after ≡ with_objects start after.objects
@@ -17,29 +17,29 @@ next_context start t after objects one two = two ∙ ap (λ (x : Context). with_
 -- an image that is written to a cell apart from others
 module _ (objects : List NamedObject) (q : Reference) (new : ObjectValue) where
   -- leaves what they hold
-  pub held_beside : (p : Reference) → AreApart p q → image_held (with_object objects q new) p ≡ image_held objects p
-  held_beside p apart = ap image_value (object_beside objects q p new apart)
+  pub held_elsewhere : (p : Reference) → AreApart p q → image_held (with_object objects q new) p ≡ image_held objects p
+  held_elsewhere p apart = ap image_value (object_elsewhere objects q p new apart)
 
-  pub images_beside : (cells : List Reference) → ((p : Reference) → In p cells → AreApart p q) → HoldImages objects cells → HoldImages (with_object objects q new) cells
-  images_beside cells apart holds p i = image_beside objects q p new (apart p i) (holds p i)
+  pub images_elsewhere : (cells : List Reference) → ((p : Reference) → In p cells → AreApart p q) → HoldImages objects cells → HoldImages (with_object objects q new) cells
+  images_elsewhere cells apart holds p i = image_elsewhere objects q p new (apart p i) (holds p i)
 
-  pub bare_beside : (cells : List Reference) → ((p : Reference) → In p cells → AreApart p q) → bare_images (with_object objects q new) cells ≡ bare_images objects cells
-  bare_beside [] apart = refl
-  bare_beside (p ∷ cells) apart =
-      ap (λ (i : ImageValue). (p, ImageObject (without_samples i)) ∷ bare_images (with_object objects q new) cells) (held_beside p (apart p (inl refl)))
-      ∙ ap (λ l. (p, ImageObject (without_samples (image_held objects p))) ∷ l) (bare_beside cells (λ c i. apart c (inr i)))
+  pub bare_elsewhere : (cells : List Reference) → ((p : Reference) → In p cells → AreApart p q) → bare_images (with_object objects q new) cells ≡ bare_images objects cells
+  bare_elsewhere [] apart = refl
+  bare_elsewhere (p ∷ cells) apart =
+      ap (λ (i : ImageValue). (p, ImageObject (without_samples i)) ∷ bare_images (with_object objects q new) cells) (held_elsewhere p (apart p (inl refl)))
+      ∙ ap (λ l. (p, ImageObject (without_samples (image_held objects p))) ∷ l) (bare_elsewhere cells (λ c i. apart c (inr i)))
 
-  pub planes_beside : (cells : List Reference) → ((p : Reference) → In p cells → AreApart p q) → image_planes (with_object objects q new) cells ≡ image_planes objects cells
-  planes_beside [] apart = refl
-  planes_beside (p ∷ cells) apart =
-      ap (λ (i : ImageValue). image_plane i ∷ image_planes (with_object objects q new) cells) (held_beside p (apart p (inl refl)))
-      ∙ ap (λ l. image_plane (image_held objects p) ∷ l) (planes_beside cells (λ c i. apart c (inr i)))
+  pub planes_elsewhere : (cells : List Reference) → ((p : Reference) → In p cells → AreApart p q) → image_planes (with_object objects q new) cells ≡ image_planes objects cells
+  planes_elsewhere [] apart = refl
+  planes_elsewhere (p ∷ cells) apart =
+      ap (λ (i : ImageValue). image_plane i ∷ image_planes (with_object objects q new) cells) (held_elsewhere p (apart p (inl refl)))
+      ∙ ap (λ l. image_plane (image_held objects p) ∷ l) (planes_elsewhere cells (λ c i. apart c (inr i)))
 
-  pub for_beside : (cells : List Reference) (planes : List PlaneValue) → ((p : Reference) → In p cells → AreApart p q) → AreFor objects cells planes → AreFor (with_object objects q new) cells planes
-  for_beside [] planes apart are = tt
-  for_beside (p ∷ cells) [] apart are = are
-  for_beside (p ∷ cells) (x ∷ planes) apart are =
-      (are.0 ∙ ap description_of (sym (held_beside p (apart p (inl refl)))), are.1, for_beside cells planes (λ c i. apart c (inr i)) are.2)
+  pub for_elsewhere : (cells : List Reference) (planes : List PlaneValue) → ((p : Reference) → In p cells → AreApart p q) → AreFor objects cells planes → AreFor (with_object objects q new) cells planes
+  for_elsewhere [] planes apart are = tt
+  for_elsewhere (p ∷ cells) [] apart are = are
+  for_elsewhere (p ∷ cells) (x ∷ planes) apart are =
+      (are.0 ∙ ap description_of (sym (held_elsewhere p (apart p (inl refl)))), are.1, for_elsewhere cells planes (λ c i. apart c (inr i)) are.2)
 
 -- ---- taking out
 
@@ -53,13 +53,13 @@ module _ (objects : List NamedObject) (c : Reference) (cells : List Reference) (
   bare = ImageObject (without_samples (image_held objects c))
 
   pub taken_can : CanTake (with_object objects c bare) cells
-  taken_can = record { images = images_beside objects c bare cells can.apart.0 (λ p i. can.images p (inr i)); apart = can.apart.1 }
+  taken_can = record { images = images_elsewhere objects c bare cells can.apart.0 (λ p i. can.images p (inr i)); apart = can.apart.1 }
 
   pub taken_planes : image_planes objects (c ∷ cells) ≡ image_plane (image_held objects c) ∷ image_planes (with_object objects c bare) cells
-  taken_planes = ap (λ l. image_plane (image_held objects c) ∷ l) (sym (planes_beside objects c bare cells can.apart.0))
+  taken_planes = ap (λ l. image_plane (image_held objects c) ∷ l) (sym (planes_elsewhere objects c bare cells can.apart.0))
 
   pub taken_written : with_written objects (bare_images objects (c ∷ cells)) ≡ with_written (with_object objects c bare) (bare_images (with_object objects c bare) cells)
-  taken_written = ap (with_written (with_object objects c bare)) (sym (bare_beside objects c bare cells can.apart.0))
+  taken_written = ap (with_written (with_object objects c bare)) (sym (bare_elsewhere objects c bare cells can.apart.0))
 
 -- ---- putting back
 
@@ -75,9 +75,9 @@ module _ (objects : List NamedObject) (c : Reference) (cells : List Reference) (
   put_can : CanPut (with_object objects c back) cells planes
   put_can =
       record {
-        images = images_beside objects c back cells can.apart.0 (λ q i. can.images q (inr i));
+        images = images_elsewhere objects c back cells can.apart.0 (λ q i. can.images q (inr i));
         apart = can.apart.1;
-        fit = for_beside objects c back cells planes can.apart.0 can.fit.2;
+        fit = for_elsewhere objects c back cells planes can.apart.0 can.fit.2;
       }
 
   -- where the table holds the first one's image

@@ -1,6 +1,6 @@
 -- What cells hold where one of them is written.
 use Rattle.std.proofs.Common.{◌≡◌, ℕ, IsTrue, List, [], ◌∷◌, Option, Some, None, refl, sym, ap, subst, ◌∙◌, arith, All, is_some, unwrap_or, IfSome, option_map, option_and_then, eq-eqb, eqb-true}
-use Rattle.graph_run.proofs.Common.{IsStrictlyIncreasing, All-head, All-tail, All-weaker, U8, Kind, Node, Reference, ImageValue, new_image, ObjectValue, ImageObject, IsObject, object_kind, in_slot, with_slot, NamedObject, object_held, object_at, with_object, with_written, cell_object, image_held, HoldsImage, names_of, HasObject, map-with_object, with_slot_there, with_slot_beside, Missing, operand_of, operand_held, lasting_part, lasting_named, Lasts, Holds, TwoSlots, AreApart, HoldsKind}
+use Rattle.graph_run.proofs.Common.{IsStrictlyIncreasing, All-head, All-tail, All-weaker, U8, Kind, Node, Reference, ImageValue, new_image, ObjectValue, ImageObject, IsObject, object_kind, in_slot, with_slot, NamedObject, object_held, object_at, with_object, with_written, cell_object, image_held, HoldsImage, names_of, HasObject, map-with_object, with_slot_there, with_slot_elsewhere, Missing, operand_of, operand_held, lasting_part, lasting_named, Lasts, Holds, TwoSlots, AreApart, HoldsKind}
 use Rattle.vx_base.specs.declared.kind.Kind.TheVariants as kind
 use Rattle.object_table.proofs.HeldLemmas.{held_alone, All-with_object}
 use Rattle.object_table.proofs.SkeletonLaws.{IsObject-with_slot}
@@ -10,27 +10,27 @@ use Rattle.graph_run.proofs.LastingLemmas.{skeletons-last, lasting-with_slot, ce
 
 -- two slots of one object
 other_slot : (j k : Option ℕ) (new object : ObjectValue) → TwoSlots j k → in_slot j (with_slot k new object) ≡ in_slot j object
-other_slot j k new object apart = grind (arith, with_slot_beside)
+other_slot j k new object apart = grind (arith, with_slot_elsewhere)
 
 module _ (objects : List NamedObject) (q : Reference) where
   -- what stands apart stays
-  pub beside : (p : Reference) (new : ObjectValue) → AreApart p q → object_at (with_object objects q new) p ≡ object_at objects p
-  beside p new apart = grind (arith, object_held-with_object, other_slot, eqb-true)
+  pub elsewhere : (p : Reference) (new : ObjectValue) → AreApart p q → object_at (with_object objects q new) p ≡ object_at objects p
+  elsewhere p new apart = grind (arith, object_held-with_object, other_slot, eqb-true)
 
-  pub object_beside : (p : Reference) (new : ObjectValue) → AreApart p q → cell_object (with_object objects q new) p ≡ cell_object objects p
-  object_beside p new apart = ap (λ o. unwrap_or o (ImageObject (new_image 0 0 U8))) (beside p new apart)
+  pub object_elsewhere : (p : Reference) (new : ObjectValue) → AreApart p q → cell_object (with_object objects q new) p ≡ cell_object objects p
+  object_elsewhere p new apart = ap (λ o. unwrap_or o (ImageObject (new_image 0 0 U8))) (elsewhere p new apart)
 
-  pub object_if_beside : (p : Option Reference) (new : ObjectValue) → IfSome p (λ c. AreApart c q) → option_map (cell_object (with_object objects q new)) p ≡ option_map (cell_object objects) p
-  object_if_beside z0 new apart = grind (arith, object_beside)
+  pub object_if_elsewhere : (p : Option Reference) (new : ObjectValue) → IfSome p (λ c. AreApart c q) → option_map (cell_object (with_object objects q new)) p ≡ option_map (cell_object objects) p
+  object_if_elsewhere z0 new apart = grind (arith, object_elsewhere)
 
-  pub holds_beside : (p : Reference) (new : ObjectValue) → AreApart p q → Holds objects p → Holds (with_object objects q new) p
-  holds_beside p new apart h = subst (λ (o : Option ObjectValue). IsTrue (is_some o)) (sym (beside p new apart)) h
+  pub holds_elsewhere : (p : Reference) (new : ObjectValue) → AreApart p q → Holds objects p → Holds (with_object objects q new) p
+  holds_elsewhere p new apart h = subst (λ (o : Option ObjectValue). IsTrue (is_some o)) (sym (elsewhere p new apart)) h
 
-  pub hold_beside : (p : Option Reference) (new : ObjectValue) → IfSome p (λ c. AreApart c q) → IfSome p (Holds objects) → IfSome p (Holds (with_object objects q new))
-  hold_beside z0 new apart h = grind (arith, holds_beside)
+  pub hold_elsewhere : (p : Option Reference) (new : ObjectValue) → IfSome p (λ c. AreApart c q) → IfSome p (Holds objects) → IfSome p (Holds (with_object objects q new))
+  hold_elsewhere z0 new apart h = grind (arith, holds_elsewhere)
 
-  pub image_beside : (p : Reference) (new : ObjectValue) → AreApart p q → HoldsImage objects p → HoldsImage (with_object objects q new) p
-  image_beside p new apart h = ap (option_map object_kind) (beside p new apart) ∙ h
+  pub image_elsewhere : (p : Reference) (new : ObjectValue) → AreApart p q → HoldsImage objects p → HoldsImage (with_object objects q new) p
+  image_elsewhere p new apart h = ap (option_map object_kind) (elsewhere p new apart) ∙ h
 
 -- an image that is written over an image stands there
 module _ (objects : List NamedObject) (q : Reference) (h : HoldsImage objects q) (image : ImageValue) where

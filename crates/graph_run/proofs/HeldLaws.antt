@@ -1,6 +1,6 @@
 -- Objects after some of them are written.
 use Rattle.std.proofs.Common.{◌≡◌, ℕ, Bool, true, false, ◌&&◌, if◌then◌else◌, eqb, List, [], ◌∷◌, ◌++◌, map, refl, ap, ◌∙◌, Option, Some, None, arith, rules, option_map, option_and_then, eqb-true}
-use Rattle.graph_run.proofs.Common.{cases_Bool, Reference, same_slot, same_reference, ObjectValue, object_kind, in_slot, with_slot, NamedObject, object_held, object_at, with_object, with_written, with_slot_there, with_slot_beside, In, form_of, form_held, label_of, same_cell-true, option_or}
+use Rattle.graph_run.proofs.Common.{cases_Bool, Reference, same_slot, same_reference, ObjectValue, object_kind, in_slot, with_slot, NamedObject, object_held, object_at, with_object, with_written, with_slot_there, with_slot_elsewhere, In, form_of, form_held, label_of, same_cell-true, option_or}
 use Rattle.graph_run.proofs.ObjectLaws.{is_delay, shown, form-shown}
 
 -- the value of the object that a reference names
@@ -33,7 +33,7 @@ pub record IsWrite (objects : List NamedObject) (cell : Reference) (object : Obj
 
 slot_written : (k j : Option ℕ) (new x : ObjectValue) → option_map form_of (in_slot j x) ≡ Some (form_of new) → is_delay new ≡ false
     → option_map shown (in_slot k (with_slot j new x)) ≡ (if same_slot k j then Some (shown new) else option_map shown (in_slot k x))
-slot_written z0 z1 new x f d = grind (arith, with_slot_there, with_slot_beside)
+slot_written z0 z1 new x f d = grind (arith, with_slot_there, with_slot_elsewhere)
 
 pub object_held-with_object : (objects : List NamedObject) (cell : Reference) (new : ObjectValue) (name : ℕ)
     → object_held (with_object objects cell new) name ≡ option_map (λ x. if eqb name cell.name then with_slot cell.slot new x else x) (object_held objects name)

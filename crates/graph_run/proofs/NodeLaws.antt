@@ -63,8 +63,8 @@ form-output_of n output first second old now h = grind arith
 pub writes-outputs : (n : Node) (c : Reference) → writes n c ≡ (is_cell n.out1 c || is_cell n.out2 c)
 writes-outputs n c = grind arith
 
-last_beside : (n : Node) (output : Output) (o : Option Reference) (start object_at : Reference → Option ObjectValue) (c : Reference) → is_cell o c ≡ false → last_to c (written_in n output o start object_at) ≡ None
-last_beside n output z start object_at c h = grind arith
+last_other : (n : Node) (output : Output) (o : Option Reference) (start object_at : Reference → Option ObjectValue) (c : Reference) → is_cell o c ≡ false → last_to c (written_in n output o start object_at) ≡ None
+last_other n output z start object_at c h = grind arith
 
 last_there : (n : Node) (output : Output) (o : Option Reference) (start object_at : Reference → Option ObjectValue) (c : Reference) → is_cell o c ≡ true
     → last_to c (written_in n output o start object_at) ≡ last_to c (written_to n output c (object_at n.in1) (option_and_then object_at n.in2) (start c))
@@ -83,7 +83,7 @@ over_other n output other c v second old now = grind arith
 pub last_written : (start : Reference → Option ObjectValue) (n : Node) (object_at : Reference → Option ObjectValue) (c : Reference)
     → option_or (last_to c (written_from start n object_at)) (object_at c) ≡ (if writes n c then given_from start n object_at c else object_at c)
 last_written start n object_at c =
-    grind (arith, last_to-append c (written_in n First n.out1 start object_at) (written_in n Second n.out2 start object_at), or_assoc (last_to c (written_in n Second n.out2 start object_at)) (last_to c (written_in n First n.out1 start object_at)) (object_at c), last_to c (written_in n Second n.out2 start object_at), last_to c (written_in n First n.out1 start object_at), writes-outputs n c, cases_Bool (is_cell n.out1 c), cases_Bool (is_cell n.out2 c), over_old n First c (object_at n.in1) (option_and_then object_at n.in2) (start c) (object_at c), over_other n Second First c (object_at n.in1) (option_and_then object_at n.in2) (start c) (object_at c), over_old n Second c (object_at n.in1) (option_and_then object_at n.in2) (start c) (object_at c), last_to-append, or_assoc, last_to, writes-outputs, cases_Bool, last_there, over_old, over_other, last_beside)
+    grind (arith, last_to-append c (written_in n First n.out1 start object_at) (written_in n Second n.out2 start object_at), or_assoc (last_to c (written_in n Second n.out2 start object_at)) (last_to c (written_in n First n.out1 start object_at)) (object_at c), last_to c (written_in n Second n.out2 start object_at), last_to c (written_in n First n.out1 start object_at), writes-outputs n c, cases_Bool (is_cell n.out1 c), cases_Bool (is_cell n.out2 c), over_old n First c (object_at n.in1) (option_and_then object_at n.in2) (start c) (object_at c), over_other n Second First c (object_at n.in1) (option_and_then object_at n.in2) (start c) (object_at c), over_old n Second c (object_at n.in1) (option_and_then object_at n.in2) (start c) (object_at c), last_to-append, or_assoc, last_to, writes-outputs, cases_Bool, last_there, over_old, over_other, last_other)
 
 -- no other objects are written
 pub last_elsewhere : (start : Reference → Option ObjectValue) (n : Node) (object_at : Reference → Option ObjectValue) (c : Reference) → writes n c ≡ false → last_to c (written_from start n object_at) ≡ None

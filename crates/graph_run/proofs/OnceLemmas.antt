@@ -11,7 +11,7 @@ use Rattle.graph_run.specs.Bound.{IsTallyFor}
 use Rattle.graph_run.specs.Program.{tally_by}
 use Rattle.graph_run.specs.Results.{tally_object}
 use Rattle.graph_run.specs.Steps.{HasInputs, output_of}
-use Rattle.graph_run.proofs.CellLemmas.{hold_beside, holds_image, image_after, image_beside, object_after, object_beside, object_if_beside, there_is, with_object_twice}
+use Rattle.graph_run.proofs.CellLemmas.{hold_elsewhere, holds_image, image_after, image_elsewhere, object_after, object_elsewhere, object_if_elsewhere, there_is, with_object_twice}
 use Rattle.graph_run.proofs.OutputLemmas.{image_of_object}
 use Rattle.graph_run.proofs.RunLemmas.{Lasts-outputs, written_is}
 use Rattle.graph_run.proofs.SolutionStepsReturns.{counted_kind, tally_output}
@@ -76,22 +76,22 @@ module _ (before : Context) (n : Node) (which : Output) (output : Reference) (h 
       bare = ImageObject (without_samples own)
 
       first_same : cell_object after.objects n.in1 ≡ cell_object l n.in1
-      first_same = ap (λ (t : Context). cell_object t.objects n.in1) taken ∙ object_beside l output n.in1 bare h.in1_apart
+      first_same = ap (λ (t : Context). cell_object t.objects n.in1) taken ∙ object_elsewhere l output n.in1 bare h.in1_apart
 
       second_same : option_map (cell_object after.objects) n.in2 ≡ second
-      second_same = ap (λ (t : Context). option_map (cell_object t.objects) n.in2) taken ∙ object_if_beside l output n.in2 bare h.in2_apart
+      second_same = ap (λ (t : Context). option_map (cell_object t.objects) n.in2) taken ∙ object_if_elsewhere l output n.in2 bare h.in2_apart
 
-      pub reads_beside : HasInputs after.objects n
-      reads_beside = record {
-        first = subst (λ (t : Context). HoldsImage t.objects n.in1) (sym taken) (image_beside l output n.in1 bare h.in1_apart h.in1);
+      pub reads_elsewhere : HasInputs after.objects n
+      reads_elsewhere = record {
+        first = subst (λ (t : Context). HoldsImage t.objects n.in1) (sym taken) (image_elsewhere l output n.in1 bare h.in1_apart h.in1);
         image = subst (λ (o : ObjectValue). IsImage (image_value o)) (sym first_same) reads.image;
-        second = subst (λ (t : Context). IfSome n.in2 (Holds t.objects)) (sym taken) (hold_beside l output n.in2 bare h.in2_apart h.in2);
+        second = subst (λ (t : Context). IfSome n.in2 (Holds t.objects)) (sym taken) (hold_elsewhere l output n.in2 bare h.in2_apart h.in2);
         object = subst (λ (o : Option ObjectValue). IfSome o IsObject) (sym second_same) reads.object;
         kind = subst (λ (o : Option ObjectValue). IfSome o (λ object. (parameters n.function).second_input ≡ Some (object_kind object))) (sym second_same) reads.kind;
       }
 
-      pub can_make_beside : (p : PlaneValue) → p ≡ image_plane own → CanMake (lent_step n which) (image_held after.objects n.in1) (option_map (cell_object after.objects) n.in2) p.desc
-      can_make_beside p is =
+      pub can_make_elsewhere : (p : PlaneValue) → p ≡ image_plane own → CanMake (lent_step n which) (image_held after.objects n.in1) (option_map (cell_object after.objects) n.in2) p.desc
+      can_make_elsewhere p is =
           subst (λ (q : PlaneValue). CanMake (lent_step n which) (image_held after.objects n.in1) (option_map (cell_object after.objects) n.in2) q.desc) (sym is)
           (subst (λ (o : Option ObjectValue). CanMake (lent_step n which) (image_held after.objects n.in1) o (description_of own)) (sym second_same)
           (subst (λ (o : ObjectValue). CanMake (lent_step n which) (image_value o) second (description_of own)) (sym first_same)

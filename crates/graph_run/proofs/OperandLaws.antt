@@ -60,7 +60,7 @@ module _ (work : ℕ) (is : Reference → Operand) (nodes : List Node) (can : Ca
 
   -- a node reads no unwritten virtual image
   ends_met : (n : Node) → In n nodes → (reads_unwritten is nodes n ≡ false) × (adds_to_virtual is n ≡ false)
-  ends_met n i = or_parts (reads_unwritten is nodes n) (adds_to_virtual is n) (fails-from_In (λ m. reads_unwritten is nodes m || adds_to_virtual is m) n nodes can.no_loose_end i)
+  ends_met n i = or_parts (reads_unwritten is nodes n) (adds_to_virtual is n) (fails-from_In (λ m. reads_unwritten is nodes m || adds_to_virtual is m) n nodes can.no_unwritten_input i)
 
   -- no node accumulates into a virtual image
   pub adds_to_none : (n : Node) (c : Reference) → In n nodes → writes n c ≡ true → is_virtual (is c) ≡ true → accumulates n.function ≡ false

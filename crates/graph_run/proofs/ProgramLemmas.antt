@@ -7,7 +7,7 @@ use Rattle.graph_verify.proofs.MemberLemmas.{In-flat_map}
 use Rattle.graph_verify.specs.Links.{reads}
 use Rattle.graph_verify.specs.Order.{InTurn}
 use Rattle.vx_base.specs.declared.kind.Kind.TheVariants as kind
-use Rattle.graph_steps.specs.declared.step.Source.TheVariants.{Plane}
+use Rattle.graph_steps.specs.declared.step.SecondSource.TheVariants.{Plane}
 use Rattle.graph_steps.specs.declared.step.Step.{Step}
 use Rattle.graph_steps.specs.declared.step.Task.{Task}
 use Rattle.graph_steps.specs.declared.step.Task.TheVariants.{Write, Reduce}

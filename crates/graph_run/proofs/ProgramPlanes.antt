@@ -9,7 +9,7 @@ use Rattle.vx_base.specs.Node.{with_kind}
 use Rattle.image_core.specs.declared.second.SecondInput.{SecondInput}
 use Rattle.node_rows.specs.Radius.{matrix_in}
 use Rattle.graph_verify.proofs.VerdictLemmas.{can_run}
-use Rattle.graph_steps.specs.declared.step.Source.TheVariants.{Table}
+use Rattle.graph_steps.specs.declared.step.SecondSource.TheVariants.{Table}
 use Rattle.graph_steps.specs.declared.step.Step.{Step}
 use Rattle.graph_steps.specs.Planes.{PlaneValue, no_plane, plane}
 use Rattle.graph_steps.specs.Program.{IsStepOf}

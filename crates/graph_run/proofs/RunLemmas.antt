@@ -7,7 +7,7 @@ use Rattle.vx_base.specs.declared.kind.Kind.TheVariants as kind
 use Rattle.vx_base.specs.Node.{has_amount, has_operands, all_named}
 use Rattle.graph_verify.proofs.SuitLemmas.{passed, met, Suits, no_fault_suits}
 use Rattle.graph_run.proofs.FoundLemmas.{OfOperands, of_operands}
-use Rattle.graph_run.proofs.CellLemmas.{object_beside, object_if_beside, holds_beside, hold_beside, image_beside, there_is, kind_there, holds_there, operand_there, Lasts-with_object}
+use Rattle.graph_run.proofs.CellLemmas.{object_elsewhere, object_if_elsewhere, holds_elsewhere, hold_elsewhere, image_elsewhere, there_is, kind_there, holds_there, operand_there, Lasts-with_object}
 use Rattle.graph_run.proofs.LastingLemmas.{images-last, Lasts-trans, Lasts-names}
 use Rattle.graph_run.proofs.OutputLemmas.{description_kept, length-histogram}
 use Rattle.graph_run.proofs.OperandLaws.{no_delay_written}
@@ -58,11 +58,11 @@ module _ (l : List NamedObject) (n : Node) (one other : Reference) (x : ObjectVa
   abbrev after : List NamedObject
   after = with_object l one x
 
-  pub runs_beside : RunsTo after n other
-  runs_beside = search (rules, image_beside, hold_beside, holds_beside, object_beside, object_if_beside)
+  pub runs_elsewhere : RunsTo after n other
+  runs_elsewhere = search (rules, image_elsewhere, hold_elsewhere, holds_elsewhere, object_elsewhere, object_if_elsewhere)
 
-  pub output_beside : (which : Output) → output_of after n which other ≡ output_of l n which other
-  output_beside which = grind (arith, object_beside l one n.in1 x in1, object_if_beside l one n.in2 x in2, object_beside l one other x out)
+  pub output_elsewhere : (which : Output) → output_of after n which other ≡ output_of l n which other
+  output_elsewhere which = grind (arith, object_elsewhere l one n.in1 x in1, object_if_elsewhere l one n.in2 x in2, object_elsewhere l one other x out)
 
 -- objects as operands
 abbrev operands_there : List NamedObject → Node → Operands
@@ -108,12 +108,12 @@ module _ (n : Node) where
     second_sizes = grind (arith, met, passed, parts, and_parts, list_all-append)
 
     -- the second input is apart from an output
-    second_apart : (second : Option Reference) (beside : Kind) (cell : Reference) → beside ≢ kind.Delay → IfSome second (λ c. HoldsKind objects (c, beside)) → HoldsKind objects (cell, wanted)
+    second_apart : (second : Option Reference) (elsewhere : Kind) (cell : Reference) → elsewhere ≢ kind.Delay → IfSome second (λ c. HoldsKind objects (c, elsewhere)) → HoldsKind objects (cell, wanted)
         → list_any (λ a. list_any (same_reference a) (cell ∷ [])) (optional_cells second) ≡ false → IfSome second (Holds objects) × IfSome second (λ q. AreApart q cell)
-    second_apart None beside cell no_delay a b e = (tt, tt)
-    second_apart (Some c) beside cell no_delay a b e =
+    second_apart None elsewhere cell no_delay a b e = (tt, tt)
+    second_apart (Some c) elsewhere cell no_delay a b e =
         let differ = (or_parts (same_reference c cell) false (or_parts (list_any (same_reference c) (cell ∷ [])) false e).0).0 in
-        (holds_there objects (c, beside) a, apart objects c cell beside wanted no_delay (no_delay_written n.function) a b differ)
+        (holds_there objects (c, elsewhere) a, apart objects c cell elsewhere wanted no_delay (no_delay_written n.function) a b differ)
 
     object_is : (cell : Reference) → Holds objects cell → IsObject (cell_object objects cell)
     object_is cell is = subst (λ (o : Option ObjectValue). IfSome o IsObject) (there_is objects cell is) (held_is objects cell are)
@@ -169,7 +169,7 @@ module _ (n : Node) where
     runs_then = after n.out1 n.out2 runs_first runs_second two_outputs
       where
         after : (one other : Option Reference) → IfSome one (RunsTo objects n) → IfSome other (RunsTo objects n) → IfSome one (λ a. IfSome other (λ b. AreApart b a)) → IfSome other (RunsTo (with_output_object objects n First one) n)
-        after (Some a) (Some b) r s e = runs_beside objects n a b (output_of objects n First a) s r.in1_apart r.in2_apart e
+        after (Some a) (Some b) r s e = runs_elsewhere objects n a b (output_of objects n First a) s r.in1_apart r.in2_apart e
         after x other r s e = grind arith
 
     second_held : (cell : Option Reference) (k : Kind) → IfSome cell (λ c. HoldsKind objects (c, k)) → option_and_then (object_at objects) cell ≡ option_map (cell_object objects) cell
@@ -185,7 +185,7 @@ module _ (n : Node) where
 
     same_second : (one other : Option Reference) → IfSome one (RunsTo objects n) → IfSome other (RunsTo objects n) → IfSome one (λ a. IfSome other (λ b. AreApart b a))
         → IfSome other (λ c. output_of (with_output_object objects n First one) n Second c ≡ output_of objects n Second c)
-    same_second (Some a) (Some b) r s e = output_beside objects n a b (output_of objects n First a) s r.in1_apart r.in2_apart e Second
+    same_second (Some a) (Some b) r s e = output_elsewhere objects n a b (output_of objects n First a) s r.in1_apart r.in2_apart e Second
     same_second x y r s e = grind arith
 
     -- the written values are those of the outputs
@@ -204,8 +204,8 @@ output_lasts : (n : Node) (which : Output) (first : ObjectValue) (second : Optio
     → IsObject (node_output n which first second out) × (lasting_part (node_output n which first second out) ≡ lasting_part out)
 output_lasts n which (ImageObject a) second (ImageObject old) runs = each (accumulates n.function) refl
   where
-    same : (beside : Option ObjectValue) → IsImage (node_image n which old.format a beside) → LastsAs old (node_image n which old.format a beside)
-    same beside image = (image, images-last (node_image n which old.format a beside) old (description_kept n which a beside old runs.out_size))
+    same : (elsewhere : Option ObjectValue) → IsImage (node_image n which old.format a elsewhere) → LastsAs old (node_image n which old.format a elsewhere)
+    same elsewhere image = (image, images-last (node_image n which old.format a elsewhere) old (description_kept n which a elsewhere old runs.out_size))
 
     each : (sums : Bool) → accumulates n.function ≡ sums → LastsAs old (node_image n which old.format a (second_or_output n second (ImageObject old)))
     each true is = rw is (same (Some (ImageObject old)) (accumulated_image_is n old.format a runs.node runs.first_is which old is runs.out_is))

@@ -33,9 +33,9 @@ use Rattle.graph_run.proofs.VerifiedLemmas.{pairs_of}
 -- ---- cells after writes
 
 -- an object that isn't written stays
-same_beside : (objects : List NamedObject) (ws : List (Reference × ObjectValue)) → AreWrites objects ws → (c : Reference) → last_to c ws ≡ None → kind_in objects c ≢ Some kind.Delay
+same_elsewhere : (objects : List NamedObject) (ws : List (Reference × ObjectValue)) → AreWrites objects ws → (c : Reference) → last_to c ws ≡ None → kind_in objects c ≢ Some kind.Delay
     → object_at (with_written objects ws) c ≡ object_at objects c
-same_beside objects ws are c none plain =
+same_elsewhere objects ws are c none plain =
     unshown (object_at (with_written objects ws) c) (object_at objects c) plain
     (seen-with_written ws objects are c ∙ ap (λ (o : Option ObjectValue). option_or (option_map shown o) (seen objects c)) none)
 
@@ -88,7 +88,7 @@ module _ (objects : List NamedObject) (cells : List Reference) (holds : HoldImag
   -- objects other than images stay
   pub taken_other : (c : Reference) (k : Kind) → HoldsKind objects (c, k) → k ≢ kind.Image → k ≢ kind.Delay → object_at taken c ≡ object_at objects c
   taken_other c k is other no_delay =
-      same_beside objects (bare_images objects cells) (bare_written objects cells holds) c
+      same_elsewhere objects (bare_images objects cells) (bare_written objects cells holds) c
       (last_none c (bare_images objects cells) (λ w i e.
       other (one_kind (object_at objects c) k kind.Image is (subst (HoldsImage objects) (sym e) (holds w.0 (in_bare objects cells w i).0)))))
       (λ delay. no_delay (one_kind (object_at objects c) k kind.Delay is delay))
@@ -269,7 +269,7 @@ module _ (objects : List NamedObject) (nodes : List Node) (v : Verified) (h : Is
   tally_held : (t : ℕ) → (below : t < length (tally_cells v.steps.items)) → (r : IsTallied objects nodes v h names are described p plan radius tables lent virtuals descs after counted leaves t) → object_at came r.cell ≡ Some r.old
   tally_held t below r =
       ap (λ (l : List NamedObject). object_at l r.cell) came_is
-      ∙ same_beside objects (plane_objects clients back) (planes_written objects clients back holding planes_for) r.cell
+      ∙ same_elsewhere objects (plane_objects clients back) (planes_written objects clients back holding planes_for) r.cell
       (last_none r.cell (plane_objects clients back) (λ w i e.
       (let b = image_back clients back w i in
       let cell : r.cell ≡ get_or clients b.0 w.0 = e ∙ ap (λ (x : Reference × ObjectValue). x.0) b.2 in

@@ -7,7 +7,7 @@ use Rattle.std.proofs.lemmas.List.Folds.{list_all-append}
 use Rattle.image_core.specs.declared.second.SecondInput.{SecondInput}
 use Rattle.node_rows.specs.Radius.{matrix_in}
 use Rattle.graph_verify.proofs.SuitLemmas.{Suits as SuitsOutput, met, no_fault_suits, passed}
-use Rattle.graph_steps.specs.declared.step.Source.TheVariants.{Table}
+use Rattle.graph_steps.specs.declared.step.SecondSource.TheVariants.{Table}
 use Rattle.graph_steps.specs.Steps.{CanMake, Covers, Suits, blank_image, second_in, step_radius}
 use Rattle.graph_run.specs.Tasks.{source, step_for}
 use Rattle.graph_run.proofs.RunLemmas.{has_of_node, same_formats}
@@ -81,10 +81,10 @@ module _ (known : Reference → Operand) (n : Node) (node : IsNode n) (none : no
     can_make = record { node = node; kind = second_wanted; formats = found.formats; size = fits_size (blank_image first) (ImageObject (blank_image out)) found.size; second_size = second_size }
 
     -- the step suits planes of these descriptions
-    pub step_suits : (tables : List SecondInput) (high : ℕ) (beside : Description) → second ≡ second_in tables (λ _. blank_image beside) (source cells at (second_kind n) n.in2)
+    pub step_suits : (tables : List SecondInput) (high : ℕ) (elsewhere : Description) → second ≡ second_in tables (λ _. blank_image elsewhere) (source cells at (second_kind n) n.in2)
         → ((k : ℕ) → source cells at (second_kind n) n.in2 ≡ Table k → (k < length tables) × IfSome second IsObject)
-        → Covers (step_radius n.function matrix) (radius n) high → Suits tables high (step_for cells slots radius at n which o) first beside out
-    step_suits tables high beside is table near =
+        → Covers (step_radius n.function matrix) (radius n) high → Suits tables high (step_for cells slots radius at n which o) first elsewhere out
+    step_suits tables high elsewhere is table near =
         let s = step_for cells slots radius at n which o in
         record {
           makes = subst (λ (x : Option ObjectValue). CanMake s (blank_image first) x out) is can_make;

@@ -12,8 +12,8 @@ use Rattle.vx_base.specs.Reference.{Reference}
 use Rattle.vx_base.specs.Description.{Description}
 use Rattle.vx_base.specs.Function.{accumulates, parameters}
 use Rattle.vx_base.specs.Node.{outputs, second_kind}
-use Rattle.graph_steps.specs.declared.step.Source.{Source}
-use Rattle.graph_steps.specs.declared.step.Source.TheVariants.{Nothing, Plane, Table}
+use Rattle.graph_steps.specs.declared.step.SecondSource.{SecondSource}
+use Rattle.graph_steps.specs.declared.step.SecondSource.TheVariants.{Nothing, Plane, Table}
 use Rattle.graph_steps.specs.declared.step.Step.{Step}
 use Rattle.graph_steps.specs.declared.step.Task.{Task}
 use Rattle.graph_steps.specs.declared.step.Task.TheVariants.{Write, Reduce}
@@ -62,7 +62,7 @@ blocks_at slots rooms clients count = map (block_at slots rooms count) (range_wi
 -- ---- tasks
 
 -- the source of the second input of the node at index `at` of the order
-abbrev pub source : List Reference → ℕ → Kind → Option Reference → Source
+abbrev pub source : List Reference → ℕ → Kind → Option Reference → SecondSource
 source cells at k None = Nothing
 source cells at kind.Image (Some c) = Plane (index_of cells c)
 source cells at other (Some c) = Table at

@@ -46,7 +46,7 @@ pub fn rounds_solve()
 {}
 
 /// A run of a graph with one node writes what the node by itself writes.
-pub fn one_node()
+pub fn run_of_one_node()
     ensures { (is : Reference → Operand) (n : Node) (objects : List NamedObject) →
         AllPairs (λ a b. a.name < b.name) objects →
         WritesNo kind.VirtualImage (n ∷ []) objects →

@@ -176,7 +176,7 @@ fn run_over(
     ensures formats { map samples_format blocks.new.items ≡ map samples_format blocks.old.items }
     ensures rooms { map block_size blocks.new.items ≡ map block_size blocks.old.items }
 {
-    are_described(verified);
+    prove_descriptions(verified);
     let tables = Vec::with_capacity(alloc, verified.steps.len())?;
     let blocks = blocks.as_mut_slice();
     take(alloc, verified, schedule, table, blocks, planes);
@@ -188,11 +188,11 @@ fn run_over(
 
 /// Proves that the sides of all descriptions are in range. The prover learns that only by reading
 /// each description; the compiler removes the loop.
-fn are_described(verified: &Verified)
+fn prove_descriptions(verified: &Verified)
     ensures { All (λ o. IsDescription o.desc) verified.now.virtual_outputs.items }
 {
     for image in &verified.virtual_outputs {
-        image.desc.has_sides();
+        image.desc.prove_sides();
     }
 }
 

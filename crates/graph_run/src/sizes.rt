@@ -110,7 +110,7 @@ pub fn band_size(
     ensures once { AddOnce high result halos.now tasks.now }
 {
     let rows = match first_desc(table, verified) {
-        Some(desc) => rows_of(desc, greatest(halos)),
+        Some(desc) => rows_of(desc, greatest_halo(halos)),
         None => None,
     };
     match rows {
@@ -132,7 +132,7 @@ fn first_desc(table: &Table, verified: &Verified) -> Option<Desc> {
 }
 
 /// Returns the greatest halo, or 0 if there are none.
-fn greatest(halos: &[u16]) -> u16 {
+fn greatest_halo(halos: &[u16]) -> u16 {
     let mut most = 0;
     for halo in halos {
         most = most.max(*halo);

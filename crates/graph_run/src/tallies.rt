@@ -23,13 +23,13 @@ pub fn tally_cells(alloc: Global, steps: &[Node]) -> Result<Vec<ObjRef>, AllocEr
 {
     let mut cells = Vec::new(alloc);
     for at in 0..steps.len() {
-        add_cell(&mut cells, &steps[at])?;
+        add_tally_cell(&mut cells, &steps[at])?;
     }
     Ok(cells)
 }
 
 /// Adds the reference to a node's histogram or extremes, if it writes one.
-fn add_cell(cells: &mut Vec<ObjRef>, node: &Node) -> Result<(), AllocError>
+fn add_tally_cell(cells: &mut Vec<ObjRef>, node: &Node) -> Result<(), AllocError>
     ensures { OnOk result (cells.new.items
         ≡ cells.old.items ++ tally_cell (parameters node.now.function).output node.now) }
 {

@@ -13,7 +13,7 @@ ghost use Rattle.graph_run.specs.Tasks.{tally_after};
 ghost use Rattle.graph_run.specs.Tasks.{tasks_by, tasks_of, write_given};
 
 use crate::cells::index_of;
-use graph_steps::{Reduction, Source, Step, Task, step_radius};
+use graph_steps::{Reduction, SecondSource, Step, Task, step_radius};
 use object_table::{Content, Table};
 use std::alloc::{AllocError, Global};
 use vx_base::{Convolution, Kind, Node, ObjRef, Output};
@@ -134,14 +134,14 @@ fn step_for(binding: &Binding<'_>, at: usize, node: &Node, which: Output, output
 }
 
 /// Returns the source of a node's second input.
-fn source(cells: &[ObjRef], at: usize, node: &Node) -> Source
+fn source(cells: &[ObjRef], at: usize, node: &Node) -> SecondSource
     ensures { result ≡ source cells.now at (second_kind node.now) node.now.in2 }
 {
     let kind = node.function.parameters().second_input;
     match (node.in2, kind.unwrap_or(Kind::Image)) {
-        (None, _) => Source::Nothing,
-        (Some(cell), Kind::Image) => Source::Plane(index_of(cells, cell)),
-        (Some(_), _) => Source::Table(at),
+        (None, _) => SecondSource::Nothing,
+        (Some(cell), Kind::Image) => SecondSource::Plane(index_of(cells, cell)),
+        (Some(_), _) => SecondSource::Table(at),
     }
 }
 

@@ -28,8 +28,8 @@ use Rattle.graph_steps.specs.declared.step.Reduction.{Reduction}
 use Rattle.graph_steps.specs.declared.step.Step.{Step}
 use Rattle.graph_steps.specs.declared.step.Task.{Task}
 use Rattle.graph_steps.specs.declared.step.Task.TheVariants.{Write, Reduce}
-use Rattle.graph_steps.specs.declared.step.Source.{Source}
-use Rattle.graph_steps.specs.declared.step.Source.TheVariants.{Nothing, Plane, Table}
+use Rattle.graph_steps.specs.declared.step.SecondSource.{SecondSource}
+use Rattle.graph_steps.specs.declared.step.SecondSource.TheVariants.{Nothing, Plane, Table}
 use Rattle.graph_steps.specs.Planes.{PlaneValue, plane, plane_image, block_image, block_images, read_images, with_read_rows, with_halo}
 use Rattle.graph_steps.specs.Steps.{ReadsPlane, blank_image, second_in, is_integral, rows_image, scan_image, step_image, sums_above, Covers, CanStep, second_plane, with_output_block, after_step}
 use Rattle.graph_steps.specs.Program.{IsStepOf, HaveOneWriter, halo, Suffice, band_rows, after_tasks, IsLive}
@@ -53,9 +53,9 @@ agree_trans first last a b c p q =
       samples = λ x y i j k l. p.samples x y i j k l ∙ q.samples x y (omega arith) (omega arith) k l;
     }
 
-beside_itself : (first last : ℕ) (second : Option ObjectValue) → SecondsAgree first last second second
-beside_itself first last (Some (ImageObject a)) = agree_same first last a a refl
-beside_itself first last other = refl
+elsewhere_itself : (first last : ℕ) (second : Option ObjectValue) → SecondsAgree first last second second
+elsewhere_itself first last (Some (ImageObject a)) = agree_same first last a a refl
+elsewhere_itself first last other = refl
 
 -- ---- rectangles that meet again
 
@@ -260,13 +260,13 @@ module _ (tables : List SecondInput) (high : ℕ) (halos : List ℕ) (band : Ban
         agree_in_all (read_images planes c) (whole c) (input_image c reads) (are c (let n = meets.length_is in let b = (fits.reads c reads).0 in omega arith))
         (agree_fewer (first - s.radius) 0 (read_images planes c).height (last + s.radius) (read_images planes c) (whole c) (omega arith) (omega arith) (near c reads))
 
-    beside : SecondsAgree first last (second_in tables (read_images planes) s.second) (second_in tables whole s.second)
-    beside = by_source s.second (λ c e. near c (inr e))
+    elsewhere : SecondsAgree first last (second_in tables (read_images planes) s.second) (second_in tables whole s.second)
+    elsewhere = by_source s.second (λ c e. near c (inr e))
       where
-        by_source : (source : Source) → ((c : ℕ) → source ≡ Plane c → AgreeInRows (first - s.radius) (last + s.radius) (read_images planes c) (whole c)) → SecondsAgree first last (second_in tables (read_images planes) source) (second_in tables whole source)
+        by_source : (source : SecondSource) → ((c : ℕ) → source ≡ Plane c → AgreeInRows (first - s.radius) (last + s.radius) (read_images planes c) (whole c)) → SecondsAgree first last (second_in tables (read_images planes) source) (second_in tables whole source)
         by_source Nothing image = refl
         by_source (Plane c) image = agree_fewer (first - s.radius) first last (last + s.radius) (read_images planes c) (whole c) (omega arith) (omega arith) (image c refl)
-        by_source (Table k) image = beside_itself first last (second_in tables whole (Table k))
+        by_source (Table k) image = elsewhere_itself first last (second_in tables whole (Table k))
 
     objects : IfSome (second_in tables (read_images planes) s.second) IsObject
     objects = object_told tables (plane planes (second_plane s.second)).desc (read_images planes) s high (plane planes s.first).desc (plane planes s.output).desc fits.suits (λ c e. input_image c (inr e))
@@ -288,7 +288,7 @@ module _ (tables : List SecondInput) (high : ℕ) (halos : List ℕ) (band : Ban
             node_rows s.node s.which own.format (read_images planes s.first) (whole s.first) (second_in tables (read_images planes) s.second) (second_in tables whole s.second) far first last
             (input_image s.first (inl refl)) objects e
             (agree_fewer (first - s.radius) (first - far) (last + far) (last + s.radius) (read_images planes s.first) (whole s.first) (omega arith) (omega arith) (near s.first (inl refl)))
-            beside
+            elsewhere
         by_reach None e covers =
             agree_same first last _ _
             (ap (λ i. node_image s.node s.which own.format i (second_in tables (read_images planes) s.second)) (all_same covers s.first (inl refl))

@@ -15,7 +15,7 @@ use Rattle.graph_steps.specs.Steps.{CanStep, Suits, second_plane, after_step, ca
 use Rattle.graph_steps.specs.Program.{IsUnwritten, halo, band_rows, after_task, after_tasks, HaveCapacity, blocks_after_tasks, NamesPlanes}
 use Rattle.graph_steps.specs.declared.tally.Tally.{Tally}
 use Rattle.graph_steps.specs.Runs.{CanDo, CanReduceBand, CanRunBand}
-use Rattle.graph_steps.proofs.StepLaws.{same_or_other, none_or_some, capacity_at, not_more, after_count, after_others, after_desc, after_capacities, after_readable, after_whole, after_beside}
+use Rattle.graph_steps.proofs.StepLaws.{same_or_other, none_or_some, capacity_at, not_more, after_count, after_others, after_desc, after_capacities, after_readable, after_whole, after_elsewhere}
 
 -- ---- the rows of a band and its halo
 
@@ -170,19 +170,19 @@ module _ (tables : List SecondInput) (high : ℕ) (halos : List ℕ) (band : Ban
   -- the rows of a client's image that the band doesn't write stay
   pub band_keeps : (steps : List Task) (planes : List PlaneValue) → Can steps planes → (c : ℕ) → kept c → (x y : ℕ) → x < (plane planes c).desc.width → y < (plane planes c).desc.height
       → has_row (band_rows planes halos band c) y ≡ false → pixel_at (block_images (after_tasks tables halos band steps planes) c) x y ≡ pixel_at (block_images planes c) x y
-  band_keeps [] planes can c k x y across low beside = refl
-  band_keeps (Reduce r ∷ later) planes can c k x y across low beside = band_keeps later planes (skip_next r later planes can) c k x y across low beside
-  band_keeps (Write s ∷ later) planes can c k x y across low beside =
+  band_keeps [] planes can c k x y across low elsewhere = refl
+  band_keeps (Reduce r ∷ later) planes can c k x y across low elsewhere = band_keeps later planes (skip_next r later planes can) c k x y across low elsewhere
+  band_keeps (Write s ∷ later) planes can c k x y across low elsewhere =
       let fits = step_fits s later planes can in
       let rows = rows_of planes s in
       let after : List PlaneValue = after_step tables s rows planes in
       let desc = after_desc tables high s rows planes fits c in
       band_keeps later after (step_next s later planes can) c k x y
       (subst (λ (d : Description). x < d.width) (sym desc) across) (subst (λ (d : Description). y < d.height) (sym desc) low)
-      (subst (λ (d : Description). has_row (with_halo (halo halos c) d.height band) y ≡ false) (sym desc) beside)
+      (subst (λ (d : Description). has_row (with_halo (halo halos c) d.height band) y ≡ false) (sym desc) elsewhere)
       ∙ elim (same_or_other c s.output) [
         | inl e ↦
             let P : ℕ → Type 0 = λ j. kept j → x < (plane planes j).desc.width → y < (plane planes j).desc.height → has_row (band_rows planes halos band j) y ≡ false → pixel_at (block_images after j) x y ≡ pixel_at (block_images planes j) x y in
-            subst P (sym e) (λ j a b n. after_beside tables high s rows planes fits (keeps_none s later planes can j) x y a b n) k across low beside
+            subst P (sym e) (λ j a b n. after_elsewhere tables high s rows planes fits (keeps_none s later planes can j) x y a b n) k across low elsewhere
         | inr other ↦ ap (λ p. pixel_at (block_image p) x y) (after_others tables high s rows planes fits c other (untaken s later planes can c k))
       ]

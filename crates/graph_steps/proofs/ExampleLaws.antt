@@ -4,7 +4,7 @@ use Rattle.std.specs.Prelude.{◌⊎◌, slice_index_or}
 use Rattle.vx_base.specs.declared.format.Format.TheVariants.{U8, U32}
 use Rattle.vx_base.specs.Node.{IsNode}
 use Rattle.vx_base.proofs.ImageLaws.{new_image_is}
-use Rattle.graph_steps.specs.declared.step.Source.TheVariants.{Nothing, Plane, Table}
+use Rattle.graph_steps.specs.declared.step.SecondSource.TheVariants.{Nothing, Plane, Table}
 use Rattle.graph_steps.specs.declared.step.Step.{Step}
 use Rattle.graph_steps.specs.Planes.{plane}
 use Rattle.graph_steps.specs.Steps.{ReadsPlane, Suits, SuitsPlanes, capacities, capacity, reads_output}

@@ -4,7 +4,7 @@ use Rattle.std.proofs.lemmas.List.{get_or-set_same, get_or-set_other, length-set
 use Rattle.graph_steps.specs.declared.step.Step.{Step}
 use Rattle.graph_steps.specs.declared.step.Task.{Task}
 use Rattle.graph_steps.specs.declared.step.Task.TheVariants.{Write, Reduce}
-use Rattle.graph_steps.specs.declared.step.Source.TheVariants.{Plane}
+use Rattle.graph_steps.specs.declared.step.SecondSource.TheVariants.{Plane}
 use Rattle.graph_steps.specs.Steps.{ReadsPlane}
 use Rattle.graph_steps.specs.Program.{IsStepOf, AreInOrder, halo, Suffice}
 use Rattle.graph_steps.proofs.StepLaws.{same_or_other}
@@ -20,8 +20,8 @@ raised_grows halos c rows k below = elim (same_or_other k c) [
 pub raised_there : (halos : List ℕ) (c rows : ℕ) → c < length halos → rows ≤ halo (set halos c (max (halo halos c) rows)) c
 raised_there halos c rows below = let s = get_or-set_same halos c (max (halo halos c) rows) 0 below in omega arith
 
-pub raised_beside : (halos : List ℕ) (c rows k : ℕ) → k ≢ c → halo (set halos c (max (halo halos c) rows)) k ≡ halo halos k
-raised_beside halos c rows k other = get_or-set_other halos c k (max (halo halos c) rows) 0 other
+pub raised_elsewhere : (halos : List ℕ) (c rows k : ℕ) → k ≢ c → halo (set halos c (max (halo halos c) rows)) k ≡ halo halos k
+raised_elsewhere halos c rows k other = get_or-set_other halos c k (max (halo halos c) rows) 0 other
 
 -- ---- the inputs of a step
 
@@ -39,7 +39,7 @@ raised_one s rows old new below alone is = subst (Raised s rows old) (sym is) (r
     | inl e ↦ (let P : ℕ → Type 0 = λ j. rows ≤ halo (set old s.first (max (halo old s.first) rows)) j in subst P e (raised_there old s.first rows below))
     | inr e ↦ absurd (alone c e)
   ];
-  others = λ c unread. raised_beside old s.first rows c (λ e. unread (inl (sym e)));
+  others = λ c unread. raised_elsewhere old s.first rows c (λ e. unread (inl (sym e)));
   len = length-set old s.first (max (halo old s.first) rows);
 })
 
@@ -60,9 +60,9 @@ raised_two s rows second old between new below low two was is =
             subst P (same_plane second c k) (raised_there between second rows here))
       ];
       others = λ c unread.
-          raised_beside between second rows c (λ e. unread (inr (two ∙ ap Plane (sym e))))
+          raised_elsewhere between second rows c (λ e. unread (inr (two ∙ ap Plane (sym e))))
           ∙ ap (λ l. halo l c) was
-          ∙ raised_beside old s.first rows c (λ e. unread (inl (sym e)));
+          ∙ raised_elsewhere old s.first rows c (λ e. unread (inl (sym e)));
       len = length-set between second (max (halo between second) rows) ∙ long;
     })
   where

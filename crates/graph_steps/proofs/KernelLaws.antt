@@ -172,5 +172,5 @@ same_sides a b h = let p = and_parts (a.width == b.width) (a.height == b.height)
 pub sized_image : (s : Step) (first : ImageValue) (second : Option ObjectValue) (own : ImageValue) → length (image_from_inputs s first second own).samples ≡ first.height * first.width
 sized_image s first second own = sized (cond (accumulates s.node.function) (Some (ImageObject own)) second)
   where
-    sized : (beside : Option ObjectValue) → length (node_image s.node s.which own.format first beside).samples ≡ first.height * first.width
+    sized : (elsewhere : Option ObjectValue) → length (node_image s.node s.which own.format first elsewhere).samples ≡ first.height * first.width
     sized z = grind (arith, length-table)

@@ -190,8 +190,8 @@ module _ (image : ImageValue) (top : ℕ) (rows : Band) (old : List ℤ) (room :
       length-take-le ((rows.start - top) * columns) old (omega (arith, size, same)) ∙ same
 
   -- the samples of a row that isn't written stay
-  pub among_beside : (x y : ℕ) → x < columns → y < image.height → has_row rows y ≡ false → get_or (written_among top rows image old) (y * columns + x) (pos 0) ≡ get_or old (y * columns + x) (pos 0)
-  among_beside x y across low absent = elim (cases_Bool (ltb y rows.start)) [
+  pub among_elsewhere : (x y : ℕ) → x < columns → y < image.height → has_row rows y ≡ false → get_or (written_among top rows image old) (y * columns + x) (pos 0) ≡ get_or old (y * columns + x) (pos 0)
+  among_elsewhere x y across low absent = elim (cases_Bool (ltb y rows.start)) [
     | inl e ↦
         let high : y < rows.start = ltb-true y rows.start e in
         let short : y * columns + x < rows.start * columns = places_fit x y rows.start high across in
@@ -210,13 +210,13 @@ module _ (image : ImageValue) (top : ℕ) (rows : Band) (old : List ℤ) (room :
   ]
 
 -- after rows of a client's image are written, its other rows are as before
-pub written_beside : (p : PlaneValue) (rows : Band) (image : ImageValue) → p.desc ≡ description_of image → IsWhole p → IsInRows p.desc.height rows → (x y : ℕ) → x < p.desc.width → y < p.desc.height → has_row rows y ≡ false
+pub written_elsewhere : (p : PlaneValue) (rows : Band) (image : ImageValue) → p.desc ≡ description_of image → IsWhole p → IsInRows p.desc.height rows → (x y : ℕ) → x < p.desc.width → y < p.desc.height → has_row rows y ≡ false
     → pixel_at (block_image (with_rows rows image p)) x y ≡ pixel_at (block_image p) x y
-written_beside p rows image desc whole room x y across low beside =
+written_elsewhere p rows image desc whole room x y across low elsewhere =
     let wide : p.desc.width ≡ image.width = ap (λ (d : Description). d.width) desc in
     let tall : p.desc.height ≡ image.height = ap (λ (d : Description). d.height) desc in
     ap (λ n. get_or (written_among p.top rows image p.samples) (y * n + x) (pos 0)) wide
-    ∙ among_beside image p.top rows p.samples (omega arith) whole.top (whole.size ∙ ap (λ (d : Description). d.height * d.width) desc) x y (omega arith) (omega arith) beside
+    ∙ among_elsewhere image p.top rows p.samples (omega arith) whole.top (whole.size ∙ ap (λ (d : Description). d.height * d.width) desc) x y (omega arith) (omega arith) elsewhere
     ∙ ap (λ n. get_or p.samples (y * n + x) (pos 0)) (sym wide)
 
 -- a client's image to which all rows are written is the image that has them

@@ -30,8 +30,8 @@ module _ (rows : Band) (planes : List PlaneValue) (r : Reduction) (tallies : Lis
   pub reduced_there : tally_at (after_reduction rows planes r tallies) r.tally ≡ with_rows_added (with_halo 0 (plane planes r.input).desc.height rows) (plane_image (plane planes r.input)) (tally_at tallies r.tally)
   reduced_there = get_or-set_same tallies r.tally _ (tally.Extremes no_extremes) there
 
-  pub reduced_beside : (k : ℕ) → k ≢ r.tally → tally_at (after_reduction rows planes r tallies) k ≡ tally_at tallies k
-  reduced_beside k other = get_or-set_other tallies r.tally k _ (tally.Extremes no_extremes) other
+  pub reduced_elsewhere : (k : ℕ) → k ≢ r.tally → tally_at (after_reduction rows planes r tallies) k ≡ tally_at tallies k
+  reduced_elsewhere k other = get_or-set_other tallies r.tally k _ (tally.Extremes no_extremes) other
 
 module _ (tables : List SecondInput) (high : ℕ) (halos : List ℕ) (band : Band) (kept : ℕ → Type 0) where
   -- after a task, the other reductions can still add the band
@@ -57,7 +57,7 @@ module _ (tables : List SecondInput) (high : ℕ) (halos : List ℕ) (band : Ban
         apart = reduces.apart.1;
         reduces = λ q i.
             let c = reduces.reduces q (inr i) in
-            let same = reduced_beside band planes r tallies there q.tally (reduces.apart.0 q i) in
+            let same = reduced_elsewhere band planes r tallies there q.tally (reduces.apart.0 q i) in
             record {
               input = c.input;
               tally = (let n = reduced_length band planes r tallies there in let k = c.tally in omega arith);
@@ -124,7 +124,7 @@ module _ (tables : List SecondInput) (high : ℕ) (halos : List ℕ) (band : Ban
                 image = rest.image;
                 holds = rest.holds;
                 height = rest.height;
-                is = rest.is ∙ ap (with_rows_added (with_halo 0 (plane planes r.input).desc.height band) rest.image) (reduced_beside band planes q tallies there r.tally (reduces.apart.0 r j));
+                is = rest.is ∙ ap (with_rows_added (with_halo 0 (plane planes r.input).desc.height band) rest.image) (reduced_elsewhere band planes q tallies there r.tally (reduces.apart.0 r j));
               }
         ]
 

@@ -314,8 +314,8 @@ module _ (tables : List SecondInput) (high size : ℕ) (halos : List ℕ) (steps
                   let has = halo_has (halo halos c) (plane next c).desc.height band y near in
                   sym (read_at (plane next c) (ends_with.whole c k) (plane next c).rows readable.rows x y (omega arith) (k2.covers y near))
                   ∙ k2.agrees.samples x y (omega arith) (omega arith) has.0 (omega (arith, has.2))
-              | inr beside ↦
-                  let before = subst (λ (e : Description). has_row (with_halo (halo halos c) e.height band) y ≡ false) (desc_next c) beside in
+              | inr elsewhere ↦
+                  let before = subst (λ (e : Description). has_row (with_halo (halo halos c) e.height band) y ≡ false) (desc_next c) elsewhere in
                   band_keeps tables high halos band kept steps planes runs c k x y (omega arith) (omega arith) before
                   ∙ stands.above c k x y across (above_first (halo halos c) (plane planes c).desc.height y before below (omega arith)) low
             ];
@@ -334,7 +334,7 @@ module _ (tables : List SecondInput) (high size : ℕ) (halos : List ℕ) (steps
           alike_block p image a = record { description = a.description; valid = a.valid }
 
           above_first : (more height y : ℕ) → has_row (with_halo more height band) y ≡ false → y < band.start + band.count → y < height → y < band.start
-          above_first more height y beside below low = elim (cases_Bool (nat_lt y band.start)) [
+          above_first more height y elsewhere below low = elim (cases_Bool (nat_lt y band.start)) [
             | inl e ↦ grind (arith, nat_tests)
             | inr e ↦
                 let from : band.start ≤ y = grind (arith, nat_tests) in

@@ -33,12 +33,12 @@ use Rattle.stat_kernels.specs.Sums.{sum_on}
 use Rattle.stat_kernels.proofs.ScanLaws.{scan_sample}
 use Rattle.node_rows.specs.Radius.{matrix_in}
 use Rattle.graph_steps.specs.declared.step.Step.{Step}
-use Rattle.graph_steps.specs.declared.step.Source.{Source}
-use Rattle.graph_steps.specs.declared.step.Source.TheVariants.{Nothing, Plane, Table}
+use Rattle.graph_steps.specs.declared.step.SecondSource.{SecondSource}
+use Rattle.graph_steps.specs.declared.step.SecondSource.TheVariants.{Nothing, Plane, Table}
 use Rattle.graph_steps.specs.Planes.{PlaneValue, plane, no_plane, read_images, plane_image, block_image, with_read_rows, with_rows, with_block, without_block, written_among, IsReadable, IsWhole, TakesRows}
 use Rattle.graph_steps.specs.Steps.{ReadsPlane, second_in, image_from_inputs, is_integral, rows_image, scan_image, step_image, sums_above, CanMake, Suits, CanStep, CanWrite, blank_image, second_plane, with_moved_block, with_output_block, after_step, capacities, capacity, blocks_with_move, blocks_after_step}
 use Rattle.graph_steps.proofs.KernelLaws.{integral_formats, made_description, scan_description}
-use Rattle.graph_steps.proofs.PlaneLaws.{written_plane, written_size, written_beside}
+use Rattle.graph_steps.proofs.PlaneLaws.{written_plane, written_size, written_elsewhere}
 
 pub same_or_other : (a b : ℕ) → (a ≡ b) ⊎ (a ≢ b)
 same_or_other a b = elim (cases_Bool (eqb a b)) [ inl e ↦ inl (eqb-true a b e) | inr e ↦ inr (eqb-false a b e) ]
@@ -53,15 +53,15 @@ none_not_some o t a b = let k : None ≡ Some t = sym a ∙ b in cc
 -- ---- the inputs of a step
 
 module _ (tables : List SecondInput) (b : Description) (images : ℕ → ImageValue) where
-  abbrev told : Source → Option ObjectValue
+  abbrev told : SecondSource → Option ObjectValue
   told source = second_in tables (λ _. blank_image b) source
 
-  pub kind_told : (function : Node) (source : Source) → IfSome (told source) (λ o. (parameters function.function).second_input ≡ Some (object_kind o)) → IfSome (second_in tables images source) (λ o. (parameters function.function).second_input ≡ Some (object_kind o))
+  pub kind_told : (function : Node) (source : SecondSource) → IfSome (told source) (λ o. (parameters function.function).second_input ≡ Some (object_kind o)) → IfSome (second_in tables images source) (λ o. (parameters function.function).second_input ≡ Some (object_kind o))
   kind_told n Nothing h = h
   kind_told n (Plane c) h = h
   kind_told n (Table k) h = h
 
-  format_told : (source : Source) → description_of (images (second_plane source)) ≡ b → option_and_then object_format (told source) ≡ option_and_then object_format (second_in tables images source)
+  format_told : (source : SecondSource) → description_of (images (second_plane source)) ≡ b → option_and_then object_format (told source) ≡ option_and_then object_format (second_in tables images source)
   format_told Nothing is = refl
   format_told (Plane c) is = ap (λ (d : Description). Some d.format) (sym is)
   format_told (Table k) is = refl
@@ -70,12 +70,12 @@ module _ (tables : List SecondInput) (b : Description) (images : ℕ → ImageVa
   size_of first a None is h = h
   size_of first a (Some object) is h = grind arith
 
-  size_told : (first : ImageValue) (a : Description) (source : Source) → description_of first ≡ a → description_of (images (second_plane source)) ≡ b → SecondHasSize (blank_image a) (told source) → SecondHasSize first (second_in tables images source)
+  size_told : (first : ImageValue) (a : Description) (source : SecondSource) → description_of first ≡ a → description_of (images (second_plane source)) ≡ b → SecondHasSize (blank_image a) (told source) → SecondHasSize first (second_in tables images source)
   size_told first a Nothing is same h = h
   size_told first a (Plane c) is same h = grind arith
   size_told first a (Table k) is same h = size_of first a (second_in tables images (Table k)) is h
 
-  pub matrix_told : (source : Source) → matrix_in (told source) ≡ matrix_in (second_in tables images source)
+  pub matrix_told : (source : SecondSource) → matrix_in (told source) ≡ matrix_in (second_in tables images source)
   matrix_told Nothing = refl
   matrix_told (Plane c) = refl
   matrix_told (Table k) = refl
@@ -83,7 +83,7 @@ module _ (tables : List SecondInput) (b : Description) (images : ℕ → ImageVa
   pub object_told : (s : Step) (high : ℕ) (a out : Description) → Suits tables high s a b out → ((c : ℕ) → s.second ≡ Plane c → IsImage (images c)) → IfSome (second_in tables images s.second) IsObject
   object_told s high a out suits are = by_source s.second (λ k e. (suits.table k e).1) are
     where
-      by_source : (source : Source) → ((k : ℕ) → source ≡ Table k → IfSome (told source) IsObject) → ((c : ℕ) → source ≡ Plane c → IsImage (images c)) → IfSome (second_in tables images source) IsObject
+      by_source : (source : SecondSource) → ((k : ℕ) → source ≡ Table k → IfSome (told source) IsObject) → ((c : ℕ) → source ≡ Plane c → IsImage (images c)) → IfSome (second_in tables images source) IsObject
       by_source Nothing table image = tt
       by_source (Plane c) table image = image c refl
       by_source (Table k) table image = table k refl
@@ -132,7 +132,7 @@ made_is s first second out own can same is object = elim (cases_Bool (accumulate
 ]
 
 -- a step's image follows from the images that it reads
-pub second_same : (tables : List SecondInput) (source : Source) (a b : ℕ → ImageValue) → ((c : ℕ) → source ≡ Plane c → a c ≡ b c) → second_in tables a source ≡ second_in tables b source
+pub second_same : (tables : List SecondInput) (source : SecondSource) (a b : ℕ → ImageValue) → ((c : ℕ) → source ≡ Plane c → a c ≡ b c) → second_in tables a source ≡ second_in tables b source
 second_same tables Nothing a b same = refl
 second_same tables (Plane c) a b same = ap (λ i. Some (ImageObject i)) (same c refl)
 second_same tables (Table k) a b same = refl
@@ -185,12 +185,12 @@ pub image_read : (planes : List PlaneValue) (c : ℕ) (p : PlaneValue) (image : 
 image_read planes c p image below is image_is = image_is ∙ ap plane_image (plane_read planes c p below is)
 
 -- a step's second input
-pub plane_lent : (planes : List PlaneValue) (tables : List SecondInput) (source : Source) (c : ℕ) (p : PlaneValue) (image : ImageValue) → source ≡ Plane c → c < length planes → p ≡ get_or planes c p → image ≡ plane_image p
+pub plane_lent : (planes : List PlaneValue) (tables : List SecondInput) (source : SecondSource) (c : ℕ) (p : PlaneValue) (image : ImageValue) → source ≡ Plane c → c < length planes → p ≡ get_or planes c p → image ≡ plane_image p
     → Some (ImageObject image) ≡ second_in tables (read_images planes) source
 plane_lent planes tables source c p image is below there made =
     ap (λ i. Some (ImageObject i)) (image_read planes c p image below there made) ∙ ap (second_in tables (read_images planes)) (sym is)
 
-pub table_lent : (tables : List SecondInput) (images : ℕ → ImageValue) (source : Source) (k : ℕ) (t : SecondInput) → source ≡ Table k → k < length tables → t ≡ get_or tables k t
+pub table_lent : (tables : List SecondInput) (images : ℕ → ImageValue) (source : SecondSource) (k : ℕ) (t : SecondInput) → source ≡ Table k → k < length tables → t ≡ get_or tables k t
     → second_object t ≡ second_in tables images source
 table_lent tables images source k t is below there =
     sym (ap (second_in tables images) is ∙ ap (option_and_then (λ u. second_object u)) (slice_get_read tables (length tables) k t refl below there))
@@ -223,11 +223,11 @@ module _ (t c top : ℕ) (planes : List PlaneValue) (from : t < length planes) (
   long_left : length left ≡ length planes
   long_left = length-set planes t (without_block (plane planes t))
 
-  pub claimed_long : length ready ≡ length planes
-  claimed_long = length-set left c taken ∙ long_left
+  pub moved_long : length ready ≡ length planes
+  moved_long = length-set left c taken ∙ long_left
 
-  pub claimed_at : plane ready c ≡ taken
-  claimed_at = get_or-set_same left c taken no_plane (omega (arith, long_left))
+  pub moved_at : plane ready c ≡ taken
+  moved_at = get_or-set_same left c taken no_plane (omega (arith, long_left))
 
   left_same : (k : ℕ) → k ≢ t → plane left k ≡ plane planes k
   left_same k other = get_or-set_other planes t k (without_block (plane planes t)) no_plane other
@@ -241,20 +241,20 @@ module _ (t c top : ℕ) (planes : List PlaneValue) (from : t < length planes) (
     | inr other ↦ ap (λ (p : PlaneValue). p.desc) (left_same k other)
   ]
 
-  claimed_beside : (k : ℕ) → k ≢ c → plane ready k ≡ plane left k
-  claimed_beside k other = get_or-set_other left c k taken no_plane other
+  moved_elsewhere : (k : ℕ) → k ≢ c → plane ready k ≡ plane left k
+  moved_elsewhere k other = get_or-set_other left c k taken no_plane other
 
-  pub claimed_same : (k : ℕ) → k ≢ c → k ≢ t → plane ready k ≡ plane planes k
-  claimed_same k a b = claimed_beside k a ∙ left_same k b
+  pub moved_same : (k : ℕ) → k ≢ c → k ≢ t → plane ready k ≡ plane planes k
+  moved_same k a b = moved_elsewhere k a ∙ left_same k b
 
-  pub claimed_desc : (k : ℕ) → (plane ready k).desc ≡ (plane planes k).desc
-  claimed_desc k = elim (same_or_other k c) [
-    | inl e ↦ (let P : ℕ → Type 0 = λ j. (plane ready j).desc ≡ (plane planes j).desc in subst P (sym e) (ap (λ (p : PlaneValue). p.desc) claimed_at ∙ left_desc c))
-    | inr other ↦ ap (λ (p : PlaneValue). p.desc) (claimed_beside k other) ∙ left_desc k
+  pub moved_desc : (k : ℕ) → (plane ready k).desc ≡ (plane planes k).desc
+  moved_desc k = elim (same_or_other k c) [
+    | inl e ↦ (let P : ℕ → Type 0 = λ j. (plane ready j).desc ≡ (plane planes j).desc in subst P (sym e) (ap (λ (p : PlaneValue). p.desc) moved_at ∙ left_desc c))
+    | inr other ↦ ap (λ (p : PlaneValue). p.desc) (moved_elsewhere k other) ∙ left_desc k
   ]
 
-  pub claimed_capacities : capacities ready ≡ blocks_with_move (Some t) c (capacities planes)
-  claimed_capacities =
+  pub moved_capacities : capacities ready ≡ blocks_with_move (Some t) c (capacities planes)
+  moved_capacities =
       map-set (λ p. (p.format, length p.samples)) left c taken
       ∙ ap (λ l. set l c ((plane planes t).format, length (plane planes t).samples)) (map-set (λ p. (p.format, length p.samples)) planes t (without_block (plane planes t)))
       ∙ ap (λ (b : Format × ℕ). set (set (capacities planes) t (b.0, 0)) c b) (sym (capacity_at planes t))
@@ -298,14 +298,14 @@ module _ (tables : List SecondInput) (high : ℕ) (s : Step) (rows : Band) (plan
       let b = fits.block t some in
       let to = fits.output in
       let ready : List PlaneValue = with_moved_block t s.output rows.start planes in
-      let at_output : plane ready s.output ≡ with_block (plane planes t).format (plane planes t).samples rows.start (plane (set planes t (without_block (plane planes t))) s.output) = claimed_at t s.output rows.start planes b.0 to in
-      let desc = claimed_desc t s.output rows.start planes b.0 to s.output in
+      let at_output : plane ready s.output ≡ with_block (plane planes t).format (plane planes t).samples rows.start (plane (set planes t (without_block (plane planes t))) s.output) = moved_at t s.output rows.start planes b.0 to in
+      let desc = moved_desc t s.output rows.start planes b.0 to s.output in
       record {
-        count = claimed_long t s.output rows.start planes b.0 to;
-        desc = claimed_desc t s.output rows.start planes b.0 to;
-        others = λ k a untaken. claimed_same t s.output rows.start planes b.0 to k a (λ e. untaken (some ∙ ap Some (sym e)));
+        count = moved_long t s.output rows.start planes b.0 to;
+        desc = moved_desc t s.output rows.start planes b.0 to;
+        others = λ k a untaken. moved_same t s.output rows.start planes b.0 to k a (λ e. untaken (some ∙ ap Some (sym e)));
         own = λ none. absurd (none_not_some s.takes t none some);
-        capacities = claimed_capacities t s.output rows.start planes b.0 to ∙ ap (λ o. blocks_with_move o s.output (capacities planes)) (sym some);
+        capacities = moved_capacities t s.output rows.start planes b.0 to ∙ ap (λ o. blocks_with_move o s.output (capacities planes)) (sym some);
         output = record {
           format = ap (λ (p : PlaneValue). p.format) at_output ∙ b.1 ∙ sym (ap (λ (d : Description). d.format) desc);
           within = subst (λ (d : Description). IsInRows d.height rows) (sym desc) fits.within;
@@ -448,11 +448,11 @@ module _ (tables : List SecondInput) (high : ℕ) (s : Step) (rows : Band) (plan
       })
 
   -- and the rows that are not written stay
-  pub after_beside : s.takes ≡ None → (x y : ℕ) → x < (plane planes s.output).desc.width → y < (plane planes s.output).desc.height → has_row rows y ≡ false
+  pub after_elsewhere : s.takes ≡ None → (x y : ℕ) → x < (plane planes s.output).desc.width → y < (plane planes s.output).desc.height → has_row rows y ≡ false
       → pixel_at (block_image (plane after s.output)) x y ≡ pixel_at (block_image (plane planes s.output)) x y
-  after_beside none x y across low beside =
+  after_elsewhere none x y across low elsewhere =
       let same = is.own none in
       ap (λ p. pixel_at (block_image p) x y) after_output
-      ∙ written_beside out rows (rows_image tables s rows (read_images planes) out) (sym image_desc) (subst IsWhole (sym same) (fits.whole none)) (subst (λ (d : Description). IsInRows d.height rows) (sym (is.desc s.output)) fits.within) x y
-      (subst (λ (p : PlaneValue). x < p.desc.width) (sym same) across) (subst (λ (p : PlaneValue). y < p.desc.height) (sym same) low) beside
+      ∙ written_elsewhere out rows (rows_image tables s rows (read_images planes) out) (sym image_desc) (subst IsWhole (sym same) (fits.whole none)) (subst (λ (d : Description). IsInRows d.height rows) (sym (is.desc s.output)) fits.within) x y
+      (subst (λ (p : PlaneValue). x < p.desc.width) (sym same) across) (subst (λ (p : PlaneValue). y < p.desc.height) (sym same) low) elsewhere
       ∙ ap (λ p. pixel_at (block_image p) x y) same

@@ -20,9 +20,9 @@ use Rattle.std.specs.List.{flat_map}
 use Rattle.image_core.specs.declared.band.Band.{Band}
 use Rattle.image_core.specs.Bands.{IsInRows, all_rows}
 use Rattle.node_rows.specs.Rows.{AgreeInRows}
-use Rattle.stat_kernels.specs.declared.located.Located.{Located}
+use Rattle.stat_kernels.specs.declared.located.Extreme.{Extreme}
 use Rattle.stat_kernels.specs.Counts.{bin_sums}
-use Rattle.stat_kernels.specs.Located.{merge, shift_down, found_of}
+use Rattle.stat_kernels.specs.Extreme.{merge, shift_down, found_of}
 use Rattle.stat_kernels.specs.Part.{band_of, valid_in}
 use Rattle.stat_kernels.proofs.AlikeLaws.{parts_located}
 use Rattle.stat_kernels.proofs.BandLaws.{all_valid, bands_counted, extremes_few, few_samples, no_places, none_counted, none_located, one_row, row_of, rows_at, tally_few}
@@ -125,7 +125,7 @@ added_most counts more k = elim (cases_Bool (nat_lt k (length counts))) [
       omega arith
 ]
 
-joined_most : (beyond : ℤ → ℤ → Bool) (a b : Located) → (merge beyond a b).count ≤ a.count + b.count
+joined_most : (beyond : ℤ → ℤ → Bool) (a b : Extreme) → (merge beyond a b).count ≤ a.count + b.count
 joined_most beyond a b = elim (cases_Bool (b.count == 0)) [
   | inl e ↦ rw e (omega arith)
   | inr e ↦ elim (cases_Bool (a.count == 0)) [

@@ -12,7 +12,7 @@ use Rattle.vx_base.specs.Image.{new_image}
 use Rattle.vx_base.specs.Object.{no_extremes}
 use Rattle.vx_base.specs.Rectangle.{empty_rectangle, whole_rectangle}
 use Rattle.image_core.specs.Bands.{all_rows}
-use Rattle.graph_steps.specs.declared.step.Source.TheVariants.{Nothing}
+use Rattle.graph_steps.specs.declared.step.SecondSource.TheVariants.{Nothing}
 use Rattle.graph_steps.specs.declared.step.Step.{Step}
 use Rattle.graph_steps.specs.declared.step.Task.{Task}
 use Rattle.graph_steps.specs.declared.step.Task.TheVariants.{Write, Reduce}

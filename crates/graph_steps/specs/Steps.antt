@@ -27,8 +27,8 @@ use Rattle.stat_kernels.specs.Sums.{sum_on}
 use Rattle.node_rows.specs.Radius.{window_radius, matrix_in}
 use Rattle.graph_steps.specs.declared.kernel.Kernel.{Kernel}
 use Rattle.graph_steps.specs.declared.step.Step.{Step}
-use Rattle.graph_steps.specs.declared.step.Source.{Source}
-use Rattle.graph_steps.specs.declared.step.Source.TheVariants.{Nothing, Plane, Table}
+use Rattle.graph_steps.specs.declared.step.SecondSource.{SecondSource}
+use Rattle.graph_steps.specs.declared.step.SecondSource.TheVariants.{Nothing, Plane, Table}
 use Rattle.graph_steps.specs.Planes.{PlaneValue, plane, read_images, plane_image, with_read_rows, with_rows, with_block, without_block, IsReadable, IsWhole, TakesRows}
 
 -- ---- images of steps
@@ -38,7 +38,7 @@ abbrev pub ReadsPlane : Step → ℕ → Type 0
 ReadsPlane s c = (s.first ≡ c) ⊎ (s.second ≡ Plane c)
 
 -- a step's second input: an image, a table, or none
-abbrev pub second_in : List SecondInput → (ℕ → ImageValue) → Source → Option ObjectValue
+abbrev pub second_in : List SecondInput → (ℕ → ImageValue) → SecondSource → Option ObjectValue
 second_in tables images Nothing = None
 second_in tables images (Plane c) = Some (ImageObject (images c))
 second_in tables images (Table k) = option_and_then (λ t. second_object t) (slice_get tables k)
@@ -111,7 +111,7 @@ abbrev pub blank_image : Description → ImageValue
 blank_image d = image_over d empty_rectangle []
 
 -- the plane of the second input, or index 0 if it isn't a plane
-abbrev pub second_plane : Source → ℕ
+abbrev pub second_plane : SecondSource → ℕ
 second_plane (Plane c) = c
 second_plane other = 0
 

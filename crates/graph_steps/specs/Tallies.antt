@@ -8,7 +8,7 @@ use Rattle.vx_base.specs.Statistics.{extremes, histogram, valid_samples}
 use Rattle.image_core.specs.declared.band.Band.{Band}
 use Rattle.image_core.specs.declared.second.SecondInput.{SecondInput}
 use Rattle.stat_kernels.specs.Counts.{bin_sums}
-use Rattle.stat_kernels.specs.Located.{added_extremes}
+use Rattle.stat_kernels.specs.Extreme.{added_extremes}
 use Rattle.stat_kernels.specs.Part.{valid_in}
 use Rattle.graph_steps.specs.declared.step.Reduction.{Reduction}
 use Rattle.graph_steps.specs.declared.step.Task.{Task}

@@ -5,7 +5,7 @@ ghost use Rattle.graph_steps.specs.declared.step.Task.TheVariants.{Write};
 ghost use Rattle.graph_steps.specs.Steps.{ReadsPlane};
 ghost use Rattle.graph_steps.specs.Program.{IsStepOf, AreInOrder, halo, Suffice, IsUnread};
 
-use crate::step::{Source, Step, Task};
+use crate::step::{SecondSource, Step, Task};
 
 /// Raises the halo of a plane to at least `rows`.
 fn raise(halos: &mut [u16], at: usize, rows: u16)
@@ -28,9 +28,9 @@ fn raise_inputs(step: &Step, high: u16, halos: &mut [u16])
     let rows = halos[step.output].saturating_add(step.radius).min(high);
     raise(halos, step.first, rows);
     match step.second {
-        Source::Plane(second) => raise(halos, second, rows),
-        Source::Nothing => {}
-        Source::Table(_) => {}
+        SecondSource::Plane(second) => raise(halos, second, rows),
+        SecondSource::Nothing => {}
+        SecondSource::Table(_) => {}
     }
 }
 

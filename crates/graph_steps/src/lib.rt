@@ -43,5 +43,5 @@ pub use halos::find_halos;
 pub use kernel::{Kernel, run_node};
 pub use one_step::run_step;
 pub use plane::Plane;
-pub use step::{Reduction, Source, Step, Task, step_radius};
+pub use step::{Reduction, SecondSource, Step, Task, step_radius};
 pub use tally::{Histogram, Tally};

@@ -10,7 +10,7 @@ ghost use Rattle.graph_steps.specs.Steps.{after_step};
 
 use crate::kernel::Kernel;
 use crate::plane::Plane;
-use crate::step::{Source, Step};
+use crate::step::{SecondSource, Step};
 use image_core::{Band, SecondInput};
 
 /// Moves a block from one plane to another, or to the same plane. The block then begins with row
@@ -50,7 +50,7 @@ fn write_made(
 {
     let first = planes[step.first].image();
     match step.second {
-        Source::Nothing => {
+        SecondSource::Nothing => {
             let second = SecondInput::Nothing;
             let kernel = Kernel {
                 step,
@@ -59,7 +59,7 @@ fn write_made(
             };
             output.write(&kernel, rows);
         }
-        Source::Plane(at) => {
+        SecondSource::Plane(at) => {
             let second = SecondInput::Image(planes[at].image());
             let kernel = Kernel {
                 step,
@@ -68,7 +68,7 @@ fn write_made(
             };
             output.write(&kernel, rows);
         }
-        Source::Table(at) => {
+        SecondSource::Table(at) => {
             let kernel = Kernel {
                 step,
                 first: &first,
@@ -94,7 +94,7 @@ fn write_integral(step: &Step, rows: Band, planes: &[Plane], output: &mut Plane)
 }
 
 /// Writes rows of the step's output, which has been taken out of `planes`.
-fn write_rows(
+fn write_step_rows(
     tables: &[SecondInput<'_>],
     step: &Step,
     rows: Band,
@@ -121,7 +121,7 @@ fn write_output(tables: &[SecondInput<'_>], step: &Step, rows: Band, planes: &mu
     ensures { planes.new ≡ with_output tables.now step.now rows planes.old }
 {
     let mut output = planes[step.output].take_out();
-    write_rows(tables, step, rows, planes, &mut output);
+    write_step_rows(tables, step, rows, planes, &mut output);
     planes[step.output] = output;
 }
 

@@ -8,7 +8,7 @@ use vx_base::{Convolution, Function, Node, Output};
 
 /// The source of a step's second input.
 #[derive(Clone, Copy, Debug)]
-pub enum Source {
+pub enum SecondSource {
     /// No second input.
     Nothing,
     /// The plane at this index.
@@ -25,7 +25,7 @@ pub struct Step {
     pub which: Output,
     /// The index of the first input's plane.
     pub first: usize,
-    pub second: Source,
+    pub second: SecondSource,
     /// The index of the output's plane.
     pub output: usize,
     /// The plane whose block the output takes over, which may be its own. `None` if the output is a
@@ -64,7 +64,7 @@ impl Step {
             node,
             which,
             first: 0,
-            second: Source::Nothing,
+            second: SecondSource::Nothing,
             output: 0,
             takes: None,
             radius: 0,

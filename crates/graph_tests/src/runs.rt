@@ -121,7 +121,7 @@ fn run_two(
     hold(table, Content::Image(input))?;
     hold(table, Content::Image(output))?;
     hold(table, Content::Graph(Graph::new(alloc)))?;
-    declared.has_sides();
+    declared.prove_sides();
     let through = VirtualImage { graph: 3, declared };
     hold(table, Content::Virtual(through))?;
     table.add_node(3, not(4, 2)?)?;
@@ -198,7 +198,7 @@ fn chain(alloc: Global, input: Stored, output: Stored, declared: PartialDesc) ->
     hold(&mut table, Content::Image(input))?;
     hold(&mut table, Content::Image(output))?;
     hold(&mut table, Content::Graph(Graph::new(alloc)))?;
-    declared.has_sides();
+    declared.prove_sides();
     hold_through(&mut table, declared)?;
     hold_through(&mut table, declared)?;
     hold_through(&mut table, declared)?;

@@ -34,9 +34,9 @@ module _ (is : Reference → Operand) where
     | inr none ↦ (
         let unwritten : (n : Node) → In n all → writes n c ≡ false = λ n i. false_from_ne_true (writes n c) (λ w.
         let stands = virtual_written n done c (writers_done n i w) w (ap is_virtual virtual) in
-        let learnt_of = In-from_map (λ (k : ResolvedOutput). k.cell) c known (subst (λ l. In c l) (sym h.cells) stands) in
-        let differs = none.1 learnt_of.0 learnt_of.1 in
-        let equal = same_cell-is learnt_of.0.cell c (sym learnt_of.2) in cc) in
+        let resolved_of = In-from_map (λ (k : ResolvedOutput). k.cell) c known (subst (λ l. In c l) (sym h.cells) stands) in
+        let differs = none.1 resolved_of.0 resolved_of.1 in
+        let equal = same_cell-is resolved_of.0.cell c (sym resolved_of.2) in cc) in
         ap (λ (o : Option ResolvedOutput). unwrap_or (option_map (λ (k : ResolvedOutput). k.partial_desc) o) declared) none.0 ∙ sym (ap operand_partial_desc virtual) ∙ sym (solves.others c unwritten))
   ]
 
@@ -48,11 +48,11 @@ module _ (is : Reference → Operand) where
 
   -- ---- one more node
 
-  learnt_cells : (cell : Option Reference) (given_to : PartialDescription) → map (λ (k : ResolvedOutput). k.cell) (resolved_output cell (option_map is cell) given_to) ≡ filter (λ c. is_virtual (is c)) (optional_cells cell)
-  learnt_cells cell given_to = grind arith
+  resolved_cells : (cell : Option Reference) (given_to : PartialDescription) → map (λ (k : ResolvedOutput). k.cell) (resolved_output cell (option_map is cell) given_to) ≡ filter (λ c. is_virtual (is c)) (optional_cells cell)
+  resolved_cells cell given_to = grind arith
 
-  learnt_each : (cell : Option Reference) (given_to : PartialDescription) (k : ResolvedOutput) → In k (resolved_output cell (option_map is cell) given_to) → In k.cell (optional_cells cell) × (k.partial_desc ≡ with_defaults (operand_partial_desc (is k.cell)) given_to)
-  learnt_each cell given_to k i = grind arith
+  resolved_each : (cell : Option Reference) (given_to : PartialDescription) (k : ResolvedOutput) → In k (resolved_output cell (option_map is cell) given_to) → In k.cell (optional_cells cell) × (k.partial_desc ≡ with_defaults (operand_partial_desc (is k.cell)) given_to)
+  resolved_each cell given_to k i = grind arith
 
   InTurn-at : (done : List Node) (n : Node) (rest : List Node) → InTurn feeds (done ++ n ∷ rest) → (m : Node) → In m (n ∷ rest) → feeds m n ≡ false
   InTurn-at [] n rest turn = turn.0
@@ -81,7 +81,7 @@ module _ (is : Reference → Operand) where
       e ∙ ap (λ o. with_defaults (operand_partial_desc (is k.cell)) (given_partial_desc n.function o)) first ∙ sym (solves.written n k.cell (In-right n done (n ∷ rest) (inl refl)) (same-from_In k.cell (outputs n) i)) in
       record {
         cells =
-            rw (is_new, map-append, map-append, h.cells, learnt_cells n.out1 gives, learnt_cells n.out2 gives)
+            rw (is_new, map-append, map-append, h.cells, resolved_cells n.out1 gives, resolved_cells n.out2 gives)
             (sym (virtual_outputs-push done n));
         each = (λ k i.
             let new = In-append k (resolved_output n.out1 (option_map is n.out1) gives) (resolved_output n.out2 (option_map is n.out2) gives) in
@@ -93,8 +93,8 @@ module _ (is : Reference → Operand) where
               new,
               h.each k,
               written k,
-              learnt_each n.out1 gives k,
-              learnt_each n.out2 gives k,
+              resolved_each n.out1 gives k,
+              resolved_each n.out2 gives k,
               In-left k.cell (optional_cells n.out1) (optional_cells n.out2),
               In-right k.cell (optional_cells n.out1) (optional_cells n.out2),
             ));
@@ -117,8 +117,8 @@ module _ (is : Reference → Operand) where
       ∙ map-append (λ (k : Linked). k.node) (take i steps) (l ∷ []) in
       let of_l : l.operands ≡ operands_of is l.node = subst (λ (k : Linked). k.operands ≡ operands_of is k.node) (sym read) (operands i l within) in
       let image : IsTrue (is_image l.operands.in1) = subst (λ (k : Linked). IsTrue (is_image k.operands.in1)) (sym read) (images i l within) in
-      let learnt_here = learn_more done rest l known known' (ap two_writers (sym split) ∙ one) (subst (InTurn feeds) split turn) of_l image (subst (λ all. AreLearnt all done known) split h) is_known' in
-      subst (λ all. AreLearnt all (linked_nodes (take (i + 1) steps)) known') (sym split) (subst (λ now. AreLearnt (done ++ l.node ∷ rest) now known') (sym next) learnt_here)
+      let resolved_here = learn_more done rest l known known' (ap two_writers (sym split) ∙ one) (subst (InTurn feeds) split turn) of_l image (subst (λ all. AreLearnt all done known) split h) is_known' in
+      subst (λ all. AreLearnt all (linked_nodes (take (i + 1) steps)) known') (sym split) (subst (λ now. AreLearnt (done ++ l.node ∷ rest) now known') (sym next) resolved_here)
 
   -- ---- all nodes are done
 
@@ -134,12 +134,12 @@ module _ (is : Reference → Operand) where
       }
 
   -- the resolved virtual images are those of all nodes
-  pub learnt_from_known : (all : List Node) (known : List ResolvedOutput) → AreResolved is all known → AreLearnt all all known
-  learnt_from_known all known h = record {
+  pub resolved_from_known : (all : List Node) (known : List ResolvedOutput) → AreResolved is all known → AreLearnt all all known
+  resolved_from_known all known h = record {
     cells = h.cells;
     each = (λ k i. let c = Contains-from_In k known i in subst (λ (j : ResolvedOutput). j.partial_desc ≡ partial_descs is all j.cell) c.2 (h.each c.0 k c.1));
   }
 
   -- the operands of a node
   pub operands_known : (all : List Node) (known : List ResolvedOutput) → Solves all → AreResolved is all known → (l : Linked) → l.operands ≡ operands_of is l.node → known_operands known l ≡ operands_of (resolved_operand is all) l.node
-  operands_known all known solves h l of_l = grind (arith, operand_known all known solves (learnt_from_known all known h), learnt_from_known all known h)
+  operands_known all known solves h l of_l = grind (arith, operand_known all known solves (resolved_from_known all known h), resolved_from_known all known h)

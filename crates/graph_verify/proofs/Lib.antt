@@ -9,7 +9,7 @@ pub mod WaitingLemmas
 pub mod SolutionLemmas
 pub mod PartialDescriptionLemmas
 pub mod KnownLemmas
-pub mod LooseLemmas
+pub mod UnwrittenLemmas
 pub mod VerdictLemmas
 pub mod NodeVerdictLemmas
 pub mod SingleLemmas

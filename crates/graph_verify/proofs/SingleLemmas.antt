@@ -21,9 +21,9 @@ module _ (is : Reference → Operand) where
   abbrev NoneVirtual : List Reference → Type 0
   NoneVirtual cells = list_any (λ c. is_virtual (is c)) cells ≡ false
 
-  none_loose : (nodes : List Node) (cells : List Reference) → NoneVirtual cells → list_any (is_unwritten_image is nodes) cells ≡ false
-  none_loose nodes [] h = refl
-  none_loose nodes (c ∷ cells) h = grind (arith, none_loose nodes cells, cases_Bool (is_virtual (is c)))
+  none_unwritten : (nodes : List Node) (cells : List Reference) → NoneVirtual cells → list_any (is_unwritten_image is nodes) cells ≡ false
+  none_unwritten nodes [] h = refl
+  none_unwritten nodes (c ∷ cells) h = grind (arith, none_unwritten nodes cells, cases_Bool (is_virtual (is c)))
 
   none_written : (cells : List Reference) → NoneVirtual cells → filter (λ c. is_virtual (is c)) cells ≡ []
   none_written [] h = refl
@@ -41,4 +41,4 @@ module _ (is : Reference → Operand) where
 
 pub verdict_on_one : (work : ℕ) (is : Reference → Operand) (n : Node) → list_any (λ c. is_virtual (is c)) (inputs n ++ outputs n) ≡ false → verdict work is (n ∷ []) ≡ verdict_on n (operands_of is n)
 verdict_on_one work is n h =
-    grind (arith, append-nil (outputs n), or-false (list_any (is_unwritten_image is (n ∷ [])) (inputs n)), nothing_fits work, operands_as_they_are is (n ∷ []) n h, cycle_of_one n, or_parts, list_any-append, append-nil, or-false, none_loose, none_written, nothing_fits, operands_as_they_are, cycle_of_one, nothing_more)
+    grind (arith, append-nil (outputs n), or-false (list_any (is_unwritten_image is (n ∷ [])) (inputs n)), nothing_fits work, operands_as_they_are is (n ∷ []) n h, cycle_of_one n, or_parts, list_any-append, append-nil, or-false, none_unwritten, none_written, nothing_fits, operands_as_they_are, cycle_of_one, nothing_more)

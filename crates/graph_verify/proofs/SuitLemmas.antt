@@ -54,8 +54,8 @@ no_fault_suits function o h =
     )
 
 -- operands from the first input and the others
-abbrev pub beside_first : Option Operand → Option Operand → Option Operand → Operand → Operands
-beside_first in2 out1 out2 in1 = record { in1 = in1; in2 = in2; out1 = out1; out2 = out2 }
+abbrev pub elsewhere_first : Option Operand → Option Operand → Option Operand → Operand → Operands
+elsewhere_first in2 out1 out2 in1 = record { in1 = in1; in2 = in2; out1 = out1; out2 = out2 }
 
 -- outputs that suit the first input and a second of this format
 abbrev pub BothSuit : Function → Option Format → Option Operand → Option Operand → ObjectValue → Type 0
@@ -63,9 +63,9 @@ BothSuit function second out1 out2 first = IfSome out1 (Suits function (operand_
 
 -- where the verdict on a node is none, each output suits
 pub verdict_suits : (n : Node) (first : Option ObjectValue) (in2 out1 out2 : Option Operand) (second : Option Format) → option_and_then operand_format in2 ≡ second
-    → option_and_then (verdict_on n) (option_map (beside_first in2 out1 out2) (option_map operand_of first)) ≡ None → IfSome first (BothSuit n.function second out1 out2)
+    → option_and_then (verdict_on n) (option_map (elsewhere_first in2 out1 out2) (option_map operand_of first)) ≡ None → IfSome first (BothSuit n.function second out1 out2)
 verdict_suits n None in2 out1 out2 second e h = tt
 verdict_suits n (Some first) in2 out1 out2 second e h =
     let one_writer = passed (writes_twice n) MultipleWriters _ h in
     let no_cycle = passed (reads_own_output n) InvalidGraph _ one_writer.1 in
-    rw (← e) (no_fault_suits n.function (beside_first in2 out1 out2 (operand_of first)) no_cycle.1)
+    rw (← e) (no_fault_suits n.function (elsewhere_first in2 out1 out2 (operand_of first)) no_cycle.1)

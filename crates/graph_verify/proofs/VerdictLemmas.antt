@@ -7,7 +7,7 @@ use Rattle.std.proofs.lemmas.Bool.{lt-leb}
 pub record CanRun (work : ℕ) (is : Reference → Operand) (nodes : List Node) : Type 0 where
   pub one_writer : two_writers nodes ≡ false
   pub no_cycle : has_cycle feeds nodes ≡ false
-  pub no_loose_end : has_unwritten_input is nodes ≡ false
+  pub no_unwritten_input : has_unwritten_input is nodes ≡ false
   pub no_fault : first_fault (resolved_operand is nodes) nodes ≡ None
   pub room : work_bytes is nodes ≤ work
 
@@ -24,11 +24,11 @@ module _ (work : ℕ) (is : Reference → Operand) (nodes : List Node) (one : tw
   from_links : (loose : Bool) → has_unwritten_input is nodes ≡ loose → verdict work is nodes ≡ (if loose then Some InvalidLink else option_or (first_fault (resolved_operand is nodes) nodes) (where_room work is nodes))
   from_links loose h = grind arith
 
-  pub loose_end : true ≡ has_unwritten_input is nodes → verdict work is nodes ≡ Some InvalidLink
-  loose_end loose = from_links true (sym loose)
+  pub unwritten_input : true ≡ has_unwritten_input is nodes → verdict work is nodes ≡ Some InvalidLink
+  unwritten_input loose = from_links true (sym loose)
 
   pub by_fault : false ≡ has_unwritten_input is nodes → (fault : Option Verdict) → fault ≡ first_fault (resolved_operand is nodes) nodes → verdict work is nodes ≡ option_or fault (where_room work is nodes)
-  by_fault no_loose_end fault h = from_links false (sym no_loose_end) ∙ ap (λ f. option_or f (where_room work is nodes)) (sym h)
+  by_fault no_unwritten_input fault h = from_links false (sym no_unwritten_input) ∙ ap (λ f. option_or f (where_room work is nodes)) (sym h)
 
 pub too_large : (work : ℕ) (is : Reference → Operand) (nodes : List Node) → work < work_bytes is nodes → where_room work is nodes ≡ Some NoResources
 too_large work is nodes more = ap (λ b. if b then None else Some NoResources) (lt-leb (work_bytes is nodes) work more)

@@ -11,11 +11,11 @@ use Rattle.graph_verify.specs.declared.verified.Verified.{Verified}
 use Rattle.graph_verify.specs.Operand.{virtual_bytes, operand_description}
 use Rattle.graph_verify.specs.PartialDescriptions.{virtual_or_image}
 use Rattle.graph_verify.specs.Verified.{IsVerified, written_description}
-use Rattle.graph_verify.proofs.KnownLemmas.{find_cases, learnt_from_known, operands_known}
+use Rattle.graph_verify.proofs.KnownLemmas.{find_cases, resolved_from_known, operands_known}
 use Rattle.graph_verify.proofs.LinkLemmas.{two_writers-permutation, same-from_In, same_cell-true, same_cell-is, In-outputs}
 use Rattle.graph_verify.proofs.MemberLemmas.{In-at, In-from_any, any-from_In, In-filter, AllIn-permutation, Contains-from_In, In-map, In-from_map, In-from_filter, In-from_flat_map, AllIn-permutation_back}
 use Rattle.graph_verify.proofs.OrderLemmas.{IsOrder-map, no_cycle_from_order}
-use Rattle.graph_verify.proofs.VerdictLemmas.{where_room, loose_end, by_fault}
+use Rattle.graph_verify.proofs.VerdictLemmas.{where_room, unwritten_input, by_fault}
 use Rattle.graph_verify.proofs.PartialDescriptionLemmas.{outlines_solve, no_cycle_in_steps, resolved-order, image_outline}
 
 -- ---- the bytes of the virtual images
@@ -61,7 +61,7 @@ module _ (is : Reference → Operand) where
 
   -- the resolved description of a virtual image is that of the rounds
   pub known_resolved : (all : List Node) (known : List ResolvedOutput) → AreResolved is all known → (k : ResolvedOutput) → In k known → virtual_or_image k.partial_desc (full_description k.partial_desc) ≡ resolved_operand is all k.cell
-  known_resolved all known h k i = grind (arith, learnt_from_known is all known h, virtual_resolved all k.cell (is k.cell) (known_virtual all known h k i), known_virtual all known h k i)
+  known_resolved all known h k i = grind (arith, resolved_from_known is all known h, virtual_resolved all k.cell (is k.cell) (known_virtual all known h k i), known_virtual all known h k i)
 
   pub all_bytes : (nodes steps : List Node) (known : List ResolvedOutput) → two_writers nodes ≡ false → IsOrder feeds nodes steps → AreResolved is steps known
       → sum_by (λ (o : VirtualOutput). byte_count o.desc) (filter_map described_output known) ≡ work_bytes is nodes
@@ -129,7 +129,7 @@ module _ (is : Reference → Operand) where
       let stands = In-from_filter (λ c. is_virtual (is c)) k.cell (flat_map outputs all) (subst (In k.cell) h.cells (In-map (λ (j : ResolvedOutput). j.cell) k known i)) in
       let writer = In-from_flat_map outputs k.cell all stands.0 in
       let d = output_closed all solves writer.0 writer.1 (images writer.0 writer.1) (sound writer.0 writer.1) k.cell (same-from_In k.cell (outputs writer.0) writer.2) in
-      (d.0, ap full_description ((learnt_from_known is all known h).each k i) ∙ d.1)
+      (d.0, ap full_description ((resolved_from_known is all known h).each k i) ∙ d.1)
 
 described_cells : (known : List ResolvedOutput) → ((k : ResolvedOutput) → In k known → (d : Description) × (full_description k.partial_desc ≡ Some d)) → map (λ (o : VirtualOutput). o.cell) (filter_map described_output known) ≡ map (λ (k : ResolvedOutput). k.cell) known
 described_cells [] all = refl
@@ -160,8 +160,8 @@ module _ (nodes steps : List Linked) (one : two_writers (linked_nodes nodes) ≡
   nodes_no_cycle : has_cycle feeds (linked_nodes nodes) ≡ false
   nodes_no_cycle = no_cycle_from_order feeds (linked_nodes nodes) (linked_nodes steps) nodes_order
 
-  pub loose_end_found : (work : ℕ) (is : Reference → Operand) → true ≡ has_unwritten_input is (linked_nodes nodes) → verdict work is (linked_nodes nodes) ≡ Some InvalidLink
-  loose_end_found work is loose = loose_end work is (linked_nodes nodes) one nodes_no_cycle loose
+  pub unwritten_input_found : (work : ℕ) (is : Reference → Operand) → true ≡ has_unwritten_input is (linked_nodes nodes) → verdict work is (linked_nodes nodes) ≡ Some InvalidLink
+  unwritten_input_found work is loose = unwritten_input work is (linked_nodes nodes) one nodes_no_cycle loose
 
   steps_operands : (is : Reference → Operand) → AreOperands is nodes → AreOperands is steps
   steps_operands is operands = All-permutation (λ (l : Linked). l.operands ≡ operands_of is l.node) nodes steps order.same_nodes operands
@@ -186,7 +186,7 @@ module _ (nodes steps : List Linked) (one : two_writers (linked_nodes nodes) ≡
 
   pub verdict_found : (work : ℕ) (is : Reference → Operand) (known seen : List ResolvedOutput) (fault : Option Verdict) → AreOperands is nodes → Told known → seen ≡ known → Finds seen fault
       → false ≡ has_unwritten_input is (linked_nodes nodes) → verdict work is (linked_nodes nodes) ≡ option_or fault (where_room work is (linked_nodes nodes))
-  verdict_found work is known seen fault operands told same finds no_loose_end = search (rules, by_fault, nodes_no_cycle, found_fault)
+  verdict_found work is known seen fault operands told same finds no_unwritten_input = search (rules, by_fault, nodes_no_cycle, found_fault)
 
   pub bytes_found : (is : Reference → Operand) (known : List ResolvedOutput) (outputs : List VirtualOutput) → AreOperands is nodes → Told known → outputs ≡ filter_map described_output known → sum_by (λ o. byte_count o.desc) outputs ≡ work_bytes is (linked_nodes nodes)
   bytes_found is known outputs operands told is_outputs =

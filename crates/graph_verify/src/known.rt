@@ -84,7 +84,7 @@ fn all_unknown() -> PartialDesc
 fn given_partial_desc(function: Function, first: PartialDesc) -> PartialDesc
     ensures { result ≡ given_partial_desc function first }
 {
-    first.has_sides();
+    first.prove_sides();
     let format = first.format().map(|format| function.open_format(format));
     PartialDesc::new(first.width(), first.height(), format).unwrap()
 }
@@ -96,7 +96,7 @@ fn learn_cell(
     operand: Operand,
     given: PartialDesc,
 ) -> Result<(), AllocError>
-    ensures learnt { OnOk result (known.new.items
+    ensures resolved { OnOk result (known.new.items
         ≡ known.old.items ++ resolved_output (Some cell) (Some operand) given) }
     ensures limit { OnOk result (length known.new.items ≤ length known.old.items + 1) }
 {
@@ -117,7 +117,7 @@ fn learn_output(
     operand: Option<Operand>,
     given: PartialDesc,
 ) -> Result<(), AllocError>
-    ensures learnt { OnOk result (known.new.items ≡ known.old.items
+    ensures resolved { OnOk result (known.new.items ≡ known.old.items
         ++ resolved_output cell operand given) }
     ensures limit { OnOk result (length known.new.items ≤ length known.old.items + 1) }
 {
@@ -129,7 +129,7 @@ fn learn_output(
 
 /// Resolves the outputs of a node.
 fn learn(known: &mut Vec<ResolvedOutput>, linked: &Linked) -> Result<(), AllocError>
-    ensures learnt { OnOk result (known.new.items
+    ensures resolved { OnOk result (known.new.items
         ≡ known.old.items ++ resolved_by known.old.items linked.now) }
     ensures limit { OnOk result (length known.new.items ≤ length known.old.items + 2) }
 {

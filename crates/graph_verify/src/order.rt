@@ -77,7 +77,7 @@ fn first_ready(rest: &[Waiting<'_>]) -> Option<usize>
 }
 
 /// Updates the remaining nodes after one is ordered.
-fn settle(rest: &mut [Waiting<'_>], ordered: &Node)
+fn update_waiting(rest: &mut [Waiting<'_>], ordered: &Node)
     ensures { rest.new ≡ map (once_ordered ordered.now) rest.old }
 {
     for waiting in rest.iter_mut() {
@@ -86,7 +86,7 @@ fn settle(rest: &mut [Waiting<'_>], ordered: &Node)
 }
 
 /// Removes the node at an index, which comes next in the order, and updates the remaining ones.
-fn take_out(rest: &mut Vec<Waiting<'_>>, index: usize) -> Linked
+fn take_ready(rest: &mut Vec<Waiting<'_>>, index: usize) -> Linked
     requires { index < length rest.old.items }
     ensures ordered { (d : WaitingNode) → result ≡ (slice_index_or rest.old.items index d).linked }
     ensures fewer { length rest.new.items + 1 ≡ length rest.old.items }
@@ -94,7 +94,7 @@ fn take_out(rest: &mut Vec<Waiting<'_>>, index: usize) -> Linked
 {
     let waiting = rest.remove(index);
     let ordered = *waiting.linked;
-    settle(rest.as_mut_slice(), &ordered.node);
+    update_waiting(rest.as_mut_slice(), &ordered.node);
     ordered
 }
 
@@ -113,7 +113,7 @@ pub fn put_in_order(alloc: Global, nodes: &[Linked]) -> Result<Option<Vec<Linked
         let Some(index) = first_ready(&rest) else {
             return Ok(None);
         };
-        let ordered = take_out(&mut rest, index);
+        let ordered = take_ready(&mut rest, index);
         steps.push(ordered)?;
     }
     Ok(Some(steps))

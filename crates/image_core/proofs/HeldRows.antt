@@ -145,8 +145,8 @@ module _ (a : ImageValue) (rows : Band) (room : IsInRows a.height rows) where
       | inl e ↦ subst (IsSample a.format) (sym (at_held_in x y across e)) (is.sampled x y across low)
       | inr e ↦ subst (IsSample a.format) (sym (absent x y across low e)) (zero_sample a.format)
     ]);
-    outside = (λ x y across low beside. elim (cases_Bool (has_row rows y)) [
-      | inl e ↦ at_held_in x y across e ∙ is.outside x y across low beside
+    outside = (λ x y across low elsewhere. elim (cases_Bool (has_row rows y)) [
+      | inl e ↦ at_held_in x y across e ∙ is.outside x y across low elsewhere
       | inr e ↦ absent x y across low e
     ]);
   }

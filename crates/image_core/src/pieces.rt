@@ -19,7 +19,7 @@ pub fn write_pieces<T: Number, S, F: RowFormula<T, S>>(
     requires scratch { F.room formula.now ≤ length scratch.old }
     ensures { map T.value out.new ≡ run x (length out.old) (λ k. F.at formula.now k y) }
 {
-    formula.area().is_rectangle();
+    formula.area().prove_bounds();
     let most = usize::from(formula.most());
     let count = out.len();
     for k in 0..count.div_ceil(most) {

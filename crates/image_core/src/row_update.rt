@@ -29,11 +29,11 @@ pub trait RowUpdate<T: Number> {
 
 /// An update that leaves the samples of a rectangle unchanged.
 #[derive(Drop)]
-pub struct Kept {
+pub struct Unchanged {
     pub area: Rect,
 }
 
-impl<T: Number> RowUpdate<T> for Kept {
+impl<T: Number> RowUpdate<T> for Unchanged {
     ghost next = { λ _ _ _ z. z };
 
     ghost area = { λ s. s.area };

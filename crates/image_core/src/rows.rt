@@ -6,7 +6,7 @@ ghost use Rattle.image_core.specs.Rows.{sample_from};
 use crate::band::Band;
 use crate::number::Number;
 use crate::row_change::{RowChange, Updated};
-use crate::row_update::Kept;
+use crate::row_update::Unchanged;
 use vx_base::Rect;
 
 /// Sets all samples to one value.
@@ -103,6 +103,6 @@ pub fn clear_rows<T: Number>(valid: Rect, width: u16, rows: Band, samples: &mut 
     ensures { map T.value samples.new ≡ band width rows.start rows.count
         (zero_outside valid (sample_from width rows.start (map T.value samples.old))) }
 {
-    let kept = Kept { area: valid };
+    let kept = Unchanged { area: valid };
     change_rows(&Updated { update: &kept }, width, rows, &mut [], samples);
 }

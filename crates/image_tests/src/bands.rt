@@ -78,7 +78,7 @@ fn sums_go_on(rt: HostRuntime) {
 
 /// Returns counts in three bins after the two lower rows were added, and these extremes merged with
 /// those of the two rows, which lie four rows further down.
-fn beside_others(above: Extremes) -> Option<([u32; 3], Extremes)>
+fn merge_others(above: Extremes) -> Option<([u32; 3], Extremes)>
     requires least { above.min_count < 2 ^ 16 }
     requires greatest { above.max_count < 2 ^ 16 }
 {
@@ -107,7 +107,7 @@ fn counts_and_extremes_of_bands(rt: HostRuntime) {
         max_at: (2, 5),
         ..above
     };
-    assert!(rt; beside_others(above) == Some(([7, 3, 4], joined)));
+    assert!(rt; merge_others(above) == Some(([7, 3, 4], joined)));
 }
 
 /// Returns a row of the horizontal gradient, and a row of the vertical one.

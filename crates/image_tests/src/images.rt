@@ -42,7 +42,7 @@ fn clear_to(image: &mut ImageMut<'_>, valid: Rect)
 }
 
 /// States for the prover that each sample is a byte.
-fn are_bytes(samples: &[u8])
+fn prove_bytes(samples: &[u8])
     ensures { (k : ℕ) → get_or samples.now k 0 < 256 }
 {}
 
@@ -54,10 +54,10 @@ pub fn lend(desc: Desc, valid: Rect, samples: &mut [u8]) -> Image<'_>
     ensures desc { description_of result ≡ desc }
     ensures image { IsImage result }
 {
-    valid.is_rectangle();
-    desc.has_sides();
+    valid.prove_bounds();
+    desc.prove_sides();
     clear(desc, valid, samples);
-    are_bytes(samples);
+    prove_bytes(samples);
     Image::new(desc, valid, samples)
 }
 

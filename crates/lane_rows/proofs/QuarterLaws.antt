@@ -2,7 +2,7 @@
 use Rattle.std.proofs.Common.{◌≡◌, ℕ, ◌+◌, ◌<◌, ◌≤◌, List, [], ◌∷◌, ◌++◌, map, length, refl, ap, ◌∙◌, sym, subst, arith}
 use Rattle.lane_rows.proofs.Common.{zip2, Each1, pick_l, chunk, number_l, digits_l, range_with_len, length-chunk, swap_quarters}
 use Rattle.std.proofs.lemmas.Simd.{pick_l_whole, Each1-chunk}
-use Rattle.lane_rows.proofs.DigitLaws.{places, number_below, recast}
+use Rattle.lane_rows.proofs.DigitLaws.{weight, number_below, recast}
 
 -- what holds of sixteen items that are written out holds of each list of sixteen
 pub written_out : {A : Type 0} (d : A) (P : List A → Type 0) (xs : List A) → length xs ≡ 16 → P (pick_l d xs (range_with_len 0 16)) → P xs
@@ -44,7 +44,7 @@ same_number : (xs : List ℕ) → length xs ≡ 16 → number_l 65536 xs ≡ num
 same_number xs long = written_out 0 (λ u. number_l 65536 u ≡ number_l 18446744073709551616 (fours u)) xs long (omega arith)
 
 four_below : (xs : List ℕ) (i : ℕ) → length (chunk i 4 xs) ≡ 4 → Each1 (λ x. x < 65536) xs → four xs i < 18446744073709551616
-four_below xs i long all = subst (λ n. four xs i < places 65536 n) long (number_below 65536 (chunk i 4 xs) (Each1-chunk (λ x. x < 65536) i 4 xs all))
+four_below xs i long all = subst (λ n. four xs i < weight 65536 n) long (number_below 65536 (chunk i 4 xs) (Each1-chunk (λ x. x < 65536) i 4 xs all))
 
 fours_below : (xs : List ℕ) → length xs ≡ 16 → Each1 (λ x. x < 65536) xs → Each1 (λ x. x < 18446744073709551616) (fours xs)
 fours_below xs long all =

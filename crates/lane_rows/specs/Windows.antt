@@ -19,8 +19,8 @@ abbrev pub nine_at : Nine → ℕ → List ℤ
 nine_at nine i = nine_of (three_of nine.above i) (three_of nine.here i) (three_of nine.below i)
 
 -- the number of windows
-abbrev pub place_count : Nine → ℕ
-place_count nine = length nine.above.left.now
+abbrev pub window_count : Nine → ℕ
+window_count nine = length nine.above.left.now
 
 -- three items of a row, from item i on
 abbrev pub three_from : List ℕ → ℕ → ℕ × ℕ × ℕ

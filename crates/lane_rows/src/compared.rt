@@ -6,7 +6,7 @@ ghost use Rattle.vx_base.specs.Statistics.{count_of};
 
 use crate::item::Short;
 use std::simd::prelude::*;
-use vx_base::are_shorts;
+use vx_base::prove_shorts;
 
 /// An item type with an order: `u8` or `i16`.
 pub trait Compared: Short {
@@ -59,7 +59,7 @@ impl Compared for i16 {
     }
 
     fn count_in(self, block: &[i16]) -> u32 {
-        are_shorts(block);
+        prove_shorts(block);
         let matches = i16x32::from_slice(block).simd_eq(i16x32::splat(self));
         matches.to_bitmask().count_ones()
     }

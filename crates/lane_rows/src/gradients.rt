@@ -3,7 +3,7 @@ ghost use Rattle.std.specs.Prelude.{◌≡◌, ◌+◌, ◌*◌, ◌≤◌, ℕ,
 ghost use Rattle.std.specs.List.{range_with_len};
 ghost use Rattle.vx_base.specs.Image.{run};
 ghost use Rattle.vx_base.specs.Window.{gradient_x, gradient_y};
-ghost use Rattle.lane_rows.specs.Windows.{nine_at, place_count, change};
+ghost use Rattle.lane_rows.specs.Windows.{nine_at, window_count, change};
 
 use crate::nine::{OfNine, ThreeItems, write_nine};
 use crate::nine_rows::{Nine, three_lanes};
@@ -78,7 +78,7 @@ impl OfNine<i16> for GradientY {
 
 /// Writes the horizontal gradient of each window.
 pub fn sobel_x(nine: &Nine<'_>, out: &mut [i16])
-    requires { place_count nine.now ≡ length out.old }
+    requires { window_count nine.now ≡ length out.old }
     ensures { out.new ≡ run 0 (length out.old) (λ i. gradient_x (nine_at nine.now i)) }
 {
     write_nine(&GradientX, nine, out);
@@ -86,7 +86,7 @@ pub fn sobel_x(nine: &Nine<'_>, out: &mut [i16])
 
 /// Writes the vertical gradient of each window.
 pub fn sobel_y(nine: &Nine<'_>, out: &mut [i16])
-    requires { place_count nine.now ≡ length out.old }
+    requires { window_count nine.now ≡ length out.old }
     ensures { out.new ≡ run 0 (length out.old) (λ i. gradient_y (nine_at nine.now i)) }
 {
     write_nine(&GradientY, nine, out);

@@ -4,7 +4,7 @@ ghost use Rattle.std.specs.Int.{w16};
 ghost use Rattle.std.specs.Simd.Lanes.{Each1};
 
 use std::simd::prelude::*;
-use vx_base::are_shorts;
+use vx_base::prove_shorts;
 
 /// The number type of a row's items.
 pub trait Item: Copy {
@@ -53,7 +53,7 @@ impl Short for i16 {
     }
 
     fn shorts(block: &[i16]) -> i16x16 {
-        are_shorts(block);
+        prove_shorts(block);
         i16x16::from_slice(block)
     }
 }
@@ -64,6 +64,6 @@ pub fn shorts_of(block: &[i16]) -> i16x32
     ensures value { result ≡ block.now }
     ensures fits { Each1 (FitsSigned w16) result }
 {
-    are_shorts(block);
+    prove_shorts(block);
     i16x32::from_slice(block)
 }

@@ -18,7 +18,7 @@
 //!   item occurs, and its first index
 //! - `tallies`: a histogram of the bytes of a row
 //! - `running`: running sums of a row, added to the sums of the row above
-//! - `places`: rows that are written in blocks of 32 items; the last block may overlap the one
+//! - `indexed`: rows that are written in blocks of 32 items; the last block may overlap the one
 //!   before
 //! - `nine_rows`, `nine`: windows of 3 x 3 samples as nine rows, and kernels of them
 //! - `ranks`, `gradients`: the kernels of 3 x 3 windows, and minima and maxima of three rows
@@ -73,6 +73,7 @@ mod distances;
 mod extent;
 mod extremes;
 mod gradients;
+mod indexed;
 mod item;
 mod items;
 mod kernel;
@@ -82,7 +83,6 @@ mod nine_rows;
 mod occurrences;
 mod overflow;
 mod pairs;
-mod places;
 mod products;
 mod ranks;
 mod rows;

@@ -1,12 +1,12 @@
 //! Kernels of the nine samples of 3 x 3 windows.
 ghost use Rattle.std.specs.Prelude.{◌≡◌, ◌+◌, ◌<◌, ◌≤◌, ℕ, ℤ, List, map, length};
 ghost use Rattle.vx_base.specs.Image.{run};
-ghost use Rattle.lane_rows.specs.Windows.{three_of, nine_of, nine_at, place_count};
+ghost use Rattle.lane_rows.specs.Windows.{three_of, nine_of, nine_at, window_count};
 ghost use Rattle.lane_rows.specs.Windows.{three_from, nine_from};
 
+use crate::indexed::{Indexed, write_indexed};
 use crate::item::Item;
 use crate::nine_rows::{Nine, Three};
-use crate::places::{AtPlaces, write_places};
 
 /// Three samples, from left to right or from top to bottom.
 pub type ThreeItems = (u8, u8, u8);
@@ -21,7 +21,7 @@ pub trait OfNine<T: Item> {
 
     /// Writes the results of 32 windows, from the index `place` on.
     fn lanes(&self, nine: &Nine<'_>, place: usize, out: &mut [T])
-        requires room { place + 32 ≤ place_count nine.now }
+        requires room { place + 32 ≤ window_count nine.now }
         requires out_len { length out.old ≡ 32 }
         ensures { map T.value out.new ≡ run place 32
             (λ i. formula self.now (nine_at nine.now i)) };
@@ -59,8 +59,8 @@ impl<'a> Nine<'a> {
         requires some { 2 ≤ length above.now }
         requires here { length here.now ≡ length above.now }
         requires below { length below.now ≡ length above.now }
-        ensures len { place_count result + 2 ≡ length above.now }
-        ensures value { (i : ℕ) → i < place_count result →
+        ensures len { window_count result + 2 ≡ length above.now }
+        ensures value { (i : ℕ) → i < window_count result →
             nine_at result i ≡ nine_from above.now here.now below.now i }
     {
         Nine {
@@ -78,8 +78,8 @@ struct NineAt<'a, 'b, K> {
     nine: &'a Nine<'b>,
 }
 
-impl<T: Item, K: OfNine<T>> AtPlaces<T> for NineAt<'_, '_, K> {
-    ghost count = { λ s. place_count s.nine.now };
+impl<T: Item, K: OfNine<T>> Indexed<T> for NineAt<'_, '_, K> {
+    ghost count = { λ s. window_count s.nine.now };
 
     ghost at = { λ s i. K.formula s.kernel.now (nine_at s.nine.now i) };
 
@@ -96,9 +96,9 @@ impl<T: Item, K: OfNine<T>> AtPlaces<T> for NineAt<'_, '_, K> {
 
 /// Writes the kernel's result for each window of nine rows.
 pub fn write_nine<T: Item, K: OfNine<T>>(kernel: &K, nine: &Nine<'_>, out: &mut [T])
-    requires { place_count nine.now ≡ length out.old }
+    requires { window_count nine.now ≡ length out.old }
     ensures { map T.value out.new ≡ run 0 (length out.old)
         (λ i. K.formula kernel.now (nine_at nine.now i)) }
 {
-    write_places(&NineAt { kernel, nine }, out);
+    write_indexed(&NineAt { kernel, nine }, out);
 }

@@ -5,16 +5,16 @@ ghost use Rattle.std.specs.Int.{int_min, int_max};
 ghost use Rattle.std.specs.Simd.Lanes.{zip2};
 ghost use Rattle.vx_base.specs.Image.{run};
 ghost use Rattle.vx_base.specs.Window.{least_of, greatest_of, median};
-ghost use Rattle.lane_rows.specs.Windows.{nine_at, place_count};
+ghost use Rattle.lane_rows.specs.Windows.{nine_at, window_count};
 ghost use Rattle.lane_rows.specs.Ranks.{chosen_of_nine, middle_of_three, middle_of_nine};
 ghost use Rattle.lane_rows.specs.RankLaws.{least_is_least, greatest_is_greatest};
 ghost use Rattle.lane_rows.specs.RankLaws.{lesser_number, greater_number};
 ghost use Rattle.lane_rows.specs.Threes.{chosen_at};
 
 use crate::columns::OfColumn;
+use crate::indexed::{Indexed, write_indexed};
 use crate::nine::{OfNine, ThreeItems, write_nine};
 use crate::nine_rows::{Nine, Three, ThreeLanes, three_lanes};
-use crate::places::{AtPlaces, write_places};
 use crate::stores::store_32_bytes;
 use std::marker::PhantomData;
 use std::simd::prelude::*;
@@ -124,7 +124,7 @@ struct ChosenAt<'a, 'b, C> {
     rows: &'a Three<'b>,
 }
 
-impl<C: Choice> AtPlaces<u8> for ChosenAt<'_, '_, C> {
+impl<C: Choice> Indexed<u8> for ChosenAt<'_, '_, C> {
     ghost count = { λ s. length s.rows.now.left.now };
 
     ghost at = { λ s. chosen_at C.of_numbers s.rows.now };
@@ -164,7 +164,7 @@ impl<C: Choice> OfColumn<u8, u8> for ByChoice<C> {
             choice: PhantomData,
             rows: &rows,
         };
-        write_places(&row, out);
+        write_indexed(&row, out);
     }
 }
 
@@ -249,7 +249,7 @@ fn medians(above: ThreeLanes, here: ThreeLanes, below: ThreeLanes) -> u8x32
 
 /// Writes the least sample of each window.
 pub fn min9(nine: &Nine<'_>, out: &mut [u8])
-    requires { place_count nine.now ≡ length out.old }
+    requires { window_count nine.now ≡ length out.old }
     ensures { map pos out.new ≡ run 0 (length out.old) (λ i. least_of (nine_at nine.now i)) }
 {
     write_nine(&Least, nine, out);
@@ -257,7 +257,7 @@ pub fn min9(nine: &Nine<'_>, out: &mut [u8])
 
 /// Writes the greatest sample of each window.
 pub fn max9(nine: &Nine<'_>, out: &mut [u8])
-    requires { place_count nine.now ≡ length out.old }
+    requires { window_count nine.now ≡ length out.old }
     ensures { map pos out.new ≡ run 0 (length out.old) (λ i. greatest_of (nine_at nine.now i)) }
 {
     write_nine(&Greatest, nine, out);
@@ -266,7 +266,7 @@ pub fn max9(nine: &Nine<'_>, out: &mut [u8])
 /// Writes the median of each window: a sample with at most four smaller and at most four greater
 /// ones.
 pub fn median9(nine: &Nine<'_>, out: &mut [u8])
-    requires { place_count nine.now ≡ length out.old }
+    requires { window_count nine.now ≡ length out.old }
     ensures { map pos out.new ≡ run 0 (length out.old) (λ i. median (nine_at nine.now i)) }
 {
     write_nine(&Median, nine, out);

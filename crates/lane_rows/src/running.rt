@@ -35,7 +35,7 @@ const TWICE: [usize; 16] = [0, 1, 2, 3, 4, 5, 6, 7, 0, 1, 2, 3, 4, 5, 6, 7];
 /// Writes the sums of the first blocks, and returns the total of the row's items in them.
 ///
 /// The total stays in lanes, so that the next block doesn't wait for the sums to be stored.
-fn add_blocks(row: &[u8], above: &[u32], blocks: usize, out: &mut [u32]) -> u32
+fn write_block_sums(row: &[u8], above: &[u32], blocks: usize, out: &mut [u32]) -> u32
     requires above_len { length above.now ≡ length row.now }
     requires out_len { length out.old ≡ length row.now }
     requires inside { 16 * blocks ≤ length row.now }
@@ -61,7 +61,7 @@ pub fn running_sums(row: &[u8], above: &[u32], out: &mut [u32])
     ensures { out.new ≡ sums_below above.now row.now }
 {
     let blocks = row.len() / 16;
-    let mut total = add_blocks(row, above, blocks, out);
+    let mut total = write_block_sums(row, above, blocks, out);
     for k in 16 * blocks..row.len() {
         total = total.wrapping_add(u32::from(row[k]));
         out[k] = above[k].wrapping_add(total);

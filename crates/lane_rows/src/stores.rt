@@ -9,7 +9,7 @@ ghost use Rattle.std.specs.Prelude.{◌≡◌, pos, map, length};
 use crate::items::map_items;
 use crate::kernel::OfItem;
 use std::simd::prelude::*;
-use vx_base::are_shorts;
+use vx_base::prove_shorts;
 
 /// Writes the kernel's results for 16 bytes.
 fn store_sixteen<K: OfItem<u8, u8>>(kernel: &K, row: &[u8], out: &mut [u8])
@@ -53,7 +53,7 @@ pub fn store_16_shorts(items: [i16; 16], out: &mut [i16])
     requires { length out.old ≡ 16 }
     ensures { out.new ≡ items }
 {
-    are_shorts(&items);
+    prove_shorts(&items);
     let lanes = i16x16::from_array(items);
     let (out, out_rest) = out.split_at_mut(8);
     lanes.extract::<0, 8>().copy_to_slice(out);
@@ -66,7 +66,7 @@ pub fn store_32_shorts(items: [i16; 32], out: &mut [i16])
     requires { length out.old ≡ 32 }
     ensures { out.new ≡ items }
 {
-    are_shorts(&items);
+    prove_shorts(&items);
     let lanes = i16x32::from_array(items);
     let (out, out_rest) = out.split_at_mut(16);
     store_16_shorts(lanes.extract::<0, 16>().to_array(), out);

@@ -9,8 +9,8 @@ ghost use Rattle.lane_rows.specs.Threes.{IsUpTo, AreUpTo, number_at, zip3};
 ghost use Rattle.lane_rows.specs.Limits.{greatest_addend, greatest_sum, greatest_weighted_sum};
 
 use crate::columns::OfColumn;
+use crate::indexed::{Indexed, write_indexed};
 use crate::item::Item;
-use crate::places::{AtPlaces, write_places};
 use std::marker::PhantomData;
 use std::simd::prelude::*;
 
@@ -49,7 +49,7 @@ impl Addend for i16 {
 }
 
 /// A number type in which sums and means are stored: `u8` or `i16`.
-pub trait Stored: Item {
+pub trait SumItem: Item {
     /// The greatest number that can be stored.
     ghost most: { ℕ };
 
@@ -61,7 +61,7 @@ pub trait Stored: Item {
         ensures { map Self.value out.new ≡ map pos numbers };
 }
 
-impl Stored for u8 {
+impl SumItem for u8 {
     ghost most = { 255 };
 
     fn store(numbers: u16x32, out: &mut [u8]) {
@@ -69,7 +69,7 @@ impl Stored for u8 {
     }
 }
 
-impl Stored for i16 {
+impl SumItem for i16 {
     ghost most = { 32767 };
 
     fn store(numbers: u16x32, out: &mut [i16]) {
@@ -78,7 +78,7 @@ impl Stored for i16 {
 }
 
 /// A kernel of three numbers.
-trait OfThree<T: Stored> {
+trait OfThree<T: SumItem> {
     /// The greatest number that it accepts; the least is 0.
     ghost limit: { ℕ };
 
@@ -101,7 +101,7 @@ trait OfThree<T: Stored> {
 
 /// A kernel's results for three rows.
 #[derive(Drop)]
-struct ThreeAt<'a, A: Addend, T: Stored, K: OfThree<T>> {
+struct ThreeAt<'a, A: Addend, T: SumItem, K: OfThree<T>> {
     kernel: PhantomData<(T, K)>,
     first: &'a [A],
     second: &'a [A],
@@ -113,7 +113,7 @@ struct ThreeAt<'a, A: Addend, T: Stored, K: OfThree<T>> {
 }
 
 /// Returns the kernel's result for three items.
-fn of_items<A: Addend, T: Stored, K: OfThree<T>>(a: A, b: A, c: A) -> T
+fn of_items<A: Addend, T: SumItem, K: OfThree<T>>(a: A, b: A, c: A) -> T
     requires { IsUpTo K.limit (A.value a) × IsUpTo K.limit (A.value b)
         × IsUpTo K.limit (A.value c) }
     ensures { T.value result ≡ K.formula (A.value a) (A.value b) (A.value c) }
@@ -121,7 +121,7 @@ fn of_items<A: Addend, T: Stored, K: OfThree<T>>(a: A, b: A, c: A) -> T
     K::of_three(a.number(), b.number(), c.number())
 }
 
-impl<A: Addend, T: Stored, K: OfThree<T>> AtPlaces<T> for ThreeAt<'_, A, T, K> {
+impl<A: Addend, T: SumItem, K: OfThree<T>> Indexed<T> for ThreeAt<'_, A, T, K> {
     ghost count = { λ s. length s.first.now };
 
     ghost at = { λ s i. K.formula (number_at (map A.value s.first.now) i)
@@ -141,7 +141,7 @@ impl<A: Addend, T: Stored, K: OfThree<T>> AtPlaces<T> for ThreeAt<'_, A, T, K> {
     }
 }
 
-impl<A: Addend, T: Stored, K: OfThree<T>> OfColumn<A, T> for K {
+impl<A: Addend, T: SumItem, K: OfThree<T>> OfColumn<A, T> for K {
     ghost formula = { K.OfThree.formula };
 
     ghost takes = { IsUpTo K.limit };
@@ -157,7 +157,7 @@ impl<A: Addend, T: Stored, K: OfThree<T>> OfColumn<A, T> for K {
             second,
             third,
         };
-        write_places(&row, out);
+        write_indexed(&row, out);
     }
 }
 

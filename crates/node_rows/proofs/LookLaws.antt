@@ -7,13 +7,13 @@ use Rattle.vx_base.specs.Window.{total}
 
 -- ---- what a window reads, for a rectangle and a function of pixels
 
-abbrev pub beside_of : Rectangle → (ℕ → ℕ → ℤ) → Border → ℤ → ℤ → ℤ
-beside_of r f Undefined x y = pos 0
-beside_of r f (Constant value) x y = pos value
-beside_of r f Replicate x y = f (clamp_coordinate r.x0 r.x1 x) (clamp_coordinate r.y0 r.y1 y)
+abbrev pub elsewhere_of : Rectangle → (ℕ → ℕ → ℤ) → Border → ℤ → ℤ → ℤ
+elsewhere_of r f Undefined x y = pos 0
+elsewhere_of r f (Constant value) x y = pos value
+elsewhere_of r f Replicate x y = f (clamp_coordinate r.x0 r.x1 x) (clamp_coordinate r.y0 r.y1 y)
 
 abbrev pub look_of : Rectangle → (ℕ → ℕ → ℤ) → Border → ℤ → ℤ → ℤ
-look_of r f border x y = cond (holds r x y) (f (unsigned_abs x) (unsigned_abs y)) (beside_of r f border x y)
+look_of r f border x y = cond (holds r x y) (f (unsigned_abs x) (unsigned_abs y)) (elsewhere_of r f border x y)
 
 pub look-of : (image : ImageValue) (border : Border) (x y : ℤ) → sample_or_border image border x y ≡ look_of image.valid (pixel_at image) border x y
 look-of image border x y = grind arith
@@ -57,10 +57,10 @@ pub record HasRow (r : Rectangle) (y : ℕ) : Type 0 where
   pub to : y < r.y1
 
 module _ (r : Rectangle) (f g : ℕ → ℕ → ℤ) (border : Border) (rows y : ℕ) (row : HasRow r y) (agree : Agree r rows y f g) where
-  beside_near : (border : Border) (x v : ℤ) → IsNear rows y v → beside_of r f border x v ≡ beside_of r g border x v
-  beside_near Undefined x v near = refl
-  beside_near (Constant value) x v near = refl
-  beside_near Replicate x v near =
+  elsewhere_near : (border : Border) (x v : ℤ) → IsNear rows y v → elsewhere_of r f border x v ≡ elsewhere_of r g border x v
+  elsewhere_near Undefined x v near = refl
+  elsewhere_near (Constant value) x v near = refl
+  elsewhere_near Replicate x v near =
       agree (clamp_coordinate r.x0 r.x1 x) (clamp_coordinate r.y0 r.y1 v) (nearest_within r.x0 r.x1 x row.columns) (nearest_within r.y0 r.y1 v (omega (arith, row.from, row.to)))
       (nearest_above r.y0 r.y1 y rows v row.from row.to near.above) (nearest_below r.y0 r.y1 y rows v row.from row.to near.below)
 
@@ -68,7 +68,7 @@ module _ (r : Rectangle) (f g : ℕ → ℕ → ℤ) (border : Border) (rows y :
   look_of_near x v near =
       grind (
         arith,
-        beside_near border x v near,
+        elsewhere_near border x v near,
         agree (unsigned_abs x) (unsigned_abs v),
         held_column r x v,
         held_row r x v,

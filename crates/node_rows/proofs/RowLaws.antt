@@ -51,9 +51,9 @@ agree_itself : (first last : ℕ) (a : ImageValue) → AgreeInRows first last a 
 agree_itself first last a = record { alike = record { description = refl; valid = refl }; samples = λ x y i j k l. refl }
 
 -- second operands that agree in some rows agree in fewer of them
-beside_fewer : (above first last below : ℕ) (second other : Option ObjectValue) → above ≤ first → last ≤ below → SecondsAgree above below second other → SecondsAgree first last second other
-beside_fewer above first last below (Some (ImageObject a)) (Some (ImageObject b)) from to agree = agree_fewer above first last below a b from to agree
-beside_fewer above first last below second other from to same = same
+elsewhere_fewer : (above first last below : ℕ) (second other : Option ObjectValue) → above ≤ first → last ≤ below → SecondsAgree above below second other → SecondsAgree first last second other
+elsewhere_fewer above first last below (Some (ImageObject a)) (Some (ImageObject b)) from to agree = agree_fewer above first last below a b from to agree
+elsewhere_fewer above first last below second other from to same = same
 
 -- rows that are near row y, and row y itself
 here : (rows y : ℕ) (a b : ImageValue) → AgreeInRows (y - rows) (y + rows) a b → AgreeInRows y y a b
@@ -74,14 +74,14 @@ module _ (format : Format) (a b : ImageValue) where
       (λ h. ap f (agree.samples x y left high (omega arith) (omega arith)))
 
   two_row : (f : ℤ → ℤ → ℤ) (c d : ImageValue) (x y : ℕ) → IsImage c → AgreeInRows y y a b → AgreeInRows y y c d → x < a.width → y < a.height → pixel_at (from_two format f a c) x y ≡ pixel_at (from_two format f b d) x y
-  two_row f c d x y image agree beside left high =
+  two_row f c d x y image agree elsewhere left high =
       made_row a b format (meet_of a.valid c.valid) (meet_of b.valid d.valid) (λ u v. f (pixel_at a u v) (pixel_at c u v)) (λ u v. f (pixel_at b u v) (pixel_at d u v)) x y agree.alike
-      (ap (λ r. meet_of r c.valid) agree.alike.valid ∙ ap (λ r. meet_of b.valid r) beside.alike.valid) left high
+      (ap (λ r. meet_of r c.valid) agree.alike.valid ∙ ap (λ r. meet_of b.valid r) elsewhere.alike.valid) left high
       (λ h. let place = (both_inside a.valid c.valid x y h).1 in
       let column : x < c.width = column_inside c.valid c.width c.height x y image.room place in
       let row : y < c.height = row_inside c.valid c.width c.height x y image.room place in
       ap (λ z. f z (pixel_at c x y)) (agree.samples x y left high (omega arith) (omega arith))
-      ∙ ap (λ z. f (pixel_at b x y) z) (beside.samples x y column row (omega arith) (omega arith)))
+      ∙ ap (λ z. f (pixel_at b x y) z) (elsewhere.samples x y column row (omega arith) (omega arith)))
 
   nine_row : (f : List ℤ → ℤ) (border : Border) (x y : ℕ) → IsImage a → AgreeInRows (y - 1) (y + 1) a b → x < a.width → y < a.height → pixel_at (from_nine format f border a) x y ≡ pixel_at (from_nine format f border b) x y
   nine_row f border x y image agree left high =
@@ -117,23 +117,23 @@ module _ (n : Node) (output : Output) (format : Format) (a b : ImageValue) where
       grind (arith, nine, zero_row format a b n.border x y agree.alike left high)
 
   -- with equal second operands
-  same_beside_row : (second : Option ObjectValue) (rows x y : ℕ) → IfSome second IsObject → window_radius n.function (matrix_in second) ≡ Some rows → IsImage a → AgreeInRows (y - rows) (y + rows) a b → x < a.width → y < a.height → pixel_at (node_image n output format a second) x y ≡ pixel_at (node_image n output format b second) x y
-  same_beside_row None rows x y object far image agree left high = one_image_row n.function rows x y far image agree left high
-  same_beside_row (Some (ImageObject c)) rows x y object far image agree left high =
+  same_elsewhere_row : (second : Option ObjectValue) (rows x y : ℕ) → IfSome second IsObject → window_radius n.function (matrix_in second) ≡ Some rows → IsImage a → AgreeInRows (y - rows) (y + rows) a b → x < a.width → y < a.height → pixel_at (node_image n output format a second) x y ≡ pixel_at (node_image n output format b second) x y
+  same_elsewhere_row None rows x y object far image agree left high = one_image_row n.function rows x y far image agree left high
+  same_elsewhere_row (Some (ImageObject c)) rows x y object far image agree left high =
       two_row format a b (formula_of_two n.function format n.policy n.amount) c c x y object (here rows y a b agree) (agree_itself y y c) left high
-  same_beside_row (Some (LutObject lut)) rows x y object far image agree left high = one_row format a b (lookup_result lut) x y (here rows y a b agree) left high
-  same_beside_row (Some (ThresholdObject threshold)) rows x y object far image agree left high = one_row format a b (threshold_result threshold) x y (here rows y a b agree) left high
-  same_beside_row (Some (ConvolutionObject matrix)) rows x y object far image agree left high =
+  same_elsewhere_row (Some (LutObject lut)) rows x y object far image agree left high = one_row format a b (lookup_result lut) x y (here rows y a b agree) left high
+  same_elsewhere_row (Some (ThresholdObject threshold)) rows x y object far image agree left high = one_row format a b (threshold_result threshold) x y (here rows y a b agree) left high
+  same_elsewhere_row (Some (ConvolutionObject matrix)) rows x y object far image agree left high =
       matrix_row format a b matrix n.border x y image (within_reach rows (matrix.rows / 2) y a b far agree) left high
-  same_beside_row (Some other) rows x y object far image agree left high = one_row format a b (λ _. pos 0) x y (here rows y a b agree) left high
+  same_elsewhere_row (Some other) rows x y object far image agree left high = one_row format a b (λ _. pos 0) x y (here rows y a b agree) left high
 
   -- with second operands that are equal, or images that agree in the row
   pub node_row : (second other : Option ObjectValue) (rows x y : ℕ) → IfSome second IsObject → window_radius n.function (matrix_in second) ≡ Some rows → IsImage a → AgreeInRows (y - rows) (y + rows) a b → SecondsAgree y y second other → x < a.width → y < a.height → pixel_at (node_image n output format a second) x y ≡ pixel_at (node_image n output format b other) x y
-  node_row (Some (ImageObject c)) (Some (ImageObject d)) rows x y object far image agree beside left high =
-      two_row format a b (formula_of_two n.function format n.policy n.amount) c d x y object (here rows y a b agree) beside left high
-  node_row second other rows x y object far image agree beside left high =
-      same_beside_row second rows x y object far image agree left high
-      ∙ ap (λ (o : Option ObjectValue). pixel_at (node_image n output format b o) x y) beside
+  node_row (Some (ImageObject c)) (Some (ImageObject d)) rows x y object far image agree elsewhere left high =
+      two_row format a b (formula_of_two n.function format n.policy n.amount) c d x y object (here rows y a b agree) elsewhere left high
+  node_row second other rows x y object far image agree elsewhere left high =
+      same_elsewhere_row second rows x y object far image agree left high
+      ∙ ap (λ (o : Option ObjectValue). pixel_at (node_image n output format b o) x y) elsewhere
 
 -- ---- size, format and rectangle of a node's output
 
@@ -146,20 +146,20 @@ node_description n output format a second = grind arith
 
 module _ (n : Node) (output : Output) (format : Format) (a b : ImageValue) (alike : AreAlike a b) where
   pub node_alike : (second other : Option ObjectValue) (first last : ℕ) → SecondsAgree first last second other → AreAlike (node_image n output format a second) (node_image n output format b other)
-  node_alike second other first last beside = grind arith
+  node_alike second other first last elsewhere = grind arith
 
 -- ---- several rows
 
 pub node_rows : (n : Node) (output : Output) (format : Format) (a b : ImageValue) (second other : Option ObjectValue) (rows first last : ℕ) → IsImage a → IfSome second IsObject → window_radius n.function (matrix_in second) ≡ Some rows → AgreeInRows (first - rows) (last + rows) a b → SecondsAgree first last second other → AgreeInRows first last (node_image n output format a second) (node_image n output format b other)
-node_rows n output format a b second other rows first last image object far agree beside =
+node_rows n output format a b second other rows first last image object far agree elsewhere =
     record {
-      alike = node_alike n output format a b agree.alike second other first last beside;
+      alike = node_alike n output format a b agree.alike second other first last elsewhere;
       samples = λ x y left high from to.
           let d : description_of (node_image n output format a second) ≡ sized format a = node_description n output format a second in
           let wide : (node_image n output format a second).width ≡ a.width = ap (λ (e : Description). e.width) d in
           let tall : (node_image n output format a second).height ≡ a.height = ap (λ (e : Description). e.height) d in
           node_row n output format a b second other rows x y object far image
           (agree_fewer (first - rows) (y - rows) (y + rows) (last + rows) a b (omega arith) (omega arith) agree)
-          (beside_fewer first y y last second other from to beside)
+          (elsewhere_fewer first y y last second other from to elsewhere)
           (omega arith) (omega arith);
     }

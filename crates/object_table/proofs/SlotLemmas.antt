@@ -57,8 +57,8 @@ with_slot_there (Some k) image (DelayObject images) h =
 with_slot_there (Some k) image other h = cc
 
 -- other slots don't change
-pub with_slot_beside : (j k : ℕ) (new object : ObjectValue) → j ≢ k → in_slot (Some j) (with_slot (Some k) new object) ≡ in_slot (Some j) object
-with_slot_beside j k (ImageObject image) (DelayObject images) apart =
+pub with_slot_elsewhere : (j k : ℕ) (new object : ObjectValue) → j ≢ k → in_slot (Some j) (with_slot (Some k) new object) ≡ in_slot (Some j) object
+with_slot_elsewhere j k (ImageObject image) (DelayObject images) apart =
     grind (
       arith,
       slice_get-get_or (set images k image) j image,
@@ -69,7 +69,7 @@ with_slot_beside j k (ImageObject image) (DelayObject images) apart =
       slice_get_past (set images k image) j,
       cases_lt j (length images),
     )
-with_slot_beside j k new object apart = refl
+with_slot_elsewhere j k new object apart = refl
 
 -- images of the same descriptions leave a delay
 pub IsDelay-set : (images : List ImageValue) (k : ℕ) (image : ImageValue) → IsDelay images → IsImage image → map description_of (set images k image) ≡ map description_of images → IsDelay (set images k image)

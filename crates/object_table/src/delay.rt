@@ -53,7 +53,7 @@ impl Delay {
         ensures lends { IfOk result (λ delay. LendsMore pool.old pool.new (delay_blocks delay)) }
         ensures err { OnErr result (KeepsLent pool.old pool.new) }
     {
-        desc.has_sides();
+        desc.prove_sides();
         let count = usize::from(slots.get());
         let images = new_images(alloc, pool, desc, count)?;
         Ok(Delay { desc, images })

@@ -43,7 +43,7 @@ impl Stored {
         ensures lends { IfOk result (λ image. LendsMore pool.old pool.new (image_blocks image)) }
         ensures err { OnErr result (pool.new ≡ pool.old) }
     {
-        desc.has_sides();
+        desc.prove_sides();
         let block = pool.take_zeros(desc.format(), desc.sample_count())?;
         Ok(Stored {
             desc,

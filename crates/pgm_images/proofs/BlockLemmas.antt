@@ -1,6 +1,6 @@
 -- Blocks of a text, of which it was found out where numbers begin.
 use Rattle.std.proofs.Common.{◌≡◌, ℕ, zero, suc, ◌+◌, ◌-◌, ◌/◌, ◌%◌, ◌^◌, ◌<◌, ◌≤◌, ◌⊎◌, inl, inr, Bool, true, false, not, cond, nat_lt, eqb, if◌then◌else◌, List, [], ◌∷◌, map, length, drop, replicate, Some, refl, ap, sym, ◌∙◌, arith, w8, w64, bit_and, slice_index, get_or-set_same, get_or-set_other, drop-drop, length-drop, lt-ltb, le-ltb}
-use Rattle.pgm_images.proofs.Common.{nat_tests, set, cases_eq, cases_lt, count_trailing_zeros, begins_digit, take_next, TakesNumber, Tells, AreTold}
+use Rattle.pgm_images.proofs.Common.{nat_tests, set, cases_eq, cases_lt, count_trailing_zeros, begins_digit, take_next, TakesNumber, FindsNumber, FindNumbers}
 use Rattle.std.specs.Int.{bit_at}
 use Rattle.std.proofs.lemmas.Simd.{bitmask_splat, bit_mask_l}
 use Rattle.std.proofs.lemmas.List.{get_or-map}
@@ -68,8 +68,8 @@ without_lowest n t i set below =
 -- ---- each position of a block
 
 -- one more position of the block
-pub one_told : (maxval : ℕ) (numbers bytes text : List ℕ) (i number count : ℕ) → i < length numbers → i < length bytes → Tells maxval number count (drop i text)
-    → AreTold maxval i numbers bytes text → AreTold maxval (i + 1) (set numbers i number) (set bytes i count) text
+pub one_told : (maxval : ℕ) (numbers bytes text : List ℕ) (i number count : ℕ) → i < length numbers → i < length bytes → FindsNumber maxval number count (drop i text)
+    → FindNumbers maxval i numbers bytes text → FindNumbers maxval (i + 1) (set numbers i number) (set bytes i count) text
 one_told maxval numbers bytes text i number count in_numbers in_bytes told before place within = elim (cases_eq place i) [
   | inl same ↦ rw (same, get_or-set_same numbers i number 0 in_numbers, get_or-set_same bytes i count 0 in_bytes) told
   | inr other ↦ rw (get_or-set_other numbers i place number 0 other, get_or-set_other bytes i place count 0 other)
@@ -106,7 +106,7 @@ some_bytes n e = grind (arith, nat_tests)
 no_bytes : (n : ℕ) → ◌≡◌ {A = ℕ} (if nat_lt 0 n then 1 else 0) 0 → n ≡ 0
 no_bytes n e = grind (arith, nat_tests)
 
-module _ (maxval : ℕ) (numbers bytes text : List ℕ) (told : AreTold maxval 64 numbers bytes text) where
+module _ (maxval : ℕ) (numbers bytes text : List ℕ) (told : FindNumbers maxval 64 numbers bytes text) where
   abbrev at : ℕ → List ℕ
   at i = drop i text
 

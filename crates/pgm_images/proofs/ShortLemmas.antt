@@ -1,6 +1,6 @@
 -- Numbers of at most three digits behind a whitespace byte.
 use Rattle.std.proofs.Common.{◌≡◌, ℕ, ◌+◌, ◌-◌, ◌*◌, zero, suc, ◌%◌, ◌<◌, ◌≤◌, Bool, true, false, not, ◌&&◌, ◌||◌, if◌then◌else◌, nat_lt, nat_le, nat_eq, List, ◌∷◌, length, get_or, drop, Some, ap, sym, ◌∙◌, arith, ltb-true, leb-true}
-use Rattle.pgm_images.proofs.Common.{is_ascii_digit, and_parts, nat_tests, is_space, begins_digit, digits_after, take_next, Tells}
+use Rattle.pgm_images.proofs.Common.{is_ascii_digit, and_parts, nat_tests, is_space, begins_digit, digits_after, take_next, FindsNumber}
 use mir.Val.{bool_byte}
 use Rattle.std.proofs.lemmas.Bool.{not-true}
 use Rattle.std.proofs.lemmas.List.{drop_more}
@@ -77,9 +77,9 @@ pub short_told : (white again told : Bool) (s x1 x2 x3 x4 front a b c d tens num
     → two ≡ bool_byte (nat_lt b 10) → three ≡ bool_byte (nat_lt b 10 && nat_lt c 10) → one ≡ bool_byte told
     → told ≡ ((((white && nat_lt a 10) && not ((nat_lt b 10 && nat_lt c 10) && nat_lt d 10)) && ((not (nat_lt b 10 && nat_lt c 10) || nat_lt tens 25) || (nat_eq tens 25 && nat_lt c 6))) && nat_le number maxval)
     → not ((told || (not (nat_lt a 10) && again)) || nat_lt front 10) ≡ false
-    → Tells maxval number (one * (2 + two + three)) (s ∷ x1 ∷ x2 ∷ x3 ∷ x4 ∷ rest)
-short_told white again true s x1 x2 x3 x4 front a b c d tens number one two three maxval rest is_white is_again is0 is1 is_a is2 is_b is3 is_c is4 is_tens is_number is_two is_three is_one is_told known =
-    let (fitting, low) = and_parts _ _ (sym is_told) in
+    → FindsNumber maxval number (one * (2 + two + three)) (s ∷ x1 ∷ x2 ∷ x3 ∷ x4 ∷ rest)
+short_told white again true s x1 x2 x3 x4 front a b c d tens number one two three maxval rest is_white is_again is0 is1 is_a is2 is_b is3 is_c is4 is_tens is_number is_two is_three is_one begins_number known =
+    let (fitting, low) = and_parts _ _ (sym begins_number) in
     let (short, fits) = and_parts _ _ fitting in
     let (begins, end) = and_parts _ _ short in
     let (space, digit) = and_parts white (nat_lt a 10) begins in
@@ -99,7 +99,7 @@ short_told white again true s x1 x2 x3 x4 front a b c d tens number one two thre
       kind = λ other. sym is_white ∙ space;
       none = λ none. absurd (omega (arith, bytes, none));
     }
-short_told white again false s x1 x2 x3 x4 front a b c d tens number one two three maxval rest is_white is_again is0 is1 is_a is2 is_b is3 is_c is4 is_tens is_number is_two is_three is_one is_told known =
+short_told white again false s x1 x2 x3 x4 front a b c d tens number one two three maxval rest is_white is_again is0 is1 is_a is2 is_b is3 is_c is4 is_tens is_number is_two is_three is_one begins_number known =
     let nothing : one * (2 + two + three) ≡ 0 = rw is_one (omega arith) in
     let blank : nat_lt front 10 ≡ false → (not (nat_lt a 10) ≡ true) × (again ≡ true) = λ none. and_parts _ _ (only_blank (not (nat_lt a 10) && again) (nat_lt front 10) known none) in
     record {

@@ -1,6 +1,6 @@
 -- A text is read as a picture exactly if it encodes it.
 use Rattle.std.proofs.Common.{arith, ◌≡◌, ℕ, ℤ, pos, zero, suc, ◌+◌, ◌*◌, ◌⊎◌, inl, inr, Bool, true, false, ◌&&◌, ◌≢◌, if◌then◌else◌, nat_lt, List, [], ◌∷◌, ◌++◌, length, map, Option, Some, None, Result, Ok, Err, IsTrue, refl, ap, sym, subst, ◌∙◌, append_assoc, append-nil, lt-ltb, le-ltb}
-use Rattle.pgm_images.proofs.Common.{option_map, and_parts, cases_eq, cases_lt, nat_tests, Description, is_side, sample_count, PictureValue, PgmFault, Encoding, Plain, Raw, BeginsWith, then_take, is_space, begins_digit, take_next, HeaderValue, take_header, is_maxval, format_up_to, header_description, take_count, take_short_sample, take_long_sample, take_raw, nothing_left, numbers_in, samples_up_to, all_up_to, picture_with, picture_under, picture_after, read_result, fault_of, fault, AreSpaced, Stands, IsHeader}
+use Rattle.pgm_images.proofs.Common.{option_map, and_parts, cases_eq, cases_lt, nat_tests, Description, is_side, sample_count, PictureValue, PgmFault, Encoding, Plain, Raw, BeginsWith, then_take, is_space, begins_digit, take_next, HeaderValue, take_header, is_maxval, format_up_to, header_description, take_count, take_short_sample, take_long_sample, take_raw, nothing_left, numbers_in, samples_up_to, all_up_to, picture_with, picture_under, picture_after, read_result, fault_of, fault, AreSpaced, Encodes, IsHeader}
 use Rattle.pgm_images.specs.Header.{past_header, take_magic, take_numbers}
 use Rattle.vx_base.specs.Description.{IsDescription}
 use Rattle.pgm_images.specs.declared.fault.PgmFault.TheVariants.{NoMemory}
@@ -184,14 +184,14 @@ encoded_of Raw w h m count text rest numbers is e =
       spelled = is.spelled ∙ ap (λ l. 80 ∷ 53 ∷ (is.body ++ l)) same;
     })
 
-pub stands_read : (text : List ℕ) (p : PictureValue) → read_result text ≡ Ok p → Stands text p
+pub stands_read : (text : List ℕ) (p : PictureValue) → read_result text ≡ Ok p → Encodes text p
 stands_read text p e =
     let (value, rest, is_header, e1) = headed (take_header text) p e in
     let (d, is_described, e2) = pictured value (header_description value.width value.height value.maxval) rest p e1 in
     let (samples, is_samples, is_p) = sampled d (samples_up_to value.maxval (numbers_in value.encoding value.maxval (sample_count d) rest)) p e2 in
     let (wide, high, allowed, is_d) = described_of value.width value.height value.maxval d is_described in
     let (numbers, is_numbers, below, are) = samples_of value.maxval (numbers_in value.encoding value.maxval (sample_count d) rest) samples is_samples in
-    let made : Stands text (record { description = sized value.width value.height value.maxval; samples = samples }) = record {
+    let made : Encodes text (record { description = sized value.width value.height value.maxval; samples = samples }) = record {
       maxval = value.maxval;
       numbers = numbers;
       encoded = encoded_of value.encoding value.width value.height value.maxval
@@ -203,7 +203,7 @@ stands_read text p e =
       below = below;
       samples = are;
     } in
-    subst (Stands text) (ap (λ (x : Description). record { description = x; samples = samples }) is_d ∙ is_p) made
+    subst (Encodes text) (ap (λ (x : Description). record { description = x; samples = samples }) is_d ∙ is_p) made
 
 -- ---- what a text encodes is read
 
@@ -214,7 +214,7 @@ samples_back : (maxval : ℕ) (o : Option (List ℕ)) (numbers : List ℕ) (samp
 samples_back maxval o numbers samples is below are = ap (samples_up_to maxval) is ∙ rw below (ap Ok (sym are))
 
 -- a text whose header was taken, and whose numbers are in what follows
-read_from : (text : List ℕ) (p : PictureValue) (s : Stands text p) (encoding : Encoding) (rest : List ℕ) → take_header text ≡ Some (header encoding p.description.width p.description.height s.maxval, rest)
+read_from : (text : List ℕ) (p : PictureValue) (s : Encodes text p) (encoding : Encoding) (rest : List ℕ) → take_header text ≡ Some (header encoding p.description.width p.description.height s.maxval, rest)
     → numbers_in encoding s.maxval (length s.numbers) rest ≡ Some s.numbers → read_result text ≡ Ok p
 read_from text p s encoding rest is_header is_numbers =
     let d = p.description in
@@ -224,14 +224,14 @@ read_from text p s encoding rest is_header is_numbers =
     ∙ ap (λ r. picture_under value r rest) (described_back d s.maxval s.sides s.allowed s.format)
     ∙ ap (picture_with d) (samples_back s.maxval (numbers_in encoding s.maxval (sample_count d) rest) s.numbers p.samples found s.below s.samples)
 
-plain_read : (text : List ℕ) (p : PictureValue) (s : Stands text p) → IsPlainText text p.description.width p.description.height s.maxval s.numbers → read_result text ≡ Ok p
+plain_read : (text : List ℕ) (p : PictureValue) (s : Encodes text p) → IsPlainText text p.description.width p.description.height s.maxval s.numbers → read_result text ≡ Ok p
 plain_read text p s is =
     let d = p.description in
     let none : begins_digit is.end ≡ false = ap begins_digit (sym (append-nil is.end)) ∙ blanks_no_digit is.end [] is.blanks refl in
     let (more, are, taken) = numbers_back Plain d.width d.height s.maxval s.numbers is.body is.end is.numbers none in
     read_from text p s Plain (more ++ is.end) (ap take_header is.spelled ∙ taken) (many_spaced s.numbers more is.end are is.blanks)
 
-raw_read : (text : List ℕ) (p : PictureValue) (s : Stands text p) → IsRawText text p.description.width p.description.height s.maxval s.numbers → read_result text ≡ Ok p
+raw_read : (text : List ℕ) (p : PictureValue) (s : Encodes text p) → IsRawText text p.description.width p.description.height s.maxval s.numbers → read_result text ≡ Ok p
 raw_read text p s is =
     let d = p.description in
     let begins : IsHeader text (header Raw d.width d.height s.maxval) is.raster =
@@ -239,23 +239,23 @@ raw_read text p s is =
     read_from text p s Raw is.raster (taken Raw d.width d.height s.maxval text is.raster begins)
     (raster_many s.maxval is.raster s.numbers is.bytes)
 
-pub read_stands : (text : List ℕ) (p : PictureValue) → Stands text p → read_result text ≡ Ok p
+pub read_stands : (text : List ℕ) (p : PictureValue) → Encodes text p → read_result text ≡ Ok p
 read_stands text p s = elim s.encoded [ inl is ↦ plain_read text p s is | inr is ↦ raw_read text p s is ]
 
 -- ---- faults
 
-pub one_picture : (text : List ℕ) (p q : PictureValue) → Stands text p → Stands text q → p ≡ q
+pub one_picture : (text : List ℕ) (p q : PictureValue) → Encodes text p → Encodes text q → p ≡ q
 one_picture text p q s t =
     cc (read_stands text p s, read_stands text q t)
 
-pub no_fault : (text : List ℕ) → fault text ≡ None → (p : PictureValue) × Stands text p
+pub no_fault : (text : List ℕ) → fault text ≡ None → (p : PictureValue) × Encodes text p
 no_fault text e = known (read_result text) refl e
   where
-    known : (r : Result PictureValue PgmFault) → read_result text ≡ r → fault_of r ≡ None → (p : PictureValue) × Stands text p
+    known : (r : Result PictureValue PgmFault) → read_result text ≡ r → fault_of r ≡ None → (p : PictureValue) × Encodes text p
     known (Ok p) is e = (p, stands_read text p is)
     known (Err f) is e = cc
 
-pub stands_faultless : (text : List ℕ) (p : PictureValue) → Stands text p → fault text ≡ None
+pub stands_faultless : (text : List ℕ) (p : PictureValue) → Encodes text p → fault text ≡ None
 stands_faultless text p s = ap fault_of (read_stands text p s)
 
 -- want of memory is no fault of a text

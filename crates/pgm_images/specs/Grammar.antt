@@ -102,7 +102,7 @@ pub record IsRawText (text : List ℕ) (width height maxval : ℕ) (samples : Li
   pub spelled : text ≡ 80 ∷ 53 ∷ (body ++ space ∷ raster)
 
 -- the text encodes the picture
-pub record Stands (text : List ℕ) (p : PictureValue) : Type 0 where
+pub record Encodes (text : List ℕ) (p : PictureValue) : Type 0 where
   pub maxval : ℕ
   pub numbers : List ℕ
   pub encoded : IsPlainText text p.description.width p.description.height maxval numbers ⊎ IsRawText text p.description.width p.description.height maxval numbers

@@ -81,7 +81,7 @@ begins_space (b ∷ text) = is_space b
 
 -- The code examined the front of the text. Either no number begins there, and `bytes` is 0, or the
 -- text begins with one whitespace byte and a number up to the maxval, of `bytes` bytes in all.
-pub record Tells (maxval number bytes : ℕ) (text : List ℕ) : Type 0 where
+pub record FindsNumber (maxval number bytes : ℕ) (text : List ℕ) : Type 0 where
   pub few : bytes ≤ length text
   pub is : 0 < bytes → TakesNumber (take_next text) number (drop bytes text)
   pub low : 0 < bytes → number ≤ maxval
@@ -91,8 +91,8 @@ pub record Tells (maxval number bytes : ℕ) (text : List ℕ) : Type 0 where
   pub none : bytes ≡ 0 → begins_space text ≡ true → begins_digit (drop 1 text) ≡ false
 
 -- the same at each of the first `count` positions of a text
-abbrev pub AreTold : (maxval count : ℕ) (numbers bytes text : List ℕ) → Type 0
-AreTold maxval count numbers bytes text = (place : ℕ) → place < count → Tells maxval (slice_index numbers place) (slice_index bytes place) (drop place text)
+abbrev pub FindNumbers : (maxval count : ℕ) (numbers bytes text : List ℕ) → Type 0
+FindNumbers maxval count numbers bytes text = (place : ℕ) → place < count → FindsNumber maxval (slice_index numbers place) (slice_index bytes place) (drop place text)
 
 -- bit k of `begins` is set where a number begins at position k, for 64 positions
 abbrev pub AreBegins : (begins : ℕ) (bytes : List ℕ) → Type 0
@@ -101,6 +101,6 @@ AreBegins begins bytes = (place : ℕ) → place < 64 → bit_at begins place �
 -- The code examined the first 64 positions, the first of which isn't inside a number, and marked
 -- those where a number begins.
 pub record IsBlock (maxval : ℕ) (numbers bytes : List ℕ) (begins : ℕ) (text : List ℕ) : Type 0 where
-  pub told : AreTold maxval 64 numbers bytes text
+  pub told : FindNumbers maxval 64 numbers bytes text
   pub marked : AreBegins begins bytes
   pub outside : begins_digit text ≡ false

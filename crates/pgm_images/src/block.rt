@@ -2,11 +2,11 @@
 //!
 //! The length of a number is known only once it is read, and the next number begins where it ends,
 //! so numbers that are read in turn wait for each other. The number that would begin at a given
-//! position depends only on the bytes there. `Block` therefore computes it for 64 positions in
+//! position depends only on the bytes there. `ShortNumbers` therefore computes it for 64 positions in
 //! parallel, and keeps a bit mask of the positions where a number does begin. Going through the
 //! bits of the mask gives the numbers in order.
 ghost use Rattle.std.specs.Prelude.{◌≡◌, ◌≤◌, ◌<◌, ℕ, List, Option, Bool, true, length, drop};
-ghost use Rattle.pgm_images.specs.Marks.{AreTold, AreBegins, IsBlock};
+ghost use Rattle.pgm_images.specs.Marks.{FindNumbers, AreBegins, IsBlock};
 ghost use Rattle.pgm_images.specs.Raster.{PlainUpTo};
 
 use crate::marks::short_number;
@@ -19,15 +19,15 @@ const PLACES: usize = 64;
 /// For each position of a block, the number that begins there and the length of its text in bytes.
 /// The text is a whitespace byte and one to three digits; the length is 0 where no number begins.
 #[derive(Drop)]
-pub struct Block {
+pub struct ShortNumbers {
     numbers: [u8; PLACES],
     bytes: [u8; PLACES],
 }
 
-impl Block {
+impl ShortNumbers {
     /// Returns a block of no text.
-    pub fn new() -> Block {
-        Block {
+    pub fn new() -> ShortNumbers {
+        ShortNumbers {
             numbers: [0; PLACES],
             bytes: [0; PLACES],
         }
@@ -37,7 +37,7 @@ impl Block {
     /// whether the text there is only whitespace and short numbers up to the maxval.
     fn look(&mut self, maxval: u8, text: &[u8]) -> bool
         requires { 68 ≤ length text.now }
-        ensures { result ≡ true → AreTold maxval 64 self.new.numbers self.new.bytes text.now }
+        ensures { result ≡ true → FindNumbers maxval 64 self.new.numbers self.new.bytes text.now }
     {
         let mut others = false;
         for i in 0..PLACES {

@@ -9,28 +9,28 @@ ghost use Rattle.pgm_images.specs.declared.fault.PgmFault.TheVariants.{InvalidDi
 ghost use Rattle.pgm_images.specs.declared.fault.PgmFault.TheVariants.{InvalidValue};
 ghost use Rattle.pgm_images.specs.Header.{HeaderValue, take_header, is_maxval};
 ghost use Rattle.pgm_images.specs.Raster.{all_up_to};
-ghost use Rattle.pgm_images.specs.Grammar.{Stands, IsHeader, HasSamples};
+ghost use Rattle.pgm_images.specs.Grammar.{Encodes, IsHeader, HasSamples};
 ghost use Rattle.pgm_images.specs.Reading.{read_result, fault};
 ghost use Rattle.pgm_images.specs.Writing.{pgm_text};
 
 /// `read_result` gives a picture exactly where the grammar says that the text encodes it. A text
 /// encodes at most one picture.
-pub fn standing()
-    ensures found { (text : List ℕ) (p : PictureValue) → read_result text ≡ Ok p → Stands text p }
-    ensures only { (text : List ℕ) (p : PictureValue) → Stands text p → read_result text ≡ Ok p }
-    ensures one { (text : List ℕ) (p q : PictureValue) → Stands text p → Stands text q → p ≡ q }
+pub fn reading_by_grammar()
+    ensures found { (text : List ℕ) (p : PictureValue) → read_result text ≡ Ok p → Encodes text p }
+    ensures only { (text : List ℕ) (p : PictureValue) → Encodes text p → read_result text ≡ Ok p }
+    ensures one { (text : List ℕ) (p q : PictureValue) → Encodes text p → Encodes text q → p ≡ q }
 {}
 
 /// A text has no fault exactly where it encodes a picture. `NoMemory` is never the fault of a text.
-pub fn faultless()
-    ensures stands { (text : List ℕ) → fault text ≡ None → (p : PictureValue) × Stands text p }
-    ensures none { (text : List ℕ) (p : PictureValue) → Stands text p → fault text ≡ None }
+pub fn faults_by_grammar()
+    ensures stands { (text : List ℕ) → fault text ≡ None → (p : PictureValue) × Encodes text p }
+    ensures none { (text : List ℕ) (p : PictureValue) → Encodes text p → fault text ≡ None }
     ensures memory { (text : List ℕ) → fault text ≢ Some NoMemory }
 {}
 
 /// `take_header` gives a header and the rest exactly where the grammar says that the text is that
 /// header and that rest. So a text begins with at most one header.
-pub fn headers()
+pub fn headers_by_grammar()
     ensures found { (text : List ℕ) (header : HeaderValue) (rest : List ℕ) →
         take_header text ≡ Some (header, rest) → IsHeader text header rest }
     ensures only { (text : List ℕ) (header : HeaderValue) (rest : List ℕ) →
@@ -68,9 +68,9 @@ pub fn first_faults()
 {}
 
 /// The text that is written for a picture of U8 encodes that picture, and is read back as it.
-pub fn read_back()
+pub fn text_is_read_back()
     ensures stands { (p : PictureValue) → IsPicture p → p.description.format ≡ U8 →
-        Stands (pgm_text p) p }
+        Encodes (pgm_text p) p }
     ensures read { (p : PictureValue) → IsPicture p → p.description.format ≡ U8 →
         read_result (pgm_text p) ≡ Ok p }
 {}

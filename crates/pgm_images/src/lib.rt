@@ -31,5 +31,5 @@ mod text_sample;
 mod writing;
 
 pub use fault::PgmFault;
-pub use reading::{described, read, read_into};
+pub use reading::{read, read_description, read_into};
 pub use writing::{WrittenHeader, write};

@@ -4,7 +4,7 @@ ghost use Rattle.std.specs.Prelude.{◌+◌, ◌*◌, ◌-◌, ◌%◌, nat_lt, 
 ghost use Rattle.std.specs.Char.{is_ascii_digit};
 ghost use Rattle.pgm_images.specs.Marks.{ends_line, is_space, begins_gap, past_blanks};
 ghost use Rattle.pgm_images.specs.Marks.{digits_after, take_number, take_next, ends, TakesNumber};
-ghost use Rattle.pgm_images.specs.Marks.{Tells};
+ghost use Rattle.pgm_images.specs.Marks.{FindsNumber};
 
 /// Returns whether a byte is CR or LF.
 fn ends_line(byte: u8) -> bool
@@ -113,7 +113,7 @@ pub fn short_number(
     fourth: u8,
 ) -> (u8, u8, bool)
     ensures { result.2 ≡ false → (rest : List ℕ) →
-        Tells maxval result.0 result.1 (blank ∷ first ∷ second ∷ third ∷ fourth ∷ rest) }
+        FindsNumber maxval result.0 result.1 (blank ∷ first ∷ second ∷ third ∷ fourth ∷ rest) }
 {
     let (first, second) = (digit(first), digit(second));
     let (third, fourth) = (digit(third), digit(fourth));
@@ -123,10 +123,10 @@ pub fn short_number(
     let number = with_digit(tens, third, three);
     let fits = !three | (tens < 25) | ((tens == 25) & (third < 6));
     let is_short = is_space(blank) & (first < 10) & !(three & (fourth < 10));
-    let is_told = is_short & fits & (number <= maxval);
+    let begins_number = is_short & fits & (number <= maxval);
     let is_blank = !(first < 10) & is_space(blank);
-    let bytes = u8::from(is_told) * (2 + u8::from(two) + u8::from(three));
-    let is_other = !(is_told | is_blank | (digit(blank) < 10));
+    let bytes = u8::from(begins_number) * (2 + u8::from(two) + u8::from(three));
+    let is_other = !(begins_number | is_blank | (digit(blank) < 10));
     (number, bytes, is_other)
 }
 

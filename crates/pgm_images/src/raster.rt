@@ -8,7 +8,7 @@ ghost use Rattle.pgm_images.specs.Raster.{Reads, all_up_to, numbers_in, take_cou
 ghost use Rattle.pgm_images.specs.Raster.{take_short_sample};
 ghost use Rattle.pgm_images.specs.Raster.{take_long_sample, nothing_left, samples_up_to, PlainUpTo};
 
-use crate::block::Block;
+use crate::block::ShortNumbers;
 use crate::fault::PgmFault;
 use crate::header::{Encoding, Header};
 use crate::marks::{ends, take_next};
@@ -59,7 +59,7 @@ fn read_plain<T: TextSample>(maxval: u16, text: &[u8], samples: &mut [T]) -> Res
         (take_count take_next ends (length samples.old) text.now)) (map T.value samples.new)
         result }
 {
-    let mut block = Block::new();
+    let mut block = ShortNumbers::new();
     let (mut rest, mut index) = (text, 0);
     let mut above = false;
     while index < samples.len() {
@@ -88,7 +88,7 @@ fn read_plain<T: TextSample>(maxval: u16, text: &[u8], samples: &mut [T]) -> Res
 }
 
 /// Returns the greatest of the bytes, or 0 without bytes.
-fn greatest(bytes: &[u8]) -> u8
+fn greatest_byte(bytes: &[u8]) -> u8
     ensures { (n : ℕ) → nat_le result n ≡ all_up_to n bytes.now }
 {
     let mut greatest = 0;
@@ -112,7 +112,7 @@ fn read_bytes(maxval: u16, bytes: &[u8], samples: &mut [u8]) -> Result<(), PgmFa
     if maxval >= 255 {
         return Ok(());
     }
-    if u16::from(greatest(bytes)) > maxval {
+    if u16::from(greatest_byte(bytes)) > maxval {
         return Err(PgmFault::InvalidValue);
     }
     Ok(())

@@ -2,7 +2,7 @@
 ghost use Rattle.std.specs.Prelude.{◌≡◌, length, Ok, Err, IfOk, OnOk, IfErr};
 ghost use Rattle.vx_base.specs.Description.{Description};
 ghost use Rattle.vx_base.specs.Picture.{PictureValue, values, samples_format};
-ghost use Rattle.pgm_images.specs.Grammar.{Stands};
+ghost use Rattle.pgm_images.specs.Grammar.{Encodes};
 ghost use Rattle.pgm_images.specs.Reading.{FailsFor, SamplesFitHeader, description_in, read_result};
 
 use crate::fault::PgmFault;
@@ -19,7 +19,7 @@ use vx_base::{Desc, Picture, Samples};
 /// 1. `InvalidFormat`: the text has no header.
 /// 2. `InvalidDimension`: a side isn't 1 to 8192.
 /// 3. `InvalidFormat`: the maxval isn't 1 to 32767.
-pub fn described(text: &[u8]) -> Result<Desc, PgmFault>
+pub fn read_description(text: &[u8]) -> Result<Desc, PgmFault>
     ensures told { result ≡ description_in text.now }
     ensures ok { IfOk result (λ d. (p : PictureValue) →
         read_result text.now ≡ Ok p → p.description ≡ d) }
@@ -28,7 +28,7 @@ pub fn described(text: &[u8]) -> Result<Desc, PgmFault>
     let Some((header, _)) = take_header(text) else {
         return Err(PgmFault::InvalidFormat);
     };
-    header.described()
+    header.read_description()
 }
 
 /// Reads the samples of a text over existing ones, which have the format and number that
@@ -65,11 +65,11 @@ pub fn read_into(text: &[u8], samples: &mut Samples) -> Result<(), PgmFault>
 /// `NoMemory`: the samples could not be allocated. Memory is allocated only for the samples, and
 /// only once the header is accepted.
 pub fn read(alloc: Global, text: &[u8]) -> Result<Picture, PgmFault>
-    ensures stands { IfOk result (λ picture. Stands text.now picture) }
+    ensures stands { IfOk result (λ picture. Encodes text.now picture) }
     ensures ok { IfOk result (λ picture. read_result text.now ≡ Ok picture) }
     ensures err { IfErr result (FailsFor text.now) }
 {
-    let desc = described(text)?;
+    let desc = read_description(text)?;
     let mut samples = Samples::zeros(alloc, desc.format(), desc.sample_count())?;
     read_into(text, &mut samples)?;
     Ok(Picture::new(desc, samples))

@@ -11,13 +11,13 @@ use std::marker::Model;
 use vx_base::Desc;
 
 /// The length of the longest header in bytes: both sides have four digits.
-const LONGEST: usize = 17;
+const LONGEST_HEADER: usize = 17;
 
 /// The header of a text that is written: `P5`, the sides and the maxval 255.
 #[derive(Debug, Drop)]
 pub struct WrittenHeader {
     /// The header is at the end of these bytes; those before `start` have no meaning.
-    bytes: [u8; LONGEST],
+    bytes: [u8; LONGEST_HEADER],
     start: usize,
 }
 
@@ -37,9 +37,9 @@ impl WrittenHeader {
     pub fn new(desc: Desc) -> WrittenHeader
         ensures { result ≡ written_header desc }
     {
-        desc.has_sides();
-        let mut bytes = [0; LONGEST];
-        let maxval = put_before(&mut bytes, LONGEST, b"\n255\n");
+        desc.prove_sides();
+        let mut bytes = [0; LONGEST_HEADER];
+        let maxval = put_before(&mut bytes, LONGEST_HEADER, b"\n255\n");
         let height = write_digits(u64::from(desc.height()), &mut bytes, maxval);
         let blank = put_before(&mut bytes, height, b" ");
         let width = write_digits(u64::from(desc.width()), &mut bytes, blank);
@@ -78,7 +78,7 @@ pub fn write(alloc: Global, image: &Image<'_>) -> Result<Vec<u8>, AllocError>
     // The contract of `valid` tells the prover that the image has a sample for each pixel.
     let _valid = image.valid();
     let header = WrittenHeader::new(desc);
-    let mut text = Vec::with_capacity(alloc, LONGEST + desc.sample_count())?;
+    let mut text = Vec::with_capacity(alloc, LONGEST_HEADER + desc.sample_count())?;
     text.extend_from_slice(header.bytes())?;
     for y in 0..desc.height() {
         text.extend_from_slice(image.row::<u8>(y))?;

@@ -82,12 +82,12 @@ room_bound free (suc class) within =
     let more : capacity_below free (suc class) ≡ capacity_below free class + get_or free class 0 * class_capacity class = rw (← add-one) (below_more free class) in
     omega (arith, more, each, room_bound free class (omega arith))
 
-room_beside : (free : List ℕ) (class n top : ℕ) → top ≤ class → capacity_below (set free class n) top ≡ capacity_below free top
-room_beside free class n zero within = below_zero (set free class n) ∙ sym (below_zero free)
-room_beside free class n (suc top) within =
+room_elsewhere : (free : List ℕ) (class n top : ℕ) → top ≤ class → capacity_below (set free class n) top ≡ capacity_below free top
+room_elsewhere free class n zero within = below_zero (set free class n) ∙ sym (below_zero free)
+room_elsewhere free class n (suc top) within =
     let e : get_or (set free class n) top 0 ≡ get_or free top 0 = get_or-set_other free class top n 0 (λ e. absurd (omega (arith, e))) in
     let more : capacity_below (set free class n) (top + 1) ≡ capacity_below (set free class n) top + get_or free top 0 * class_capacity top = rw e at (below_more (set free class n) top) in
-    rw (← add-one) (omega (arith, more, below_more free top, room_beside free class n top (omega arith)))
+    rw (← add-one) (omega (arith, more, below_more free top, room_elsewhere free class n top (omega arith)))
 
 -- the total capacity of the free blocks after their number in one class changes
 pub room_set : (free : List ℕ) (class n top : ℕ) → class < length free → class < top
@@ -98,7 +98,7 @@ room_set free class n (suc top) inside below =
       | inl same ↦
           let e : get_or (set free class n) class 0 ≡ n = get_or-set_same free class n 0 inside in
           let more : capacity_below (set free class n) (class + 1) ≡ capacity_below (set free class n) class + n * class_capacity class = rw e at (below_more (set free class n) class) in
-          rw (← add-one, same) (omega (arith, more, below_more free class, room_beside free class n class (omega arith)))
+          rw (← add-one, same) (omega (arith, more, below_more free class, room_elsewhere free class n class (omega arith)))
       | inr other ↦
           let e : get_or (set free class n) top 0 ≡ get_or free top 0 = get_or-set_other free class top n 0 other in
           let more : capacity_below (set free class n) (top + 1) ≡ capacity_below (set free class n) top + get_or free top 0 * class_capacity top = rw e at (below_more (set free class n) top) in

@@ -281,7 +281,7 @@ module _ {T : Type 0} where
         all = length-replicate 193 no_stack;
         tops = λ class some. let e : stack_at (replicate 193 no_stack) class ≡ no_stack = empty_at 193 class in let p : 0 < 0 = rw e at some in absurd (omega (arith, p));
         each = λ key block h. let e = nothing key in cc;
-        alone = λ key other block beside h. let e = nothing key in cc;
+        alone = λ key other block elsewhere h. let e = nothing key in cc;
         counted = ap free_count (empty_lengths 193) ∙ empty_count 193 ∙ sym (no_values free none);
       }
 

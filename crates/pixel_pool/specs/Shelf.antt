@@ -50,6 +50,6 @@ module _ {T : Type 0} where
     pub all : length stacks ≡ class_count
     pub tops : (class : ℕ) → IsStack free class (stack_at stacks class)
     pub each : (key : ℕ) (block : Free T) → get free key ≡ Some block → IsStacked stacks free block
-    pub alone : (key other : ℕ) (block beside : Free T) → get free key ≡ Some block → get free other ≡ Some beside
-        → block.class ≡ beside.class → block.under.len ≡ beside.under.len → key ≡ other
+    pub alone : (key other : ℕ) (block another : Free T) → get free key ≡ Some block → get free other ≡ Some another
+        → block.class ≡ another.class → block.under.len ≡ another.under.len → key ≡ other
     pub counted : free_count (lengths stacks) ≡ slab_len free

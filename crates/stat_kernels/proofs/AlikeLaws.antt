@@ -2,9 +2,9 @@
 use Rattle.std.proofs.Common.{◌≡◌, ◌∙◌, ℕ, ℤ, ◌+◌, ◌-◌, ◌<◌, ◌≤◌, true, false, ◌&&◌, nat_le, nat_lt, [], if◌then◌else◌, inl, inr, ap, sym, subst, arith}
 use Rattle.stat_kernels.proofs.Common.{cases_Bool, nat_tests, ImageValue, Rectangle, pixel_at, extremes, rectangle_pixels, row_pixels, Band, band_of, valid_in}
 use Rattle.vx_base.specs.Rectangle.{has_pixel}
-use Rattle.stat_kernels.specs.Located.{added_extremes}
+use Rattle.stat_kernels.specs.Extreme.{added_extremes}
 use Rattle.stat_kernels.specs.Sums.{AreRowsOf}
-use Rattle.stat_kernels.proofs.LocatedLaws.{AreLowered, extremes_joined, lowered_none, lowered_row}
+use Rattle.stat_kernels.proofs.FirstPixelLaws.{AreLowered, extremes_joined, lowered_none, lowered_row}
 use Rattle.stat_kernels.proofs.BandLaws.{places_lowered, row_of, rows_at, rows_follow}
 use Rattle.stat_kernels.proofs.NextRowLaws.{inside_from, inside_parts, same_columns}
 

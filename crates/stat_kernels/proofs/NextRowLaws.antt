@@ -3,7 +3,7 @@ use Rattle.std.proofs.Common.{false, true, ◌%◌, ◌≡◌, ◌⊎◌, inl, i
 use Rattle.stat_kernels.proofs.Common.{cases_Bool, sum_by, range_with_len, flat_map, cases_lt, nat_tests, side, rectangle_ordered, drop-map, get_or-map, get_or-replicate, length-replicate, map-append, map-replicate, length-chunk, Rectangle, ImageValue, IsImage, pixel_at, band, run, zero_outside, row_pixels, sum_to, band-more, get_or-run, run-same, Part, IsValidPart, AreSums, IsRowAbove, sum_before, sums_below, sums_row, last_row}
 use Rattle.std.specs.Option.{option_or}
 use Rattle.vx_base.specs.Rectangle.{has_pixel}
-use Rattle.vx_base.proofs.TableLaws.{band-append, length-band, run-constant, within_beside, within_inside}
+use Rattle.vx_base.proofs.TableLaws.{band-append, length-band, run-constant, within_elsewhere, within_inside}
 use Rattle.stat_kernels.specs.Part.{part_has_row}
 use Rattle.stat_kernels.specs.Sums.{AreRowsOf, IsRowOf}
 use Rattle.stat_kernels.proofs.SumLaws.{row_of_parts, sum_at, sums_next}
@@ -124,7 +124,7 @@ module _ (whole : ImageValue) (is : IsImage whole) where
             ∙ ap (λ n. pos (sum_before whole (whole.valid.x0 + k + 1) n % 4294967296)) {x = line - 1 + 1} {y = line} (omega (arith, later))
         of_row k below (inr first) =
             let pixel_at : whole.valid.y0 ≡ line = omega (arith, top, first) in
-            within_beside whole.valid (sum_to whole) (whole.valid.x0 + k) (line - 1) (inr (inl (omega (arith, pixel_at, some))))
+            within_elsewhere whole.valid (sum_to whole) (whole.valid.x0 + k) (line - 1) (inr (inl (omega (arith, pixel_at, some))))
             ∙ ap pos (sym (get_or-replicate (k + 1) k 0 0 (omega arith)) ∙ sums_none (k + 1) k (omega (arith, length-replicate {A = ℕ} (k + 1) 0)))
             ∙ ap (λ n. pos (sum_before whole (whole.valid.x0 + k + 1) n % 4294967296)) pixel_at
 

@@ -6,7 +6,7 @@ use Rattle.std.specs.List.{flat_map}
 use Rattle.vx_base.specs.declared.format.Format.TheVariants.{U32}
 use Rattle.vx_base.specs.Rectangle.{has_pixel}
 use Rattle.vx_base.specs.Sample.{IsSample}
-use Rattle.vx_base.proofs.TableLaws.{length-band, run-constant, row_across, within_beside, within_inside}
+use Rattle.vx_base.proofs.TableLaws.{length-band, run-constant, row_across, within_elsewhere, within_inside}
 use Rattle.stat_kernels.specs.Part.{part_has_row}
 use Rattle.stat_kernels.specs.Sums.{row_sums, sum_between, sum_on}
 use Rattle.stat_kernels.proofs.NextRowLaws.{IsInside, inside_parts, last_or}
@@ -75,7 +75,7 @@ sums_go_on image start mid above x y from to is = elim (cases_lt image.valid.y0 
       ∙ ap (λ n. pos (((base + sum_between image start (x + 1) n) % 4294967296 + sum_between image mid (x + 1) (y + 1)) % 4294967296)) up
       ∙ ap pos (omega (arith, both))
   | inr above_it ↦
-      let nothing : zero_outside image.valid (sum_on image start above) x (mid - 1) ≡ pos 0 = within_beside image.valid (sum_on image start above) x (mid - 1) (inr (inl (omega arith))) in
+      let nothing : zero_outside image.valid (sum_on image start above) x (mid - 1) ≡ pos 0 = within_elsewhere image.valid (sum_on image start above) x (mid - 1) (inr (inl (omega arith))) in
       let no_base : nat_le image.valid.y0 start ≡ false = grind (arith, nat_tests) in
       let top : max image.valid.y0 mid ≡ max image.valid.y0 start = omega arith in
       ap (λ z. pos (((if nat_le image.valid.y0 mid then unsigned_abs z else 0) + sum_between image mid (x + 1) (y + 1)) % 4294967296)) nothing
@@ -99,8 +99,8 @@ pub row_is : (r : Rectangle) (f : ℕ → ℕ → ℤ) (width x count y : ℕ) (
     → map pos (left ++ (sums ++ right)) ≡ run 0 width (λ k. zero_outside r f k y)
 row_is r f width x count y left sums right first wide columns room top bottom at_left at_right long are =
     let sums_are = run_of_sums sums r.x0 (r.x1 - r.x0) (λ k. f k y) (long ∙ wide) (λ k h. are k (omega arith)) in
-    let beside : width - (x + count) ≡ width - r.x1 = omega arith in
-    cc (map-append pos left (sums ++ right), map-append pos sums right, at_left, at_right, map-zeros x, first, sums_are, map-zeros (width - (x + count)), beside)
+    let elsewhere : width - (x + count) ≡ width - r.x1 = omega arith in
+    cc (map-append pos left (sums ++ right), map-append pos sums right, at_left, at_right, map-zeros x, first, sums_are, map-zeros (width - (x + count)), elsewhere)
     ∙ sym (row_across r f width r.x0 r.x1 y refl refl columns (omega arith) top bottom)
 
 -- a row that is lent, at the valid columns

@@ -60,8 +60,8 @@ module _ (image : ImageValue) (part : Part) (is : IsValidPart image part) (y : �
       let r = image.valid in
       let sums_are = run_of_sums sums r.x0 (r.x1 - r.x0) (λ x. sum_to image x y) (long ∙ is.count)
       (λ k h. ap pos (are k (omega (arith, long, is.count))) ∙ sym (sum_at image (r.x0 + k) y (omega arith) (omega arith) (omega (arith, is.top)) (omega (arith, is.bottom)))) in
-      let beside : image.width - (part.x + part.count) ≡ image.width - r.x1 = omega (arith, is.x, is.count, is.columns) in
-      cc (map-append pos left (sums ++ right), map-append pos sums right, at_left, at_right, map-zeros part.x, is.x, sums_are, map-zeros (image.width - (part.x + part.count)), beside)
+      let elsewhere : image.width - (part.x + part.count) ≡ image.width - r.x1 = omega (arith, is.x, is.count, is.columns) in
+      cc (map-append pos left (sums ++ right), map-append pos sums right, at_left, at_right, map-zeros part.x, is.x, sums_are, map-zeros (image.width - (part.x + part.count)), elsewhere)
       ∙ sym (row_across r (sum_to image) image.width r.x0 r.x1 y refl refl is.columns (omega (arith, is.x, is.count, is.columns, is.in_columns)) (omega (arith, is.top)) (omega (arith, is.bottom)))
 
 -- one more row is written

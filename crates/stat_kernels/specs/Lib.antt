@@ -1,4 +1,4 @@
 pub mod Counts
-pub mod Located
+pub mod Extreme
 pub mod Part
 pub mod Sums

@@ -4,10 +4,10 @@ ghost use Rattle.vx_base.specs.declared.format.Format.TheVariants.{U32};
 ghost use Rattle.vx_base.specs.Image.{pixel_at};
 ghost use Rattle.vx_base.specs.Statistics.{rectangle_pixels, row_pixels, extremes};
 ghost use Rattle.image_core.specs.Bands.{IsInRows};
-ghost use Rattle.stat_kernels.specs.Located.{added_extremes, extremes_of, found_in};
+ghost use Rattle.stat_kernels.specs.Extreme.{added_extremes, extremes_of, found_in};
 ghost use Rattle.stat_kernels.specs.Part.{valid_in};
 
-use crate::located::Found;
+use crate::extreme::Found;
 use crate::part::Part;
 use image_core::{Band, Image};
 use vx_base::{Extremes, Format};

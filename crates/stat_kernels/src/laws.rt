@@ -5,7 +5,7 @@ ghost use Rattle.vx_base.specs.Image.{ImageValue};
 ghost use Rattle.vx_base.specs.Statistics.{BinsValue, extremes, histogram, valid_samples};
 ghost use Rattle.image_core.specs.declared.band.Band.{Band as Rows};
 ghost use Rattle.stat_kernels.specs.Counts.{bin_sums};
-ghost use Rattle.stat_kernels.specs.Located.{added_extremes};
+ghost use Rattle.stat_kernels.specs.Extreme.{added_extremes};
 ghost use Rattle.stat_kernels.specs.Part.{valid_in};
 ghost use Rattle.stat_kernels.specs.Sums.{AreRowsOf};
 
@@ -23,7 +23,7 @@ pub fn extremes_bound()
 {}
 
 /// The histogram of two adjacent bands is the sum of theirs, bin by bin.
-pub fn bands_are_counted()
+pub fn histograms_of_bands()
     ensures { (bins : BinsValue) (image : ImageValue) (start first second : ℕ) →
         histogram bins (valid_in (record { start = start; count = first + second }) image)
         ≡ bin_sums (histogram bins (valid_in (record { start = start; count = first }) image))
@@ -32,7 +32,7 @@ pub fn bands_are_counted()
 
 /// The merged extremes of two adjacent bands are those of the rows of both, including the counts
 /// and the first pixels.
-pub fn bands_are_located()
+pub fn extremes_of_bands()
     ensures { (image : ImageValue) (start first second : ℕ) →
         added_extremes 0
         (extremes (valid_in (record { start = start; count = first }) image))
@@ -42,7 +42,7 @@ pub fn bands_are_located()
 
 /// The second band may belong to another image, `part`, whose rows are `down` rows lower in
 /// `whole`.
-pub fn bands_of_parts_are_located()
+pub fn extremes_of_parts()
     ensures { (part whole : ImageValue) (rows : Rows) (start first down : ℕ) →
         rows.start + down ≡ start + first → AreRowsOf part rows whole (start + first) →
         added_extremes down (extremes (valid_in (record { start = start; count = first }) whole))

@@ -12,9 +12,9 @@
 
 mod counts;
 pub mod examples;
+mod extreme;
 mod extremes;
 pub mod laws;
-mod located;
 mod part;
 mod sums;
 

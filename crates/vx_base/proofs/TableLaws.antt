@@ -83,22 +83,22 @@ row_in_parts g x0 n rest before after =
     ∙ ap (λ l. replicate x0 (pos 0) ++ (run x0 n g ++ l)) (run-same g (λ _. pos 0) (x0 + n) rest (λ k a b. after k (omega arith)) ∙ run-constant (pos 0) (x0 + n) rest)
 
 -- a pixel outside the rectangle
-pub within_beside : (r : Rectangle) (f : ℕ → ℕ → ℤ) (x y : ℕ) → (((x < r.x0) ⊎ (r.x1 ≤ x)) ⊎ ((y < r.y0) ⊎ (r.y1 ≤ y))) → zero_outside r f x y ≡ pos 0
-within_beside r f x y h = grind (arith, nat_tests)
+pub within_elsewhere : (r : Rectangle) (f : ℕ → ℕ → ℤ) (x y : ℕ) → (((x < r.x0) ⊎ (r.x1 ≤ x)) ⊎ ((y < r.y0) ⊎ (r.y1 ≤ y))) → zero_outside r f x y ≡ pos 0
+within_elsewhere r f x y h = grind (arith, nat_tests)
 
 pub within_inside : (r : Rectangle) (f : ℕ → ℕ → ℤ) (x y : ℕ) → r.x0 ≤ x → x < r.x1 → r.y0 ≤ y → y < r.y1 → zero_outside r f x y ≡ f x y
 within_inside r f x y a b c d = grind (arith, nat_tests)
 
 -- a row above or below the rectangle
 pub row_outside : (r : Rectangle) (f : ℕ → ℕ → ℤ) (n y : ℕ) → ((y < r.y0) ⊎ (r.y1 ≤ y)) → run 0 n (λ x. zero_outside r f x y) ≡ replicate n (pos 0)
-row_outside r f n y h = run-same (λ x. zero_outside r f x y) (λ _. pos 0) 0 n (λ k a b. within_beside r f k y (inr h)) ∙ run-constant (pos 0) 0 n
+row_outside r f n y h = run-same (λ x. zero_outside r f x y) (λ _. pos 0) 0 n (λ k a b. within_elsewhere r f k y (inr h)) ∙ run-constant (pos 0) 0 n
 
 -- a row through the rectangle
 pub row_across : (r : Rectangle) (f : ℕ → ℕ → ℤ) (n x0 x1 y : ℕ) → r.x0 ≡ x0 → r.x1 ≡ x1 → x0 ≤ x1 → x1 ≤ n → r.y0 ≤ y → y < r.y1 → run 0 n (λ x. zero_outside r f x y) ≡ replicate x0 (pos 0) ++ (run x0 (x1 - x0) (λ x. f x y) ++ replicate (n - x1) (pos 0))
 row_across r f n x0 x1 y from to ordered room above below =
     let parts : n ≡ x0 + ((x1 - x0) + (n - x1)) = omega arith in
     ap (λ m. run 0 m (λ x. zero_outside r f x y)) parts
-    ∙ row_in_parts (λ x. zero_outside r f x y) x0 (x1 - x0) (n - x1) (λ k h. within_beside r f k y (inl (inl (omega arith)))) (λ k h. within_beside r f k y (inl (inr (omega arith))))
+    ∙ row_in_parts (λ x. zero_outside r f x y) x0 (x1 - x0) (n - x1) (λ k h. within_elsewhere r f k y (inl (inl (omega arith)))) (λ k h. within_elsewhere r f k y (inl (inr (omega arith))))
     ∙ ap (λ l. replicate x0 (pos 0) ++ (l ++ replicate (n - x1) (pos 0))) (run-same (λ x. zero_outside r f x y) (λ x. f x y) x0 (x1 - x0) (λ k a b. within_inside r f k y (omega arith) (omega arith) above below))
 
 -- one more row of a band is written, from place `at` on

@@ -46,17 +46,17 @@ nearest_within low high v h = grind (arith, ints)
 at_sample : (image : ImageValue) (x y : ℕ) → IsImage image → image.format ≡ U8 → x < image.valid.x1 → y < image.valid.y1 → IsSample U8 (pixel_at image x y)
 at_sample image x y h is a b = subst (λ f. IsSample f (pixel_at image x y)) is (h.sampled x y (omega (arith, h.room.columns)) (omega (arith, h.room.rows)))
 
-beside_sample : (image : ImageValue) (border : Border) (x y : ℤ) → IsImage image → image.format ≡ U8 → image.valid.x0 < image.valid.x1 → image.valid.y0 < image.valid.y1 → IsBorder border → IsSample U8 (border_sample image border x y)
-beside_sample image Undefined x y h is a b k = zero_sample U8
-beside_sample image (Constant value) x y h is a b k = record { at_least = omega (arith, ints); at_most = omega (arith, ints) }
-beside_sample image Replicate x y h is a b k = at_sample image _ _ h is (nearest_within image.valid.x0 image.valid.x1 x a) (nearest_within image.valid.y0 image.valid.y1 y b)
+elsewhere_sample : (image : ImageValue) (border : Border) (x y : ℤ) → IsImage image → image.format ≡ U8 → image.valid.x0 < image.valid.x1 → image.valid.y0 < image.valid.y1 → IsBorder border → IsSample U8 (border_sample image border x y)
+elsewhere_sample image Undefined x y h is a b k = zero_sample U8
+elsewhere_sample image (Constant value) x y h is a b k = record { at_least = omega (arith, ints); at_most = omega (arith, ints) }
+elsewhere_sample image Replicate x y h is a b k = at_sample image _ _ h is (nearest_within image.valid.x0 image.valid.x1 x a) (nearest_within image.valid.y0 image.valid.y1 y b)
 
 pub look_sample : (image : ImageValue) (border : Border) (x y : ℤ) → IsImage image → image.format ≡ U8 → image.valid.x0 < image.valid.x1 → image.valid.y0 < image.valid.y1 → IsBorder border → IsSample U8 (sample_or_border image border x y)
 look_sample image border x y h is a b k = cases (holds image.valid x y) refl
   where
     cases : (t : Bool) → holds image.valid x y ≡ t → IsSample U8 (cond t (pixel_at image (unsigned_abs x) (unsigned_abs y)) (border_sample image border x y))
     cases true e = let p = within_columns image.valid x y e in at_sample image (unsigned_abs x) (unsigned_abs y) h is p.0 p.1
-    cases false e = beside_sample image border x y h is a b k
+    cases false e = elsewhere_sample image border x y h is a b k
 
 -- sums of samples
 

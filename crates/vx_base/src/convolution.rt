@@ -3,7 +3,7 @@ ghost use Rattle.std.specs.Prelude.{◌≡◌, ◌≤◌, ◌<◌, ◌*◌, ◌+
 ghost use Rattle.std.specs.Prelude.{None};
 ghost use Rattle.vx_base.specs.Convolution.{is_odd_side, is_convolution, IsConvolution};
 
-use crate::samples::are_shorts;
+use crate::samples::prove_shorts;
 use std::marker::Model;
 
 /// The number of coefficients of the largest matrix, 9x9.
@@ -120,10 +120,10 @@ impl Convolution {
 
     /// Proves that the matrix is well-formed. The prover learns the range of a number only where it
     /// is read; at run time this does nothing.
-    pub fn is_convolution(&self)
+    pub fn prove_convolution(&self)
         ensures { IsConvolution self.now }
     {
         let _columns = self.columns;
-        are_shorts(self.coefficients());
+        prove_shorts(self.coefficients());
     }
 }

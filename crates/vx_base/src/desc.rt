@@ -62,7 +62,7 @@ impl Desc {
 
     /// Proves that the sides are permitted. The prover learns the range of a number only where it
     /// is read; at run time this does nothing.
-    pub fn has_sides(self)
+    pub fn prove_sides(self)
         ensures { IsDescription self }
     {
         let _sides = (self.width, self.height);

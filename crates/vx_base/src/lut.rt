@@ -50,7 +50,7 @@ impl Lut {
         requires { IsTrue (is_full (samples_format entries) (length (values entries))) }
         ensures { result ≡ record { format = samples_format entries; entries = values entries } }
     {
-        entries.are_samples();
+        entries.prove_samples();
         Lut { entries }
     }
 

@@ -5,7 +5,7 @@ use crate::border::Border;
 use crate::function::Function;
 use crate::policy::Policy;
 use crate::reference::ObjRef;
-use crate::shape::{has_numbers, is_node};
+use crate::shape::{is_node, prove_numbers};
 use std::marker::Model;
 
 /// The greatest number of nodes in a graph.
@@ -66,7 +66,7 @@ impl NodeSpec {
         requires { IsTrue (is_node node) }
         ensures { result ≡ node }
     {
-        has_numbers(&node);
+        prove_numbers(&node);
         NodeSpec { node }
     }
 

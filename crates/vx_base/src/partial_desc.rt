@@ -86,7 +86,7 @@ impl PartialDesc {
 
     /// Proves that the given sides are permitted. The prover learns the range of a number only
     /// where it is read; at run time this does nothing.
-    pub fn has_sides(self)
+    pub fn prove_sides(self)
         ensures { IsPartialDescription self }
     {
         let _sides = (self.width, self.height);

@@ -32,8 +32,8 @@ impl Picture {
         requires { Describes desc samples }
         ensures { result ≡ record { description = desc; samples = values samples } }
     {
-        desc.has_sides();
-        samples.are_samples();
+        desc.prove_sides();
+        samples.prove_samples();
         Picture { desc, samples }
     }
 

@@ -56,7 +56,7 @@ impl Rect {
 
     /// Proves that the bounds are in canonical form. The prover learns the range of a number only
     /// where it is read; at run time this does nothing.
-    pub fn is_rectangle(self)
+    pub fn prove_bounds(self)
         ensures { IsRectangle self }
     {
         let _bounds = (self.x0, self.y0, self.x1, self.y1);

@@ -57,7 +57,7 @@ impl ObjRef {
 
     /// Proves that name and slot are in their ranges. The prover learns the range of a number only
     /// where it is read; at run time this does nothing.
-    pub fn is_cell(self)
+    pub fn prove_reference(self)
         ensures { IsReference self }
     {
         let _parts = (self.name, self.slot);

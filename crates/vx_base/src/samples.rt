@@ -95,13 +95,13 @@ impl Samples {
 
     /// Proves that each is a sample of the format. The prover learns the range of a signed number
     /// only where it is read; at run time this does nothing.
-    pub fn are_samples(&self)
+    pub fn prove_samples(&self)
         ensures { All (IsSample (samples_format self.now)) (values self.now) }
     {
         match self {
-            Samples::U8(samples) => are_bytes(samples),
-            Samples::S16(samples) => are_shorts(samples),
-            Samples::U32(samples) => are_words(samples),
+            Samples::U8(samples) => prove_bytes(samples),
+            Samples::S16(samples) => prove_shorts(samples),
+            Samples::U32(samples) => prove_words(samples),
         }
     }
 }
@@ -115,17 +115,17 @@ fn take_all<T: Drop>(samples: &mut Vec<T>) -> Vec<T>
     mem::replace(samples, empty)
 }
 
-fn are_bytes(samples: &[u8])
+fn prove_bytes(samples: &[u8])
     ensures { All (IsSample U8) (map pos samples.now) }
 {}
 
-fn are_words(samples: &[u32])
+fn prove_words(samples: &[u32])
     ensures { All (IsSample U32) (map pos samples.now) }
 {}
 
 /// Proves that each item is an S16 sample. The prover learns the range of a signed number only
 /// where it is read, so an otherwise empty loop reads each one; the compiler removes it.
-pub fn are_shorts(samples: &[i16])
+pub fn prove_shorts(samples: &[i16])
     ensures { All (IsSample S16) samples.now }
 {
     for sample in samples {

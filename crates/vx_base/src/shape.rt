@@ -55,7 +55,7 @@ fn all_named(node: &Node) -> bool
 
 /// Proves that the node's numbers are in the ranges of their types. The prover learns the range of
 /// a number only where it is read; at run time this does nothing.
-pub fn has_numbers(node: &Node)
+pub fn prove_numbers(node: &Node)
     ensures border { IsBorder node.now.border }
     ensures amount { node.now.amount < 2 ^ 8 }
     ensures in1 { IsReference node.now.in1 }
@@ -64,14 +64,14 @@ pub fn has_numbers(node: &Node)
     ensures out2 { IfSome node.now.out2 IsReference }
 {
     let _amount = node.amount;
-    has_constant(node.border);
-    node.in1.is_cell();
-    are_cells(node.in2);
-    are_cells(node.out1);
-    are_cells(node.out2);
+    prove_constant(node.border);
+    node.in1.prove_reference();
+    prove_references(node.in2);
+    prove_references(node.out1);
+    prove_references(node.out2);
 }
 
-fn has_constant(border: Border)
+fn prove_constant(border: Border)
     ensures { IsBorder border }
 {
     match border {
@@ -80,10 +80,10 @@ fn has_constant(border: Border)
     }
 }
 
-fn are_cells(cell: Option<ObjRef>)
+fn prove_references(cell: Option<ObjRef>)
     ensures { IfSome cell IsReference }
 {
     if let Some(cell) = cell {
-        cell.is_cell();
+        cell.prove_reference();
     }
 }

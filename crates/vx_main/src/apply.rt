@@ -16,7 +16,7 @@ use vx_base::{Code, Format, ObjRef, Picture};
 use vx_requests::StreamFault;
 
 /// The most bytes of a text: 2^29.
-const LONGEST: usize = 536_870_912;
+const LONGEST_TEXT: usize = 536_870_912;
 
 /// The only client, in whose name the requests are made.
 const CLIENT: u16 = 1;
@@ -31,17 +31,17 @@ pub fn apply<R: Read + Drop, W: Write>(
     reader: R,
     writer: &mut W,
 ) -> Result<(), Ended> {
-    let text = read_text(alloc, reader)?;
+    let text = read_all(alloc, reader)?;
     let made = job_result(alloc, job, text.as_slice())?;
     write_to_end(writer, made.bytes())
 }
 
 /// Returns all bytes of a reader. `NoResources`: they are more than a text may have.
-fn read_text<R: Read + Drop>(alloc: Global, reader: R) -> Result<Vec<u8>, Ended> {
+fn read_all<R: Read + Drop>(alloc: Global, reader: R) -> Result<Vec<u8>, Ended> {
     let mut text = Vec::new(alloc);
-    let mut limited = reader.take(LONGEST as u64 + 1);
+    let mut limited = reader.take(LONGEST_TEXT as u64 + 1);
     match limited.read_to_end(&mut text) {
-        Ok(count) if count <= LONGEST => Ok(text),
+        Ok(count) if count <= LONGEST_TEXT => Ok(text),
         Ok(_) => Err(Ended::Refused(Code::NoResources)),
         Err(error) if error.kind() == ErrorKind::OutOfMemory => {
             Err(Ended::Refused(Code::NoMemory))

@@ -23,7 +23,7 @@ pub fn run<R: Read + Drop, W: Write + Drop>(
 ) -> Result<(), Ended> {
     match read_words(alloc, words) {
         Ok(asked) => perform(alloc, asked, reader, writer),
-        Err(error) => refuse(alloc, &error, &mut writer),
+        Err(error) => refuse_words(alloc, &error, &mut writer),
     }
 }
 
@@ -42,7 +42,7 @@ fn perform<R: Read + Drop, W: Write + Drop>(
 
 /// Handles a command line that starts no work: help and the version go to the writer, anything else
 /// is refused.
-fn refuse<W: Write>(alloc: Global, error: &Error, writer: &mut W) -> Result<(), Ended> {
+fn refuse_words<W: Write>(alloc: Global, error: &Error, writer: &mut W) -> Result<(), Ended> {
     if error.kind() == ErrorKind::OutOfMemory {
         return Err(Ended::Refused(Code::NoMemory));
     }

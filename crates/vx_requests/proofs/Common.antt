@@ -37,8 +37,8 @@ pub use Rattle.vx_requests.specs.Serving.Session.{Session}
 pub use Rattle.vx_requests.specs.Serving.Turn.{AnswersBody, IsReply, ServesFrame, Turn, reply_frame, said_in}
 pub use Rattle.vx_requests.specs.Stream.Transfer.{AppendsFront, AppendsPart, Sends}
 pub use Rattle.vx_requests.specs.declared.serving.answered.Answered.{Answered}
-pub use Rattle.vx_requests.specs.declared.serving.answered.Content.{Content}
-pub use Rattle.vx_requests.specs.declared.serving.answered.Content.TheVariants.{Made, Text}
+pub use Rattle.vx_requests.specs.declared.serving.answered.ReplyContent.{ReplyContent}
+pub use Rattle.vx_requests.specs.declared.serving.answered.ReplyContent.TheVariants.{Made, Text}
 pub use Rattle.vx_requests.specs.declared.serving.summary.Summary.{Summary}
 pub use Rattle.vx_requests.specs.declared.stream.fault.StreamFault.{StreamFault}
 pub use Rattle.vx_requests.specs.declared.stream.fault.StreamFault.TheVariants.{WriteFailed}

@@ -12,7 +12,7 @@ use Rattle.vx_base.specs.declared.code.Code.TheVariants.{NoMemory as CodeNoMemor
 use Rattle.vx_wire.specs.declared.parse_fault.ParseFault.{ParseFault}
 use Rattle.vx_requests.specs.Serving.Answer.{answer}
 use Rattle.vx_requests.specs.Serving.Lost.{NeedsMemory, SpellsTaking}
-use Rattle.vx_requests.specs.declared.serving.answered.Content.TheVariants.{Samples}
+use Rattle.vx_requests.specs.declared.serving.answered.ReplyContent.TheVariants.{Samples}
 use Rattle.client_model.specs.Request.{TakesMemory}
 use Rattle.vx_wire.specs.Faults.{MayFailWith}
 use Rattle.vx_wire.specs.Requests.{HoldsSamples}

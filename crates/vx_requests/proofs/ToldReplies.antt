@@ -1,11 +1,11 @@
 -- Replies that write an image's own samples.
 use Rattle.std.proofs.Common.{◌≡◌, ℕ, List, sym, ap, ◌∙◌}
-use Rattle.vx_requests.proofs.Common.{Reference, ReadImage, ReadImagePgm, Reply, State, World, state_of, said_of, Answered, Content, reply_bytes, states_of, spelled_frame, said_in, reply_frame, Text}
+use Rattle.vx_requests.proofs.Common.{Reference, ReadImage, ReadImagePgm, Reply, State, World, state_of, said_of, Answered, ReplyContent, reply_bytes, states_of, spelled_frame, said_in, reply_frame, Text}
 use Rattle.client_contexts.specs.Applies.{IsAnswered}
-use Rattle.vx_requests.specs.declared.serving.answered.Content.TheVariants.{Samples}
+use Rattle.vx_requests.specs.declared.serving.answered.ReplyContent.TheVariants.{Samples}
 
 module _ (world : World) (a : Answered) (image : Reference) (reply : Reply) where
-  abbrev frame_with : Content → List ℕ
+  abbrev frame_with : ReplyContent → List ℕ
   frame_with content = reply_bytes (spelled_frame a.client a.op (said_in world.limits (state_of a.client world) content))
 
   abbrev frame_of : Reply × State → List ℕ

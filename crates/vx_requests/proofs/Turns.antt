@@ -1,6 +1,6 @@
 -- From the bytes after a length to a frame.
 use Rattle.std.proofs.Common.{◌≡◌, ℕ, ◌+◌, ◌-◌, ◌<◌, ◌^◌, List, [], ◌∷◌, ◌++◌, Option, Ok, Err, inl, arith, length, refl, sym, ap, subst, All}
-use Rattle.vx_requests.proofs.Common.{w16, w32, to_be_bytes, from_be_bytes-to_be_bytes_4, Consumes, Appends, Consumes-trans, Appends-nil, LimitsValue, State, Refused, NoMemory, StreamFault, WriteFailed, Answered, Content, Made, IsLength, said_length, frame_of, reply_bytes, AppendsFront, BreaksOff, ReadsSome, IsReply, AnswersBody, ServesFrame, Turn, reply_frame}
+use Rattle.vx_requests.proofs.Common.{w16, w32, to_be_bytes, from_be_bytes-to_be_bytes_4, Consumes, Appends, Consumes-trans, Appends-nil, LimitsValue, State, Refused, NoMemory, StreamFault, WriteFailed, Answered, ReplyContent, Made, IsLength, said_length, frame_of, reply_bytes, AppendsFront, BreaksOff, ReadsSome, IsReply, AnswersBody, ServesFrame, Turn, reply_frame}
 use Rattle.vx_requests.specs.declared.stream.fault.StreamFault.TheVariants.{Truncated, BadLength, ReadFailed, ReaderWouldNotEnd}
 use Rattle.vx_requests.specs.Frame.Frames.{IsBegun, payload}
 use Rattle.vx_requests.specs.Frame.Reading.{BreaksIn}
@@ -29,7 +29,7 @@ lost_body limits a b states client op len long (body, read, size, bytes) =
     (body, read, size, bytes, lost_reply limits states states client op body (inl (omega arith)) (λ each. refl))
 
 -- a whole payload was read and answered
-pub whole_payload : (limits : LimitsValue) (a b : Option (List ℕ)) (old new : ℕ → State) (client op : ℕ) (body bytes : List ℕ) (content : Content) → client < 2 ^ 16 → op < 2 ^ 8
+pub whole_payload : (limits : LimitsValue) (a b : Option (List ℕ)) (old new : ℕ → State) (client op : ℕ) (body bytes : List ℕ) (content : ReplyContent) → client < 2 ^ 16 → op < 2 ^ 8
     → All (λ x. x < 2 ^ 8) body → IsLength (length bytes) → bytes ≡ payload (frame_of client op body) → Consumes a b bytes
     → IsReply limits (frame_of client op body) old new (reply_frame limits new (record { client = client; op = op; content = content }))
     → AnswersPayload limits a b old new (length bytes) (Ok (record { client = client; op = op; content = content }))
@@ -43,7 +43,7 @@ whole_payload limits a b old new client op body bytes content fits fits' each ok
     )
 
 -- after its client and op, the body of a frame was read and answered
-pub answered_payload : (limits : LimitsValue) (a b c : Option (List ℕ)) (old new : ℕ → State) (client op len : ℕ) (content : Content) → client < 2 ^ 16 → op < 2 ^ 8 → IsLength len
+pub answered_payload : (limits : LimitsValue) (a b c : Option (List ℕ)) (old new : ℕ → State) (client op len : ℕ) (content : ReplyContent) → client < 2 ^ 16 → op < 2 ^ 8 → IsLength len
     → Consumes a b (to_be_bytes w16 client ++ op ∷ []) → AnswersBody limits b c old new client op (len - 3) (Ok content)
     → AnswersPayload limits a c old new len (Ok (record { client = client; op = op; content = content }))
 answered_payload limits a b c old new client op len content fits fits' ok front (body, read, size, bytes, reply) = (

@@ -1,6 +1,6 @@
 -- What a WriteImage frame is answered, once the head of its body was read.
 use Rattle.std.proofs.Common.{◌≡◌, ◌≢◌, ℕ, ℤ, ◌*◌, ◌-◌, ◌<◌, ◌^◌, List, ◌++◌, Option, Some, Result, Ok, Err, inl, inr, ◌⊎◌, refl, arith, length, sym, ap, subst, ◌∙◌, length-append, All, OnOk, IfOk, IfErr}
-use Rattle.vx_requests.proofs.Common.{Consumes, Consumes-trans, All-append, Reference, Description, sample_count, byte_count, PictureValue, sample_bytes, Code, NoMemory, Request, WriteImage, Reply, Refused, LimitsValue, State, answer_to, BodyFault, op_numbered, parse_fault, fault_code, said_of, decoded_samples, StreamFault, Content, Made, frame_of, ReadsPart, ReadsSome, ReadsSamples, spelled_frame, IsReply, reply_frame, AnswersBody}
+use Rattle.vx_requests.proofs.Common.{Consumes, Consumes-trans, All-append, Reference, Description, sample_count, byte_count, PictureValue, sample_bytes, Code, NoMemory, Request, WriteImage, Reply, Refused, LimitsValue, State, answer_to, BodyFault, op_numbered, parse_fault, fault_code, said_of, decoded_samples, StreamFault, ReplyContent, Made, frame_of, ReadsPart, ReadsSome, ReadsSamples, spelled_frame, IsReply, reply_frame, AnswersBody}
 use Rattle.std.specs.Prelude.{⊤}
 use Rattle.vx_base.specs.declared.format.Format.{Format}
 use Rattle.client_contexts.specs.Incoming.{IsRead, SaysWhyUnwritten}
@@ -43,7 +43,7 @@ module _ (limits : LimitsValue) (old new : ℕ → State) (client op len : ℕ) 
 
 module _ (limits : LimitsValue) (a b c : Option (List ℕ)) (old new : ℕ → State) (client op len : ℕ) (head : List ℕ) where
   -- the rest was read past, or less than that
-  pub past_rest : (result : Result Content StreamFault) (reply : Reply) → 64 < len → length head ≡ 10 → All (λ x. x < 2 ^ 8) head → Consumes a b head
+  pub past_rest : (result : Result ReplyContent StreamFault) (reply : Reply) → 64 < len → length head ≡ 10 → All (λ x. x < 2 ^ 8) head → Consumes a b head
       → OnOk result (ReadsSome b c (len - 10)) → IfOk result (λ content. content ≡ Made reply) → IfErr result (ReadsPart b c (len - 10)) → ((each : ℕ) → new each ≡ old each)
       → ((rest : List ℕ) → length rest ≡ len - 10 → IsReply limits (frame_of client op (head ++ rest)) old new (spelled_frame client op (said_of reply)))
       → AnswersBody limits a c old new client op len result
@@ -52,7 +52,7 @@ module _ (limits : LimitsValue) (a b c : Option (List ℕ)) (old new : ℕ → S
     Consumes-trans a b c head rest front read,
     omega (arith, length-append head rest),
     All-append (λ x. x < 2 ^ 8) head rest bytes others,
-    subst (λ (told : Content). IsReply limits (frame_of client op (head ++ rest)) old new (reply_frame limits new (record { client = client; op = op; content = told }))) (sym made) (replies rest size),
+    subst (λ (told : ReplyContent). IsReply limits (frame_of client op (head ++ rest)) old new (reply_frame limits new (record { client = client; op = op; content = told }))) (sym made) (replies rest size),
   )
   past_rest (Err e) reply long ten bytes front read made part same replies = (part_after a b c head (len - 10) len e front (omega arith) part, same)
 

@@ -410,7 +410,7 @@ pub fn nodes()
 {}
 
 /// Multiply of images 1 and 2 to image 3 by 1 / 2^15, saturating; and amounts above 15.
-pub fn multiplied()
+pub fn multiply_nodes()
     ensures whole { request_of 24 (7 ∷ 0 ∷ 0 ∷ 1 ∷ 15 ∷ 0 ∷ 0 ∷ 0 ∷ 1 ∷ 255 ∷ 0 ∷ 0 ∷ 0 ∷ 2 ∷ 255
         ∷ 0 ∷ 0 ∷ 0 ∷ 3 ∷ 255 ∷ 0 ∷ 0 ∷ 0 ∷ 0 ∷ 255 ∷ [])
         ≡ Ok (Immediate (record {

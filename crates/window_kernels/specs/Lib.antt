@@ -1,5 +1,5 @@
 pub mod Fits
 pub mod Given
-pub mod Turned
+pub mod Rotated
 pub mod Examples
 pub mod ByColumns

@@ -10,12 +10,12 @@ ghost use Rattle.vx_base.specs.Node.{IsBorder};
 ghost use Rattle.vx_base.specs.Window.{sample_or_border, convolution_result, from_matrix};
 ghost use Rattle.image_core.specs.Fits.{HaveSameSize};
 ghost use Rattle.image_core.specs.Target.{target_image, IsTarget, Writes};
-ghost use Rattle.window_kernels.specs.declared.pieces.TheConstants.{PIECE};
+ghost use Rattle.window_kernels.specs.declared.pieces.TheConstants.{PIECE_WIDTH};
 ghost use Rattle.window_kernels.specs.Fits.{ConvolutionFits};
 ghost use Rattle.lane_rows.specs.Pairs.{IsNear, alternation};
-ghost use Rattle.window_kernels.specs.Turned.{turned_coefficient, turned_pairs, turned_tables};
+ghost use Rattle.window_kernels.specs.Rotated.{rotated_coefficient, rotated_pairs, rotated_tables};
 
-use crate::pieces::PIECE;
+use crate::pieces::PIECE_WIDTH;
 use crate::windows::SampleItem;
 use border_rows::{load_row, window_valid};
 use image_core::{Image, ImageMut, RowFormula, Sample};
@@ -36,9 +36,9 @@ impl Convolved for i16 {
 }
 
 /// A coefficient of a row with the columns reversed, 0 after the last column.
-fn turned_coefficient(convolution: &Convolution, row: usize, column: usize) -> i16
+fn rotated_coefficient(convolution: &Convolution, row: usize, column: usize) -> i16
     requires { row < convolution.now.rows }
-    ensures { result ≡ turned_coefficient convolution.now row column }
+    ensures { result ≡ rotated_coefficient convolution.now row column }
 {
     let columns = usize::from(convolution.columns());
     if column < columns {
@@ -61,12 +61,12 @@ fn write_pair(first: i16, second: i16, out: &mut [i16])
 fn write_pairs(convolution: &Convolution, row: usize, pairs: &mut [i16])
     requires row { row < convolution.now.rows }
     requires len { length pairs.old ≡ 16 * (convolution.now.columns / 2 + 1) }
-    ensures value { pairs.new ≡ run 0 (length pairs.old) (turned_pairs convolution.now row) }
+    ensures value { pairs.new ≡ run 0 (length pairs.old) (rotated_pairs convolution.now row) }
     ensures fits { Each1 (FitsSigned w16) pairs.new }
 {
     for j in 0..usize::from(convolution.columns()) / 2 + 1 {
-        let first = turned_coefficient(convolution, row, 2 * j);
-        let second = turned_coefficient(convolution, row, 2 * j + 1);
+        let first = rotated_coefficient(convolution, row, 2 * j);
+        let second = rotated_coefficient(convolution, row, 2 * j + 1);
         write_pair(first, second, &mut pairs[16 * j..16 * j + 16]);
     }
 }
@@ -75,7 +75,7 @@ fn write_pairs(convolution: &Convolution, row: usize, pairs: &mut [i16])
 fn write_table(convolution: &Convolution, row: usize, table: &mut [i16])
     requires row { row < convolution.now.rows }
     requires len { length table.old ≡ 80 }
-    ensures value { table.new ≡ run 0 80 (turned_pairs convolution.now row) }
+    ensures value { table.new ≡ run 0 80 (rotated_pairs convolution.now row) }
     ensures fits { Each1 (FitsSigned w16) table.new }
 {
     let count = usize::from(convolution.columns()) / 2 + 1;
@@ -87,7 +87,7 @@ fn write_table(convolution: &Convolution, row: usize, table: &mut [i16])
 /// Writes the tables of all rows of a matrix.
 fn write_tables(convolution: &Convolution, tables: &mut [i16])
     requires { length tables.old ≡ convolution.now.rows * 80 }
-    ensures value { tables.new ≡ turned_tables convolution.now }
+    ensures value { tables.new ≡ rotated_tables convolution.now }
     ensures fits { All (FitsSigned w16) tables.new }
 {
     for row in 0..usize::from(convolution.rows()) {
@@ -96,7 +96,7 @@ fn write_tables(convolution: &Convolution, tables: &mut [i16])
 }
 
 /// Proves that the border's constant is a U8 sample; at run time this does nothing.
-fn has_constant(border: Border)
+fn prove_constant(border: Border)
     ensures { IsBorder border }
 {
     if let Border::Constant(_value) = border {}
@@ -119,7 +119,7 @@ struct FromMatrix<'a, 'b> {
         (area.x0 < area.x1 → image.now.valid.x0 < image.now.valid.x1) },
     ghost rows: { (area.y1 ≤ image.now.valid.y1) ×
         (area.y0 < area.y1 → image.now.valid.y0 < image.now.valid.y1) },
-    ghost turned_coefficient: { tables.now ≡ turned_tables convolution.now },
+    ghost rotated_coefficient: { tables.now ≡ rotated_tables convolution.now },
     ghost fits: { All (FitsSigned w16) tables.now },
     ghost side: { IsTrue (is_odd_side convolution.now.columns) },
 }
@@ -135,7 +135,7 @@ impl FromMatrix<'_, '_> {
         ensures limit { Each1 (IsNear 255) line.new }
     {
         let _limits = self.image.valid();
-        has_constant(self.border);
+        prove_constant(self.border);
         let radius = u16::from(self.convolution.columns() / 2);
         load_row(self.image, x, radius, row, self.border, line);
     }
@@ -145,7 +145,7 @@ impl FromMatrix<'_, '_> {
     fn load_rows(&self, x: u16, y: u16, line: u16, rows: &mut [i16])
         requires columns { self.now.image.now.valid.x0 < self.now.image.now.valid.x1 }
         requires rows { self.now.image.now.valid.y0 < self.now.image.now.valid.y1 }
-        requires line { line ≤ PIECE + 48 }
+        requires line { line ≤ PIECE_WIDTH + 48 }
         requires len { length rows.old ≡ self.now.convolution.now.rows * line }
         ensures value { rows.new ≡ table line self.now.convolution.now.rows
             (λ c l. sample_or_border self.now.image.now self.now.border
@@ -169,16 +169,16 @@ impl<T: Convolved> RowFormula<T, i16> for FromMatrix<'_, '_> {
 
     ghost area = { λ s. s.area };
 
-    ghost most = { λ _. PIECE };
+    ghost most = { λ _. PIECE_WIDTH };
 
-    ghost room = { λ s. 9 * (min s.image.now.width PIECE + 48) };
+    ghost room = { λ s. 9 * (min s.image.now.width PIECE_WIDTH + 48) };
 
     fn area(&self) -> Rect {
         self.area
     }
 
     fn most(&self) -> u16 {
-        PIECE as u16
+        PIECE_WIDTH as u16
     }
 
     fn fill(&self, x: u16, y: u16, scratch: &mut [i16], out: &mut [T]) {
@@ -212,7 +212,7 @@ fn write_convolved<T: Convolved>(
     requires size { HaveSameSize (target_image output.old) image.now }
     requires input_format { image.now.format ≡ U8 }
     requires format { (target_image output.old).format ≡ T.Sample.format }
-    requires scratch { 9 * (min image.now.width PIECE + 48) ≤ length scratch.old }
+    requires scratch { 9 * (min image.now.width PIECE_WIDTH + 48) ≤ length scratch.old }
     ensures { Writes (from_matrix T.Sample.format convolution.now border image.now)
         output.old output.new }
 {
@@ -243,7 +243,7 @@ macro_rules! with_rows {
             let $rows = &mut [0; 9 * (512 + AROUND)];
             $call
         } else {
-            let $rows = &mut [0; 9 * (PIECE + AROUND)];
+            let $rows = &mut [0; 9 * (PIECE_WIDTH + AROUND)];
             $call
         }
     };
@@ -258,7 +258,7 @@ fn convolve_with(
     rows: &mut [i16],
 )
     requires fits { ConvolutionFits image.now output.old }
-    requires scratch { 9 * (min image.now.width PIECE + 48) ≤ length rows.old }
+    requires scratch { 9 * (min image.now.width PIECE_WIDTH + 48) ≤ length rows.old }
     ensures { Writes (from_matrix (target_image output.old).format convolution.now border image.now)
         output.old output.new }
 {

@@ -60,7 +60,7 @@ pub fn boxes()
 {}
 
 /// Erosion and dilation of a row whose ends are not valid: these are not read, and stay 0.
-pub fn beside_the_valid()
+pub fn valid_edges()
     ensures least { (from_nine U8 least_of Replicate row_of_four).samples
         ≡ pos 0 ∷ pos 20 ∷ pos 20 ∷ pos 0 ∷ [] }
     ensures greatest { (from_nine U8 greatest_of Replicate row_of_four).samples
@@ -74,7 +74,7 @@ pub fn gradients()
 
 /// A matrix whose only coefficient is 1 in its upper left corner gives the sample to the lower
 /// right.
-pub fn turned_matrix()
+pub fn rotated_matrix()
     ensures { from_matrix U8 upper_left Undefined three_by_three ≡ at_centre U8 (pos 9) }
 {}
 

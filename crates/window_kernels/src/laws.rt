@@ -15,7 +15,7 @@ ghost use Rattle.vx_base.specs.Window.{median, least_of};
 ghost use Rattle.vx_base.specs.Window.{greatest_of, gradient_x, gradient_y, from_nine, from_matrix};
 
 /// At a valid pixel a window reads the image's sample, under every border mode.
-pub fn valid_places()
+pub fn valid_pixels()
     ensures { (image : ImageValue) (border : Border) (x y : ℕ) → has_pixel image.valid x y ≡ true →
         sample_or_border image border (pos x) (pos y) ≡ pixel_at image x y }
 {}
@@ -45,7 +45,7 @@ pub fn median_of_nine()
 
 /// The result of a 3x3 window function on a U8 image is a well-formed image of the output's format,
 /// and so is that of a convolution.
-pub fn results_are_images()
+pub fn window_results_are_images()
     ensures box_means { (border : Border) (a : ImageValue) → IsBorder border → IsImage a →
         a.format ≡ U8 → IsImage (from_nine U8 box_mean border a) }
     ensures gaussian_means { (border : Border) (a : ImageValue) → IsBorder border → IsImage a →

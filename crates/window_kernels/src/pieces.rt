@@ -2,4 +2,4 @@
 
 /// The greatest number of columns in a piece, so that its scratch memory doesn't grow with the
 /// image's width.
-pub const PIECE: usize = 1024;
+pub const PIECE_WIDTH: usize = 1024;

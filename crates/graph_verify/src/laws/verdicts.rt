@@ -18,7 +18,7 @@ pub fn each_node_can_run()
 {}
 
 /// For a graph of one node without virtual images the verdict on the graph is that on the node.
-pub fn one_node()
+pub fn verdict_on_one_node()
     ensures { (work : ℕ) (is : Reference → Operand) (n : Node) →
         list_any (λ c. is_virtual (is c)) (inputs n ++ outputs n) ≡ false →
         verdict work is (n ∷ []) ≡ verdict_on n (operands_of is n) }

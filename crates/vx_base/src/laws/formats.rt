@@ -6,7 +6,7 @@ ghost use Rattle.vx_base.specs.Formats.{takes_formats, open_format};
 
 /// If a function can write an image from inputs of these formats, it can write one in the format
 /// that it gives to an open output.
-pub fn open_formats()
+pub fn open_formats_suffice()
     ensures { (function : Function) (first output : Format) (second : Option Format) →
         IsTrue (takes_formats function first second (Some output)) →
         IsTrue (takes_formats function first second (Some (open_format function first))) }

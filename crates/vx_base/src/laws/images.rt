@@ -26,7 +26,7 @@ pub fn bands()
 
 /// An image made from a function has its values in the valid rectangle and 0 elsewhere. It is
 /// well-formed if its sides are permitted and the function's values are samples of the format.
-pub fn made_samples()
+pub fn formula_samples()
     ensures image { (width height : ℕ) (format : Format) (valid : Rectangle) (f : ℕ → ℕ → ℤ) →
         IsTrue (is_side width) → IsTrue (is_side height) → IsCanonical valid →
         IsWithin valid width height →
@@ -49,14 +49,14 @@ pub fn pictures()
 {}
 
 /// Two images of the same description and valid rectangle are equal if they agree at each pixel.
-pub fn places_decide()
+pub fn pixels_decide_image()
     ensures { (a b : ImageValue) → IsImage a → IsImage b →
         a.width ≡ b.width → a.height ≡ b.height → a.format ≡ b.format → a.valid ≡ b.valid →
         ((x y : ℕ) → x < a.width → y < a.height → pixel_at a x y ≡ pixel_at b x y) → a ≡ b }
 {}
 
 /// An image equals the one made from its own samples.
-pub fn made_of_itself()
+pub fn image_of_own_samples()
     ensures { (a : ImageValue) → IsImage a →
         image_from a.width a.height a.format a.valid (pixel_at a) ≡ a }
 {}

@@ -8,8 +8,8 @@ use Rattle.client_model.specs.declared.request.Request.TheVariants.{ReadImage, R
 use Rattle.vx_requests.specs.declared.stream.fault.StreamFault.{StreamFault}
 use Rattle.vx_requests.specs.declared.stream.fault.StreamFault.TheVariants.{WriteFailed}
 use Rattle.vx_requests.specs.declared.serving.answered.Answered.{Answered}
-use Rattle.vx_requests.specs.declared.serving.answered.Content.{Content}
-use Rattle.vx_requests.specs.declared.serving.answered.Content.TheVariants.{Made, Samples, Text}
+use Rattle.vx_requests.specs.declared.serving.answered.ReplyContent.{ReplyContent}
+use Rattle.vx_requests.specs.declared.serving.answered.ReplyContent.TheVariants.{Made, Samples, Text}
 use Rattle.vx_requests.specs.Stream.Transfer.{AppendsFront}
 use Rattle.vx_requests.specs.Frame.Frames.{Frame, ReplyFrame, IsFrame, frame_of, payload, frame_bytes, reply_bytes}
 use Rattle.vx_requests.specs.Serving.Answer.{answer}
@@ -29,7 +29,7 @@ abbrev pub SameStates : (old new : ℕ → State) → Type 0
 SameStates old new = (client : ℕ) → new client ≡ old client
 
 -- the code and body of a reply, given its content and its client's state
-abbrev pub said_in : LimitsValue → State → Content → Said
+abbrev pub said_in : LimitsValue → State → ReplyContent → Said
 said_in limits state (Made reply) = said_of reply
 said_in limits state (Samples image) = said_of (answer_to limits state (ReadImage image)).0
 said_in limits state (Text image) = said_of (answer_to limits state (ReadImagePgm image)).0
@@ -40,7 +40,7 @@ reply_frame limits states a = spelled_frame a.client a.op (said_in limits (state
 
 module _ (limits : LimitsValue) (left_old left_new : Option (List ℕ)) (old new : ℕ → State) where
   -- after a frame's client and op: a body of `len` bytes was read and answered, or fewer bytes were read
-  abbrev pub AnswersBody : (client op len : ℕ) → Result Content StreamFault → Type 0
+  abbrev pub AnswersBody : (client op len : ℕ) → Result ReplyContent StreamFault → Type 0
   AnswersBody client op len (Ok content) = (body : List ℕ) × Consumes left_old left_new body × (length body ≡ len) × All (λ b. b < 2 ^ 8) body
       × IsReply limits (frame_of client op body) old new (reply_frame limits new (record { client = client; op = op; content = content }))
   AnswersBody client op len (Err e) = ReadsPart left_old left_new len e × SameStates old new

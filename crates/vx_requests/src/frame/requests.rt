@@ -54,7 +54,7 @@ pub fn write_request<K: Sink>(
         (frame_bytes (request_frame client request.now)) result }
     ensures request { IsRequest request.now }
 {
-    request.is_request();
+    request.prove_request();
     match request {
         Request::OpenContext => write_short(sink, client, Op::OpenContext.number(), &[]),
         Request::ReleaseContext => write_short(sink, client, Op::ReleaseContext.number(), &[]),

@@ -14,7 +14,7 @@ use vx_base::Samples;
 use vx_wire::{WideSample, decode_wide, encode};
 
 /// The most bytes that are read at a time for samples of several bytes each.
-const PIECE: usize = 16_384;
+const LONGEST_READ: usize = 16_384;
 
 /// Writes samples of any format, in order.
 pub fn write_samples<K: Sink>(sink: &mut K, samples: &Samples) -> Result<(), StreamFault>
@@ -109,7 +109,7 @@ fn read_wide<S: WideSample, R: Source>(
         (length samples.old * sample_bytes S.format)) }
     ensures counted { KeepsCount R.reads R.failures reader.old reader.new result }
 {
-    let mut piece = [0u8; PIECE];
+    let mut piece = [0u8; LONGEST_READ];
     let mut done = 0;
     while done < samples.len() {
         done += read_piece(reader, &mut piece, &mut samples[done..])?;

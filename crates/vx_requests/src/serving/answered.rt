@@ -14,7 +14,7 @@ use vx_base::ObjRef;
 
 /// The content of a reply.
 #[derive(Drop)]
-pub enum Content {
+pub enum ReplyContent {
     /// A reply that was computed.
     Made(Reply),
     /// The reply to ReadImage of this image. It is not copied: the samples of the image itself are
@@ -29,7 +29,7 @@ pub enum Content {
 pub struct Answered {
     pub client: u16,
     pub op: u8,
-    pub content: Content,
+    pub content: ReplyContent,
 }
 
 /// Writes the frame of a reply, flushes the sink, and returns the reply's code. The runtime is in
@@ -48,15 +48,15 @@ pub fn write_answered<K: Sink>(
 {
     let (client, op) = (answered.client, answered.op);
     match &answered.content {
-        Content::Made(reply) => write_made_reply(sink, client, op, reply),
-        Content::Samples(image) => match runtime.image(client, *image) {
+        ReplyContent::Made(reply) => write_made_reply(sink, client, op, reply),
+        ReplyContent::Samples(image) => match runtime.image(client, *image) {
             Ok(image) => {
                 write_image_reply(sink, client, op, image)?;
                 Ok(0)
             }
             Err(code) => write_made_reply(sink, client, op, &Reply::Refused(code)),
         },
-        Content::Text(image) => match runtime.text_image(client, *image) {
+        ReplyContent::Text(image) => match runtime.text_image(client, *image) {
             Ok(image) => {
                 write_image_text_reply(sink, client, op, image)?;
                 Ok(0)

@@ -10,7 +10,7 @@ ghost use Rattle.vx_requests.specs.Serving.Turn.{AnswersPayload};
 ghost use Rattle.vx_wire.specs.Requests.{request_of};
 
 use crate::frame::{Reader, number_of_two};
-use crate::serving::answered::{Answered, Content};
+use crate::serving::answered::{Answered, ReplyContent};
 use crate::serving::images::answer_write_image;
 use crate::serving::texts::answer_write_image_pgm;
 use crate::stream::{Source, StreamFault};
@@ -95,7 +95,7 @@ fn answer_large<S: Source>(
     client: u16,
     op: u8,
     count: usize,
-) -> Result<Content, StreamFault>
+) -> Result<ReplyContent, StreamFault>
     requires long { 64 < count }
     requires can_read { CanRead S.reads S.failures reader.old }
     ensures answered { AnswersBody runtime.old.limits
@@ -128,7 +128,7 @@ fn answer_in<S: Source>(
     client: u16,
     op: u8,
     body: &mut [u8],
-) -> Result<Content, StreamFault>
+) -> Result<ReplyContent, StreamFault>
     requires { CanRead S.reads S.failures reader.old }
     ensures answered { AnswersBody runtime.old.limits
         (S.left reader.old.source.now) (S.left reader.new.source.now)
@@ -147,7 +147,7 @@ fn lose_body<S: Source>(
     client: u16,
     op: u8,
     count: usize,
-) -> Result<Content, StreamFault>
+) -> Result<ReplyContent, StreamFault>
     requires long { 64 < count }
     requires can_read { CanRead S.reads S.failures reader.old }
     ensures answered { (limits : LimitsValue) (states : ℕ → State) → AnswersBody limits
@@ -156,7 +156,7 @@ fn lose_body<S: Source>(
     ensures counted { KeepsCount S.reads S.failures reader.old reader.new result }
 {
     reader.skip(count)?;
-    Ok(Content::Made(Reply::Refused(Code::NoMemory)))
+    Ok(ReplyContent::Made(Reply::Refused(Code::NoMemory)))
 }
 
 /// Returns the frame that a payload encodes.
@@ -173,7 +173,7 @@ fn frame_in(bytes: &[u8]) -> RequestFrame<'_>
 }
 
 /// Returns the reply to a frame.
-fn answer_frame(alloc: Global, runtime: &mut Runtime, frame: &RequestFrame) -> Content
+fn answer_frame(alloc: Global, runtime: &mut Runtime, frame: &RequestFrame) -> ReplyContent
     ensures replies { let f = frame_of frame.now.client frame.now.op frame.now.body.now in
         IsReply runtime.old.limits f (states_of runtime.old) (states_of runtime.new)
         (reply_frame runtime.old.limits (states_of runtime.new)
@@ -181,7 +181,7 @@ fn answer_frame(alloc: Global, runtime: &mut Runtime, frame: &RequestFrame) -> C
     ensures limits { runtime.new.limits ≡ runtime.old.limits }
 {
     let content = content_for(alloc, runtime, frame);
-    if let Content::Made(Reply::Refused(Code::NoMemory)) = content {
+    if let ReplyContent::Made(Reply::Refused(Code::NoMemory)) = content {
         // Parsing may have failed for want of memory. Dropping the free blocks gives a retry of the
         // client more.
         runtime.drop_free();
@@ -191,7 +191,7 @@ fn answer_frame(alloc: Global, runtime: &mut Runtime, frame: &RequestFrame) -> C
 
 /// Returns the reply to a frame, or the refusal of a body that encodes no request. The text of a
 /// WriteImagePgm is parsed in place.
-fn content_for(alloc: Global, runtime: &mut Runtime, frame: &RequestFrame) -> Content
+fn content_for(alloc: Global, runtime: &mut Runtime, frame: &RequestFrame) -> ReplyContent
     ensures replies { let f = frame_of frame.now.client frame.now.op frame.now.body.now in
         IsReply runtime.old.limits f (states_of runtime.old) (states_of runtime.new)
         (reply_frame runtime.old.limits (states_of runtime.new)
@@ -200,17 +200,22 @@ fn content_for(alloc: Global, runtime: &mut Runtime, frame: &RequestFrame) -> Co
 {
     if let Some(Op::WriteImagePgm) = Op::from_number(frame.op) {
         let reply = answer_write_image_pgm(runtime, frame.client, frame.op, frame.body);
-        return Content::Made(reply);
+        return ReplyContent::Made(reply);
     }
     match parse(alloc, frame.op, frame.body) {
         Ok(request) => answer_request(alloc, runtime, frame.client, &request),
-        Err(fault) => Content::Made(Reply::Refused(fault.code())),
+        Err(fault) => ReplyContent::Made(Reply::Refused(fault.code())),
     }
 }
 
 /// Returns the runtime's reply, or NO_MEMORY. For ReadImage and ReadImagePgm it returns the image's
 /// reference, so that nothing is copied.
-fn answer_request(alloc: Global, runtime: &mut Runtime, client: u16, request: &Request) -> Content
+fn answer_request(
+    alloc: Global,
+    runtime: &mut Runtime,
+    client: u16,
+    request: &Request,
+) -> ReplyContent
     ensures replies { (op : ℕ) (body : List ℕ) → request_of op body ≡ Ok request.now →
         IsReply runtime.old.limits (frame_of client op body)
         (states_of runtime.old) (states_of runtime.new)
@@ -219,11 +224,11 @@ fn answer_request(alloc: Global, runtime: &mut Runtime, client: u16, request: &R
     ensures limits { runtime.new.limits ≡ runtime.old.limits }
 {
     match request {
-        Request::ReadImage(image) => Content::Samples(*image),
-        Request::ReadImagePgm(image) => Content::Text(*image),
+        Request::ReadImage(image) => ReplyContent::Samples(*image),
+        Request::ReadImagePgm(image) => ReplyContent::Text(*image),
         _ => match runtime.apply(alloc, client, request) {
-            Ok(reply) => Content::Made(reply),
-            Err(NoMemory) => Content::Made(Reply::Refused(Code::NoMemory)),
+            Ok(reply) => ReplyContent::Made(reply),
+            Err(NoMemory) => ReplyContent::Made(Reply::Refused(Code::NoMemory)),
         },
     }
 }

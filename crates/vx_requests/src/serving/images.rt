@@ -1,7 +1,7 @@
 //! Answers WriteImage: the samples are read straight into the image's new samples.
 ghost use Rattle.std.specs.Prelude.{◌≡◌, ◌<◌, Some, OnOk, IfOk, IfErr};
 ghost use Rattle.client_model.specs.declared.reply.Reply.TheVariants.{Refused};
-ghost use Rattle.vx_requests.specs.declared.serving.answered.Content.TheVariants.{Made};
+ghost use Rattle.vx_requests.specs.declared.serving.answered.ReplyContent.TheVariants.{Made};
 ghost use Rattle.vx_wire.specs.declared.op.Op.TheVariants.{WriteImage};
 ghost use Rattle.vx_wire.specs.Op.{op_numbered};
 ghost use Rattle.vx_requests.specs.Frame.Reading.{CanRead, KeepsCount, ReadsPart, ReadsSome};
@@ -9,7 +9,7 @@ ghost use Rattle.vx_requests.specs.Serving.Clients.{states_of};
 ghost use Rattle.vx_requests.specs.Serving.Turn.{AnswersBody};
 
 use crate::frame::Reader;
-use crate::serving::answered::Content;
+use crate::serving::answered::ReplyContent;
 use crate::stream::{Source, StreamFault};
 use client_contexts::{Runtime, WriteFault};
 use client_model::Reply;
@@ -29,7 +29,7 @@ pub fn answer_write_image<S: Source>(
     client: u16,
     op: u8,
     count: usize,
-) -> Result<Content, StreamFault>
+) -> Result<ReplyContent, StreamFault>
     requires op { op_numbered op ≡ Some WriteImage }
     requires long { 64 < count }
     requires can_read { CanRead S.reads S.failures reader.old }
@@ -44,7 +44,7 @@ pub fn answer_write_image<S: Source>(
     let rest = count - HEAD;
     match take_image_head(&head, rest) {
         Ok((image, desc)) => match runtime.write_from(client, image, desc, reader) {
-            Ok(()) => Ok(Content::Made(Reply::Empty)),
+            Ok(()) => Ok(ReplyContent::Made(Reply::Empty)),
             Err(WriteFault::Refused(code)) => refuse(reader, rest, code),
             Err(WriteFault::Source(fault)) => Err(fault),
         },
@@ -57,7 +57,7 @@ fn refuse<S: Source>(
     reader: &mut Reader<S>,
     rest: usize,
     code: Code,
-) -> Result<Content, StreamFault>
+) -> Result<ReplyContent, StreamFault>
     requires { CanRead S.reads S.failures reader.old }
     ensures ok { OnOk result (ReadsSome
         (S.left reader.old.source.now) (S.left reader.new.source.now) rest) }
@@ -67,5 +67,5 @@ fn refuse<S: Source>(
     ensures counted { KeepsCount S.reads S.failures reader.old reader.new result }
 {
     reader.skip(rest)?;
-    Ok(Content::Made(Reply::Refused(code)))
+    Ok(ReplyContent::Made(Reply::Refused(code)))
 }

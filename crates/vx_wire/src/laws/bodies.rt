@@ -6,7 +6,7 @@ ghost use Rattle.vx_wire.specs.Requests.{request_of, body_of};
 ghost use Rattle.client_model.specs.Request.{IsRequest};
 
 /// Parsing the op and the body of a request gives the request back.
-pub fn read_back()
+pub fn body_is_read_back()
     ensures { (request : Request) → IsRequest request →
         request_of (op_number (op_of request)) (body_of request) ≡ Ok request }
 {}

@@ -1,5 +1,5 @@
 use Rattle.std.proofs.Common.{◌≡◌, ℕ, List, None, IsTrue, subst, sym, ap, ◌∙◌, All}
-use Rattle.client_contexts.proofs.Common.{GraphValue, graph_value, nodes_of, is_image, verdict, IsVerified, operand_held, Kept, IsKept, AreKept}
+use Rattle.client_contexts.proofs.Common.{GraphValue, graph_value, nodes_of, is_image, verdict, IsVerified, operand_held, KeptGraph, IsKept, AreKept}
 use Rattle.client_contexts.proofs.StandLemmas.{graph_firsts, graph_ready}
 use Rattle.client_contexts.proofs.ReadyLemmas.{All-insert, allowed_verifies, found_kept, kept_verifies, verified_is_kept}
 use Rattle.client_contexts.proofs.VerifiedLemmas.{stay_with_one}
@@ -48,16 +48,16 @@ pub returns-in-Ok-clause-kept : goal.returns-in-Ok-clause-kept
 returns-in-Ok-clause-kept c =
     let t = c.args.table.now in
     let v = c.in_ok-verified.verified in
-    let k : Kept = record { work = c.work-work.result; verified = v; plan = c.in_ok-plan.plan; schedule = c.in_ok-schedule.schedule } in
+    let k : KeptGraph = record { work = c.work-work.result; verified = v; plan = c.in_ok-plan.plan; schedule = c.in_ok-schedule.schedule } in
     let verified = subst (λ (g : GraphValue). IsVerified (operand_held t.objects) (nodes_of g) v) c.graph.ensures c.in_ok-verified.ensures.verified in
     let allowed = ap (λ (g : GraphValue). verdict c.work-work.result (operand_held t.objects) (nodes_of g)) (sym c.graph.ensures) ∙ c.in_ok-verified.ensures.ok in
-    subst (λ (entries : List (ℕ × Kept)). AreKept t entries) (sym c.in-Ok.ensures.entries)
-    (All-insert c.args.graph k (λ (e : ℕ × Kept). IsKept t e.0 e.1) c.args.kept.now.entries c.requires.kept
+    subst (λ (entries : List (ℕ × KeptGraph)). AreKept t entries) (sym c.in-Ok.ensures.entries)
+    (All-insert c.args.graph k (λ (e : ℕ × KeptGraph). IsKept t e.0 e.1) c.args.kept.now.entries c.requires.kept
     (verified_is_kept c.requires.context.0 t c.args.graph c.in_ok-object.object.now c.requires.context.1 c.in_ok-object.ensures.ok k verified allowed
     (c.in_ok-plan.ensures.plan c.work-work.result (operand_held t.objects) _ allowed verified) c.in_ok-schedule.ensures))
 
 -- what was kept of other graphs is
 pub returns-in-Ok-clause-stay : goal.returns-in-Ok-clause-stay
 returns-in-Ok-clause-stay c =
-    let k : Kept = record { work = c.work-work.result; verified = c.in_ok-verified.verified; plan = c.in_ok-plan.plan; schedule = c.in_ok-schedule.schedule } in
+    let k : KeptGraph = record { work = c.work-work.result; verified = c.in_ok-verified.verified; plan = c.in_ok-plan.plan; schedule = c.in_ok-schedule.schedule } in
     stay_with_one c.args.limits.work c.args.graph k c.work-work.ensures c.args.kept.now.entries c.insert.new.self.entries c.in-Ok.ensures.updates.0

@@ -12,7 +12,7 @@ returns-clause-kept c = λ limits h.
     let before = c.args.table.now in
     let found = c.in_ok-find_image.ensures.ok in
     let allowed = ap (λ d. valid_refusal d c.args.valid) (sym c.desc-desc.ensures) ∙ sym c.valid_refusal.ensures ∙ c.in_default.is in
-    let kept = set_keeps limits before c.args.reference c.in_ok-find_image.field-0.now c.args.valid h found c.is_rectangle.ensures allowed in
+    let kept = set_keeps limits before c.args.reference c.in_ok-find_image.field-0.now c.args.valid h found c.prove_bounds.ensures allowed in
     subst (KeepsLimits limits) (sym c.set_valid.ensures)
     (subst (λ (image : ImageValue). KeepsLimits limits (with_objects before (with_object before.objects c.args.reference (ImageObject (with_valid c.args.valid image))))) (sym found.held) kept)
 

@@ -25,8 +25,8 @@ returns c =
     let p = picture_in d c.args.block.now in
     let lift = c.lift-samples.ensures in
     let format = lift.format ∙ c.requires.described.format in
-    let sampled : All (IsSample d.format) p.samples = subst (λ (xs : List ℤ). All (IsSample d.format) xs) lift.value (subst (λ (f : Format). All (IsSample f) (values c.lift-samples.result)) format c.are_samples.ensures) in
-    let picture : IsPicture p = record { description = c.has_sides.ensures; size = c.requires.described.size; sampled = sampled } in
+    let sampled : All (IsSample d.format) p.samples = subst (λ (xs : List ℤ). All (IsSample d.format) xs) lift.value (subst (λ (f : Format). All (IsSample f) (values c.lift-samples.result)) format c.prove_samples.ensures) in
+    let picture : IsPicture p = record { description = c.prove_sides.ensures; size = c.requires.described.size; sampled = sampled } in
     let back =
     given_is t c.args.reference found.image found.named c.take-left.new.self c.take-left.ensures.left p c.whole.result (values c.lift-samples.result) c.put.new.self found.same c.whole.ensures lift.value c.put.ensures in
     record {

@@ -1,11 +1,11 @@
 use Rattle.std.proofs.Common.{◌≡◌, ℕ, false, List, inl, inr, refl, ap, ◌==◌}
-use Rattle.client_contexts.proofs.Common.{option_map, Kept}
+use Rattle.client_contexts.proofs.Common.{option_map, KeptGraph}
 use Rattle.client_contexts.proofs.ForgetLemmas.{apart, others_left}
 use Rattle.client_contexts.proofs.kept.forget.Goals as goal
 
 pub returns-in-AddNode-clause-left : goal.returns-in-AddNode-clause-left
 returns-in-AddNode-clause-left c =
-    let entries : List (ℕ × Kept) = c.remove-forgotten.new.self.entries in
+    let entries : List (ℕ × KeptGraph) = c.remove-forgotten.new.self.entries in
     let left = others_left c.in-AddNode.graph entries c.remove-forgotten.ensures.updates.1 in
     elim c.in-AddNode.is [ inl added ↦ rw added.1 left | inr other ↦ elim other [ inl removed ↦ rw removed.1 left | inr released ↦ rw released (λ k d below. refl) ] ]
 
@@ -14,4 +14,4 @@ returns-in-AddNode-clause-stay c = λ name stays.
     let graph : ℕ = c.in-AddNode.graph in
     let differs : (graph == name) ≡ false =
     elim c.in-AddNode.is [ inl added ↦ rw added.1 at stays | inr other ↦ elim other [ inl removed ↦ rw removed.1 at stays | inr released ↦ rw released at stays ] ] in
-    ap (option_map (λ (k : Kept). k.work)) (c.remove-forgotten.ensures.updates.2 name (apart graph name differs))
+    ap (option_map (λ (k : KeptGraph). k.work)) (c.remove-forgotten.ensures.updates.2 name (apart graph name differs))

@@ -1,4 +1,4 @@
-use Rattle.graph_run.proofs.OnceLemmas.{can_make_beside, desc_back, format_back, holds, image_back, own_whole, reads_beside, stands}
+use Rattle.graph_run.proofs.OnceLemmas.{can_make_elsewhere, desc_back, format_back, holds, image_back, own_whole, reads_elsewhere, stands}
 use Rattle.graph_run.proofs.once.write_to.Goals as goal
 
 pub take_image-plane-requires : goal.take_image-plane-requires
@@ -11,9 +11,9 @@ write_plane-requires c =
     let after = c.take_image-plane.new.table in
     let p = c.take_image-plane.result in
     record {
-      reads = reads_beside before n c.args.which c.args.output c.requires.runs c.requires.kind after c.take_image-plane.ensures.left;
+      reads = reads_elsewhere before n c.args.which c.args.output c.requires.runs c.requires.kind after c.take_image-plane.ensures.left;
       whole = own_whole before n c.args.which c.args.output c.requires.runs c.requires.kind p c.take_image-plane.ensures.plane;
-      can = can_make_beside before n c.args.which c.args.output c.requires.runs c.requires.kind after c.take_image-plane.ensures.left p c.take_image-plane.ensures.plane;
+      can = can_make_elsewhere before n c.args.which c.args.output c.requires.runs c.requires.kind after c.take_image-plane.ensures.left p c.take_image-plane.ensures.plane;
     }
 
 pub put_image-requires : goal.put_image-requires

@@ -26,19 +26,19 @@ take-requires-clause-apart c = clients_are_apart c.args.table.now.objects c.requ
 pub run_tasks-requires-clause-lent : goal.run_tasks-requires-clause-lent
 run_tasks-requires-clause-lent c =
     lends c.args.table.now.objects c.requires.ready.0 c.args.verified.now c.requires.ready.1 c.requires.schedule.0 c.requires.schedule.1 c.args.schedule.now c.requires.schedule.2
-    c.requires.objects c.requires.names c.are_described.ensures c.as_mut_slice-blocks.result.now (ap (map block_size) c.as_mut_slice-blocks.ensures.value ∙ c.requires.schedule.3) c.take.ensures.planes.0 c.as_mut_slice-planes.result.now c.take.ensures.planes.1 c.take.ensures.planes.2
+    c.requires.objects c.requires.names c.prove_descriptions.ensures c.as_mut_slice-blocks.result.now (ap (map block_size) c.as_mut_slice-blocks.ensures.value ∙ c.requires.schedule.3) c.take.ensures.planes.0 c.as_mut_slice-planes.result.now c.take.ensures.planes.1 c.take.ensures.planes.2
     (c.as_mut_slice-planes.ensures.value ∙ c.take.ensures.planes.3) c.take.new.table.objects (ap (λ (x : Context). x.objects) c.take.ensures.left)
 
 pub run_tasks-requires-clause-program : goal.run_tasks-requires-clause-program
 run_tasks-requires-clause-program c =
     runs c.args.table.now.objects c.requires.ready.0 c.args.verified.now c.requires.ready.1 c.requires.schedule.0 c.requires.schedule.1 c.args.schedule.now c.requires.schedule.2
-    c.requires.objects c.requires.names c.are_described.ensures c.as_mut_slice-blocks.result.now (ap (map block_size) c.as_mut_slice-blocks.ensures.value ∙ c.requires.schedule.3) c.take.ensures.planes.0 c.as_mut_slice-planes.result.now c.take.ensures.planes.1 c.take.ensures.planes.2
+    c.requires.objects c.requires.names c.prove_descriptions.ensures c.as_mut_slice-blocks.result.now (ap (map block_size) c.as_mut_slice-blocks.ensures.value ∙ c.requires.schedule.3) c.take.ensures.planes.0 c.as_mut_slice-planes.result.now c.take.ensures.planes.1 c.take.ensures.planes.2
     (c.as_mut_slice-planes.ensures.value ∙ c.take.ensures.planes.3) c.take.new.table.objects (ap (λ (x : Context). x.objects) c.take.ensures.left)
 
 pub run_tasks-requires-clause-reduces : goal.run_tasks-requires-clause-reduces
 run_tasks-requires-clause-reduces c =
     reduces c.args.table.now.objects c.requires.ready.0 c.args.verified.now c.requires.ready.1 c.requires.schedule.0 c.requires.schedule.1 c.args.schedule.now c.requires.schedule.2
-    c.requires.objects c.requires.names c.are_described.ensures c.as_mut_slice-blocks.result.now (ap (map block_size) c.as_mut_slice-blocks.ensures.value ∙ c.requires.schedule.3) c.take.ensures.planes.0 c.as_mut_slice-planes.result.now c.take.ensures.planes.1 c.take.ensures.planes.2
+    c.requires.objects c.requires.names c.prove_descriptions.ensures c.as_mut_slice-blocks.result.now (ap (map block_size) c.as_mut_slice-blocks.ensures.value ∙ c.requires.schedule.3) c.take.ensures.planes.0 c.as_mut_slice-planes.result.now c.take.ensures.planes.1 c.take.ensures.planes.2
     (c.as_mut_slice-planes.ensures.value ∙ c.take.ensures.planes.3) c.take.new.table.objects (ap (λ (x : Context). x.objects) c.take.ensures.left) c.args.tallies.now c.requires.tallies
 
 pub give-requires-clause-count : goal.give-requires-clause-count
@@ -50,7 +50,7 @@ give-requires-clause-cells c = cells_enough c.args.table.now.objects c.requires.
 pub give-requires-clause-planes : goal.give-requires-clause-planes
 give-requires-clause-planes c =
     planes_enough c.args.table.now.objects c.requires.ready.0 c.args.verified.now c.requires.ready.1 c.requires.schedule.0 c.requires.schedule.1 c.args.schedule.now c.requires.schedule.2
-    c.requires.objects c.requires.names c.are_described.ensures c.as_mut_slice-blocks.result.now (ap (map block_size) c.as_mut_slice-blocks.ensures.value ∙ c.requires.schedule.3) c.take.ensures.planes.0 c.as_mut_slice-planes.result.now c.take.ensures.planes.1 c.take.ensures.planes.2
+    c.requires.objects c.requires.names c.prove_descriptions.ensures c.as_mut_slice-blocks.result.now (ap (map block_size) c.as_mut_slice-blocks.ensures.value ∙ c.requires.schedule.3) c.take.ensures.planes.0 c.as_mut_slice-planes.result.now c.take.ensures.planes.1 c.take.ensures.planes.2
     (c.as_mut_slice-planes.ensures.value ∙ c.take.ensures.planes.3) c.take.new.table.objects (ap (λ (x : Context). x.objects) c.take.ensures.left)
     c.args.tallies.now c.requires.tallies c.run_tasks.ensures.leaves.0 c.run_tasks.ensures.leaves.1 c.run_tasks.new.planes c.run_tasks.new.tallies c.run_tasks.ensures.leaves.2
 
@@ -60,14 +60,14 @@ give-requires-clause-within c = λ k below. omega (arith, slot_within c.args.tab
 pub give-requires-clause-formats : goal.give-requires-clause-formats
 give-requires-clause-formats c =
     formats_back c.args.table.now.objects c.requires.ready.0 c.args.verified.now c.requires.ready.1 c.requires.schedule.0 c.requires.schedule.1 c.args.schedule.now c.requires.schedule.2
-    c.requires.objects c.requires.names c.are_described.ensures c.as_mut_slice-blocks.result.now (ap (map block_size) c.as_mut_slice-blocks.ensures.value ∙ c.requires.schedule.3) c.take.ensures.planes.0 c.as_mut_slice-planes.result.now c.take.ensures.planes.1 c.take.ensures.planes.2
+    c.requires.objects c.requires.names c.prove_descriptions.ensures c.as_mut_slice-blocks.result.now (ap (map block_size) c.as_mut_slice-blocks.ensures.value ∙ c.requires.schedule.3) c.take.ensures.planes.0 c.as_mut_slice-planes.result.now c.take.ensures.planes.1 c.take.ensures.planes.2
     (c.as_mut_slice-planes.ensures.value ∙ c.take.ensures.planes.3) c.take.new.table.objects (ap (λ (x : Context). x.objects) c.take.ensures.left)
     c.args.tallies.now c.requires.tallies c.run_tasks.ensures.leaves.0 c.run_tasks.ensures.leaves.1 c.run_tasks.new.planes c.run_tasks.new.tallies c.run_tasks.ensures.leaves.2 c.run_tasks.ensures.blocks c.take.new.blocks c.take.ensures.formats
 
 pub give-requires-clause-images : goal.give-requires-clause-images
 give-requires-clause-images c =
     images_back c.args.table.now.objects c.requires.ready.0 c.args.verified.now c.requires.ready.1 c.requires.schedule.0 c.requires.schedule.1 c.args.schedule.now c.requires.schedule.2
-    c.requires.objects c.requires.names c.are_described.ensures c.as_mut_slice-blocks.result.now (ap (map block_size) c.as_mut_slice-blocks.ensures.value ∙ c.requires.schedule.3) c.take.ensures.planes.0 c.as_mut_slice-planes.result.now c.take.ensures.planes.1 c.take.ensures.planes.2
+    c.requires.objects c.requires.names c.prove_descriptions.ensures c.as_mut_slice-blocks.result.now (ap (map block_size) c.as_mut_slice-blocks.ensures.value ∙ c.requires.schedule.3) c.take.ensures.planes.0 c.as_mut_slice-planes.result.now c.take.ensures.planes.1 c.take.ensures.planes.2
     (c.as_mut_slice-planes.ensures.value ∙ c.take.ensures.planes.3) c.take.new.table.objects (ap (λ (x : Context). x.objects) c.take.ensures.left)
     c.args.tallies.now c.requires.tallies c.run_tasks.ensures.leaves.0 c.run_tasks.ensures.leaves.1 c.run_tasks.new.planes c.run_tasks.new.tallies c.run_tasks.ensures.leaves.2
 
@@ -77,14 +77,14 @@ give-requires-clause-apart c = clients_are_apart c.args.table.now.objects c.requ
 pub give-requires-clause-back : goal.give-requires-clause-back
 give-requires-clause-back c =
     planes_back c.args.table.now.objects c.requires.ready.0 c.args.verified.now c.requires.ready.1 c.requires.schedule.0 c.requires.schedule.1 c.args.schedule.now c.requires.schedule.2
-    c.requires.objects c.requires.names c.are_described.ensures c.as_mut_slice-blocks.result.now (ap (map block_size) c.as_mut_slice-blocks.ensures.value ∙ c.requires.schedule.3) c.take.ensures.planes.0 c.as_mut_slice-planes.result.now c.take.ensures.planes.1 c.take.ensures.planes.2
+    c.requires.objects c.requires.names c.prove_descriptions.ensures c.as_mut_slice-blocks.result.now (ap (map block_size) c.as_mut_slice-blocks.ensures.value ∙ c.requires.schedule.3) c.take.ensures.planes.0 c.as_mut_slice-planes.result.now c.take.ensures.planes.1 c.take.ensures.planes.2
     (c.as_mut_slice-planes.ensures.value ∙ c.take.ensures.planes.3) c.take.new.table.objects (ap (λ (x : Context). x.objects) c.take.ensures.left)
     c.args.tallies.now c.requires.tallies c.run_tasks.ensures.leaves.0 c.run_tasks.ensures.leaves.1 c.run_tasks.new.planes c.run_tasks.new.tallies c.run_tasks.ensures.leaves.2
 
 pub give-requires-clause-tallies : goal.give-requires-clause-tallies
 give-requires-clause-tallies c =
     tallies_back c.args.table.now.objects c.requires.ready.0 c.args.verified.now c.requires.ready.1 c.requires.schedule.0 c.requires.schedule.1 c.args.schedule.now c.requires.schedule.2
-    c.requires.objects c.requires.names c.are_described.ensures c.as_mut_slice-blocks.result.now (ap (map block_size) c.as_mut_slice-blocks.ensures.value ∙ c.requires.schedule.3) c.take.ensures.planes.0 c.as_mut_slice-planes.result.now c.take.ensures.planes.1 c.take.ensures.planes.2
+    c.requires.objects c.requires.names c.prove_descriptions.ensures c.as_mut_slice-blocks.result.now (ap (map block_size) c.as_mut_slice-blocks.ensures.value ∙ c.requires.schedule.3) c.take.ensures.planes.0 c.as_mut_slice-planes.result.now c.take.ensures.planes.1 c.take.ensures.planes.2
     (c.as_mut_slice-planes.ensures.value ∙ c.take.ensures.planes.3) c.take.new.table.objects (ap (λ (x : Context). x.objects) c.take.ensures.left)
     c.args.tallies.now c.requires.tallies c.run_tasks.ensures.leaves.0 c.run_tasks.ensures.leaves.1 c.run_tasks.new.planes c.run_tasks.new.tallies c.run_tasks.ensures.leaves.2
 
@@ -96,7 +96,7 @@ returns-clause-value c = λ nodes ready.
     (tally_objects c.args.schedule.now.tally_cells.items c.run_tasks.new.tallies))) c.take.ensures.left
     ∙ ap (with_objects start)
     (run_value c.args.table.now.objects nodes c.args.verified.now ready c.requires.schedule.0 c.requires.schedule.1 c.args.schedule.now c.requires.schedule.2
-    c.requires.objects c.requires.names c.are_described.ensures c.as_mut_slice-blocks.result.now (ap (map block_size) c.as_mut_slice-blocks.ensures.value ∙ c.requires.schedule.3) c.take.ensures.planes.0 c.as_mut_slice-planes.result.now c.take.ensures.planes.1 c.take.ensures.planes.2
+    c.requires.objects c.requires.names c.prove_descriptions.ensures c.as_mut_slice-blocks.result.now (ap (map block_size) c.as_mut_slice-blocks.ensures.value ∙ c.requires.schedule.3) c.take.ensures.planes.0 c.as_mut_slice-planes.result.now c.take.ensures.planes.1 c.take.ensures.planes.2
     (c.as_mut_slice-planes.ensures.value ∙ c.take.ensures.planes.3) c.take.new.table.objects (ap (λ (x : Context). x.objects) c.take.ensures.left)
     c.args.tallies.now c.requires.tallies c.run_tasks.ensures.leaves.0 c.run_tasks.ensures.leaves.1 c.run_tasks.new.planes c.run_tasks.new.tallies c.run_tasks.ensures.leaves.2)
 
@@ -108,11 +108,11 @@ returns-clause-lasts c =
     let v = c.args.verified.now in
     let left : c.give.new.table.objects ≡ run_of_graph (resolved_operand (operand_held objects) nodes) nodes objects =
     ap (λ (t : Context). t.objects) c.give.ensures.value ∙ run_value c.args.table.now.objects nodes c.args.verified.now ready c.requires.schedule.0 c.requires.schedule.1 c.args.schedule.now c.requires.schedule.2
-    c.requires.objects c.requires.names c.are_described.ensures c.as_mut_slice-blocks.result.now (ap (map block_size) c.as_mut_slice-blocks.ensures.value ∙ c.requires.schedule.3) c.take.ensures.planes.0 c.as_mut_slice-planes.result.now c.take.ensures.planes.1 c.take.ensures.planes.2
+    c.requires.objects c.requires.names c.prove_descriptions.ensures c.as_mut_slice-blocks.result.now (ap (map block_size) c.as_mut_slice-blocks.ensures.value ∙ c.requires.schedule.3) c.take.ensures.planes.0 c.as_mut_slice-planes.result.now c.take.ensures.planes.1 c.take.ensures.planes.2
     (c.as_mut_slice-planes.ensures.value ∙ c.take.ensures.planes.3) c.take.new.table.objects (ap (λ (x : Context). x.objects) c.take.ensures.left)
     c.args.tallies.now c.requires.tallies c.run_tasks.ensures.leaves.0 c.run_tasks.ensures.leaves.1 c.run_tasks.new.planes c.run_tasks.new.tallies c.run_tasks.ensures.leaves.2
     in
-    subst (Lasts objects) (sym left) (run_lasts objects nodes v ready c.requires.names c.requires.objects c.are_described.ensures)
+    subst (Lasts objects) (sym left) (run_lasts objects nodes v ready c.requires.names c.requires.objects c.prove_descriptions.ensures)
 
 pub returns-clause-formats : goal.returns-clause-formats
 returns-clause-formats c =
@@ -130,7 +130,7 @@ returns-clause-rooms c =
     let long : length new ≡ length old = omega (arith, counted, ap length c.as_mut_slice-blocks.ensures.value) in
     ap (map block_size) (written_back old new c.args.blocks.now.len long (omega (arith, c.args.blocks.now.ok.0)))
     ∙ rooms_return c.args.table.now.objects c.requires.ready.0 c.args.verified.now c.requires.ready.1 c.requires.schedule.0 c.requires.schedule.1 c.args.schedule.now c.requires.schedule.2
-    c.requires.objects c.requires.names c.are_described.ensures c.as_mut_slice-blocks.result.now (ap (map block_size) c.as_mut_slice-blocks.ensures.value ∙ c.requires.schedule.3) c.take.ensures.planes.0 c.as_mut_slice-planes.result.now c.take.ensures.planes.1 c.take.ensures.planes.2
+    c.requires.objects c.requires.names c.prove_descriptions.ensures c.as_mut_slice-blocks.result.now (ap (map block_size) c.as_mut_slice-blocks.ensures.value ∙ c.requires.schedule.3) c.take.ensures.planes.0 c.as_mut_slice-planes.result.now c.take.ensures.planes.1 c.take.ensures.planes.2
     (c.as_mut_slice-planes.ensures.value ∙ c.take.ensures.planes.3) c.take.new.table.objects (ap (λ (x : Context). x.objects) c.take.ensures.left)
     c.run_tasks.new.planes c.run_tasks.ensures.blocks c.take.new.blocks new counted c.take.ensures.unused c.give.ensures.back c.give.ensures.unused
     ∙ ap (map block_size) c.as_mut_slice-blocks.ensures.value

@@ -1,13 +1,13 @@
 use Rattle.std.proofs.Common.{◌≡◌, ℕ, ◌+◌, ◌<◌, ◌≤◌, ◌^◌, ◌∙◌, min, length, sym, ap, inl, inr, refl, arith}
 use Rattle.std.proofs.lemmas.List.{length-set}
 use Rattle.std.specs.Prelude.{◌⊎◌}
-use Rattle.graph_steps.specs.declared.step.Source.{Source}
-use Rattle.graph_steps.specs.declared.step.Source.TheVariants.{Nothing, Plane, Table}
+use Rattle.graph_steps.specs.declared.step.SecondSource.{SecondSource}
+use Rattle.graph_steps.specs.declared.step.SecondSource.TheVariants.{Nothing, Plane, Table}
 use Rattle.graph_steps.specs.Program.{halo}
 use Rattle.graph_steps.proofs.HaloLaws.{raised_one, raised_two}
 use Rattle.graph_steps.proofs.halos.raise_inputs.Goals as goal
 
-not_plane : (source : Source) (c : ℕ) → (source ≡ Nothing) ⊎ ((k : ℕ) × (source ≡ Table k)) → source ≡ Plane c → ⊥
+not_plane : (source : SecondSource) (c : ℕ) → (source ≡ Nothing) ⊎ ((k : ℕ) × (source ≡ Table k)) → source ≡ Plane c → ⊥
 not_plane source c (inl none) is = let e : Nothing ≡ Plane c = sym none ∙ is in cc
 not_plane source c (inr (k, table)) is = let e : Table k ≡ Plane c = sym table ∙ is in cc
 

@@ -5,8 +5,8 @@ use Rattle.graph_steps.specs.Steps.{rows_image}
 use Rattle.graph_steps.proofs.StepLaws.{can_write_apart, rows_image_same}
 use Rattle.graph_steps.proofs.one_step.write_output.Goals as goal
 
-pub write_rows-requires : goal.write_rows-requires
-write_rows-requires c =
+pub write_step_rows-requires : goal.write_rows-requires
+write_step_rows-requires c =
     let planes = c.args.planes.now in
     let s = c.args.step.now in
     let took : c.take_out-output.result ≡ plane planes s.output = c.take_out-output.ensures ∙ get_or_default planes s.output c.index-planes-step.result no_plane c.requires.output in
@@ -21,9 +21,9 @@ returns c =
     let rows = c.args.rows in
     let left = set planes s.output c.take_out-output.new.self in
     let took : c.take_out-output.result ≡ plane planes s.output = c.take_out-output.ensures ∙ get_or_default planes s.output c.index-planes-step.result no_plane c.requires.output in
-    set-set planes s.output c.take_out-output.new.self c.write_rows.new.output
+    set-set planes s.output c.take_out-output.new.self c.write_step_rows.new.output
     ∙ ap (set planes s.output)
-    (c.write_rows.ensures
+    (c.write_step_rows.ensures
     ∙ ap (λ q. with_rows rows (rows_image tables s rows (read_images left) q) q) took
     ∙ ap (λ i. with_rows rows i (plane planes s.output))
     (rows_image_same tables s rows (plane planes s.output) (read_images left) (read_images planes)

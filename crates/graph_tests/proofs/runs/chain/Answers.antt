@@ -35,7 +35,7 @@ returns c =
       b,
       d,
       record {
-        objects = subst (λ (o : List NamedObject). All (λ n. IsObject n.object) o) (sym is) (chain_objects a b d c.requires.input c.requires.output c.has_sides.ensures);
+        objects = subst (λ (o : List NamedObject). All (λ n. IsObject n.object) o) (sym is) (chain_objects a b d c.requires.input c.requires.output c.prove_sides.ensures);
         lasting = ap (map lasting_named) is;
       },
     )

@@ -4,11 +4,11 @@ use Rattle.graph_verify.proofs.known.known_after.Goals as goal
 
 pub loop-linked-preserved : goal.loop-linked-preserved
 loop-linked-preserved c = record {
-  learnt = (λ is operands.
+  resolved = (λ is operands.
       learn_next is c.args.steps.now c.loop-linked.linked-index c.linked-item.result c.loop-linked.known.items c.learn.new.known.items (omega arith) c.linked-item.is
-      c.requires.one_writer c.requires.in_turn c.requires.images operands (c.loop-linked.invariant.learnt is operands) c.in_ok-learn.ensures.learnt);
+      c.requires.one_writer c.requires.in_turn c.requires.images operands (c.loop-linked.invariant.resolved is operands) c.in_ok-learn.ensures.resolved);
   limit = omega (arith, c.loop-linked.invariant.limit, c.in_ok-learn.ensures.limit);
 }
 
 pub returns-clause-known : goal.returns-clause-known
-returns-clause-known c is operands = all_known is c.args.steps.now c.loop-linked.linked-index c.loop-linked.known.items (omega arith) (c.loop-linked.invariant.learnt is operands)
+returns-clause-known c is operands = all_known is c.args.steps.now c.loop-linked.linked-index c.loop-linked.known.items (omega arith) (c.loop-linked.invariant.resolved is operands)

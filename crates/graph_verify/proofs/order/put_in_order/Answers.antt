@@ -13,13 +13,13 @@ returns-in_default-clause-cycle c =
     sym (all_wait c.args.nodes.now c.ordering.steps.items c.ordering.rest.items c.ordering.invariant more none)
 
 pub ordering-smaller : goal.ordering-smaller
-ordering-smaller c = omega (arith, c.take_out-ordered.ensures.fewer)
+ordering-smaller c = omega (arith, c.take_ready-ordered.ensures.fewer)
 
 pub ordering-preserved : goal.ordering-preserved
 ordering-preserved c =
     let found = c.in-Some.ensures ∙ ap (position (λ w. not (w.for_in1 || w.for_in2))) c.deref.ensures.value in
-    one_more_ordered c.args.nodes.now c.ordering.steps.items c.push.new.self.items c.ordering.rest.items c.take_out-ordered.new.rest.items c.in-Some.index c.take_out-ordered.result
-    c.requires c.ordering.invariant found c.take_out-ordered.ensures.ordered c.in_ok-push.ensures.items c.take_out-ordered.ensures.rest
+    one_more_ordered c.args.nodes.now c.ordering.steps.items c.push.new.self.items c.ordering.rest.items c.take_ready-ordered.new.rest.items c.in-Some.index c.take_ready-ordered.result
+    c.requires c.ordering.invariant found c.take_ready-ordered.ensures.ordered c.in_ok-push.ensures.items c.take_ready-ordered.ensures.rest
 
 pub returns-clause-order : goal.returns-clause-order
 returns-clause-order c = all_ordered c.args.nodes.now c.ordering.steps.items c.ordering.rest.items c.ordering.invariant (grind (arith, common_steps))

@@ -1,12 +1,12 @@
 use Rattle.std.proofs.Common.{◌∙◌, ap, arith, Some, None}
 use Rattle.graph_verify.proofs.Common.{filter_map, described_output, linked_nodes}
 use Rattle.graph_verify.proofs.VerdictLemmas.{too_large, there_is_room}
-use Rattle.graph_verify.proofs.VerifyLemmas.{nodes_order, steps_one_writer, steps_images, loose_end_found, verdict_found, bytes_found, verified_found, few_outputs}
+use Rattle.graph_verify.proofs.VerifyLemmas.{nodes_order, steps_one_writer, steps_images, unwritten_input_found, verdict_found, bytes_found, verified_found, few_outputs}
 use Rattle.graph_verify.proofs.verified.verify_ordered.Goals as goal
 
 pub returns-then-has_unwritten_input-clause-refused : goal.returns-then-has_unwritten_input-clause-refused
 returns-then-has_unwritten_input-clause-refused c is operands =
-    loose_end_found c.args.nodes.now c.args.steps.now c.requires.one_writer c.requires.order c.args.work is (c.if-has_unwritten_input.ensures is operands)
+    unwritten_input_found c.args.nodes.now c.args.steps.now c.requires.one_writer c.requires.order c.args.work is (c.if-has_unwritten_input.ensures is operands)
 
 pub known_after-requires-clause-one_writer : goal.known_after-requires-clause-one_writer
 known_after-requires-clause-one_writer c = steps_one_writer c.args.nodes.now c.args.steps.now c.requires.one_writer c.requires.order

@@ -1,5 +1,5 @@
 use Rattle.std.proofs.Common.{◌≡◌, ◌≤◌, ◌*◌, ◌/◌, ◌%◌, ◌+◌, ◌∙◌, ap, sym, subst, map, length, arith, w16, FitsSigned, map-id, take_all}
-use Rattle.window_kernels.proofs.Common.{Each1, Each1-get_or, run, length-run, turned_coefficient, turned_pairs}
+use Rattle.window_kernels.proofs.Common.{Each1, Each1-get_or, run, length-run, rotated_coefficient, rotated_pairs}
 use Rattle.window_kernels.proofs.MatrixLaws.{table_written}
 use Rattle.window_kernels.proofs.RowLaws.{part_fits}
 use Rattle.window_kernels.proofs.convolution.write_tables.Goals as goal
@@ -9,7 +9,7 @@ loop-row-preserved c =
     let l = c.loop-row.row in
     let out = c.loop-row.tables in
     let ws = c.write_table.new.table in
-    let long : length ws ≡ 80 = ap length c.write_table.ensures.value ∙ length-run (turned_pairs c.args.convolution.now l) 0 80 in
+    let long : length ws ≡ 80 = ap length c.write_table.ensures.value ∙ length-run (rotated_pairs c.args.convolution.now l) 0 80 in
     let room : 80 * l ≤ length out = omega (arith, c.requires, c.loop-row.auto.tables, c.loop-row-test.true, c.from-row-end.ensures, c.rows.ensures.value) in
     record {
       value = table_written c.args.convolution.now l _ out ws room c.loop-row.invariant.value c.write_table.ensures.value;
@@ -22,7 +22,7 @@ returns-clause-value c =
     sym (map-id c.loop-row.tables)
     ∙ ap (map (λ z. z)) (sym (take_all (80 * c.loop-row.row) c.loop-row.tables (omega (arith, c.requires))))
     ∙ c.loop-row.invariant.value
-    ∙ ap (λ n. run 0 n (λ n. turned_coefficient c.args.convolution.now (n / 80) (n % 80 / 16 * 2 + n % 2))) end
+    ∙ ap (λ n. run 0 n (λ n. rotated_coefficient c.args.convolution.now (n / 80) (n % 80 / 16 * 2 + n % 2))) end
 
 pub returns-clause-fits : goal.returns-clause-fits
 returns-clause-fits c =

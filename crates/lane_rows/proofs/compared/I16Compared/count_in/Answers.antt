@@ -12,4 +12,4 @@ returns c =
     ap ones (bitmask_splat w16 eqb bits 32 v (length-map (take 32 block) (of_z w16) ∙ ap length whole ∙ c.requires) (omega arith))
     ∙ ones-mask_l (λ x. eqb x v) bits
     ∙ ap (λ l. count_by (λ x. eqb x v) (map (of_z w16) l)) whole
-    ∙ bits_counted c.args.self block c.ranges.self c.are_shorts.ensures
+    ∙ bits_counted c.args.self block c.ranges.self c.prove_shorts.ensures

@@ -10,7 +10,7 @@ returns c =
     let new = zeros_are_new d c.whole.result c.in_ok-block.block c.sample_count.result c.whole.ensures c.sample_count.ensures.value (search rules) in
     record {
       value = new;
-      image = subst IsImage (sym new) (new_image_is d.width d.height d.format c.has_sides.ensures.width c.has_sides.ensures.height);
+      image = subst IsImage (sym new) (new_image_is d.width d.height d.format c.prove_sides.ensures.width c.prove_sides.ensures.height);
       lends = search rules;
       err = tt;
     }

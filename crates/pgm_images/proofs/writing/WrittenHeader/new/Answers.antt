@@ -11,22 +11,22 @@ side_digits side n is e =
 
 pub write_digits-height-requires : goal.write_digits-height-requires
 write_digits-height-requires c =
-    let short = side_digits c.args.desc.height c.from.result c.has_sides.ensures.height (search rules) in
+    let short = side_digits c.args.desc.height c.from.result c.prove_sides.ensures.height (search rules) in
     (omega arith, search rules)
 
 pub put_before-blank-requires-clause-room : goal.put_before-blank-requires-clause-room
 put_before-blank-requires-clause-room c =
-    let short = side_digits c.args.desc.height c.from.result c.has_sides.ensures.height (search rules) in
+    let short = side_digits c.args.desc.height c.from.result c.prove_sides.ensures.height (search rules) in
     omega arith
 
 pub write_digits-width-requires : goal.write_digits-width-requires
 write_digits-width-requires c =
-    let high = side_digits c.args.desc.height c.from.result c.has_sides.ensures.height (search rules) in
-    let wide = side_digits c.args.desc.width c.from-2.result c.has_sides.ensures.width (search rules) in
+    let high = side_digits c.args.desc.height c.from.result c.prove_sides.ensures.height (search rules) in
+    let wide = side_digits c.args.desc.width c.from-2.result c.prove_sides.ensures.width (search rules) in
     (omega arith, search rules)
 
 pub put_before-start-requires-clause-room : goal.put_before-start-requires-clause-room
 put_before-start-requires-clause-room c =
-    let high = side_digits c.args.desc.height c.from.result c.has_sides.ensures.height (search rules) in
-    let wide = side_digits c.args.desc.width c.from-2.result c.has_sides.ensures.width (search rules) in
+    let high = side_digits c.args.desc.height c.from.result c.prove_sides.ensures.height (search rules) in
+    let wide = side_digits c.args.desc.width c.from-2.result c.prove_sides.ensures.width (search rules) in
     omega arith

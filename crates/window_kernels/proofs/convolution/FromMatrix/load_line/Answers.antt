@@ -16,4 +16,4 @@ pub returns-clause-limit : goal.returns-clause-limit
 returns-clause-limit c =
     let s = c.args.self.now in
     subst (Each1 (IsNear 255)) (sym (returns-clause-value c))
-    (looks_up_to s.image.now s.border (s.convolution.now.columns / 2) c.args.row c.args.x (length c.args.line.now) c.valid-limits.ensures.image s.format c.requires.columns c.requires.rows c.has_constant.ensures)
+    (looks_up_to s.image.now s.border (s.convolution.now.columns / 2) c.args.row c.args.x (length c.args.line.now) c.valid-limits.ensures.image s.format c.requires.columns c.requires.rows c.prove_constant.ensures)

@@ -1,5 +1,0 @@
-use Rattle.graph_verify.proofs.SingleLemmas.{verdict_on_one}
-use Rattle.graph_verify.proofs.laws.verdicts.one_node.Goals as goal
-
-pub returns : goal.returns
-returns c = verdict_on_one

@@ -1,0 +1,74 @@
+//! Writes rows in blocks of 32 items, of which the last may overlap the one before. A row shorter
+//! than a block is written item by item.
+ghost use Rattle.std.specs.Prelude.{◌≡◌, ◌+◌, ◌-◌, ◌*◌, ◌<◌, ◌≤◌, ℕ, ℤ, map, take, length};
+ghost use Rattle.vx_base.specs.Image.{run};
+
+use crate::item::Item;
+
+/// The items of a row to be written, each computed from its index.
+pub trait Indexed<T: Item> {
+    /// The number of items.
+    ghost count: { Self → ℕ };
+
+    /// The value at an index.
+    ghost at: { Self → ℕ → ℤ };
+
+    /// Returns the item at an index.
+    fn item(&self, place: usize) -> T
+        requires inside { place < count self.now }
+        ensures { T.value result ≡ at self.now place };
+
+    /// Writes the 32 items from the index `place` on.
+    fn lanes(&self, place: usize, out: &mut [T])
+        requires room { place + 32 ≤ count self.now }
+        requires out_len { length out.old ≡ 32 }
+        ensures { map T.value out.new ≡ run place 32 (at self.now) };
+}
+
+/// Writes the first blocks of 32 items.
+fn write_blocks<T: Item, R: Indexed<T>>(row: &R, blocks: usize, out: &mut [T])
+    requires count { R.count row.now ≡ length out.old }
+    requires inside { 32 * blocks ≤ length out.old }
+    ensures { map T.value (take (32 * blocks) out.new) ≡ run 0 (32 * blocks) (R.at row.now) }
+{
+    for k in 0..blocks {
+        let start = 32 * k;
+        row.lanes(start, &mut out[start..start + 32]);
+    }
+}
+
+/// Writes the last 32 items, once the items before them are written. Some of the 32 may be written
+/// already.
+fn write_last<T: Item, R: Indexed<T>>(row: &R, out: &mut [T])
+    requires count { R.count row.now ≡ length out.old }
+    requires room { 32 ≤ length out.old }
+    ensures { map T.value (take (length out.old - 32) out.old) ≡ run 0 (length out.old - 32)
+        (R.at row.now) → map T.value out.new ≡ run 0 (length out.old) (R.at row.now) }
+{
+    let place = out.len() - 32;
+    row.lanes(place, &mut out[place..place + 32]);
+}
+
+/// Writes all items one by one.
+fn write_items<T: Item, R: Indexed<T>>(row: &R, out: &mut [T])
+    requires count { R.count row.now ≡ length out.old }
+    ensures { map T.value out.new ≡ run 0 (length out.old) (R.at row.now) }
+{
+    for i in 0..out.len() {
+        out[i] = row.item(i);
+    }
+}
+
+/// Writes all items: in blocks, or one by one if there are fewer than 32.
+pub fn write_indexed<T: Item, R: Indexed<T>>(row: &R, out: &mut [T])
+    requires count { R.count row.now ≡ length out.old }
+    ensures { map T.value out.new ≡ run 0 (length out.old) (R.at row.now) }
+{
+    let count = out.len();
+    if count < 32 {
+        write_items(row, out);
+    } else {
+        write_blocks(row, count / 32, out);
+        write_last(row, out);
+    }
+}

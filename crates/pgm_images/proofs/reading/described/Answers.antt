@@ -1,9 +1,0 @@
-use Rattle.std.proofs.Common.{◌≡◌, arith}
-use Rattle.pgm_images.proofs.Common.{common_steps, description_in}
-use Rattle.pgm_images.proofs.DescriptionLemmas.{read_description}
-use Rattle.pgm_images.proofs.reading.described.Goals as goal
-
-pub returns-clause-ok : goal.returns-clause-ok
-returns-clause-ok c =
-    let told : c.described.result ≡ description_in c.args.text.now = grind (arith, common_steps) in
-    read_description c.args.text.now c.described.result told

@@ -1,0 +1,71 @@
+-- Extremes with their first pixels.
+use Rattle.std.specs.Prelude.{ℕ, ℤ, ◌+◌, ◌==◌, Bool, true, false, ◌≡◌, List, map, if◌then◌else◌, int_lt}
+use Rattle.std.specs.Ordering.{int_eq}
+use Rattle.std.specs.Int.{int_min, int_max}
+use Rattle.vx_base.specs.declared.extremes.Extremes.{Extremes}
+use Rattle.vx_base.specs.Statistics.{best_of, count_of, first_of}
+use Rattle.stat_kernels.specs.declared.extreme.Extreme.{Extreme}
+use Rattle.stat_kernels.specs.declared.extreme.Found.{Found}
+
+-- `choose` takes the sample that is beyond the other one, by the strict order `beyond`
+pub record IsDirection (choose : ℤ → ℤ → ℤ) (beyond : ℤ → ℤ → Bool) : Type 0 where
+  pub takes : (v z : ℤ) → beyond z v ≡ true → choose v z ≡ z
+  pub keeps : (v z : ℤ) → beyond z v ≡ false → choose v z ≡ v
+  pub irreflexive : (z : ℤ) → beyond z z ≡ false
+  pub total : (z v : ℤ) → beyond z v ≡ false → (z ≡ v → ⊥) → beyond v z ≡ true
+  pub associative : (v z w : ℤ) → choose (choose v z) w ≡ choose v (choose z w)
+  pub transitive : (w z v : ℤ) → beyond w z ≡ true → beyond z v ≡ true → beyond w v ≡ true
+
+-- the sample of f that `choose` takes among these pixels, the number of pixels that have it, and the first of them
+abbrev pub extreme_among : (ℤ → ℤ → ℤ) → (ℕ → ℕ → ℤ) → List (ℕ × ℕ) → Extreme
+extreme_among choose f ps =
+    let zs = map (λ p. f p.0 p.1) ps in
+    record { value = best_of choose zs; count = count_of (best_of choose zs) zs; at = first_of f (best_of choose zs) ps }
+
+-- the least and the greatest of f over these pixels
+abbrev pub found_in : (ℕ → ℕ → ℤ) → List (ℕ × ℕ) → Found
+found_in f ps = record { least = extreme_among int_min f ps; greatest = extreme_among int_max f ps }
+
+-- merges the extreme of some pixels with that of later ones
+abbrev pub merge : (ℤ → ℤ → Bool) → Extreme → Extreme → Extreme
+merge beyond a b =
+    if b.count == 0 then a
+    else if a.count == 0 then b
+    else if beyond b.value a.value then b
+    else if int_eq b.value a.value then record { value = a.value; count = a.count + b.count; at = a.at }
+    else a
+
+-- merges the extremes of some pixels with those of later ones
+abbrev pub merge_found : Found → Found → Found
+merge_found a b = record { least = merge int_lt a.least b.least; greatest = merge (λ z v. int_lt v z) a.greatest b.greatest }
+
+-- extremes as their two parts
+abbrev pub found_of : Extremes → Found
+found_of e =
+    record {
+      least = record { value = e.min; count = e.min_count; at = e.min_at };
+      greatest = record { value = e.max; count = e.max_count; at = e.max_at };
+    }
+
+-- the two parts as extremes
+abbrev pub extremes_of : Found → Extremes
+extremes_of f =
+    record {
+      min = f.least.value;
+      max = f.greatest.value;
+      min_count = f.least.count;
+      max_count = f.greatest.count;
+      min_at = f.least.at;
+      max_at = f.greatest.at;
+    }
+
+-- the extreme with its pixel moved down rows lower
+abbrev pub shift_down : ℕ → Extreme → Extreme
+shift_down down l = record l { at = (l.at.0, l.at.1 + down) }
+
+abbrev pub shift_found : ℕ → Found → Found
+shift_found down f = record { least = shift_down down f.least; greatest = shift_down down f.greatest }
+
+-- merges the extremes e of the rows above a band with those of the band, which is `down` rows lower in the whole image
+abbrev pub added_extremes : ℕ → Extremes → Extremes → Extremes
+added_extremes down e band = extremes_of (merge_found (found_of e) (shift_found down (found_of band)))

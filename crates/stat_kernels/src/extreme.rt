@@ -1,0 +1,185 @@
+//! The least and the greatest of samples, with their first pixels.
+ghost use Rattle.std.specs.Prelude.{◌≡◌, ◌+◌, ◌<◌, ◌^◌, ◌++◌, [], ℕ, ℤ, Bool, List, map, length};
+ghost use Rattle.vx_base.specs.Image.{run};
+ghost use Rattle.vx_base.specs.Statistics.{row_pixels, best_of, count_of};
+
+use lane_rows::{Compared, count_of, first_of, greatest_of, least_of};
+use vx_base::Extremes;
+
+/// The least or the greatest of some samples, the number of pixels that have it, and the first of
+/// them. All numbers are 0 if there are no samples.
+#[derive(Clone, Copy)]
+pub struct Extreme {
+    pub value: i16,
+    pub count: u32,
+    pub at: (u16, u16),
+}
+
+impl Extreme {
+    ghost use Rattle.stat_kernels.specs.Extreme.{extreme_among, IsDirection};
+
+    /// Merges a row, whose pixels come later, into this extreme. `sample` is the row's own extreme.
+    /// `is_beyond` is true if that is beyond this one: below the least, or above the greatest.
+    fn include_row<T: Compared>(
+        self,
+        is_beyond: bool,
+        sample: T,
+        x: u16,
+        y: u16,
+        row: &[T],
+    ) -> Extreme
+        requires among { 0 < count_of (T.value sample) (map T.value row.now) }
+        requires columns { x + length row.now < 2 ^ 16 }
+        requires room { self.count + length row.now < 2 ^ 32 }
+        ensures { (choose : ℤ → ℤ → ℤ) (beyond : ℤ → ℤ → Bool) (f : ℕ → ℕ → ℤ)
+            (before : List (ℕ × ℕ)) →
+            IsDirection choose beyond → self ≡ extreme_among choose f before →
+            is_beyond ≡ beyond (T.value sample) self.value →
+            T.value sample ≡ best_of choose (map T.value row.now) →
+            map T.value row.now ≡ run x (length row.now) (λ k. f k y) →
+            result ≡ extreme_among choose f (before ++ row_pixels x (length row.now) y) }
+    {
+        let value = sample.short();
+        if self.count == 0 || is_beyond {
+            Extreme {
+                value,
+                count: count_of(row, sample),
+                at: (x + first_of(row, sample) as u16, y),
+            }
+        } else if value == self.value {
+            Extreme {
+                value,
+                count: self.count + count_of(row, sample),
+                at: self.at,
+            }
+        } else {
+            self
+        }
+    }
+}
+
+impl Extreme {
+    ghost use Rattle.stat_kernels.specs.Extreme.{merge, shift_down};
+
+    /// Merges the extreme of later pixels into this one. `is_beyond` is true if the other is beyond
+    /// this one: below the least, or above the greatest.
+    fn merge(self, is_beyond: bool, other: Extreme) -> Extreme
+        requires { self.count + other.count < 2 ^ 32 }
+        ensures { (beyond : ℤ → ℤ → Bool) → is_beyond ≡ beyond other.value self.value →
+            result ≡ merge beyond self other }
+    {
+        if other.count == 0 {
+            self
+        } else if self.count == 0 || is_beyond {
+            other
+        } else if other.value == self.value {
+            Extreme {
+                count: self.count + other.count,
+                ..self
+            }
+        } else {
+            self
+        }
+    }
+
+    /// The extreme with its pixel moved `down` rows lower.
+    fn shift_down(self, down: u16) -> Extreme
+        requires { self.at.1 + down < 2 ^ 16 }
+        ensures { result ≡ shift_down down self }
+    {
+        Extreme {
+            at: (self.at.0, self.at.1 + down),
+            ..self
+        }
+    }
+}
+
+/// The least and the greatest of some samples.
+#[derive(Clone, Copy)]
+pub struct Found {
+    pub least: Extreme,
+    pub greatest: Extreme,
+}
+
+impl Found {
+    ghost use Rattle.stat_kernels.specs.Extreme.{found_in, found_of, merge_found, shift_found};
+
+    /// Returns the extremes of no samples.
+    pub fn nowhere() -> Found
+        ensures { (f : ℕ → ℕ → ℤ) → result ≡ found_in f [] }
+    {
+        let nowhere = Extreme {
+            value: 0,
+            count: 0,
+            at: (0, 0),
+        };
+        Found {
+            least: nowhere,
+            greatest: nowhere,
+        }
+    }
+
+    /// Merges a row, whose pixels come later, into these extremes.
+    pub fn include_row<T: Compared>(self, x: u16, y: u16, row: &[T]) -> Found
+        requires columns { x + length row.now < 2 ^ 16 }
+        requires least_room { self.least.count + length row.now < 2 ^ 32 }
+        requires greatest_room { self.greatest.count + length row.now < 2 ^ 32 }
+        ensures { (f : ℕ → ℕ → ℤ) (before : List (ℕ × ℕ)) → self ≡ found_in f before →
+            map T.value row.now ≡ run x (length row.now) (λ k. f k y) →
+            result ≡ found_in f (before ++ row_pixels x (length row.now) y) }
+    {
+        if row.is_empty() {
+            return self;
+        }
+        let (low, high) = (least_of(row), greatest_of(row));
+        let is_below = low.short() < self.least.value;
+        let is_above = high.short() > self.greatest.value;
+        Found {
+            least: self.least.include_row(is_below, low, x, y, row),
+            greatest: self.greatest.include_row(is_above, high, x, y, row),
+        }
+    }
+    /// Returns `Extremes` as their two parts.
+    pub fn of(extremes: Extremes) -> Found
+        ensures { result ≡ found_of extremes }
+    {
+        Found {
+            least: Extreme {
+                value: extremes.min,
+                count: extremes.min_count,
+                at: extremes.min_at,
+            },
+            greatest: Extreme {
+                value: extremes.max,
+                count: extremes.max_count,
+                at: extremes.max_at,
+            },
+        }
+    }
+
+    /// Merges the extremes of later pixels into these.
+    pub fn merge(self, other: Found) -> Found
+        requires least_room { self.least.count + other.least.count < 2 ^ 32 }
+        requires greatest_room { self.greatest.count + other.greatest.count < 2 ^ 32 }
+        ensures { result ≡ merge_found self other }
+    {
+        let is_below = other.least.value < self.least.value;
+        let is_above = other.greatest.value > self.greatest.value;
+        Found {
+            least: self.least.merge(is_below, other.least),
+            greatest: self.greatest.merge(is_above, other.greatest),
+        }
+    }
+
+    /// Returns the extremes with their pixels moved `down` rows lower.
+    pub fn shift_down(self, down: u16) -> Found
+        requires least { self.least.at.1 + down < 2 ^ 16 }
+        requires greatest { self.greatest.at.1 + down < 2 ^ 16 }
+        ensures { result ≡ shift_found down self }
+    {
+        Found {
+            least: self.least.shift_down(down),
+            greatest: self.greatest.shift_down(down),
+        }
+    }
+}

@@ -1,5 +1,0 @@
-use Rattle.vx_base.proofs.FormatLaws.{open_formats}
-use Rattle.vx_base.proofs.laws.formats.open_formats.Goals as goal
-
-pub returns : goal.returns
-returns c = open_formats

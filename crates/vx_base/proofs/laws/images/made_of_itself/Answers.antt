@@ -1,5 +1,0 @@
-use Rattle.vx_base.proofs.ImageLaws.{made_of_itself}
-use Rattle.vx_base.proofs.laws.images.made_of_itself.Goals as goal
-
-pub returns : goal.returns
-returns c = made_of_itself

@@ -1,5 +1,0 @@
-use Rattle.vx_base.proofs.ImageLaws.{places_decide}
-use Rattle.vx_base.proofs.laws.images.places_decide.Goals as goal
-
-pub returns : goal.returns
-returns c = places_decide

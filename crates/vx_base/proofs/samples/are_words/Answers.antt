@@ -1,9 +1,0 @@
-use Rattle.std.proofs.Common.{arith, pos}
-use Rattle.vx_base.proofs.Common.{ints, All-map, All-from_get_or, U32, IsSample}
-use Rattle.vx_base.proofs.samples.are_words.Goals as goal
-
-pub returns : goal.returns
-returns c =
-    All-map (IsSample U32) pos c.args.samples.now
-    (All-from_get_or (λ n. IsSample U32 (pos n)) c.args.samples.now 0
-    (λ k below. let fits = c.type_inv.samples k in record { at_least = omega (arith, ints); at_most = omega (arith, ints, fits) }))
