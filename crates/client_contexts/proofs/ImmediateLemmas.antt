@@ -15,7 +15,7 @@ use Rattle.object_table.specs.NamedObject.{with_written}
 use Rattle.client_model.specs.declared.refusal.Refusal.TheVariants.{OptimizedAway}
 use Rattle.client_model.specs.Operands.{stands_for}
 use Rattle.client_model.specs.Immediate.{operand_in, operand_if, operands_in, is_some_virtual, node_refusal}
-use Rattle.graph_verify.specs.declared.operand.Operand.TheVariants.{Delay}
+use Rattle.graph_verify.specs.declared.operand.Operand.TheVariants.{Missing}
 use Rattle.graph_run.specs.Turns.{HoldsKind}
 use Rattle.client_contexts.proofs.ScopeLemmas.{to_operands}
 
@@ -32,7 +32,7 @@ of_kind other wanted solid stands = sym (same_kind_equal wanted (object_kind oth
 -- the object that is found, as an operand
 module _ (objects : List NamedObject) (operand : Reference × Kind) (found : IsFound objects operand) where
   operand_is : operand_held objects operand.0 ≡ operand_of found.0
-  operand_is = ap (λ o. unwrap_or (option_map operand_of o) Delay) found.1
+  operand_is = ap (λ o. unwrap_or (option_map operand_of o) Missing) found.1
 
   operand_there : operand_in objects operand.0 ≡ Some (operand_held objects operand.0)
   operand_there = ap (option_map operand_of) found.1 ∙ ap Some (sym operand_is)

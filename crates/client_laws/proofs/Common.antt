@@ -37,7 +37,7 @@ pub use Rattle.graph_verify.specs.PartialDescriptions.{as_known, operand_partial
 pub use Rattle.graph_verify.specs.Rounds.{rounds}
 pub use Rattle.graph_verify.specs.Verdict.{adds_to_virtual, first_fault, has_unwritten_input, is_unwritten_image, node_fault, reads_unwritten, verdict, virtual_outputs, work_bytes}
 pub use Rattle.graph_verify.specs.declared.operand.Operand.{Operand}
-pub use Rattle.graph_verify.specs.declared.operand.Operand.TheVariants.{Delay}
+pub use Rattle.graph_verify.specs.declared.operand.Operand.TheVariants.{Missing}
 pub use Rattle.graph_verify.specs.declared.verified.Verified.{Verified}
 pub use Rattle.object_table.proofs.HeldLemmas.{named_has, names_of}
 pub use Rattle.object_table.specs.Ageing.{aged_under}

@@ -26,11 +26,11 @@ use Rattle.client_laws.proofs.StayLaws.{graph_held}
 -- ---- what runs have to find
 
 -- an image with a format is one that is there
-image_there : (operand : Operand) (known : PartialDescription) (f : Format) → is_image operand ≡ true → operand_format (as_known operand known) ≡ Some f → operand_kind (as_known operand known) ≡ kind.Image
+image_there : (operand : Operand) (known : PartialDescription) (f : Format) → is_image operand ≡ true → operand_format (as_known operand known) ≡ Some f → operand_kind (as_known operand known) ≡ Some kind.Image
 image_there operand known f is e = grind arith
 
 -- an object has the kind of its operand
-kind_of_operand : (found : Option ObjectValue) (operand : Operand) (k : Kind) → option_map operand_of found ≡ Some operand → operand_kind operand ≡ k → option_map object_kind found ≡ Some k
+kind_of_operand : (found : Option ObjectValue) (operand : Operand) (k : Kind) → option_map operand_of found ≡ Some operand → operand_kind operand ≡ Some k → option_map object_kind found ≡ Some k
 kind_of_operand found operand k e is = grind (arith, kind-operand)
 
 -- the nodes of a graph of a context that keeps the limits find what they name

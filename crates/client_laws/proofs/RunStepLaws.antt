@@ -1,7 +1,7 @@
 -- A graph that runs keeps the limits, and what is held: as it begins, virtual images become images; its rounds write to outputs what they may become;
 -- and as it ends, virtual images are forgotten.
 use Rattle.std.proofs.Common.{◌≡◌, inl, inr, ℕ, true, false, cond, IsTrue, List, [], ◌∷◌, ◌++◌, length, map, get_or, Option, Some, None, IfSome, refl, sym, ap, subst, ◌∙◌, All, not, ◌||◌, is_some, is_none, unwrap_or, arith}
-use Rattle.client_laws.proofs.Common.{list_any, IsStrictlyIncreasing, option_map, option_and_then, not-false, All-head, All-tail, Kind, Node, Reference, parameters, nodes_of, optional_cells, inputs, operands, ObjectValue, IsObject, object_kind, in_slot, aged_under, NamedObject, object_held, object_at, Context, with_objects, Operand, Delay, writes, is_written, operand_of, operand_kind, operand_format, operands_of, partial_descs, as_known, resolved_operand, node_fault, is_unwritten_image, reads_unwritten, adds_to_virtual, first_fault, can_run, rounds_of_nodes, is_virtual_object, objects_at_end, run_of_graph, Rejected, Empty, LimitsValue, graph_verdict, process_found, operand_held, operand_in, is_kind, stands_for, KeepsLimits, kind_held, holds_operand, names_of, held_kind, is_taken, kinds_taken, OperandsStand, stands_parts, CanRunOn, of_operands, labels-begun, label_of}
+use Rattle.client_laws.proofs.Common.{list_any, IsStrictlyIncreasing, option_map, option_and_then, not-false, All-head, All-tail, Kind, Node, Reference, parameters, nodes_of, optional_cells, inputs, operands, ObjectValue, IsObject, object_kind, in_slot, aged_under, NamedObject, object_held, object_at, Context, with_objects, Operand, Missing, writes, is_written, operand_of, operand_kind, operand_format, operands_of, partial_descs, as_known, resolved_operand, node_fault, is_unwritten_image, reads_unwritten, adds_to_virtual, first_fault, can_run, rounds_of_nodes, is_virtual_object, objects_at_end, run_of_graph, Rejected, Empty, LimitsValue, graph_verdict, process_found, operand_held, operand_in, is_kind, stands_for, KeepsLimits, kind_held, holds_operand, names_of, held_kind, is_taken, kinds_taken, OperandsStand, stands_parts, CanRunOn, of_operands, labels-begun, label_of}
 use Rattle.std.proofs.lemmas.List.Elements.{All-nil, All-cons}
 use Rattle.client_model.proofs.OutcomeLaws.{Keeps}
 use Rattle.std.proofs.lemmas.Bool.{and_cases, both_ways, cond_both, or_parts}
@@ -96,7 +96,7 @@ module _ (objects : List NamedObject) (nodes : List Node) (are : All (λ o. IsOb
       (λ k d below.
       let o : NamedObject = get_or objects k d in
       let cell = whole o.name in
-      let own : is cell ≡ operand_of o.object = ap (λ found. unwrap_or (option_map operand_of (option_and_then (in_slot None) found)) Delay) (held_by_name objects names k d below) in
+      let own : is cell ≡ operand_of o.object = ap (λ found. unwrap_or (option_map operand_of (option_and_then (in_slot None) found)) Missing) (held_by_name objects names k d below) in
       subst IsObject (sym (begun_object o))
       (subst (λ operand. IsObject (begun_if (is_written nodes cell) o.object (as_known operand (partial_descs is nodes cell)))) (sym own)
       (begun_is_object o.object (partial_descs is nodes cell) (is_written nodes cell) (are k d below) (known_are cell))))
@@ -119,7 +119,7 @@ module _ (objects : List NamedObject) (nodes : List Node) (are : All (λ o. IsOb
     operand : Operand
     found : operand_in begin cell ≡ Some operand
     taken : Taken (found_to_be cell) operand
-    kind : stands_for (operand_kind operand) wanted ≡ true
+    kind : is_kind wanted (operand_kind operand) ≡ true
 
   -- a valid reference, which a node writes if it names a virtual image
   sees : (graph : ℕ) (cell : Reference) (wanted : Kind) → is_taken wanted ≡ true → IsTrue (holds_operand objects graph (cell, wanted)) → (is_virtual_operand (is cell) ≡ true → is_written nodes cell ≡ true) → Sees cell wanted
@@ -130,7 +130,7 @@ module _ (objects : List NamedObject) (nodes : List Node) (are : All (λ o. IsOb
       of_held : (object : Option ObjectValue) → object_at objects cell ≡ object → IfSome object (λ x. kind_held objects cell ≡ Some (object_kind x)) → is_none object ≡ false → Sees cell wanted
       of_held None e kinds there = absurd (cc)
       of_held (Some x) e kinds there =
-          let own : is cell ≡ operand_of x = ap (λ found. unwrap_or (option_map operand_of found) Delay) e in
+          let own : is cell ≡ operand_of x = ap (λ found. unwrap_or (option_map operand_of found) Missing) e in
           let known = partial_descs is nodes cell in
           record {
             operand = operand_of (begun_in cell x);

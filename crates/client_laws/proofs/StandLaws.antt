@@ -1,6 +1,6 @@
 -- What the cells of a graph's nodes hold, where the nodes find what they name.
 use Rattle.std.proofs.Common.{◌≡◌, ℕ, true, false, IsTrue, List, get_or, Option, Some, None, IfSome, inl, inr, refl, sym, subst, All, is_none, unwrap_or, arith}
-use Rattle.client_laws.proofs.Common.{option_map, All-weaker, Kind, Node, Reference, parameters, optional_cells, inputs, outputs, operands, ObjectValue, object_kind, NamedObject, object_at, Operand, Delay, reads, writes, In, operand_of, is_image, In-append, names_cell, StandsFor, CellsStand, operand_held, of_operands, In-from_All, kind-operand, is_kind, stands_for, kind_held, holds_operand, OperandsStand, stands_parts, is_taken, kinds_taken, held_kind}
+use Rattle.client_laws.proofs.Common.{option_map, All-weaker, Kind, Node, Reference, parameters, optional_cells, inputs, outputs, operands, ObjectValue, object_kind, NamedObject, object_at, Operand, Missing, reads, writes, In, operand_of, is_image, In-append, names_cell, StandsFor, CellsStand, operand_held, of_operands, In-from_All, kind-operand, is_kind, stands_for, kind_held, holds_operand, OperandsStand, stands_parts, is_taken, kinds_taken, held_kind}
 use Rattle.std.proofs.lemmas.Bool.{or_cases}
 use Rattle.vx_base.specs.declared.kind.Kind.TheVariants as kind
 use Rattle.graph_verify.proofs.LinkLemmas.{In-from_same}
@@ -39,11 +39,11 @@ operand_stands : (object : ObjectValue) (wanted : Kind) → is_taken wanted ≡ 
 operand_stands object wanted taken h = grind (arith, is_taken, kind-operand, stands_for_equal)
 
 module _ (objects : List NamedObject) (cell : Reference) where
-  holds : (found : Option ObjectValue) → is_none found ≡ false → option_map operand_of found ≡ Some (unwrap_or (option_map operand_of found) Delay)
+  holds : (found : Option ObjectValue) → is_none found ≡ false → option_map operand_of found ≡ Some (unwrap_or (option_map operand_of found) Missing)
   holds found there = grind arith
 
   stands_as : (found : Option ObjectValue) (wanted : Kind) → is_none found ≡ false → IfSome found (λ object. kind_held objects cell ≡ Some (object_kind object)) → is_taken wanted ≡ true
-      → is_kind wanted (kind_held objects cell) ≡ true → StandsFor (unwrap_or (option_map operand_of found) Delay) wanted
+      → is_kind wanted (kind_held objects cell) ≡ true → StandsFor (unwrap_or (option_map operand_of found) Missing) wanted
   stands_as found wanted there is taken of_kind = grind (arith, operand_stands)
 
 -- a valid operand, of a kind that a node can name

@@ -1,6 +1,6 @@
 -- A verdict, and how a graph runs, depend on what the cells that its nodes name are, and on nothing else.
 use Rattle.std.proofs.Common.{◌≡◌, ℕ, zero, suc, inl, inr, true, List, [], ◌∷◌, length, Some, refl, sym, ap, subst, ◌∙◌, arith, All, Bool, ◌&&◌, sum_by, unwrap_or, not, ◌||◌}
-use Rattle.client_laws.proofs.Common.{filter, flat_map, option_map, option_or, or_right, All-tail, All-weaker, Kind, Node, Reference, parameters, inputs, outputs, operands, PartialDescription, NamedObject, object_at, Operand, Delay, Verified, reads, writes, is_written, In, AllIn, operand_of, is_virtual, virtual_bytes, operand_partial_desc, written_partial_desc, partial_descs, as_known, resolved_operand, rounds, reads_unwritten, adds_to_virtual, has_unwritten_input, first_fault, virtual_outputs, work_bytes, verdict, node_fault, is_unwritten_image, In-left, In-right, In-append, AllIn-permutation_back, names_cell, StandsFor, operand_held, IsReady, All-from_In, In-from_All, named_by_input, named_by_output}
+use Rattle.client_laws.proofs.Common.{filter, flat_map, option_map, option_or, or_right, All-tail, All-weaker, Kind, Node, Reference, parameters, inputs, outputs, operands, PartialDescription, NamedObject, object_at, Operand, Missing, Verified, reads, writes, is_written, In, AllIn, operand_of, is_virtual, virtual_bytes, operand_partial_desc, written_partial_desc, partial_descs, as_known, resolved_operand, rounds, reads_unwritten, adds_to_virtual, has_unwritten_input, first_fault, virtual_outputs, work_bytes, verdict, node_fault, is_unwritten_image, In-left, In-right, In-append, AllIn-permutation_back, names_cell, StandsFor, operand_held, IsReady, All-from_In, In-from_All, named_by_input, named_by_output}
 use Rattle.graph_verify.specs.declared.operand.Operand.TheVariants.{Image}
 use Rattle.std.proofs.lemmas.List.Elements.{All-filter}
 use Rattle.std.proofs.lemmas.List.Sums.{sum_by-cons}
@@ -140,7 +140,7 @@ operand_named n operand (inr i) = grind (arith, In-append, named_by_input, named
 module _ (nodes : List Node) (before after : List NamedObject)
     (stay : (cell : Reference) → IsNamed nodes cell → option_map operand_of (object_at after cell) ≡ option_map operand_of (object_at before cell)) where
   pub held_alike : (cell : Reference) → IsNamed nodes cell → operand_held after cell ≡ operand_held before cell
-  held_alike cell named = ap (λ o. unwrap_or o Delay) (stay cell named)
+  held_alike cell named = ap (λ o. unwrap_or o Missing) (stay cell named)
 
   stands_still : (cell : Reference) (wanted : Kind) → IsNamed nodes cell → StandsFor (operand_held before cell) wanted → StandsFor (operand_held after cell) wanted
   stands_still cell wanted named stands = subst (λ o. StandsFor o wanted) (sym (held_alike cell named)) stands

@@ -1,11 +1,11 @@
 -- What an object is as a run begins, and what the verdict took it for.
 use Rattle.std.proofs.Common.{◌≡◌, ◌⊎◌, ℕ, zero, suc, Bool, true, List, [], ◌∷◌, Option, Some, None, IfSome, arith, is_some, unwrap_or}
-use Rattle.client_model.proofs.Common.{option_map, option_and_then, Kind, Node, Reference, Description, parameters, IsNode, second_kind, ObjectValue, IsObject, object_kind, PartialDescription, in_slot, Operand, Image, operand_of, operand_kind, operand_format, stands_for, Suits, kind-operand, cond_both}
+use Rattle.client_model.proofs.Common.{option_map, option_and_then, Kind, Node, Reference, Description, parameters, IsNode, second_kind, ObjectValue, IsObject, object_kind, PartialDescription, in_slot, Operand, Image, operand_of, operand_kind, operand_format, is_kind, stands_for, Suits, kind-operand, cond_both}
 use Rattle.vx_base.specs.Object.{VirtualObject}
 use Rattle.vx_base.specs.Description.{IsDescription}
 use Rattle.vx_base.specs.PartialDescription.{IsPartialDescription, full_description, with_defaults}
 use Rattle.vx_base.proofs.ImageLaws.{new_image_is}
-use Rattle.graph_verify.specs.declared.operand.Operand.TheVariants.{Delay}
+use Rattle.graph_verify.specs.declared.operand.Operand.TheVariants.{Missing}
 use Rattle.graph_verify.specs.Links.{writes}
 use Rattle.graph_verify.specs.Operand.{is_virtual as is_virtual_operand}
 use Rattle.graph_verify.specs.PartialDescriptions.{operand_partial_desc, given_partial_desc, written_partial_desc, as_known, virtual_or_image}
@@ -22,7 +22,7 @@ filled_is : (a b : PartialDescription) → IsPartialDescription a → IsPartialD
 filled_is a b h k = grind arith
 
 -- what is declared of an object is one
-pub object_outline_is : (object : Option ObjectValue) → IfSome object IsObject → IsPartialDescription (operand_partial_desc (unwrap_or (option_map operand_of object) Delay))
+pub object_outline_is : (object : Option ObjectValue) → IfSome object IsObject → IsPartialDescription (operand_partial_desc (unwrap_or (option_map operand_of object) Missing))
 object_outline_is object is = grind arith
 
 -- so is what is known after rounds
@@ -72,7 +72,7 @@ taken_as_begun object known written h = grind arith
 
 -- an object that is accepted as a kind still is
 pub kind_as_begun : (object : ObjectValue) (written : Bool) (operand : Operand) (wanted : Kind) → is_taken wanted ≡ true → stands_for (object_kind object) wanted ≡ true
-    → stands_for (operand_kind (operand_of (begun_if written object operand))) wanted ≡ true
+    → is_kind wanted (operand_kind (operand_of (begun_if written object operand))) ≡ true
 kind_as_begun object written operand wanted taken h = grind (arith, is_taken, kind-operand)
 
 -- ---- nodes whose operands suit as the verdict takes them
@@ -84,7 +84,7 @@ taken_image known d taken = grind arith
 -- a second input as it is taken and as it is, where there is one
 abbrev pub SecondTaken : Kind → Option Operand → Option Operand → Type 0
 SecondTaken wanted None None = Unit {0}
-SecondTaken wanted (Some known) (Some actual) = Taken known actual × (stands_for (operand_kind actual) wanted ≡ true)
+SecondTaken wanted (Some known) (Some actual) = Taken known actual × (is_kind wanted (operand_kind actual) ≡ true)
 SecondTaken wanted known actual = ⊥
 
 -- what a node can give to an output that suits as it is taken

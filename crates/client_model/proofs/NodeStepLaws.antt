@@ -41,7 +41,7 @@ use Rattle.client_model.proofs.OutcomeLaws.{Keeps, unless_keeps}
 pub record GivesImage (function : Function) (first : Description) (second : Option Operand) (out : Description) : Type 0 where
   pub formats : IsTrue (takes_formats function first.format (option_and_then operand_format second) (Some out.format))
   pub size : IsTrue (same_size first out)
-  pub kind : IfSome second (λ o. (parameters function).second_input ≡ Some (operand_kind o))
+  pub kind : IfSome second (λ o. (parameters function).second_input ≡ operand_kind o)
 
 abbrev pub CanGive : Function → Operand → Option Operand → Operand → Type 0
 CanGive function (Image first) second (Image out) = GivesImage function first second out
@@ -59,7 +59,7 @@ pub record CanRunOn (look : Reference → Option Operand) (n : Node) : Type 0 wh
 
 -- a node whose output suits its inputs can write it, if the second input has the right kind
 pub suits_give : (function : Function) (first out : Operand) (second : Option Operand) → Suits function first (option_and_then operand_format second) out
-    → IfSome second (λ o. (parameters function).second_input ≡ Some (operand_kind o)) → CanGive function first second out
+    → IfSome second (λ o. (parameters function).second_input ≡ operand_kind o) → CanGive function first second out
 suits_give function first out second suits right = grind (arith, Suits)
 
 -- ---- objects as operands
@@ -83,9 +83,9 @@ module _ (objects : List NamedObject) (n : Node) (node : IsNode n) (second : Opt
         lasts = found ∙ ap Some (sym (images-last (node_image n output out.format a elsewhere) out e));
       }
     where
-      right : (object : Option ObjectValue) → IfSome (option_map operand_of object) (λ o. (parameters n.function).second_input ≡ Some (operand_kind o)) → IfSome object (λ o. (parameters n.function).second_input ≡ Some (object_kind o))
+      right : (object : Option ObjectValue) → IfSome (option_map operand_of object) (λ o. (parameters n.function).second_input ≡ operand_kind o) → IfSome object (λ o. (parameters n.function).second_input ≡ Some (object_kind o))
       right None h = tt
-      right (Some object) h = h ∙ ap Some (kind-operand object)
+      right (Some object) h = h ∙ kind-operand object
 
       image_is : (sums : Bool) → accumulates n.function ≡ sums → IsImage (node_image n output out.format a (if sums then Some (ImageObject out) else second))
       image_is true is_sum = accumulated_image_is n out.format a node is_first output out is_sum is_out
@@ -165,8 +165,8 @@ stands_for_equal kind.VirtualImage wanted h not_virtual = absurd (not_virtual re
 stands_for_equal a wanted h not_virtual = same_kind_equal wanted a h
 
 -- where each second input that is there is of the kind that a node is to have, it is of that which its function has
-pub second_right : (look : Reference → Option Operand) (n : Node) → IsNode n → IfSome n.in2 (λ cell. IfSome (look cell) (λ o. second_kind n ≡ operand_kind o))
-    → IfSome (option_and_then look n.in2) (λ o. (parameters n.function).second_input ≡ Some (operand_kind o))
+pub second_right : (look : Reference → Option Operand) (n : Node) → IsNode n → IfSome n.in2 (λ cell. IfSome (look cell) (λ o. Some (second_kind n) ≡ operand_kind o))
+    → IfSome (option_and_then look n.in2) (λ o. (parameters n.function).second_input ≡ operand_kind o)
 second_right look n node h = grind (arith, second_there n node.shape)
 
 -- ---- a node that isn't refused
@@ -181,11 +181,11 @@ pub record IsOwn (objects : List NamedObject) (operand : Reference × Kind) : Ty
   pub real : is_some_virtual (object_at objects operand.0) ≡ false
 
 -- an operand that passes, and that is no virtual image, is of the kind that is wanted there
-of_wanted : (objects : List NamedObject) (operand : Reference × Kind) → IsOwn objects operand → IfSome (operand_in objects operand.0) (λ o. operand.1 ≡ operand_kind o)
+of_wanted : (objects : List NamedObject) (operand : Reference × Kind) → IsOwn objects operand → IfSome (operand_in objects operand.0) (λ o. Some operand.1 ≡ operand_kind o)
 of_wanted objects operand h = grind (arith, held_kind objects operand.0)
 
 -- where both suit, both can be given to
-both_give : (function : Function) (first : Option ObjectValue) (second out1 out2 : Option Operand) → IfSome second (λ o. (parameters function).second_input ≡ Some (operand_kind o))
+both_give : (function : Function) (first : Option ObjectValue) (second out1 out2 : Option Operand) → IfSome second (λ o. (parameters function).second_input ≡ operand_kind o)
     → IfSome first (BothSuit function (option_and_then operand_format second) out1 out2) → CanGiveTo function (option_map operand_of first) second out1 × CanGiveTo function (option_map operand_of first) second out2
 both_give function first second out1 out2 right suit = grind (arith, suits_give, right)
 

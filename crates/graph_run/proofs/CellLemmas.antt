@@ -1,6 +1,6 @@
 -- What cells hold where one of them is written.
 use Rattle.std.proofs.Common.{◌≡◌, ℕ, IsTrue, List, [], ◌∷◌, Option, Some, None, refl, sym, ap, subst, ◌∙◌, arith, All, is_some, unwrap_or, IfSome, option_map, option_and_then, eq-eqb, eqb-true}
-use Rattle.graph_run.proofs.Common.{IsStrictlyIncreasing, All-head, All-tail, All-weaker, U8, Kind, Node, Reference, ImageValue, new_image, ObjectValue, ImageObject, IsObject, object_kind, in_slot, with_slot, NamedObject, object_held, object_at, with_object, with_written, cell_object, image_held, HoldsImage, names_of, HasObject, map-with_object, with_slot_there, with_slot_elsewhere, Delay, operand_of, operand_held, lasting_part, lasting_named, Lasts, Holds, TwoSlots, AreApart, HoldsKind}
+use Rattle.graph_run.proofs.Common.{IsStrictlyIncreasing, All-head, All-tail, All-weaker, U8, Kind, Node, Reference, ImageValue, new_image, ObjectValue, ImageObject, IsObject, object_kind, in_slot, with_slot, NamedObject, object_held, object_at, with_object, with_written, cell_object, image_held, HoldsImage, names_of, HasObject, map-with_object, with_slot_there, with_slot_elsewhere, Missing, operand_of, operand_held, lasting_part, lasting_named, Lasts, Holds, TwoSlots, AreApart, HoldsKind}
 use Rattle.vx_base.specs.declared.kind.Kind.TheVariants as kind
 use Rattle.object_table.proofs.HeldLemmas.{held_alone, All-with_object}
 use Rattle.object_table.proofs.SkeletonLaws.{IsObject-with_slot}
@@ -65,7 +65,7 @@ holds_there objects operand h = grind arith
 
 -- an operand is what the cell holds
 pub operand_there : (objects : List NamedObject) (cell : Reference) → Holds objects cell → operand_held objects cell ≡ operand_of (cell_object objects cell)
-operand_there objects cell h = ap (λ o. unwrap_or (option_map operand_of o) Delay) (there_is objects cell h)
+operand_there objects cell h = ap (λ o. unwrap_or (option_map operand_of o) Missing) (there_is objects cell h)
 
 pub held_image : (objects : List NamedObject) (cell : Reference) → HoldsImage objects cell → object_at objects cell ≡ Some (ImageObject (image_held objects cell))
 held_image objects cell h = grind arith

@@ -24,7 +24,7 @@ pub use Rattle.graph_verify.specs.Verdict.{node_fault, reads_own_output, two_wri
 pub use Rattle.graph_verify.specs.Verified.{IsVerified}
 pub use Rattle.graph_verify.specs.declared.known.VirtualOutput.{VirtualOutput}
 pub use Rattle.graph_verify.specs.declared.operand.Operand.{Operand}
-pub use Rattle.graph_verify.specs.declared.operand.Operand.TheVariants.{Delay, Image}
+pub use Rattle.graph_verify.specs.declared.operand.Operand.TheVariants.{Image, Missing}
 pub use Rattle.graph_verify.specs.declared.operand.Operands.{Operands}
 pub use Rattle.graph_verify.specs.declared.verified.Verified.{Verified}
 pub use Rattle.image_core.specs.Fits.{HaveSameSize, SecondHasSize}

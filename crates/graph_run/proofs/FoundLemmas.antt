@@ -1,6 +1,6 @@
 -- The objects that nodes name in a table, as operands.
 use Rattle.std.proofs.Common.{◌≡◌, ℕ, ◌<◌, ◌+◌, List, [], ◌∷◌, ◌++◌, map, length, take, get_or, Option, Some, None, IsTrue, ap, subst, arith, IfSome, unwrap_or, All, Result, Ok, Err, IfErr, option_map, option_and_then}
-use Rattle.graph_run.proofs.Common.{map-append, take_more, All-push, All-head, All-tail, Kind, Node, Numbered, Reference, parameters, operands, second_kind, ObjectValue, in_slot, NamedObject, object_held, All-from_map, Operand, Delay, Verified, linked_nodes, AreOperands, operand_of, operands_of, is_image, verdict, operand_held}
+use Rattle.graph_run.proofs.Common.{map-append, take_more, All-push, All-head, All-tail, Kind, Node, Numbered, Reference, parameters, operands, second_kind, ObjectValue, in_slot, NamedObject, object_held, All-from_map, Operand, Missing, Verified, linked_nodes, AreOperands, operand_of, operands_of, is_image, verdict, operand_held}
 use Rattle.vx_base.specs.declared.kind.Kind.TheVariants as kind
 use Rattle.vx_base.specs.Node.{with_kind}
 use Rattle.graph_verify.specs.declared.linked.Linked.{Linked}
@@ -10,11 +10,11 @@ use Rattle.graph_verify.specs.Verified.{IfRefused}
 -- ---- the operand of a reference
 
 -- the object under its name, if there is one
-pub operand_nowhere : (objects : List NamedObject) (cell : Reference) → None ≡ object_held objects cell.name → Delay ≡ operand_held objects cell
-operand_nowhere objects cell none = ap (λ o. unwrap_or (option_map operand_of (option_and_then (in_slot cell.slot) o)) Delay) none
+pub operand_nowhere : (objects : List NamedObject) (cell : Reference) → None ≡ object_held objects cell.name → Missing ≡ operand_held objects cell
+operand_nowhere objects cell none = ap (λ o. unwrap_or (option_map operand_of (option_and_then (in_slot cell.slot) o)) Missing) none
 
 pub operand_there : (objects : List NamedObject) (cell : Reference) (object : ObjectValue) (found : Option Operand) (operand : Operand)
-    → Some object ≡ object_held objects cell.name → found ≡ option_map operand_of (in_slot cell.slot object) → operand ≡ unwrap_or found Delay
+    → Some object ≡ object_held objects cell.name → found ≡ option_map operand_of (in_slot cell.slot object) → operand ≡ unwrap_or found Missing
     → operand ≡ operand_held objects cell
 operand_there objects cell object found operand is in_it as_it = grind arith
 

@@ -118,7 +118,7 @@ module _ (work : ℕ) (is : Reference → Operand) (nodes : List Node) (can : Ca
             (let partial_desc = outline_of_virtual (is c) v in
             let output = image_written n c partial_desc.0 i w partial_desc.1 in
             let image = written_virtual n c partial_desc.0 i w output partial_desc.1 in
-            subst (λ o. StandsFor o (parameters n.function).output) (sym image.1) (sym output))
+            subst (λ o. StandsFor o (parameters n.function).output) (sym image.1) (ap Some (sym output)))
         | inr real ↦ subst (λ o. StandsFor o (parameters n.function).output) (sym (known_kept (is c) (partial_descs is nodes c) real)) (stand.kinds n c i w)
       ]);
     }
@@ -129,7 +129,7 @@ module _ (work : ℕ) (is : Reference → Operand) (nodes : List Node) (can : Ca
 pub operand-skeleton : (x : ObjectValue) → operand_of (skeleton x) ≡ operand_of x
 operand-skeleton x = grind arith
 
-pub kind-operand : (x : ObjectValue) → operand_kind (operand_of x) ≡ object_kind x
+pub kind-operand : (x : ObjectValue) → operand_kind (operand_of x) ≡ Some (object_kind x)
 kind-operand x = grind arith
 
 pub no_delay_written : (function : Function) → (parameters function).output ≢ kind.Delay

@@ -3,7 +3,7 @@ use Rattle.std.proofs.Common.{◌≡◌, ◌≢◌, ℕ, zero, suc, ◌+◌, ◌
 use Rattle.std.proofs.lemmas.List.{get_or-append_right, get_or-map, length-append, length-map}
 use Rattle.std.proofs.lemmas.Option.{get_or_from_slice_get, slice_get_within}
 use Rattle.std.proofs.Math.ListN.{get_or-append, get_or-map as get_or-map_default}
-use Rattle.graph_run.proofs.Common.{cases_lt, Kind, Node, Reference, Output, Description, description_of, IsNode, optional_cells, outputs, operands, parameters, second_kind, ObjectValue, IsObject, ImageObject, object_kind, operand_of, is_virtual, Operand, Delay, Image, NamedObject, object_at, held_is, image_held, HoldsImage, VirtualOutput, Verified, IsReady, IsPlan, PlanView, place_of, operand_held, partial_descs, resolved_operand, In, In-at, In-left, CanRun, runs_alone, second_object}
+use Rattle.graph_run.proofs.Common.{cases_lt, Kind, Node, Reference, Output, Description, description_of, IsNode, optional_cells, outputs, operands, parameters, second_kind, ObjectValue, IsObject, ImageObject, object_kind, operand_of, is_virtual, Operand, Missing, Image, NamedObject, object_at, held_is, image_held, HoldsImage, VirtualOutput, Verified, IsReady, IsPlan, PlanView, place_of, operand_held, partial_descs, resolved_operand, In, In-at, In-left, CanRun, runs_alone, second_object}
 use Rattle.vx_base.specs.declared.kind.Kind.TheVariants as kind
 use Rattle.vx_base.specs.Node.{with_kind}
 use Rattle.image_core.specs.declared.second.SecondInput.{SecondInput}
@@ -155,7 +155,7 @@ module _ (objects : List NamedObject) (are : All (λ o. IsObject o.object) objec
 
   known_image : (c : Reference) → HoldsImage objects c → known c ≡ Image (description_of (image_held objects c))
   known_image c holds =
-      let there : is c ≡ Image (description_of (image_held objects c)) = ap (λ (o : Option ObjectValue). unwrap_or (option_map operand_of o) Delay) (held_image objects c holds) in
+      let there : is c ≡ Image (description_of (image_held objects c)) = ap (λ (o : Option ObjectValue). unwrap_or (option_map operand_of o) Missing) (held_image objects c holds) in
       known_kept (is c) (partial_descs is nodes c) (ap is_virtual there) ∙ there
 
   -- each plane is of the description that its cell was found to have

@@ -1,6 +1,6 @@
 -- A graph that is found able to run: how it runs.
 use Rattle.std.proofs.Common.{◌≡◌, ℕ, ◌<◌, true, false, List, Option, Some, None, inl, inr, sym, ap, subst, ◌∙◌, arith, All, unwrap_or, option_map}
-use Rattle.graph_run.proofs.Common.{AllPairs, flat_map, IsStrictlyIncreasing, cases_Bool, or_left, or_right, length-map, get_or-map, Kind, Node, Reference, IsNode, inputs, outputs, operands, ObjectValue, object_kind, NamedObject, object_at, VirtualOutput, Operand, Image, Delay, Verified, writes, is_written, In, operand_of, operand_kind, operands_of, resolved_operand, partial_descs, verdict, verdict_on, IsVerified, same-from_In, In-outputs, In-left, In-right, In-from_any, In-filter, In-from_map, AllIn-permutation, CanRun, HoldsOperand, names_cell, CellsStand, operand_held, HoldsKind, CanRunNow, names_of}
+use Rattle.graph_run.proofs.Common.{AllPairs, flat_map, IsStrictlyIncreasing, cases_Bool, or_left, or_right, length-map, get_or-map, Kind, Node, Reference, IsNode, inputs, outputs, operands, ObjectValue, object_kind, NamedObject, object_at, VirtualOutput, Operand, Image, Missing, Verified, writes, is_written, In, operand_of, operand_kind, operands_of, resolved_operand, partial_descs, verdict, verdict_on, IsVerified, same-from_In, In-outputs, In-left, In-right, In-from_any, In-filter, In-from_map, AllIn-permutation, CanRun, HoldsOperand, names_cell, CellsStand, operand_held, HoldsKind, CanRunNow, names_of}
 use Rattle.graph_verify.specs.Links.{reads}
 use Rattle.graph_verify.proofs.VerdictLemmas.{can_run}
 use Rattle.graph_run.specs.Operands.{StandsFor}
@@ -29,10 +29,10 @@ module _ (n : Node) where
 
 -- ---- operands and kinds
 
-pub real_kind : (operand : Operand) (wanted : Kind) → is_virtual_operand operand ≡ false → StandsFor operand wanted → operand_kind operand ≡ wanted
+pub real_kind : (operand : Operand) (wanted : Kind) → is_virtual_operand operand ≡ false → StandsFor operand wanted → operand_kind operand ≡ Some wanted
 real_kind other wanted real stands = grind arith
 
-pub kind_found : (found : Option ObjectValue) (operand : Operand) (wanted : Kind) → option_map operand_of found ≡ Some operand → operand_kind operand ≡ wanted → option_map object_kind found ≡ Some wanted
+pub kind_found : (found : Option ObjectValue) (operand : Operand) (wanted : Kind) → option_map operand_of found ≡ Some operand → operand_kind operand ≡ Some wanted → option_map object_kind found ≡ Some wanted
 kind_found x operand wanted e is_kind = grind arith
 
 -- ---- the virtual images that nodes write
@@ -73,12 +73,12 @@ module _ (objects : List NamedObject) (nodes : List Node) (v : Verified) (work :
   module _ (stand : CellsStand is nodes objects) where
     -- a cell that a node names is then of the kind that stands there
     known_kind : (n : Node) (cell : Reference) (wanted : Kind) → In n nodes → names_cell n cell ≡ true → StandsFor (is cell) wanted
-        → operand_kind (known cell) ≡ wanted
+        → operand_kind (known cell) ≡ Some wanted
     known_kind n cell wanted i named_there stands = elim (cases_Bool (is_virtual_operand (is cell))) [
       | inl virtual ↦
           (let output = in_outputs is nodes v how cell (virtual_written work is nodes can n cell i named_there virtual) virtual in
           let partial_desc = outline_of_virtual (is cell) virtual in
-          ap operand_kind (ap known output.2 ∙ output_known is nodes v how output.0 output.1) ∙ sym (subst (λ o. StandsFor o wanted) partial_desc.1 stands))
+          ap operand_kind (ap known output.2 ∙ output_known is nodes v how output.0 output.1) ∙ ap Some (sym (subst (λ o. StandsFor o wanted) partial_desc.1 stands)))
       | inr real ↦ ap operand_kind (known_kept (is cell) (partial_descs is nodes cell) real) ∙ real_kind (is cell) wanted real stands
     ]
 
@@ -96,7 +96,7 @@ module _ (objects : List NamedObject) (nodes : List Node) (v : Verified) (work :
               stands operand j)));
           verdict =
               ap (verdict_on n)
-              (same_operands n (operand_held now) known (λ cell named_there. ap (λ o. unwrap_or o Delay) (found cell named_there)))
+              (same_operands n (operand_held now) known (λ cell named_there. ap (λ o. unwrap_or o Missing) (found cell named_there)))
               ∙ each_alone work is nodes runs n i;
         }
 

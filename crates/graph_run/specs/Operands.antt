@@ -9,7 +9,7 @@ use Rattle.vx_base.specs.Function.{parameters}
 use Rattle.vx_base.specs.Node.{IsNode, operands}
 use Rattle.object_table.specs.NamedObject.{NamedObject, object_at}
 use Rattle.graph_verify.specs.declared.operand.Operand.{Operand}
-use Rattle.graph_verify.specs.declared.operand.Operand.TheVariants.{Virtual, Delay}
+use Rattle.graph_verify.specs.declared.operand.Operand.TheVariants.{Virtual, Missing}
 use Rattle.graph_verify.specs.Links.{reads, writes}
 use Rattle.graph_verify.specs.Members.{In}
 use Rattle.graph_verify.specs.Operand.{operand_of, operand_kind}
@@ -28,20 +28,16 @@ names_cell n cell = reads n cell || writes n cell
 -- the operand is of this kind; a virtual image counts as an image
 abbrev pub StandsFor : Operand → Kind → Type 0
 StandsFor (Virtual declared) wanted = wanted ≡ kind.Image
-StandsFor operand wanted = operand_kind operand ≡ wanted
+StandsFor operand wanted = operand_kind operand ≡ Some wanted
 
 -- each reference in the nodes names an object with the resolved operand, and each output has the kind that its function writes
 pub record CellsStand (is : Reference → Operand) (nodes : List Node) (objects : List NamedObject) : Type 0 where
   pub found : (n : Node) (cell : Reference) → In n nodes → names_cell n cell ≡ true → HoldsOperand objects cell (is cell)
   pub kinds : (n : Node) (cell : Reference) → In n nodes → writes n cell ≡ true → StandsFor (is cell) (parameters n.function).output
 
--- the operand of a reference that names no object: a delay, since no function takes one
-abbrev pub missing_operand : Operand
-missing_operand = Delay
-
--- the operand that a reference in a node of a graph names
+-- the operand that a reference in a node of a graph names; Missing if it names no object
 abbrev pub operand_held : List NamedObject → Reference → Operand
-operand_held objects cell = unwrap_or (option_map operand_of (object_at objects cell)) missing_operand
+operand_held objects cell = unwrap_or (option_map operand_of (object_at objects cell)) Missing
 
 -- the graph is verified and can run: nothing refuses it, and each reference names an object of the kind that the function has there
 pub record IsReady (objects : List NamedObject) (nodes : List Node) (v : Verified) : Type 0 where

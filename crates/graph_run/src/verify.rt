@@ -81,7 +81,7 @@ pub fn operand_held(table: &Table, cell: ObjRef) -> Operand
     ensures { result ≡ operand_held table.now.objects cell }
 {
     match table.get_held(cell.name()) {
-        None => Operand::Delay,
-        Some(object) => operand_in(object, cell.slot()).unwrap_or(Operand::Delay),
+        None => Operand::Missing,
+        Some(object) => operand_in(object, cell.slot()).unwrap_or(Operand::Missing),
     }
 }

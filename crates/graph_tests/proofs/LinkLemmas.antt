@@ -19,7 +19,8 @@ use Rattle.graph_verify.specs.Operand.{is_image, operand_of}
 use Rattle.graph_verify.specs.Verdict.{verdict}
 use Rattle.graph_verify.specs.Verified.{IsVerified}
 use Rattle.graph_verify.proofs.LinkLemmas.{In-from_same}
-use Rattle.graph_run.specs.Operands.{IsReady, StandsFor, missing_operand, names_cell, operand_held}
+use Rattle.graph_verify.specs.declared.operand.Operand.TheVariants.{Missing}
+use Rattle.graph_run.specs.Operands.{IsReady, StandsFor, names_cell, operand_held}
 use Rattle.graph_run.proofs.LinkLaws.{In-from_All}
 
 -- a node of a function of one image, of the image of one name to that of another
@@ -51,7 +52,7 @@ names_one function input output c named =
 
 -- what a cell is to a node, where this is found in it
 abbrev found_as : Option Operand → Operand
-found_as o = unwrap_or o missing_operand
+found_as o = unwrap_or o Missing
 
 -- an image is found, or a virtual one
 pub record IsThere (o : Option Operand) : Type 0 where

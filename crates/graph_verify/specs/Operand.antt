@@ -11,7 +11,7 @@ use Rattle.vx_base.specs.Description.{Description, same_size, byte_count}
 use Rattle.vx_base.specs.Image.{description_of}
 use Rattle.vx_base.specs.Object.{ObjectValue, ImageObject, LutObject, ThresholdObject, DelayObject, ConvolutionObject, DistributionObject, ExtremesObject, GraphObject, VirtualObject}
 use Rattle.graph_verify.specs.declared.operand.Operand.{Operand}
-use Rattle.graph_verify.specs.declared.operand.Operand.TheVariants.{Image, Lut, Threshold, Delay, Convolution, Distribution, Extremes, Graph, Virtual}
+use Rattle.graph_verify.specs.declared.operand.Operand.TheVariants.{Image, Lut, Threshold, Delay, Convolution, Distribution, Extremes, Graph, Virtual, Missing}
 use Rattle.graph_verify.specs.declared.operand.Operands.{Operands}
 
 -- an object as an operand
@@ -26,17 +26,18 @@ operand_of (ExtremesObject extremes) = Extremes
 operand_of (GraphObject graph) = Graph
 operand_of (VirtualObject image) = Virtual image.declared
 
--- the kind of an operand
-abbrev pub operand_kind : Operand → Kind
-operand_kind (Image d) = kind.Image
-operand_kind (Lut format) = kind.Lut
-operand_kind (Threshold format) = kind.Threshold
-operand_kind Delay = kind.Delay
-operand_kind Convolution = kind.Convolution
-operand_kind Distribution = kind.Distribution
-operand_kind Extremes = kind.Extremes
-operand_kind Graph = kind.Graph
-operand_kind (Virtual declared) = kind.VirtualImage
+-- the kind of the object; None if there is no object
+abbrev pub operand_kind : Operand → Option Kind
+operand_kind (Image d) = Some kind.Image
+operand_kind (Lut format) = Some kind.Lut
+operand_kind (Threshold format) = Some kind.Threshold
+operand_kind Delay = Some kind.Delay
+operand_kind Convolution = Some kind.Convolution
+operand_kind Distribution = Some kind.Distribution
+operand_kind Extremes = Some kind.Extremes
+operand_kind Graph = Some kind.Graph
+operand_kind (Virtual declared) = Some kind.VirtualImage
+operand_kind Missing = None
 
 -- the format of an image's samples, of a table's entries, of the samples that a threshold tests, or of a convolution's coefficients;
 -- None for the other kinds

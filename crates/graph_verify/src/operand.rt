@@ -24,6 +24,8 @@ pub enum Operand {
     Graph,
     /// A virtual image, as it is declared.
     Virtual(PartialDesc),
+    /// A reference that names no object, which no function takes.
+    Missing,
 }
 
 /// The operands of a node; those that it doesn't have are `None`.
@@ -38,20 +40,21 @@ pub struct Operands {
 impl Operand {
     ghost use Rattle.graph_verify.specs.Operand.{operand_kind, operand_format, is_virtual};
 
-    /// Returns the kind of the object.
-    pub fn kind(self) -> Kind
+    /// Returns the kind of the object, or `None` if there is no object.
+    pub fn kind(self) -> Option<Kind>
         ensures { result ≡ operand_kind self }
     {
         match self {
-            Operand::Image(_) => Kind::Image,
-            Operand::Lut(_) => Kind::Lut,
-            Operand::Threshold(_) => Kind::Threshold,
-            Operand::Delay => Kind::Delay,
-            Operand::Convolution => Kind::Convolution,
-            Operand::Distribution => Kind::Distribution,
-            Operand::Extremes => Kind::Extremes,
-            Operand::Graph => Kind::Graph,
-            Operand::Virtual(_) => Kind::VirtualImage,
+            Operand::Image(_) => Some(Kind::Image),
+            Operand::Lut(_) => Some(Kind::Lut),
+            Operand::Threshold(_) => Some(Kind::Threshold),
+            Operand::Delay => Some(Kind::Delay),
+            Operand::Convolution => Some(Kind::Convolution),
+            Operand::Distribution => Some(Kind::Distribution),
+            Operand::Extremes => Some(Kind::Extremes),
+            Operand::Graph => Some(Kind::Graph),
+            Operand::Virtual(_) => Some(Kind::VirtualImage),
+            Operand::Missing => None,
         }
     }
 
@@ -75,7 +78,8 @@ impl Operand {
             | Operand::Distribution
             | Operand::Extremes
             | Operand::Graph
-            | Operand::Virtual(_) => None,
+            | Operand::Virtual(_)
+            | Operand::Missing => None,
         }
     }
 }
