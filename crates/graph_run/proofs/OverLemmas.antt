@@ -1,8 +1,7 @@
 -- A scheduled graph that runs over planes: what its images and tallies need on their way out of a table and back.
-use Rattle.std.proofs.Common.{◌≡◌, ℕ, ◌<◌, ◌≤◌, List, ◌++◌, length, map, drop, get_or, All, Some, None, sym, ap, subst, ◌∙◌, arith, length-append}
+use Rattle.std.proofs.Common.{◌≡◌, ℕ, ◌<◌, ◌≤◌, List, ◌++◌, length, map, drop, get_or, All, Option, Some, None, sym, ap, subst, ◌∙◌, arith, length-append}
 use Rattle.std.proofs.lemmas.List.{get_or-map, length-map}
-use Rattle.graph_run.proofs.Common.{IsStrictlyIncreasing, names_of, Node, Reference, IsObject, NamedObject, with_written, VirtualOutput, Verified, IsReady, IsPlan, PlanView, place_of, planned_capacities, Samples, samples_format, second_object, IsDescription, resolved_operand, operand_held, run_of_graph, Format, U8}
-use Rattle.image_core.specs.declared.second.SecondInput.{SecondInput}
+use Rattle.graph_run.proofs.Common.{IsStrictlyIncreasing, names_of, Node, Reference, IsObject, ObjectValue, NamedObject, with_written, VirtualOutput, Verified, IsReady, IsPlan, PlanView, place_of, planned_capacities, Samples, samples_format, IsDescription, resolved_operand, operand_held, run_of_graph, Format, U8}
 use Rattle.graph_steps.specs.declared.step.Task.{Task}
 use Rattle.graph_steps.specs.declared.tally.Tally.{Tally}
 use Rattle.graph_steps.specs.Planes.{PlaneValue, no_plane, plane}
@@ -86,13 +85,14 @@ module _ (objects : List NamedObject) (nodes : List Node) (v : Verified) (ready 
     pub lends : LendTables bare steps
     lends = subst (λ (o : List NamedObject). LendTables o steps) (sym bare_is) (tables_lent objects nodes v ready names p plan)
 
-    own_tables : (lent : List SecondInput) → map second_object lent ≡ tables_of bare steps → map second_object lent ≡ tables_of objects steps
-    own_tables lent made = made ∙ ap (λ (o : List NamedObject). tables_of o steps) bare_is ∙ tables_same objects nodes v ready names p plan
+    own_tables : tables_of bare steps ≡ tables_of objects steps
+    own_tables = ap (λ (o : List NamedObject). tables_of o steps) bare_is ∙ tables_same objects nodes v ready names p plan
 
-    pub runs : (lent : List SecondInput) → map second_object lent ≡ tables_of bare steps → IsProgram lent s.high s.size s.halos.items s.tasks.items planes
-    runs lent made =
-        subst (IsProgram lent s.high s.size s.halos.items s.tasks.items) (sym all_planes)
-        (scheduled objects nodes v p s virtuals blocks lent are ready plan schedule descs first planned (own_tables lent made))
+    pub runs : IsProgram (tables_of bare steps) s.high s.size s.halos.items s.tasks.items planes
+    runs =
+        subst (λ (t : ℕ → Option ObjectValue). IsProgram t s.high s.size s.halos.items s.tasks.items planes) (sym own_tables)
+        (subst (IsProgram (tables_of objects steps) s.high s.size s.halos.items s.tasks.items) (sym all_planes)
+        (scheduled objects nodes v p s virtuals blocks are ready plan schedule descs first planned))
 
     pub reduces : (tallies : List Tally) → tallies ≡ tallies_of objects steps → CanReduceBand 0 s.tasks.items planes tallies
     reduces tallies new =
@@ -112,13 +112,14 @@ module _ (objects : List NamedObject) (nodes : List Node) (v : Verified) (ready 
         ∙ virtual_capacity virtuals (image_planes objects clients) s.slots.items (block_capacity blocks) k first (omega (arith, virtual_count, slot_count)) below)
         unused back left
 
-    module _ (tallies : List Tally) (new : tallies ≡ tallies_of objects steps) (lent : List SecondInput) (made : map second_object lent ≡ tables_of bare steps)
-        (after : List PlaneValue) (counted : List Tally) (leaves : Leaves lent s.tasks.items planes tallies after counted) where
-      all_leaves : Leaves lent (graph_tasks steps outs p (radius_of objects s.high)) (planes_of objects steps outs virtuals) (tallies_of objects steps) after counted
+    module _ (tallies : List Tally) (new : tallies ≡ tallies_of objects steps)
+        (after : List PlaneValue) (counted : List Tally) (leaves : Leaves (tables_of bare steps) s.tasks.items planes tallies after counted) where
+      all_leaves : Leaves (tables_of objects steps) (graph_tasks steps outs p (radius_of objects s.high)) (planes_of objects steps outs virtuals) (tallies_of objects steps) after counted
       all_leaves =
-          subst (λ (l : List Task). Leaves lent l (planes_of objects steps outs virtuals) (tallies_of objects steps) after counted) schedule.tasks
-          (subst (λ (l : List PlaneValue). Leaves lent s.tasks.items l (tallies_of objects steps) after counted) all_planes
-          (subst (λ (l : List Tally). Leaves lent s.tasks.items planes l after counted) new leaves))
+          subst (λ (l : List Task). Leaves (tables_of objects steps) l (planes_of objects steps outs virtuals) (tallies_of objects steps) after counted) schedule.tasks
+          (subst (λ (l : List PlaneValue). Leaves (tables_of objects steps) s.tasks.items l (tallies_of objects steps) after counted) all_planes
+          (subst (λ (l : List Tally). Leaves (tables_of objects steps) s.tasks.items planes l after counted) new
+          (subst (λ (t : ℕ → Option ObjectValue). Leaves t s.tasks.items planes tallies after counted) own_tables leaves)))
 
       pub planes_enough : count ≤ length after
       planes_enough = omega (arith, leaves.planes_count, ap length planes_are, length-append virtuals (image_planes objects clients), virtual_count)
@@ -135,13 +136,13 @@ module _ (objects : List NamedObject) (nodes : List Node) (v : Verified) (ready 
       images_back =
           subst (λ (o : List NamedObject). HoldImages o clients) (sym bare_is)
           (subst (HoldImages (with_written objects (bare_images objects (client_cells steps outs)))) (sym same_clients)
-          (back_images objects nodes v ready names are described p plan (radius_of objects s.high) lent (own_tables lent made) virtuals descs after counted all_leaves))
+          (back_images objects nodes v ready names are described p plan (radius_of objects s.high) virtuals descs after counted all_leaves))
 
       pub planes_back : AreFor bare clients (drop count after)
       planes_back =
           subst (λ (o : List NamedObject). AreFor o clients (drop count after)) (sym bare_is)
           (subst (λ (l : List Reference). AreFor (with_written objects (bare_images objects (client_cells steps outs))) l (drop count after)) (sym same_clients)
-          (back_for objects nodes v ready names are described p plan (radius_of objects s.high) lent (own_tables lent made) virtuals descs after counted all_leaves))
+          (back_for objects nodes v ready names are described p plan (radius_of objects s.high) virtuals descs after counted all_leaves))
 
       -- the objects once images are back
       abbrev came : List NamedObject
@@ -156,11 +157,11 @@ module _ (objects : List NamedObject) (nodes : List Node) (v : Verified) (ready 
       tallies_back =
           subst (λ (o : List NamedObject). AreTalliesFor o s.tally_cells.items counted) (sym came_is)
           (subst (λ (l : List Reference). AreTalliesFor came l counted) (sym schedule.tally_cells)
-          (back_tallies objects nodes v ready names are described p plan (radius_of objects s.high) lent (own_tables lent made) virtuals descs after counted all_leaves))
+          (back_tallies objects nodes v ready names are described p plan (radius_of objects s.high) virtuals descs after counted all_leaves))
 
       pub run_value : with_written (with_written bare (plane_objects clients (drop count after))) (tally_objects s.tally_cells.items counted)
           ≡ run_of_graph (resolved_operand (operand_held objects) nodes) nodes objects
       run_value =
           ap (λ (o : List NamedObject). with_written o (tally_objects s.tally_cells.items counted)) came_is
           ∙ ap (λ (l : List Reference). with_written came (tally_objects l counted)) schedule.tally_cells
-          ∙ value objects nodes v ready names are described p plan (radius_of objects s.high) lent (own_tables lent made) virtuals descs after counted all_leaves
+          ∙ value objects nodes v ready names are described p plan (radius_of objects s.high) virtuals descs after counted all_leaves

@@ -2,14 +2,13 @@
 use Rattle.std.proofs.Common.{◌≡◌, ℕ, ◌≤◌, Bool, List, ◌++◌, length, map, get_or, Option, None, IfSome, sym, ap, subst, ◌∙◌, inl, inr, arith}
 use Rattle.std.proofs.lemmas.List.{get_or_past, length-append, length-map}
 use Rattle.graph_run.proofs.Common.{cases_lt, map-append, Format, Node, Reference, Description, IsImage, ObjectValue, IsObject, is_virtual, NamedObject, held_is, image_held, HoldsImage, VirtualOutput, Verified, PlanView, place_of, operand_held, In}
-use Rattle.image_core.specs.declared.second.SecondInput.{SecondInput}
 use Rattle.graph_steps.specs.declared.step.Step.{Step}
 use Rattle.graph_steps.specs.declared.step.Task.{Task}
 use Rattle.graph_steps.specs.Planes.{PlaneValue, no_plane, plane}
 use Rattle.graph_steps.specs.Program.{AreFree, HaveCapacity, HoldsRows, IsClient, IsLive, IsProgram, IsStepOf, IsUnwritten, KeepsBlock, NamesPlanes, blocks_after_tasks, halo}
 use Rattle.graph_steps.specs.Steps.{capacities}
 use Rattle.graph_run.specs.Bind.{image_plane, image_planes}
-use Rattle.graph_run.specs.Program.{IsBound, client_cells, planes_of}
+use Rattle.graph_run.specs.Program.{IsBound, client_cells, planes_of, tables_of}
 use Rattle.graph_run.specs.Tasks.{HaveTasks, SlotsHold, TakeTurns, blocks_at, graph_cells, graph_tasks}
 use Rattle.graph_run.proofs.CellLemmas.{held_image}
 use Rattle.graph_run.proofs.SizeSteps.{plane_count, virtual_count}
@@ -18,8 +17,8 @@ use Rattle.graph_run.proofs.ReadyLemmas.{clients_hold, have_tasks}
 use Rattle.graph_run.proofs.TaskLemmas.{kept_turns, turns_again, turns_room}
 use Rattle.graph_run.proofs.WithinLemmas.{begins, client_planes, free, one_writer, steps_within, turns, written}
 
-module _ (objects : List NamedObject) (nodes : List Node) (v : Verified) (p : PlanView) (tables : List SecondInput) (radius : Node → ℕ) (high size : ℕ) (halos : List ℕ) (virtuals : List PlaneValue) (rooms : ℕ → Format × ℕ)
-    (bound : IsBound objects nodes v p tables radius high size halos virtuals rooms) where
+module _ (objects : List NamedObject) (nodes : List Node) (v : Verified) (p : PlanView) (radius : Node → ℕ) (high size : ℕ) (halos : List ℕ) (virtuals : List PlaneValue) (rooms : ℕ → Format × ℕ)
+    (bound : IsBound objects nodes v p radius high size halos virtuals rooms) where
   abbrev steps : List Node
   steps = v.steps.items
 
@@ -84,14 +83,14 @@ module _ (objects : List NamedObject) (nodes : List Node) (v : Verified) (p : Pl
 
   -- ---- all
 
-  pub graph_program : IsProgram tables high size halos tasks planes
+  pub graph_program : IsProgram (tables_of objects steps) high size halos tasks planes
   graph_program =
       record {
         some = bound.some;
         forward = bound.forward;
         tall = low;
         within = subst (λ (k : ℕ). (s : Step) → IsStepOf s tasks → NamesPlanes k s) (sym same_count) (steps_within steps outs p found_virtual have radius);
-        suits = steps_suit objects bound.objects_are nodes v bound.ready p bound.plan virtuals bound.descs tables bound.tables_are radius high bound.near;
+        suits = steps_suit objects bound.objects_are nodes v bound.ready p bound.plan virtuals bound.descs radius high bound.near;
         halo_count = bound.halo_count;
         enough = bound.enough;
         one_writer = one_writer steps outs p found_virtual have radius;

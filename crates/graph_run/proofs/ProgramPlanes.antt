@@ -1,12 +1,11 @@
 -- The planes and tables of a graph match its resolved operands, so its steps can run on them.
-use Rattle.std.proofs.Common.{◌≡◌, ◌≢◌, ℕ, zero, suc, ◌+◌, ◌-◌, ◌<◌, ◌≤◌, false, List, [], ◌∷◌, length, map, get_or, Option, Some, None, IfSome, All, refl, sym, ap, subst, ◌∙◌, inl, inr, arith, option_map, option_and_then, slice_get, unwrap_or}
+use Rattle.std.proofs.Common.{◌≡◌, ◌≢◌, ℕ, ◌+◌, ◌-◌, ◌<◌, ◌≤◌, false, List, length, map, get_or, Option, Some, None, IfSome, All, refl, sym, ap, subst, ◌∙◌, inl, inr, arith, option_map, option_and_then, unwrap_or}
 use Rattle.std.proofs.lemmas.List.{get_or-append_right, get_or-map, length-append, length-map}
 use Rattle.std.proofs.lemmas.Option.{get_or_from_slice_get, slice_get_within}
 use Rattle.std.proofs.Math.ListN.{get_or-append, get_or-map as get_or-map_default}
 use Rattle.graph_run.proofs.Common.{cases_lt, Kind, Node, Reference, Output, Description, description_of, IsNode, optional_cells, outputs, operands, parameters, second_kind, ObjectValue, IsObject, ImageObject, object_kind, operand_of, is_virtual, Operand, Missing, Image, NamedObject, object_at, held_is, image_held, HoldsImage, VirtualOutput, Verified, IsReady, IsPlan, PlanView, place_of, operand_held, partial_descs, resolved_operand, In, In-at, In-left, CanRun, runs_alone, second_object}
 use Rattle.vx_base.specs.declared.kind.Kind.TheVariants as kind
 use Rattle.vx_base.specs.Node.{with_kind}
-use Rattle.image_core.specs.declared.second.SecondInput.{SecondInput}
 use Rattle.node_rows.specs.Radius.{matrix_in}
 use Rattle.graph_verify.proofs.VerdictLemmas.{can_run}
 use Rattle.graph_steps.specs.declared.step.SecondSource.TheVariants.{Table}
@@ -31,16 +30,8 @@ use Rattle.graph_run.proofs.VerifiedLemmas.{named_by_input, output_known}
 
 -- ---- tables
 
--- the value of a function at the item with an index
-read_at : {X : Type 0} {Y : Type 0} (f : X → Option Y) (xs : List X) (k : ℕ) → option_and_then f (slice_get xs k) ≡ get_or (map f xs) k None
-read_at f [] k = grind arith
-read_at f (x ∷ xs) zero = grind arith
-read_at f (x ∷ xs) (suc k) = grind (arith, read_at f xs k)
-
-table_at : (objects : List NamedObject) (order : List Node) (tables : List SecondInput) (k : ℕ) (n : Node) → map second_object tables ≡ tables_of objects order → k < length order → get_or order k n ≡ n
-    → option_and_then second_object (slice_get tables k) ≡ node_table objects n
-table_at objects order tables k n same below there =
-    read_at second_object tables k ∙ ap (λ (l : List (Option ObjectValue)). get_or l k None) same ∙ get_or-map (node_table objects) order k n None below ∙ ap (node_table objects) there
+pub table_at : (objects : List NamedObject) (order : List Node) (k : ℕ) (n : Node) → k < length order → get_or order k n ≡ n → tables_of objects order k ≡ node_table objects n
+table_at objects order k n below there = get_or-map (node_table objects) order k n None below ∙ ap (node_table objects) there
 
 -- ---- a second input
 
@@ -64,7 +55,7 @@ real_kind : (found : Option ObjectValue) (operand : Operand) (wanted : Kind) →
 real_kind found operand wanted other stands e = grind arith
 
 -- operands that cells were found to be, and that virtual images among them are resolved as
-module _ (objects : List NamedObject) (found resolved_as : Reference → Operand) (tables : List SecondInput) (at : ℕ) (wanted : Kind) where
+module _ (objects : List NamedObject) (found resolved_as : Reference → Operand) (tables : ℕ → Option ObjectValue) (at : ℕ) (wanted : Kind) where
   -- what is known of a cell that a node reads as its second input
   pub record IsSecond (named_cells : List Reference) (shown_planes : List PlaneValue) (c : Reference) : Type 0 where
     pub stands : StandsFor (found c) wanted
@@ -98,20 +89,21 @@ module _ (objects : List NamedObject) (found resolved_as : Reference → Operand
     no_matrix (object_at objects c) (found c) second_is.is_held (subst (λ (k : Kind). StandsFor (found c) k) image second_is.stands),
   )
 
-module _ (objects : List NamedObject) (found resolved_as : Reference → Operand) (tables : List SecondInput) (at : ℕ) (named_cells : List Reference) (shown_planes : List PlaneValue) where
-  stands_by : (wanted : Kind) (cell : Option Reference) → option_and_then second_object (slice_get tables at) ≡ table_by wanted (option_and_then (object_at objects) cell)
+module _ (objects : List NamedObject) (found resolved_as : Reference → Operand) (tables : ℕ → Option ObjectValue) (at : ℕ) (named_cells : List Reference) (shown_planes : List PlaneValue) where
+  stands_by : (wanted : Kind) (cell : Option Reference) → tables at ≡ table_by wanted (option_and_then (object_at objects) cell)
       → IfSome cell (IsSecond objects found resolved_as tables at wanted named_cells shown_planes) → StandsBy objects found resolved_as tables at wanted named_cells shown_planes cell (second_of objects found resolved_as tables at wanted named_cells shown_planes cell)
   stands_by wanted None table second_is = (refl, tt, refl)
   stands_by kind.Image (Some c) table second_is = image_stands objects found resolved_as tables at kind.Image named_cells shown_planes c second_is refl
-  stands_by other (Some c) table second_is = table_stands objects found resolved_as tables at other named_cells shown_planes c (option_and_then second_object (slice_get tables at)) second_is (λ e. cc) table
+  stands_by other (Some c) table second_is = table_stands objects found resolved_as tables at other named_cells shown_planes c (tables at) second_is (λ e. cc) table
 
-  table_is : (wanted : Kind) (cell : Option Reference) → option_and_then second_object (slice_get tables at) ≡ table_by wanted (option_and_then (object_at objects) cell)
-      → IfSome cell (IsSecond objects found resolved_as tables at wanted named_cells shown_planes) → at < length tables → (k : ℕ) → source named_cells at wanted cell ≡ Table k
-      → (k < length tables) × IfSome (second_of objects found resolved_as tables at wanted named_cells shown_planes cell) IsObject
-  table_is wanted None table second_is below k e = absurd (cc e)
-  table_is kind.Image (Some c) table second_is below k e = absurd (cc e)
-  table_is other (Some c) table second_is below k e =
-      (let same : at ≡ k = cc in subst (λ (x : ℕ). x < length tables) same below, subst (λ (o : Option ObjectValue). IfSome o IsObject) (sym table) second_is.object)
+  table_is : (wanted : Kind) (cell : Option Reference) → tables at ≡ table_by wanted (option_and_then (object_at objects) cell)
+      → IfSome cell (IsSecond objects found resolved_as tables at wanted named_cells shown_planes) → (k : ℕ) → source named_cells at wanted cell ≡ Table k
+      → IfSome (tables k) IsObject
+  table_is wanted None table second_is k e = absurd (cc e)
+  table_is kind.Image (Some c) table second_is k e = absurd (cc e)
+  table_is other (Some c) table second_is k e =
+      let same : at ≡ k = cc in
+      subst (λ (x : ℕ). IfSome (tables x) IsObject) same (subst (λ (o : Option ObjectValue). IfSome o IsObject) (sym table) second_is.object)
 
 -- ---- a graph
 
@@ -202,9 +194,9 @@ module _ (objects : List NamedObject) (are : All (λ o. IsObject o.object) objec
   named : AreNamed cells steps
   named = all_named virtual steps
 
-  module _ (tables : List SecondInput) (tables_same : map second_object tables ≡ tables_of objects steps) (radius : Node → ℕ) (high : ℕ) (near : AreNear objects high radius steps) where
-    table_count : length tables ≡ length steps
-    table_count = sym (length-map tables second_object) ∙ ap length tables_same ∙ length-map steps (node_table objects)
+  module _ (radius : Node → ℕ) (high : ℕ) (near : AreNear objects high radius steps) where
+    abbrev tables : ℕ → Option ObjectValue
+    tables = tables_of objects steps
 
     module _ (n : Node) (place : ℕ) (below : place < length steps) (there : get_or steps place n ≡ n) where
       inside : In n steps
@@ -229,8 +221,8 @@ module _ (objects : List NamedObject) (are : All (λ o. IsObject o.object) objec
       seconds : IfSome n.in2 (IsSecond objects is known tables place wanted cells planes)
       seconds = each_given (IsSecond objects is known tables place wanted cells planes) n.in2 second_is
 
-      table : option_and_then second_object (slice_get tables place) ≡ table_by wanted (option_and_then (object_at objects) n.in2)
-      table = table_at objects steps tables place n tables_same below there
+      table : tables place ≡ table_by wanted (option_and_then (object_at objects) n.in2)
+      table = table_at objects steps place n below there
 
       pub node_suits : (slots : List ℕ) (which : Output) (o : Reference) → In o (outputs n) → (parameters n.function).output ≡ kind.Image → SuitsPlanes tables high (step_for cells slots radius place n which o) planes
       node_suits slots which o written image =
@@ -241,7 +233,7 @@ module _ (objects : List NamedObject) (are : All (λ o. IsObject o.object) objec
           (plane_known n.in1 (named n inside n.in1 (inl refl))) (plane_known o (named n inside o (image_named n o image written)))
           (matrix_in (option_and_then (object_at objects) n.in2)) second (record { operand = stands.0; kind = stands.1; matrix = stands.2 })
           cells slots radius place which tables high (plane planes (second_plane (source cells place wanted n.in2))).desc refl
-          (table_is objects is known tables place cells planes wanted n.in2 table seconds (omega (arith, table_count, below)))
+          (table_is objects is known tables place cells planes wanted n.in2 table seconds)
           (near n inside)
 
     pub steps_suit : (s : Step) → IsStepOf s (graph_tasks steps outs p radius) → SuitsPlanes tables high s planes

@@ -1,7 +1,6 @@
 -- A graph with a schedule is a program over its planes.
 use Rattle.std.proofs.Common.{◌≡◌, ℕ, List, map, All, sym, ap, subst, ◌∙◌}
-use Rattle.graph_run.proofs.Common.{Node, IsObject, NamedObject, VirtualOutput, Verified, IsReady, IsPlan, PlanView, planned_capacities, Samples, second_object}
-use Rattle.image_core.specs.declared.second.SecondInput.{SecondInput}
+use Rattle.graph_run.proofs.Common.{Node, IsObject, NamedObject, VirtualOutput, Verified, IsReady, IsPlan, PlanView, planned_capacities, Samples}
 use Rattle.graph_steps.specs.declared.step.Task.{Task}
 use Rattle.graph_steps.specs.Planes.{PlaneValue}
 use Rattle.graph_steps.specs.Program.{IsProgram, Suffice}
@@ -17,23 +16,22 @@ use Rattle.graph_run.proofs.ProgramLaws.{graph_program}
 use Rattle.graph_run.proofs.SizeSteps.{plane_count, all_low}
 use Rattle.graph_run.proofs.TallySteps.{graph_reduces}
 
-module _ (objects : List NamedObject) (nodes : List Node) (v : Verified) (p : PlanView) (s : Schedule) (virtuals : List PlaneValue) (blocks : List Samples) (lent : List SecondInput)
+module _ (objects : List NamedObject) (nodes : List Node) (v : Verified) (p : PlanView) (s : Schedule) (virtuals : List PlaneValue) (blocks : List Samples)
     (are : All (λ o. IsObject o.object) objects) (ready : IsReady objects nodes v) (plan : IsPlan v.steps.items v.virtual_outputs.items p) (schedule : IsSchedule objects v p s)
     (descs : map (λ (q : PlaneValue). q.desc) virtuals ≡ map (λ (o : VirtualOutput). o.desc) v.virtual_outputs.items) (first : capacities virtuals ≡ first_blocks s.slots.items (block_capacity blocks))
-    (planned : map block_size blocks ≡ planned_capacities (band_plan s.size s.halos.items v.virtual_outputs.items s.slots.items p)) (tables_are : map second_object lent ≡ tables_of objects v.steps.items) where
+    (planned : map block_size blocks ≡ planned_capacities (band_plan s.size s.halos.items v.virtual_outputs.items s.slots.items p)) where
   abbrev steps : List Node
   steps = v.steps.items
 
   abbrev outs : List VirtualOutput
   outs = v.virtual_outputs.items
 
-  bound : IsBound objects nodes v p lent (radius_of objects s.high) s.high s.size s.halos.items virtuals (block_capacity blocks)
+  bound : IsBound objects nodes v p (radius_of objects s.high) s.high s.size s.halos.items virtuals (block_capacity blocks)
   bound =
       record {
         objects_are = are;
         ready = ready;
         plan = plan;
-        tables_are = tables_are;
         near = radii_near objects s.high steps;
         some = schedule.some;
         forward = schedule.forward;
@@ -46,10 +44,10 @@ module _ (objects : List NamedObject) (nodes : List Node) (v : Verified) (p : Pl
         once = subst (AddOnce s.high s.size s.halos.items) schedule.tasks schedule.once;
       }
 
-  pub scheduled : IsProgram lent s.high s.size s.halos.items s.tasks.items (planes_of objects steps outs virtuals)
+  pub scheduled : IsProgram (tables_of objects steps) s.high s.size s.halos.items s.tasks.items (planes_of objects steps outs virtuals)
   scheduled =
-      subst (λ (tasks : List Task). IsProgram lent s.high s.size s.halos.items tasks (planes_of objects steps outs virtuals)) (sym schedule.tasks)
-      (graph_program objects nodes v p lent (radius_of objects s.high) s.high s.size s.halos.items virtuals (block_capacity blocks) bound)
+      subst (λ (tasks : List Task). IsProgram (tables_of objects steps) s.high s.size s.halos.items tasks (planes_of objects steps outs virtuals)) (sym schedule.tasks)
+      (graph_program objects nodes v p (radius_of objects s.high) s.high s.size s.halos.items virtuals (block_capacity blocks) bound)
 
 module _ (objects : List NamedObject) (nodes : List Node) (v : Verified) (p : PlanView) (s : Schedule) (virtuals : List PlaneValue)
     (are : All (λ o. IsObject o.object) objects) (ready : IsReady objects nodes v) (plan : IsPlan v.steps.items v.virtual_outputs.items p) (schedule : IsSchedule objects v p s)

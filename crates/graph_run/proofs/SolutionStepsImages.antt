@@ -2,11 +2,10 @@
 use Rattle.std.proofs.Common.{◌≡◌, ◌≢◌, ℕ, ◌+◌, ◌<◌, ◌≤◌, Bool, true, false, List, [], map, length, drop, get_or, refl, sym, ap, subst, ◌∙◌, inl, inr, arith, All, Option, Some, None, ◌⊎◌, IfSome, nat_lt, if◌then◌else◌, unwrap_or, option_map, option_and_then}
 use Rattle.std.specs.List.{slice_get}
 use Rattle.std.proofs.lemmas.List.{get_or-append-add, get_or_append_left, get_or-map, length-map}
-use Rattle.graph_run.proofs.Common.{accumulates, second_or_output, cases_lt, Reference, reference_to, Description, false_from_ne_true, flat_map, Function, optional_cells, object_at, held_is, HoldsImage, HoldsKind, image_held, Image, ImageObject, ImageValue, In, In-append, In-at, In-filter, In-from_any, In-from_filter, In-from_flat_map, In-from_map, In-from_same, In-left, In-right, IsDescription, IsImage, IsObject, IsPlan, IsReady, is_virtual, is_virtual_object, is_written, IsStrictlyIncreasing, Kind, NamedObject, names_cell, names_of, Node, node_image, node_output, object_held, object_kind, ObjectValue, operands, Output, First, Second, outputs, parameters, place_of, PlanView, second_kind, in_slot, has_twice, slice_get-map, image_value, new_image, U8, description_of, Operand, operand_of, kind_in, Verified, VirtualOutput, written_from, written_in, writes}
+use Rattle.std.proofs.lemmas.Option.{get_or_from_slice_get, slice_get_within}
+use Rattle.graph_run.proofs.Common.{accumulates, second_or_output, cases_lt, Reference, reference_to, Description, false_from_ne_true, flat_map, Function, optional_cells, object_at, held_is, HoldsImage, HoldsKind, image_held, Image, ImageObject, ImageValue, In, In-append, In-at, In-filter, In-from_any, In-from_filter, In-from_flat_map, In-from_map, In-from_same, In-left, In-right, IsDescription, IsImage, IsObject, IsPlan, IsReady, is_virtual, is_virtual_object, is_written, IsStrictlyIncreasing, Kind, NamedObject, names_cell, names_of, Node, node_image, node_output, object_held, object_kind, ObjectValue, operands, Output, First, Second, outputs, parameters, place_of, PlanView, second_kind, in_slot, has_twice, image_value, new_image, U8, description_of, Operand, operand_of, kind_in, Verified, VirtualOutput, written_from, written_in, writes}
 use Rattle.vx_base.specs.declared.kind.Kind.TheVariants as kind
 use Rattle.vx_base.specs.Node.{with_kind}
-use Rattle.image_core.specs.declared.second.SecondInput.{SecondInput as SecondValue}
-use Rattle.image_core.specs.Second.{second_object}
 use Rattle.graph_steps.specs.declared.step.Step.{Step}
 use Rattle.graph_steps.specs.declared.step.Task.{Task}
 use Rattle.graph_steps.specs.Planes.{PlaneValue, block_image, block_images, no_plane, plane}
@@ -14,7 +13,7 @@ use Rattle.graph_steps.specs.Program.{IsStepOf, IsUnwritten, SolvesSteps}
 use Rattle.graph_steps.specs.Steps.{second_in, step_image}
 use Rattle.graph_run.specs.Bind.{image_plane, image_planes}
 use Rattle.graph_run.specs.Cells.{image_given, images_named, index_of, node_images}
-use Rattle.graph_run.specs.Program.{node_table, planes_of, table_by, tables_of}
+use Rattle.graph_run.specs.Program.{planes_of, table_by, tables_of}
 use Rattle.graph_run.specs.Results.{images_in}
 use Rattle.graph_run.specs.Tasks.{HaveTasks, graph_cells, graph_tasks, source, step_for}
 use Rattle.graph_run.proofs.CellLemmas.{held_image}
@@ -23,6 +22,7 @@ use Rattle.graph_verify.proofs.LinkLemmas.{once_across}
 use Rattle.graph_run.proofs.LinkLaws.{In-from_All}
 use Rattle.graph_run.proofs.OperandLaws.{virtual_written}
 use Rattle.graph_run.proofs.ProgramLemmas.{IsStepFor, all_named, image_named, in_outputs_at, out_at, step_node}
+use Rattle.graph_run.proofs.ProgramPlanes.{table_at}
 use Rattle.graph_run.proofs.SizeSteps.{plane_count, virtual_count}
 use Rattle.graph_run.proofs.ReadyLemmas.{clients_hold, have_tasks, image_operand, in_with_kind}
 use Rattle.graph_run.proofs.RunLemmas.{second_no_delay}
@@ -76,9 +76,6 @@ image_real objects c image x there = real c.slot x (sym (ap (λ (o : Option Obje
   where
     real : (slot : Option ℕ) (y : ObjectValue) → option_map object_kind (in_slot slot y) ≡ Some kind.Image → is_virtual_object y ≡ false
     real slot other is_image = grind arith
-
-joined : (o : Option SecondValue) (x : Option ObjectValue) → option_map (λ t. second_object t) o ≡ Some x → option_and_then (λ t. second_object t) o ≡ x
-joined o x e = grind arith
 
 no_plane_read : (wanted : Kind) (object : Option ObjectValue) → wanted ≢ kind.Image → table_by wanted object ≡ object
 no_plane_read wanted object other = grind arith
@@ -297,12 +294,15 @@ module _ (objects : List NamedObject) (nodes : List Node) (v : Verified) (h : Is
 
   -- ---- the solution
 
-  module _ (radius : Node → ℕ) (tables : List SecondValue) (lent : map second_object tables ≡ tables_of objects order) (planes : List PlaneValue) (show : ShowImages planes) where
+  module _ (radius : Node → ℕ) (planes : List PlaneValue) (show : ShowImages planes) where
     abbrev tasks : List Task
     tasks = graph_tasks order (outs objects nodes v h) p radius
 
     abbrev slots : List ℕ
     slots = map (place_of p) (outs objects nodes v h)
+
+    abbrev tables : ℕ → Option ObjectValue
+    tables = tables_of objects order
 
     abbrev whole : ℕ → ImageValue
     whole = images_in ends cells (block_images planes)
@@ -333,11 +333,9 @@ module _ (objects : List NamedObject) (nodes : List Node) (v : Verified) (h : Is
         let among = cell_there n i c (inr (In-left c (image_given (second_kind n) n.in2) _ named)) in
         ap (λ (a : ImageValue). Some (ImageObject a)) (whole_at c among) ∙ sym (ends_held c among)
 
-    table_lent : (n : Node) (c : Reference) (at : ℕ) → slice_get order at ≡ Some n → n.in2 ≡ Some c → second_kind n ≢ kind.Image
-        → option_and_then (λ (t : SecondValue). second_object t) (slice_get tables at) ≡ object_at objects c
+    table_lent : (n : Node) (c : Reference) (at : ℕ) → slice_get order at ≡ Some n → n.in2 ≡ Some c → second_kind n ≢ kind.Image → tables at ≡ object_at objects c
     table_lent n c at there e other =
-        joined (slice_get tables at) (node_table objects n)
-        (sym (slice_get-map (λ (t : SecondValue). second_object t) tables at) ∙ ap (λ (l : List (Option ObjectValue)). slice_get l at) lent ∙ slice_get-map (node_table objects) order at ∙ ap (option_map (node_table objects)) there)
+        table_at objects order at n (slice_get_within order at n there) (get_or_from_slice_get order at n n there)
         ∙ no_plane_read (second_kind n) (option_and_then (object_at objects) n.in2) other
         ∙ ap (option_and_then (object_at objects)) e
 

@@ -5,8 +5,6 @@ use Rattle.graph_run.proofs.Common.{cases_Bool, Reference, cell_object, objects_
 use Rattle.vx_base.specs.declared.kind.Kind.TheVariants as kind
 use Rattle.vx_base.specs.PartialDescription.{PartialDescription}
 use Rattle.graph_verify.specs.declared.operand.Operand.TheVariants.{Virtual}
-use Rattle.image_core.specs.declared.second.SecondInput.{SecondInput as SecondValue}
-use Rattle.image_core.specs.Second.{second_object}
 use Rattle.graph_steps.specs.declared.tally.Tally.{Tally}
 use Rattle.graph_steps.specs.Planes.{PlaneValue, block_image, block_images, no_plane}
 use Rattle.graph_steps.specs.Program.{KeepsBlock, SolvesSteps}
@@ -63,10 +61,10 @@ module _ (objects : List NamedObject) (nodes : List Node) (v : Verified) (h : Is
         lasting = forgotten_lasting (resolved_operand (operand_held objects) nodes) nodes objects _ l.lasting;
       }
 
-  module _ (p : PlanView) (plan : IsPlan v.steps.items v.virtual_outputs.items p) (radius : Node → ℕ) (tables : List SecondValue) (lent : map second_object tables ≡ tables_of objects v.steps.items)
+  module _ (p : PlanView) (plan : IsPlan v.steps.items v.virtual_outputs.items p) (radius : Node → ℕ)
       (virtuals : List PlaneValue) (descs : map (λ (q : PlaneValue). q.desc) virtuals ≡ map (λ (o : VirtualOutput). o.desc) v.virtual_outputs.items)
       (after : List PlaneValue) (counted : List Tally)
-      (leaves : Leaves tables (graph_tasks v.steps.items v.virtual_outputs.items p radius) (planes_of objects v.steps.items v.virtual_outputs.items virtuals) (tallies_of objects v.steps.items) after counted) where
+      (leaves : Leaves (tables_of objects v.steps.items) (graph_tasks v.steps.items v.virtual_outputs.items p radius) (planes_of objects v.steps.items v.virtual_outputs.items virtuals) (tallies_of objects v.steps.items) after counted) where
     abbrev pub outs : List VirtualOutput
     outs = v.virtual_outputs.items
 
@@ -94,11 +92,11 @@ module _ (objects : List NamedObject) (nodes : List Node) (v : Verified) (h : Is
     pub show_all : ShowImages objects nodes v h names p plan planes
     show_all = show_images objects nodes v h names p plan virtuals descs
 
-    solved : SolvesSteps tables (length planes) (graph_tasks steps outs p radius) (block_images planes) whole
-    solved = solution objects nodes v h names p plan radius tables lent planes show_all are described
+    solved : SolvesSteps (tables_of objects steps) (length planes) (graph_tasks steps outs p radius) (block_images planes) whole
+    solved = solution objects nodes v h names p plan radius planes show_all are described
 
     whole_of : (c : Reference) → In c all → whole (index_of all c) ≡ image_held last c
-    whole_of c i = whole_at objects nodes v h names p plan radius tables lent planes show_all c i
+    whole_of c i = whole_at objects nodes v h names p plan radius planes show_all c i
 
     -- the values written back are the result of the run, and not virtual images
     pub record IsLeft (w : Reference × ObjectValue) : Type 0 where

@@ -3,8 +3,6 @@ use Rattle.std.proofs.Common.{◌≡◌, ◌≢◌, ℕ, suc, ◌+◌, ◌<◌, 
 use Rattle.std.proofs.lemmas.List.{get_or-drop, length-drop}
 use Rattle.graph_run.proofs.Common.{Reference, Function, object_at, HoldsImage, HoldsKind, image_held, ImageObject, ImageValue, In, In-at, IsDescription, IsObject, IsPlan, IsReady, IsStrictlyIncreasing, Kind, kind_in, NamedObject, names_of, Node, object_kind, ObjectValue, operand_held, option_or, PlanView, resolved_operand, run_of_graph, second_kind, Verified, VirtualOutput, with_written, description_of, parameters, U8, new_image, image_value, distribution_value, DistributionObject, ExtremesObject}
 use Rattle.vx_base.specs.declared.kind.Kind.TheVariants as kind
-use Rattle.image_core.specs.declared.second.SecondInput.{SecondInput as SecondValue}
-use Rattle.image_core.specs.Second.{second_object}
 use Rattle.graph_steps.specs.declared.tally.Tally.{Tally}
 use Rattle.graph_steps.specs.declared.tally.Tally.TheVariants as tally
 use Rattle.graph_steps.specs.Tallies.{tally_at, tally_of}
@@ -139,7 +137,9 @@ module _ (objects : List NamedObject) (nodes : List Node) (v : Verified) (h : Is
 
   -- the tables that nodes read are those of the table without samples, and can be lent
   pub tables_same : tables_of bare v.steps.items ≡ tables_of objects v.steps.items
-  tables_same = map_alike (node_table bare) (node_table objects) v.steps.items table_same
+  tables_same =
+      let read : List (Option ObjectValue) → ℕ → Option ObjectValue = λ l k. get_or l k None in
+      ap read (map_alike (node_table bare) (node_table objects) v.steps.items table_same)
 
   pub tables_lent : LendTables bare v.steps.items
   tables_lent =
@@ -208,10 +208,10 @@ tallies_each l (c ∷ cells) (t ∷ tallies) enough each = (each 0 c (omega arit
 
 module _ (objects : List NamedObject) (nodes : List Node) (v : Verified) (h : IsReady objects nodes v) (names : IsStrictlyIncreasing (names_of objects))
     (are : All (λ o. IsObject o.object) objects) (described : All (λ (o : VirtualOutput). IsDescription o.desc) v.virtual_outputs.items)
-    (p : PlanView) (plan : IsPlan v.steps.items v.virtual_outputs.items p) (radius : Node → ℕ) (tables : List SecondValue) (lent : map second_object tables ≡ tables_of objects v.steps.items)
+    (p : PlanView) (plan : IsPlan v.steps.items v.virtual_outputs.items p) (radius : Node → ℕ)
     (virtuals : List PlaneValue) (descs : map (λ (q : PlaneValue). q.desc) virtuals ≡ map (λ (o : VirtualOutput). o.desc) v.virtual_outputs.items)
     (after : List PlaneValue) (counted : List Tally)
-    (leaves : Leaves tables (graph_tasks v.steps.items v.virtual_outputs.items p radius) (planes_of objects v.steps.items v.virtual_outputs.items virtuals) (tallies_of objects v.steps.items) after counted) where
+    (leaves : Leaves (tables_of objects v.steps.items) (graph_tasks v.steps.items v.virtual_outputs.items p radius) (planes_of objects v.steps.items v.virtual_outputs.items virtuals) (tallies_of objects v.steps.items) after counted) where
   abbrev first_client : ℕ
   first_client = length v.virtual_outputs.items
 
@@ -231,11 +231,11 @@ module _ (objects : List NamedObject) (nodes : List Node) (v : Verified) (h : Is
   holding = hold objects nodes v h names p plan
 
   total : first_client + length clients ≡ length (graph_cells v.steps.items v.virtual_outputs.items)
-  total = theirs_count objects nodes v h names are described p plan radius tables lent virtuals descs after counted leaves
+  total = theirs_count objects nodes v h names are described p plan radius virtuals descs after counted leaves
 
   enough_back : length clients ≤ length back
   enough_back =
-      omega (arith, length-drop first_client after, total, leaves.planes_count, (show_all objects nodes v h names are described p plan radius tables lent virtuals descs after counted leaves).count)
+      omega (arith, length-drop first_client after, total, leaves.planes_count, (show_all objects nodes v h names are described p plan radius virtuals descs after counted leaves).count)
 
   planes_for : AreFor objects clients back
   planes_for = for_each objects clients back enough_back each
@@ -246,8 +246,8 @@ module _ (objects : List NamedObject) (nodes : List Node) (v : Verified) (h : Is
           let at : ℕ = first_client + k in
           let c : Reference = get_or clients k d in
           let there : get_or back k no_plane ≡ plane after at = get_or-drop first_client after k no_plane in
-          let index = theirs_index objects nodes v h names are described p plan radius tables lent virtuals descs after counted leaves k d below in
-          let keeps = theirs_keep objects nodes v h names are described p plan radius tables lent virtuals descs after counted leaves k below in (
+          let index = theirs_index objects nodes v h names are described p plan radius virtuals descs after counted leaves k d below in
+          let keeps = theirs_keep objects nodes v h names are described p plan radius virtuals descs after counted leaves k below in (
             ap (λ (q : PlaneValue). q.desc) there
                 ∙ leaves.descs at
                 ∙ ap (λ (m : ℕ). (plane (planes_of objects v.steps.items v.virtual_outputs.items virtuals) m).desc) (sym index)
@@ -266,7 +266,7 @@ module _ (objects : List NamedObject) (nodes : List Node) (v : Verified) (h : Is
   came_is = out_and_back objects clients back (pairs_of objects names) holding planes_for
 
   -- the tallies are of objects that are still there
-  tally_held : (t : ℕ) → (below : t < length (tally_cells v.steps.items)) → (r : IsTallied objects nodes v h names are described p plan radius tables lent virtuals descs after counted leaves t) → object_at came r.cell ≡ Some r.old
+  tally_held : (t : ℕ) → (below : t < length (tally_cells v.steps.items)) → (r : IsTallied objects nodes v h names are described p plan radius virtuals descs after counted leaves t) → object_at came r.cell ≡ Some r.old
   tally_held t below r =
       ap (λ (l : List NamedObject). object_at l r.cell) came_is
       ∙ same_elsewhere objects (plane_objects clients back) (planes_written objects clients back holding planes_for) r.cell
@@ -283,7 +283,7 @@ module _ (objects : List NamedObject) (nodes : List Node) (v : Verified) (h : Is
   pub back_tallies : AreTalliesFor came (tally_cells v.steps.items) counted
   back_tallies =
       tallies_each came (tally_cells v.steps.items) counted (omega (arith, leaves.tallies_count, tally_count objects v.steps.items)) (λ k d below.
-      (let r = tally_facts objects nodes v h names are described p plan radius tables lent virtuals descs after counted leaves k below in
+      (let r = tally_facts objects nodes v h names are described p plan radius virtuals descs after counted leaves k below in
       subst (λ (c : Reference). IsTallyFor came c (tally_at counted k)) (sym (r.at d))
       (tally_for came r.cell r.old (image_held (last_objects objects nodes) r.node.in1) (tally_at (tallies_of objects v.steps.items) k) (tally_at counted k) (tally_held k below r)
       (subst (λ (x : Kind). (x ≡ kind.Distribution) ⊎ (x ≡ kind.Extremes)) (sym r.kind_is) (counted_kind r.node.function r.other)) r.own r.tallied)))
@@ -293,4 +293,4 @@ module _ (objects : List NamedObject) (nodes : List Node) (v : Verified) (h : Is
   value =
       ap (λ (l : List NamedObject). with_written l (tally_objects (tally_cells v.steps.items) counted)) came_is
       ∙ sym (with_written-append objects (plane_objects clients back) (tally_objects (tally_cells v.steps.items) counted))
-      ∙ returns objects nodes v h names are described p plan radius tables lent virtuals descs after counted leaves
+      ∙ returns objects nodes v h names are described p plan radius virtuals descs after counted leaves

@@ -1,10 +1,9 @@
 -- A step of a node suits its planes, where these are of the descriptions that the node's operands were found to have.
-use Rattle.std.proofs.Common.{◌≡◌, ℕ, ◌<◌, true, List, ◌++◌, length, Option, Some, None, IfSome, sym, ap, subst, ◌∙◌, inl, inr, arith, is_some, is_none, if◌then◌else◌, option_map, option_and_then, option_to_list, unwrap_or}
+use Rattle.std.proofs.Common.{◌≡◌, ℕ, true, List, ◌++◌, Option, Some, None, IfSome, sym, ap, subst, ◌∙◌, inl, inr, arith, is_some, is_none, if◌then◌else◌, option_map, option_and_then, option_to_list, unwrap_or}
 use Rattle.graph_run.proofs.Common.{list_all, and_parts, Function, Kind, Node, Reference, Output, Description, ImageValue, IsNode, optional_cells, outputs, parameters, second_kind, ObjectValue, ImageObject, IsObject, object_kind, object_format, operand_of, operand_format, are_of_one_size, node_fault, operands_of, Operand, Image, SecondHasSize, In}
 use Rattle.vx_base.specs.declared.kind.Kind.TheVariants as kind
 use Rattle.vx_base.specs.Convolution.{ConvolutionValue}
 use Rattle.std.proofs.lemmas.List.Folds.{list_all-append}
-use Rattle.image_core.specs.declared.second.SecondInput.{SecondInput}
 use Rattle.node_rows.specs.Radius.{matrix_in}
 use Rattle.graph_verify.proofs.SuitLemmas.{Suits as SuitsOutput, met, no_fault_suits, passed}
 use Rattle.graph_steps.specs.declared.step.SecondSource.TheVariants.{Table}
@@ -81,13 +80,13 @@ module _ (known : Reference → Operand) (n : Node) (node : IsNode n) (none : no
     can_make = record { node = node; kind = second_wanted; formats = found.formats; size = fits_size (blank_image first) (ImageObject (blank_image out)) found.size; second_size = second_size }
 
     -- the step suits planes of these descriptions
-    pub step_suits : (tables : List SecondInput) (high : ℕ) (elsewhere : Description) → second ≡ second_in tables (λ _. blank_image elsewhere) (source cells at (second_kind n) n.in2)
-        → ((k : ℕ) → source cells at (second_kind n) n.in2 ≡ Table k → (k < length tables) × IfSome second IsObject)
+    pub step_suits : (tables : ℕ → Option ObjectValue) (high : ℕ) (elsewhere : Description) → second ≡ second_in tables (λ _. blank_image elsewhere) (source cells at (second_kind n) n.in2)
+        → ((k : ℕ) → source cells at (second_kind n) n.in2 ≡ Table k → IfSome (tables k) IsObject)
         → Covers (step_radius n.function matrix) (radius n) high → Suits tables high (step_for cells slots radius at n which o) first elsewhere out
     step_suits tables high elsewhere is table near =
         let s = step_for cells slots radius at n which o in
         record {
           makes = subst (λ (x : Option ObjectValue). CanMake s (blank_image first) x out) is can_make;
-          table = λ k e. (let t = table k e in (t.0, subst (λ (x : Option ObjectValue). IfSome x IsObject) is t.1));
+          table = table;
           near = subst (λ (m : Option ConvolutionValue). Covers (step_radius n.function m) (radius n) high) (sym stands.matrix ∙ ap matrix_in is) near;
         }

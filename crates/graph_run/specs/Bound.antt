@@ -1,5 +1,5 @@
 -- The objects that a run reads as tables, and those that it writes as tallies.
-use Rattle.std.specs.Prelude.{◌≡◌, ⊤, List, [], ◌∷◌, length, All, IfSome, unwrap_or}
+use Rattle.std.specs.Prelude.{◌≡◌, ⊤, Bool, true, false, List, [], ◌∷◌, length, All, IfSome, unwrap_or}
 use Rattle.vx_base.specs.declared.kind.Kind.{Kind}
 use Rattle.vx_base.specs.declared.kind.Kind.TheVariants as kind
 use Rattle.vx_base.specs.declared.node.Node.{Node}
@@ -16,12 +16,16 @@ use Rattle.graph_run.specs.Turns.{HoldsKind}
 
 -- ---- tables
 
+-- whether objects of this kind are read as tables
+abbrev pub is_lent : Kind → Bool
+is_lent kind.Lut = true
+is_lent kind.Threshold = true
+is_lent kind.Convolution = true
+is_lent other = false
+
 -- objects of this kind are read as tables
 abbrev pub IsLent : Kind → Type 0
-IsLent kind.Lut = ⊤
-IsLent kind.Threshold = ⊤
-IsLent kind.Convolution = ⊤
-IsLent other = ⊥
+IsLent k = is_lent k ≡ true
 
 -- the second inputs of the nodes that aren't images can be read as tables
 abbrev pub LendTables : List NamedObject → List Node → Type 0

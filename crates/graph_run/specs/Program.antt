@@ -11,8 +11,6 @@ use Rattle.vx_base.specs.Description.{Description}
 use Rattle.vx_base.specs.Function.{parameters}
 use Rattle.vx_base.specs.Node.{second_kind}
 use Rattle.vx_base.specs.Object.{ObjectValue, IsObject, new_distribution, no_extremes}
-use Rattle.image_core.specs.declared.second.SecondInput.{SecondInput}
-use Rattle.image_core.specs.Second.{second_object}
 use Rattle.node_rows.specs.Radius.{matrix_in}
 use Rattle.object_table.specs.NamedObject.{NamedObject, object_at}
 use Rattle.object_table.specs.Object.{distribution_value}
@@ -44,9 +42,9 @@ table_by other object = object
 abbrev pub node_table : List NamedObject → Node → Option ObjectValue
 node_table objects n = table_by (second_kind n) (option_and_then (object_at objects) n.in2)
 
--- the table of each node, if it reads one
-abbrev pub tables_of : List NamedObject → List Node → List (Option ObjectValue)
-tables_of objects nodes = map (node_table objects) nodes
+-- the table that the node at an index reads, if it reads one
+abbrev pub tables_of : List NamedObject → List Node → ℕ → Option ObjectValue
+tables_of objects nodes k = slice_index_or (map (node_table objects) nodes) k None
 
 -- ---- radii
 
@@ -104,12 +102,11 @@ abbrev pub AddOnce : ℕ → ℕ → List ℕ → List Task → Type 0
 AddOnce high size halos tasks =
     (s : Step) → IsStepOf s tasks → reads_output s.node.function ≡ true → ((halo halos s.output ≡ 0) × (s.takes ≡ None)) ⊎ (high ≤ size)
 
--- a verified graph can run as a program with these tables, radii, halos, band height, planes of virtual images, and sizes of slots
-pub record IsBound (objects : List NamedObject) (nodes : List Node) (v : Verified) (p : PlanView) (tables : List SecondInput) (radius : Node → ℕ) (high size : ℕ) (halos : List ℕ) (virtuals : List PlaneValue) (rooms : ℕ → Format × ℕ) : Type 0 where
+-- a verified graph can run as a program with these radii, halos, band height, planes of virtual images, and sizes of slots
+pub record IsBound (objects : List NamedObject) (nodes : List Node) (v : Verified) (p : PlanView) (radius : Node → ℕ) (high size : ℕ) (halos : List ℕ) (virtuals : List PlaneValue) (rooms : ℕ → Format × ℕ) : Type 0 where
   pub objects_are : All (λ o. IsObject o.object) objects
   pub ready : IsReady objects nodes v
   pub plan : IsPlan v.steps.items v.virtual_outputs.items p
-  pub tables_are : map second_object tables ≡ tables_of objects v.steps.items
   pub near : AreNear objects high radius v.steps.items
   pub some : 0 < high
   pub forward : 0 < size

@@ -1,5 +1,5 @@
 -- The results of a run over planes, as objects of the table.
-use Rattle.std.specs.Prelude.{ℕ, ◌≡◌, nat_lt, if◌then◌else◌, List, [], ◌∷◌, length, map, slice_index_or, unwrap_or}
+use Rattle.std.specs.Prelude.{ℕ, ◌≡◌, nat_lt, if◌then◌else◌, List, [], ◌∷◌, length, map, slice_index_or, unwrap_or, Option}
 use Rattle.std.specs.List.{flat_map}
 use Rattle.vx_base.specs.declared.kind.Kind.{Kind}
 use Rattle.vx_base.specs.declared.kind.Kind.TheVariants as kind
@@ -8,7 +8,6 @@ use Rattle.vx_base.specs.Reference.{Reference, reference_to}
 use Rattle.vx_base.specs.Function.{parameters}
 use Rattle.vx_base.specs.Image.{ImageValue}
 use Rattle.vx_base.specs.Object.{ObjectValue, DistributionObject, ExtremesObject}
-use Rattle.image_core.specs.declared.second.SecondInput.{SecondInput}
 use Rattle.object_table.specs.NamedObject.{NamedObject}
 use Rattle.object_table.specs.Table.{image_held}
 use Rattle.graph_verify.specs.PartialDescriptions.{resolved_operand}
@@ -61,7 +60,7 @@ tally_objects (c ∷ cells) (t ∷ tallies) = (c, tally_object t) ∷ tally_obje
 -- ---- runs
 
 -- the results of a run of tasks: each plane that keeps its block has the image of every solution, and the tallies are those of such images
-pub record Leaves (tables : List SecondInput) (tasks : List Task) (planes : List PlaneValue) (tallies : List Tally) (after : List PlaneValue) (counted : List Tally) : Type 0 where
+pub record Leaves (tables : ℕ → Option ObjectValue) (tasks : List Task) (planes : List PlaneValue) (tallies : List Tally) (after : List PlaneValue) (counted : List Tally) : Type 0 where
   pub images : (whole : ℕ → ImageValue) → SolvesSteps tables (length planes) tasks (block_images planes) whole
       → (c : ℕ) → KeepsBlock (length planes) tasks c → block_image (plane after c) ≡ whole c
   pub reductions : (whole : ℕ → ImageValue) → SolvesSteps tables (length planes) tasks (block_images planes) whole

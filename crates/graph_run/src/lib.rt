@@ -21,7 +21,7 @@
 //! - `blocks`: blocks of the pool that virtual images share
 //! - `virtual_planes`: planes of virtual images, over these blocks
 //! - `bind`: moves clients' images to planes and back
-//! - `tables`: tables, thresholds and matrices that steps read
+//! - `tables`: the tables, thresholds and matrices that nodes read
 //! - `tallies`: histograms and extremes
 //! - `laws`: laws of runs
 //! - `examples`: runs of small graphs

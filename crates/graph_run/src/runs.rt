@@ -16,8 +16,6 @@ ghost use Rattle.graph_run.specs.Graph.{run_of_graph};
 ghost use Rattle.graph_run.specs.Lasting.{Lasts};
 ghost use Rattle.graph_run.specs.Operands.{operand_held, IsReady};
 ghost use Rattle.vx_base.specs.Picture.{samples_format};
-ghost use Rattle.image_core.specs.declared.second.SecondInput.{SecondInput as SecondValue};
-ghost use Rattle.image_core.specs.Second.{second_object};
 ghost use Rattle.object_table.specs.Context.{with_objects};
 ghost use Rattle.object_table.specs.NamedObject.{with_written};
 ghost use Rattle.graph_steps.specs.Planes.{PlaneValue, plane};
@@ -37,14 +35,13 @@ ghost use Rattle.graph_run.specs.Tasks.{last_in};
 use crate::bind::{put_back, take_out};
 use crate::blocks::{give_back, take_blocks};
 use crate::schedule::{Schedule, clients_of, schedule_of};
-use crate::tables::add_tables;
+use crate::tables::NodeTables;
 use crate::tallies::{begin_tallies, set_tallies};
 use crate::virtual_planes::{add_virtual, return_blocks};
 use crate::workspace::Workspace;
 use buffer_plan::Plan;
 use graph_steps::{Plane, Tally};
 use graph_verify::{Verified, VirtualOutput};
-use image_core::SecondInput;
 use object_table::Table;
 use pixel_pool::{Block, Pool};
 use std::alloc::{AllocError, Global};
@@ -94,7 +91,7 @@ pub fn run(
 /// holds as long as the images that the nodes name have the same sizes, and the matrices too.
 ///
 /// The lists may be from a run of any graph. If they are large enough and the pool has free blocks
-/// that fit, it allocates only the list of tables.
+/// that fit, it allocates nothing.
 pub fn run_scheduled(
     alloc: Global,
     verified: &Verified,
@@ -130,7 +127,7 @@ pub fn run_scheduled(
     planes.clear();
     planes.reserve(schedule.cells.len())?;
     take_blocks(blocks, pool, &schedule.rooms)?;
-    let done = run_over(
+    run_over(
         alloc,
         verified,
         schedule,
@@ -140,10 +137,10 @@ pub fn run_scheduled(
         &mut lists.tallies,
     );
     give_back(blocks, pool);
-    done
+    Ok(())
 }
 
-/// Runs a schedule of a verified graph over blocks. After an error everything is as before.
+/// Runs a schedule of a verified graph over blocks.
 fn run_over(
     alloc: Global,
     verified: &Verified,
@@ -152,7 +149,7 @@ fn run_over(
     blocks: &mut Vec<Block>,
     planes: &mut Vec<Plane>,
     tallies: &mut [Tally],
-) -> Result<(), AllocError>
+)
     requires objects { All (λ o. IsObject o.object) table.old.objects }
     requires names { IsStrictlyIncreasing (map (λ o. o.name) table.old.objects) }
     requires ready { (nodes : List NodeFields) ×
@@ -166,24 +163,20 @@ fn run_over(
     requires none { planes.old.items ≡ [] }
     requires room { length schedule.now.cells.items ≤ vec_capacity planes.old }
     requires tallies { tallies.old ≡ tallies_of table.old.objects verified.now.steps.items }
-    ensures value { OnOk result ((nodes : List NodeFields) →
-        IsReady table.old.objects nodes verified.now →
+    ensures value { (nodes : List NodeFields) → IsReady table.old.objects nodes verified.now →
         table.new ≡ with_objects table.old
         (run_of_graph (resolved_operand (operand_held table.old.objects) nodes) nodes
-        table.old.objects)) }
+        table.old.objects) }
     ensures lasts { Lasts table.old.objects table.new.objects }
-    ensures err { OnErr result (table.new ≡ table.old) }
     ensures formats { map samples_format blocks.new.items ≡ map samples_format blocks.old.items }
     ensures rooms { map block_size blocks.new.items ≡ map block_size blocks.old.items }
 {
     prove_descriptions(verified);
-    let tables = Vec::with_capacity(alloc, verified.steps.len())?;
     let blocks = blocks.as_mut_slice();
     take(alloc, verified, schedule, table, blocks, planes);
     let planes = planes.as_mut_slice();
-    run_tasks(table, verified, schedule, tables, planes, tallies);
+    run_tasks(table, verified, schedule, planes, tallies);
     give(verified, schedule, table, blocks, planes, tallies);
-    Ok(())
 }
 
 /// Proves that the sides of all descriptions are in range. The prover learns that only by reading
@@ -197,28 +190,26 @@ fn prove_descriptions(verified: &Verified)
 }
 
 /// Runs the tasks of a schedule over planes. Tables are read in the table of objects.
-fn run_tasks<'a>(
-    table: &'a Table,
+fn run_tasks(
+    table: &Table,
     verified: &Verified,
     schedule: &Schedule,
-    mut tables: Vec<SecondInput<'a>>,
     planes: &mut [Plane],
     tallies: &mut [Tally],
 )
-    requires none { tables.items ≡ [] }
-    requires room { length verified.now.steps.items ≤ vec_capacity tables }
     requires lent { LendTables table.now.objects verified.now.steps.items }
-    requires program { (lent : List SecondValue) →
-        map second_object lent ≡ tables_of table.now.objects verified.now.steps.items →
-        IsProgram lent schedule.now.high schedule.now.size schedule.now.halos.items
+    requires program { IsProgram (tables_of table.now.objects verified.now.steps.items)
+        schedule.now.high schedule.now.size schedule.now.halos.items
         schedule.now.tasks.items planes.old }
     requires reduces { CanReduceBand 0 schedule.now.tasks.items planes.old tallies.old }
-    ensures leaves { (lent : List SecondValue) ×
-        (map second_object lent ≡ tables_of table.now.objects verified.now.steps.items) ×
-        Leaves lent schedule.now.tasks.items planes.old tallies.old planes.new tallies.new }
+    ensures leaves { Leaves (tables_of table.now.objects verified.now.steps.items)
+        schedule.now.tasks.items planes.old tallies.old planes.new tallies.new }
     ensures blocks { capacities planes.new ≡ capacities planes.old }
 {
-    add_tables(table, &verified.steps, &mut tables);
+    let tables = NodeTables {
+        table,
+        steps: &verified.steps,
+    };
     graph_steps::run(
         &tables,
         &schedule.tasks,

@@ -1,23 +1,32 @@
-//! Tables, thresholds and matrices that the steps of a graph read in a table of objects.
-ghost use Rattle.std.specs.Prelude.{◌≡◌, ◌≤◌, ◌+◌, ◌++◌, length, map, vec_capacity, IfSome, Some};
+//! The tables, thresholds and matrices that the nodes of a graph read in a table of objects.
+ghost use Rattle.std.specs.Prelude.{◌≡◌, IfSome, Some};
+ghost use Rattle.std.proofs.Props.{props};
 ghost use Rattle.vx_base.specs.Object.{object_kind};
 ghost use Rattle.image_core.specs.Second.{second_object};
 ghost use Rattle.graph_run.specs.Bound.{IsLent, LendTables};
 ghost use Rattle.graph_run.specs.Program.{node_table, tables_of};
 
+use graph_steps::Tables;
 use image_core::SecondInput;
 use object_table::{Content, Object, Table};
 use vx_base::{Kind, Node};
 
-/// Adds an entry for each node: the table that it reads, if it reads one.
-pub fn add_tables<'a>(table: &'a Table, steps: &[Node], tables: &mut Vec<SecondInput<'a>>)
-    requires room { length tables.old.items + length steps.now ≤ vec_capacity tables.old }
-    requires lent { LendTables table.now.objects steps.now }
-    ensures { map second_object tables.new.items
-        ≡ map second_object tables.old.items ++ tables_of table.now.objects steps.now }
-{
-    for at in 0..steps.len() {
-        tables.push_reserved(table_of(table, &steps[at]));
+/// The tables, thresholds and matrices of a graph's nodes, each at the index of its node.
+#[derive(Drop)]
+pub struct NodeTables<'a> {
+    pub table: &'a Table,
+    pub steps: &'a [Node],
+    ghost lent: { LendTables table.now.objects steps.now } by { Prim.hlevel props },
+}
+
+impl<'a> Tables for NodeTables<'a> {
+    ghost tables = { λ t. tables_of t.table.now.objects t.steps.now };
+
+    fn table(&self, at: usize) -> SecondInput<'_> {
+        match self.steps.get(at) {
+            Some(node) => table_of(self.table, node),
+            None => SecondInput::Nothing,
+        }
     }
 }
 

@@ -17,7 +17,6 @@ use Rattle.vx_base.specs.Statistics.{sum_to, sums_in}
 use Rattle.vx_base.specs.Rectangle.{Rectangle, has_pixel, rectangle_or_empty, empty_rectangle, meet_of}
 use Rattle.vx_base.proofs.ImageLaws.{at-made, at-made_outside}
 use Rattle.image_core.specs.declared.band.Band.{Band}
-use Rattle.image_core.specs.declared.second.SecondInput.{SecondInput}
 use Rattle.image_core.specs.Bands.{IsInRows, has_row}
 use Rattle.stat_kernels.specs.Sums.{sum_on}
 use Rattle.stat_kernels.proofs.ScanLaws.{scan_agrees}
@@ -175,7 +174,7 @@ halo_has more height band y there =
 
 -- ---- one step
 
-module _ (tables : List SecondInput) (high : ℕ) (halos : List ℕ) (band : Band) (some : 1 ≤ band.count) (below : band.start < high) (kept : ℕ → Type 0) (origin whole : ℕ → ImageValue) (count : ℕ) (are : (c : ℕ) → c < count → IsImage (whole c)) where
+module _ (tables : ℕ → Option ObjectValue) (high : ℕ) (halos : List ℕ) (band : Band) (some : 1 ≤ band.count) (below : band.start < high) (kept : ℕ → Type 0) (origin whole : ℕ → ImageValue) (count : ℕ) (are : (c : ℕ) → c < count → IsImage (whole c)) where
   abbrev first_row : ℕ → ℕ
   first_row c = band.start - halo halos c
 

@@ -1,10 +1,10 @@
 -- The steps of a band, one after the other: each can run; descriptions, blocks and other client images stay.
-use Rattle.std.proofs.Common.{◌≡◌, ◌≢◌, ℕ, ◌+◌, ◌*◌, ◌<◌, ◌≤◌, min, false, List, [], ◌∷◌, length, Some, None, refl, sym, ◌∙◌, ap, subst, inl, inr, arith}
+use Rattle.std.proofs.Common.{◌≡◌, ◌≢◌, ℕ, ◌+◌, ◌*◌, ◌<◌, ◌≤◌, min, false, List, [], ◌∷◌, length, Some, None, refl, sym, ◌∙◌, ap, subst, inl, inr, arith, Option}
 use Rattle.vx_base.specs.declared.format.Format.{Format}
 use Rattle.vx_base.specs.Description.{Description}
 use Rattle.vx_base.specs.Image.{pixel_at}
+use Rattle.vx_base.specs.Object.{ObjectValue}
 use Rattle.image_core.specs.declared.band.Band.{Band}
-use Rattle.image_core.specs.declared.second.SecondInput.{SecondInput}
 use Rattle.image_core.specs.Bands.{IsInRows, has_row}
 use Rattle.graph_steps.specs.declared.step.Reduction.{Reduction}
 use Rattle.graph_steps.specs.declared.step.Step.{Step}
@@ -38,7 +38,7 @@ room_same size halos a b (Write s ∷ later) blocks same room = (
   room_same size halos a b later (blocks_after_step s blocks) same room.1,
 )
 
-module _ (tables : List SecondInput) (high : ℕ) (halos : List ℕ) (band : Band) (kept : ℕ → Type 0) where
+module _ (tables : ℕ → Option ObjectValue) (high : ℕ) (halos : List ℕ) (band : Band) (kept : ℕ → Type 0) where
   abbrev Can : List Task → List PlaneValue → Type 0
   Can steps planes = CanRunBand tables high halos band kept steps planes
 

@@ -1,5 +1,5 @@
 -- Two box filters, and an integral image, in bands of two rows.
-use Rattle.std.proofs.Common.{◌≡◌, ◌≢◌, ℕ, zero, suc, ◌+◌, ◌<◌, ◌≤◌, min, [], Option, Some, None, true, refl, sym, subst, inl, inr, arith}
+use Rattle.std.proofs.Common.{◌≡◌, ◌≢◌, ℕ, zero, suc, ◌+◌, ◌<◌, ◌≤◌, min, Option, Some, None, true, refl, sym, subst, inl, inr, arith}
 use Rattle.std.specs.Prelude.{◌⊎◌, slice_index_or}
 use Rattle.vx_base.specs.declared.format.Format.TheVariants.{U8, U32}
 use Rattle.vx_base.specs.Node.{IsNode}
@@ -11,7 +11,7 @@ use Rattle.graph_steps.specs.Steps.{ReadsPlane, Suits, SuitsPlanes, capacities, 
 use Rattle.graph_steps.specs.Program.{IsStepOf, IsUnwritten, KeepsBlock, IsLive, NamesPlanes, IsClient, IsProgram, HoldsRows}
 use Rattle.graph_steps.specs.Runs.{CanReduceBand}
 use Rattle.graph_steps.specs.Tallies.{CanReduce}
-use Rattle.graph_steps.specs.Examples.{small_image_desc, client_plane, box_node, box_step, boxes, box_planes, box_halos, box_tallies, integral_step, sums, sums_halos, sums_planes}
+use Rattle.graph_steps.specs.Examples.{no_tables, small_image_desc, client_plane, box_node, box_step, boxes, box_planes, box_halos, box_tallies, integral_step, sums, sums_halos, sums_planes}
 
 one_of : (P : Step → Type 0) → P (box_step 0 1 (Some 1)) → P (box_step 1 2 None) → (s : Step) → IsStepOf s boxes → P s
 one_of P p q s i = elim i [
@@ -42,7 +42,7 @@ is_node = record {
   out2 = tt;
 }
 
-suits : (input output : ℕ) (takes : Option ℕ) → Suits [] 4 (box_step input output takes) small_image_desc small_image_desc small_image_desc
+suits : (input output : ℕ) (takes : Option ℕ) → Suits no_tables 4 (box_step input output takes) small_image_desc small_image_desc small_image_desc
 suits input output takes = record {
   makes = record { node = is_node; kind = tt; formats = refl; size = refl; second_size = tt };
   table = (λ k e. absurd (not_table k e));
@@ -106,7 +106,7 @@ live_zero c live = elim live [
   ]
 ]
 
-pub is_program : IsProgram [] 4 2 box_halos boxes box_planes
+pub is_program : IsProgram no_tables 4 2 box_halos boxes box_planes
 is_program = record {
   some = omega arith;
   forward = omega arith;
@@ -124,7 +124,7 @@ is_program = record {
         taken = (λ t e. absurd (not_some t e));
         own = (λ sums. refl);
       });
-  suits = one_of (λ s. SuitsPlanes [] 4 s box_planes) (suits 0 1 (Some 1)) (suits 1 2 None);
+  suits = one_of (λ s. SuitsPlanes no_tables 4 s box_planes) (suits 0 1 (Some 1)) (suits 1 2 None);
   halo_count = refl;
   enough = one_of (λ s. (c : ℕ) → ReadsPlane s c → min 4 (slice_index_or box_halos s.output 0 + s.radius) ≤ slice_index_or box_halos c 0)
       (λ c r. let e = reads_first 0 1 c (Some 1) r in subst (λ k. 2 ≤ slice_index_or box_halos k 0) (sym e) (omega arith))
@@ -191,7 +191,7 @@ input_live c live = elim live [
   | inr a ↦ (let below = a.1.0 in let other = a.0 in omega arith)
 ]
 
-pub sums_program : IsProgram [] 4 2 sums_halos sums sums_planes
+pub sums_program : IsProgram no_tables 4 2 sums_halos sums sums_planes
 sums_program = record {
   some = omega arith;
   forward = omega arith;
@@ -202,7 +202,7 @@ sums_program = record {
     taken = (λ t e. absurd (not_some t e));
     own = (λ adds. refl);
   });
-  suits = only (λ s. SuitsPlanes [] 4 s sums_planes) (record {
+  suits = only (λ s. SuitsPlanes no_tables 4 s sums_planes) (record {
     makes = record { node = record { shape = refl; border = tt; amount = omega arith; in1 = is_node.in1; in2 = tt; out1 = is_node.out1; out2 = tt }; kind = tt; formats = refl; size = refl; second_size = tt };
     table = (λ k e. absurd (not_table k e));
     near = omega arith;

@@ -1,10 +1,10 @@
 -- Steps that run one after the other over whole images leave a solution.
-use Rattle.std.proofs.Common.{◌≡◌, ◌≢◌, ℕ, List, [], ◌∷◌, length, refl, sym, ◌∙◌, ap, subst, inl, inr, cond, eqb}
+use Rattle.std.proofs.Common.{◌≡◌, ◌≢◌, ℕ, List, [], ◌∷◌, length, refl, sym, ◌∙◌, ap, subst, inl, inr, cond, eqb, Option}
 use Rattle.std.specs.Prelude.{◌⊎◌}
 use Rattle.std.proofs.lemmas.Bool.{cases_Bool, eqb-true, eqb-false}
 use Rattle.vx_base.specs.Description.{Description}
 use Rattle.vx_base.specs.Image.{ImageValue, IsImage, description_of}
-use Rattle.image_core.specs.declared.second.SecondInput.{SecondInput}
+use Rattle.vx_base.specs.Object.{ObjectValue}
 use Rattle.graph_steps.specs.declared.step.Step.{Step}
 use Rattle.graph_steps.specs.declared.step.Task.{Task}
 use Rattle.graph_steps.specs.declared.step.Task.TheVariants.{Write, Reduce}
@@ -26,7 +26,7 @@ elsewhere c k image images other = elim (cases_Bool (eqb k c)) [
   | inr e ↦ ap (λ b. cond b image (images k)) e
 ]
 
-module _ (tables : List SecondInput) where
+module _ (tables : ℕ → Option ObjectValue) where
   abbrev next : Step → (ℕ → ImageValue) → ℕ → ImageValue
   next s images = with_image s.output (step_image tables s images (images s.output)) images
 
@@ -107,7 +107,7 @@ module _ (tables : List SecondInput) where
     images_are (Reduce r ∷ later) images suits described live c h = images_are later images suits described (λ k l. live k (inr l)) c h
 
 -- a program has a solution
-pub in_order : (tables : List SecondInput) (high size : ℕ) (halos : List ℕ) (tasks : List Task) (planes : List PlaneValue) → IsProgram tables high size halos tasks planes → AreInOrder tasks → AreFilled (length planes) tasks
+pub in_order : (tables : ℕ → Option ObjectValue) (high size : ℕ) (halos : List ℕ) (tasks : List Task) (planes : List PlaneValue) → IsProgram tables high size halos tasks planes → AreInOrder tasks → AreFilled (length planes) tasks
     → SolvesSteps tables (length planes) tasks (block_images planes) (steps_in_turn tables tasks (block_images planes))
 in_order tables high size halos tasks planes program order filled = record {
   images = λ c below.

@@ -1,11 +1,10 @@
 -- The reductions of a band, one after the other.
-use Rattle.std.proofs.Common.{◌≡◌, ◌≢◌, ℕ, ◌+◌, ◌-◌, ◌*◌, ◌<◌, ◌≤◌, List, [], ◌∷◌, length, refl, sym, ◌∙◌, ap, subst, inl, inr, arith}
+use Rattle.std.proofs.Common.{◌≡◌, ◌≢◌, ℕ, ◌+◌, ◌-◌, ◌*◌, ◌<◌, ◌≤◌, List, [], ◌∷◌, length, refl, sym, ◌∙◌, ap, subst, inl, inr, arith, Option}
 use Rattle.std.proofs.lemmas.List.{get_or-set_same, get_or-set_other, length-set}
 use Rattle.vx_base.specs.Description.{Description}
 use Rattle.vx_base.specs.Image.{ImageValue, IsImage}
-use Rattle.vx_base.specs.Object.{no_extremes}
+use Rattle.vx_base.specs.Object.{no_extremes, ObjectValue}
 use Rattle.image_core.specs.declared.band.Band.{Band}
-use Rattle.image_core.specs.declared.second.SecondInput.{SecondInput}
 use Rattle.node_rows.specs.Rows.{AgreeInRows}
 use Rattle.graph_steps.specs.declared.step.Reduction.{Reduction}
 use Rattle.graph_steps.specs.declared.step.Task.{Task}
@@ -33,7 +32,7 @@ module _ (rows : Band) (planes : List PlaneValue) (r : Reduction) (tallies : Lis
   pub reduced_elsewhere : (k : ℕ) → k ≢ r.tally → tally_at (after_reduction rows planes r tallies) k ≡ tally_at tallies k
   reduced_elsewhere k other = get_or-set_other tallies r.tally k _ (tally.Extremes no_extremes) other
 
-module _ (tables : List SecondInput) (high : ℕ) (halos : List ℕ) (band : Band) (kept : ℕ → Type 0) where
+module _ (tables : ℕ → Option ObjectValue) (high : ℕ) (halos : List ℕ) (band : Band) (kept : ℕ → Type 0) where
   -- after a task, the other reductions can still add the band
   pub reduces_next : (t : Task) (later : List Task) (planes : List PlaneValue) (tallies : List Tally) → CanRunBand tables high halos band kept (t ∷ later) planes → CanReduceBand band.start (t ∷ later) planes tallies
       → CanReduceBand band.start later (after_task tables halos band t planes) (tallies_after band t planes tallies)
@@ -136,7 +135,7 @@ module _ (tables : List SecondInput) (high : ℕ) (halos : List ℕ) (band : Ban
 
 -- ---- a solution
 
-module _ (tables : List SecondInput) (high : ℕ) (halos : List ℕ) (band : Band) (some : 1 ≤ band.count) (below : band.start < high) (kept : ℕ → Type 0) (origin whole : ℕ → ImageValue) (count : ℕ) (are : (c : ℕ) → c < count → IsImage (whole c)) where
+module _ (tables : ℕ → Option ObjectValue) (high : ℕ) (halos : List ℕ) (band : Band) (some : 1 ≤ band.count) (below : band.start < high) (kept : ℕ → Type 0) (origin whole : ℕ → ImageValue) (count : ℕ) (are : (c : ℕ) → c < count → IsImage (whole c)) where
   -- the band's rows of an image that agrees with the solution's are
   abbrev pub AgreesWith : ℕ → ImageValue → Type 0
   AgreesWith c image = AgreeInRows (band.start - halo halos c) (band.start + band.count - 1 + halo halos c) image (whole c)

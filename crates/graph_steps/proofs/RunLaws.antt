@@ -1,5 +1,5 @@
 -- Band after band.
-use Rattle.std.proofs.Common.{◌≡◌, ℕ, ◌+◌, ◌-◌, ◌*◌, ◌<◌, ◌≤◌, ◌^◌, min, true, false, List, [], ◌∷◌, length, nat_lt, ◌||◌, refl, sym, ◌∙◌, ap, subst, inl, inr, arith}
+use Rattle.std.proofs.Common.{◌≡◌, ℕ, ◌+◌, ◌-◌, ◌*◌, ◌<◌, ◌≤◌, ◌^◌, min, true, false, List, [], ◌∷◌, length, nat_lt, ◌||◌, refl, sym, ◌∙◌, ap, subst, inl, inr, arith, Option}
 use Rattle.std.specs.Prelude.{◌⊎◌}
 use Rattle.std.proofs.lemmas.Bool.{cases_Bool}
 use Rattle.std.proofs.lemmas.Bool.Decides.{nat_tests}
@@ -8,10 +8,10 @@ use Rattle.vx_base.specs.declared.function.Function.{Function}
 use Rattle.vx_base.specs.Description.{Description}
 use Rattle.vx_base.specs.Function.{accumulates}
 use Rattle.vx_base.specs.Image.{ImageValue, IsImage, pixel_at, band as samples_in_band}
+use Rattle.vx_base.specs.Object.{ObjectValue}
 use Rattle.vx_base.proofs.TableLaws.{band-same}
 use Rattle.vx_base.proofs.ImageLaws.{same_parts, samples_are_band}
 use Rattle.image_core.specs.declared.band.Band.{Band}
-use Rattle.image_core.specs.declared.second.SecondInput.{SecondInput}
 use Rattle.image_core.specs.Bands.{IsInRows, all_rows, has_row}
 use Rattle.node_rows.specs.Rows.{AreAlike}
 use Rattle.graph_steps.specs.declared.step.Reduction.{Reduction}
@@ -80,7 +80,7 @@ same_image p b size long alike same =
     tall : p.desc.height ≡ b.height
     tall = ap (λ (d : Description). d.height) alike.description
 
-module _ (tables : List SecondInput) (high size : ℕ) (halos : List ℕ) (steps : List Task) (origin : List PlaneValue) (program : IsProgram tables high size halos steps origin) where
+module _ (tables : ℕ → Option ObjectValue) (high size : ℕ) (halos : List ℕ) (steps : List Task) (origin : List PlaneValue) (program : IsProgram tables high size halos steps origin) where
   abbrev kept : ℕ → Type 0
   kept = KeepsBlock (length origin) steps
 

@@ -4,7 +4,6 @@ use Rattle.std.specs.Prelude.{◌⊎◌}
 use Rattle.std.specs.Option.{option_and_then}
 use Rattle.std.proofs.lemmas.Bool.{cases_Bool, eqb-true, eqb-false}
 use Rattle.std.proofs.lemmas.List.{get_or-set_same, get_or-set_other, length-set, map-set, set-get_or, get_or_default}
-use Rattle.std.proofs.lemmas.Option.{slice_get_read}
 use Rattle.std.proofs.Math.ListN.{get_or-map}
 use Rattle.vx_base.specs.declared.format.Format.{Format}
 use Rattle.vx_base.specs.declared.node.Node.{Node}
@@ -52,7 +51,7 @@ none_not_some o t a b = let k : None ≡ Some t = sym a ∙ b in cc
 
 -- ---- the inputs of a step
 
-module _ (tables : List SecondInput) (b : Description) (images : ℕ → ImageValue) where
+module _ (tables : ℕ → Option ObjectValue) (b : Description) (images : ℕ → ImageValue) where
   abbrev told : SecondSource → Option ObjectValue
   told source = second_in tables (λ _. blank_image b) source
 
@@ -81,9 +80,9 @@ module _ (tables : List SecondInput) (b : Description) (images : ℕ → ImageVa
   matrix_told (Table k) = refl
 
   pub object_told : (s : Step) (high : ℕ) (a out : Description) → Suits tables high s a b out → ((c : ℕ) → s.second ≡ Plane c → IsImage (images c)) → IfSome (second_in tables images s.second) IsObject
-  object_told s high a out suits are = by_source s.second (λ k e. (suits.table k e).1) are
+  object_told s high a out suits are = by_source s.second suits.table are
     where
-      by_source : (source : SecondSource) → ((k : ℕ) → source ≡ Table k → IfSome (told source) IsObject) → ((c : ℕ) → source ≡ Plane c → IsImage (images c)) → IfSome (second_in tables images source) IsObject
+      by_source : (source : SecondSource) → ((k : ℕ) → source ≡ Table k → IfSome (tables k) IsObject) → ((c : ℕ) → source ≡ Plane c → IsImage (images c)) → IfSome (second_in tables images source) IsObject
       by_source Nothing table image = tt
       by_source (Plane c) table image = image c refl
       by_source (Table k) table image = table k refl
@@ -132,12 +131,12 @@ made_is s first second out own can same is object = elim (cases_Bool (accumulate
 ]
 
 -- a step's image follows from the images that it reads
-pub second_same : (tables : List SecondInput) (source : SecondSource) (a b : ℕ → ImageValue) → ((c : ℕ) → source ≡ Plane c → a c ≡ b c) → second_in tables a source ≡ second_in tables b source
+pub second_same : (tables : ℕ → Option ObjectValue) (source : SecondSource) (a b : ℕ → ImageValue) → ((c : ℕ) → source ≡ Plane c → a c ≡ b c) → second_in tables a source ≡ second_in tables b source
 second_same tables Nothing a b same = refl
 second_same tables (Plane c) a b same = ap (λ i. Some (ImageObject i)) (same c refl)
 second_same tables (Table k) a b same = refl
 
-pub step_image_same : (tables : List SecondInput) (s : Step) (a b : ℕ → ImageValue) → ((c : ℕ) → ReadsPlane s c → a c ≡ b c) → (own : ImageValue) → step_image tables s a own ≡ step_image tables s b own
+pub step_image_same : (tables : ℕ → Option ObjectValue) (s : Step) (a b : ℕ → ImageValue) → ((c : ℕ) → ReadsPlane s c → a c ≡ b c) → (own : ImageValue) → step_image tables s a own ≡ step_image tables s b own
 step_image_same tables s a b same own =
     ap (λ i. image_from_inputs s i (second_in tables a s.second) own) (same s.first (inl refl))
     ∙ ap (λ o. image_from_inputs s (b s.first) o own) (second_same tables s.second a b (λ c e. same c (inr e)))
@@ -152,7 +151,7 @@ scan_is start s first second out can scans is =
     made_image first.width first.height out.desc.format first.valid (sum_on first start above) is.sides.width is.sides.height is.canonical is.room
     (λ x y inside. subst (λ f. IsSample f (sum_on first start above x y)) (sym known) (scan_sample first start above x y))
 
-module _ (tables : List SecondInput) (s : Step) (rows : Band) (out : PlaneValue) where
+module _ (tables : ℕ → Option ObjectValue) (s : Step) (rows : Band) (out : PlaneValue) where
   abbrev own_rows : ImageValue
   own_rows = plane_image (with_read_rows rows out)
 
@@ -185,15 +184,14 @@ pub image_read : (planes : List PlaneValue) (c : ℕ) (p : PlaneValue) (image : 
 image_read planes c p image below is image_is = image_is ∙ ap plane_image (plane_read planes c p below is)
 
 -- a step's second input
-pub plane_lent : (planes : List PlaneValue) (tables : List SecondInput) (source : SecondSource) (c : ℕ) (p : PlaneValue) (image : ImageValue) → source ≡ Plane c → c < length planes → p ≡ get_or planes c p → image ≡ plane_image p
+pub plane_lent : (planes : List PlaneValue) (tables : ℕ → Option ObjectValue) (source : SecondSource) (c : ℕ) (p : PlaneValue) (image : ImageValue) → source ≡ Plane c → c < length planes → p ≡ get_or planes c p → image ≡ plane_image p
     → Some (ImageObject image) ≡ second_in tables (read_images planes) source
 plane_lent planes tables source c p image is below there made =
     ap (λ i. Some (ImageObject i)) (image_read planes c p image below there made) ∙ ap (second_in tables (read_images planes)) (sym is)
 
-pub table_lent : (tables : List SecondInput) (images : ℕ → ImageValue) (source : SecondSource) (k : ℕ) (t : SecondInput) → source ≡ Table k → k < length tables → t ≡ get_or tables k t
+pub table_lent : (tables : ℕ → Option ObjectValue) (images : ℕ → ImageValue) (source : SecondSource) (k : ℕ) (t : SecondInput) → source ≡ Table k → second_object t ≡ tables k
     → second_object t ≡ second_in tables images source
-table_lent tables images source k t is below there =
-    sym (ap (second_in tables images) is ∙ ap (option_and_then (λ u. second_object u)) (slice_get_read tables (length tables) k t refl below there))
+table_lent tables images source k t is there = there ∙ ap (second_in tables images) (sym is)
 
 -- a step's rows and premise, by inputs that are read
 pub rows_read : (s : Step) (a b : ImageValue) (o q : Option ObjectValue) (rows : Band) (out : PlaneValue) → a ≡ b → o ≡ q
@@ -271,7 +269,7 @@ pub record IsReady (s : Step) (rows : Band) (planes ready : List PlaneValue) : T
 pub not_more : (a b c : ℕ) → a ≤ b → a * c ≤ b * c
 not_more a b c h = grind arith
 
-module _ (tables : List SecondInput) (high : ℕ) (s : Step) (rows : Band) (planes : List PlaneValue) (fits : CanStep tables high s rows planes) where
+module _ (tables : ℕ → Option ObjectValue) (high : ℕ) (s : Step) (rows : Band) (planes : List PlaneValue) (fits : CanStep tables high s rows planes) where
   own_ready : s.takes ≡ None → IsReady s rows planes planes
   own_ready none =
       let w = fits.whole none in
@@ -329,21 +327,20 @@ module _ (tables : List SecondInput) (high : ℕ) (s : Step) (rows : Band) (plan
   ]
 
 -- a step can write its output after it is taken out of the planes
-pub can_write_apart : (tables : List SecondInput) (s : Step) (rows : Band) (planes left : List PlaneValue) (out own : PlaneValue) → length left ≡ length planes → ((c : ℕ) → ReadsPlane s c → plane left c ≡ plane planes c) → own ≡ out
+pub can_write_apart : (tables : ℕ → Option ObjectValue) (s : Step) (rows : Band) (planes left : List PlaneValue) (out own : PlaneValue) → length left ≡ length planes → ((c : ℕ) → ReadsPlane s c → plane left c ≡ plane planes c) → own ≡ out
     → CanWrite tables s rows planes out → CanWrite tables s rows left own
 can_write_apart tables s rows planes left out own count same took can =
     let first : read_images left s.first ≡ read_images planes s.first = ap plane_image (same s.first (inl refl)) in
     let second = second_same tables s.second (read_images left) (read_images planes) (λ c e. ap plane_image (same c (inr e))) in
     subst (CanWrite tables s rows left) (sym took) (record {
       reads = (λ c reads. let r = can.reads c reads in (subst (λ n. c < n) (sym count) r.0, subst IsReadable (sym (same c reads)) r.1));
-      table = can.table;
       makes = can_read s _ _ _ _ out.desc first second can.makes;
       output = can.output;
     })
 
 -- ---- after the step
 
-module _ (tables : List SecondInput) (high : ℕ) (s : Step) (rows : Band) (planes : List PlaneValue) (fits : CanStep tables high s rows planes) where
+module _ (tables : ℕ → Option ObjectValue) (high : ℕ) (s : Step) (rows : Band) (planes : List PlaneValue) (fits : CanStep tables high s rows planes) where
   abbrev before : List PlaneValue
   before = with_output_block s.takes s.output rows.start planes
 
@@ -373,7 +370,6 @@ module _ (tables : List SecondInput) (high : ℕ) (s : Step) (rows : Band) (plan
   pub can_write : CanWrite tables s rows before out
   can_write = record {
     reads = (λ c reads. let r = fits.reads c reads in let k = is.count in (omega arith, subst IsReadable (sym (input_same c reads)) r.3));
-    table = (λ k e. (fits.suits.table k e).0);
     makes = can_before;
     output = is.output;
   }

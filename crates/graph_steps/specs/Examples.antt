@@ -9,7 +9,7 @@ use Rattle.vx_base.specs.declared.policy.Policy.TheVariants.{Wrap}
 use Rattle.vx_base.specs.Reference.{reference_to}
 use Rattle.vx_base.specs.Description.{Description}
 use Rattle.vx_base.specs.Image.{new_image}
-use Rattle.vx_base.specs.Object.{no_extremes}
+use Rattle.vx_base.specs.Object.{ObjectValue, no_extremes}
 use Rattle.vx_base.specs.Rectangle.{empty_rectangle, whole_rectangle}
 use Rattle.image_core.specs.Bands.{all_rows}
 use Rattle.graph_steps.specs.declared.step.SecondSource.TheVariants.{Nothing}
@@ -19,6 +19,10 @@ use Rattle.graph_steps.specs.declared.step.Task.TheVariants.{Write, Reduce}
 use Rattle.graph_steps.specs.declared.tally.Tally.{Tally}
 use Rattle.graph_steps.specs.declared.tally.Tally.TheVariants.{Extremes}
 use Rattle.graph_steps.specs.Planes.{PlaneValue}
+
+-- the tables of steps that read none
+abbrev pub no_tables : ℕ → Option ObjectValue
+no_tables k = None
 
 -- an image of 1 x 4 pixels
 abbrev pub small_image_desc : Description

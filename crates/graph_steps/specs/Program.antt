@@ -1,11 +1,11 @@
 -- Programs: tasks that run band by band, and the images that they write.
-use Rattle.std.specs.Prelude.{ℕ, ◌+◌, ◌*◌, ◌<◌, ◌≤◌, ◌≡◌, ◌≢◌, ◌⊎◌, ◌==◌, if◌then◌else◌, min, true, List, [], ◌∷◌, length, slice_index_or, Some, None}
+use Rattle.std.specs.Prelude.{ℕ, ◌+◌, ◌*◌, ◌<◌, ◌≤◌, ◌≡◌, ◌≢◌, ◌⊎◌, ◌==◌, if◌then◌else◌, min, true, List, [], ◌∷◌, length, slice_index_or, Some, None, Option}
 use Rattle.vx_base.specs.declared.format.Format.{Format}
 use Rattle.vx_base.specs.Description.{Description}
 use Rattle.vx_base.specs.Function.{accumulates}
 use Rattle.vx_base.specs.Image.{ImageValue, IsImage}
+use Rattle.vx_base.specs.Object.{ObjectValue}
 use Rattle.image_core.specs.declared.band.Band.{Band}
-use Rattle.image_core.specs.declared.second.SecondInput.{SecondInput}
 use Rattle.image_core.specs.Bands.{all_rows}
 use Rattle.graph_steps.specs.declared.step.Reduction.{Reduction}
 use Rattle.graph_steps.specs.declared.step.Step.{Step}
@@ -64,12 +64,12 @@ abbrev pub band_rows : List PlaneValue → List ℕ → Band → ℕ → Band
 band_rows planes halos rows c = with_halo (halo halos c) (plane planes c).desc.height rows
 
 -- the planes after a task on a band
-abbrev pub after_task : List SecondInput → List ℕ → Band → Task → List PlaneValue → List PlaneValue
+abbrev pub after_task : (ℕ → Option ObjectValue) → List ℕ → Band → Task → List PlaneValue → List PlaneValue
 after_task tables halos rows (Write s) planes = after_step tables s (band_rows planes halos rows s.output) planes
 after_task tables halos rows (Reduce r) planes = planes
 
 -- the planes after all tasks on a band, in order
-abbrev pub after_tasks : List SecondInput → List ℕ → Band → List Task → List PlaneValue → List PlaneValue
+abbrev pub after_tasks : (ℕ → Option ObjectValue) → List ℕ → Band → List Task → List PlaneValue → List PlaneValue
 after_tasks tables halos rows [] planes = planes
 after_tasks tables halos rows (t ∷ later) planes = after_tasks tables halos rows later (after_task tables halos rows t planes)
 
@@ -125,7 +125,7 @@ pub record IsClient (p : PlaneValue) : Type 0 where
   pub image : IsImage (block_image p)
 
 -- the tasks can run in bands of `size` rows over planes of at most `high` rows
-pub record IsProgram (tables : List SecondInput) (high size : ℕ) (halos : List ℕ) (tasks : List Task) (planes : List PlaneValue) : Type 0 where
+pub record IsProgram (tables : ℕ → Option ObjectValue) (high size : ℕ) (halos : List ℕ) (tasks : List Task) (planes : List PlaneValue) : Type 0 where
   pub some : 0 < high
   pub forward : 0 < size
   pub tall : (c : ℕ) → (plane planes c).desc.height ≤ high
@@ -147,7 +147,7 @@ pub record IsProgram (tables : List SecondInput) (high size : ℕ) (halos : List
 
 -- the images solve the steps' equations: each output is the step's image of them and, if the step accumulates, of the old output; all other
 -- images are unchanged
-pub record SolvesSteps (tables : List SecondInput) (count : ℕ) (tasks : List Task) (before after : ℕ → ImageValue) : Type 0 where
+pub record SolvesSteps (tables : ℕ → Option ObjectValue) (count : ℕ) (tasks : List Task) (before after : ℕ → ImageValue) : Type 0 where
   pub images : (c : ℕ) → c < count → IsImage (after c)
   pub written : (s : Step) → IsStepOf s tasks → after s.output ≡ step_image tables s after (before s.output)
   pub others : (c : ℕ) → IsUnwritten tasks c → after c ≡ before c
@@ -159,7 +159,7 @@ abbrev pub with_image : ℕ → ImageValue → (ℕ → ImageValue) → ℕ → 
 with_image c image images k = if k == c then image else images k
 
 -- the images after all steps, each run on whole images in order
-abbrev pub steps_in_turn : List SecondInput → List Task → (ℕ → ImageValue) → ℕ → ImageValue
+abbrev pub steps_in_turn : (ℕ → Option ObjectValue) → List Task → (ℕ → ImageValue) → ℕ → ImageValue
 steps_in_turn tables [] images = images
 steps_in_turn tables (Write s ∷ later) images = steps_in_turn tables later (with_image s.output (step_image tables s images (images s.output)) images)
 steps_in_turn tables (Reduce r ∷ later) images = steps_in_turn tables later images

@@ -1,7 +1,7 @@
 -- Premises of a band.
-use Rattle.std.specs.Prelude.{ℕ, ◌+◌, ◌<◌, ◌^◌, ◌≡◌, ◌≢◌, List, length, Some, None}
+use Rattle.std.specs.Prelude.{ℕ, ◌+◌, ◌<◌, ◌^◌, ◌≡◌, ◌≢◌, List, length, Some, None, Option}
+use Rattle.vx_base.specs.Object.{ObjectValue}
 use Rattle.image_core.specs.declared.band.Band.{Band}
-use Rattle.image_core.specs.declared.second.SecondInput.{SecondInput}
 use Rattle.graph_steps.specs.declared.step.Reduction.{Reduction}
 use Rattle.graph_steps.specs.declared.step.Step.{Step}
 use Rattle.graph_steps.specs.declared.step.Task.{Task}
@@ -13,7 +13,7 @@ use Rattle.graph_steps.specs.Tallies.{CanReduce, HaveOneReduction}
 use Rattle.graph_steps.specs.Program.{Reduces, band_rows, IsStepOf, NamesPlanes, IsLive, AreFree, HaveCapacity}
 
 -- the steps can run on a band, and these planes keep their blocks
-pub record CanRunBand (tables : List SecondInput) (high : ℕ) (halos : List ℕ) (rows : Band) (kept : ℕ → Type 0) (tasks : List Task) (planes : List PlaneValue) : Type 0 where
+pub record CanRunBand (tables : ℕ → Option ObjectValue) (high : ℕ) (halos : List ℕ) (rows : Band) (kept : ℕ → Type 0) (tasks : List Task) (planes : List PlaneValue) : Type 0 where
   pub fits : rows.start + rows.count < 2 ^ 16
   pub halo_count : length halos ≡ length planes
   pub within : (s : Step) → IsStepOf s tasks → NamesPlanes (length planes) s
@@ -31,6 +31,6 @@ pub record CanReduceBand (first : ℕ) (tasks : List Task) (planes : List PlaneV
   pub reduces : (r : Reduction) → Reduces r tasks → CanReduce first planes tallies r
 
 -- a task can run on a band
-abbrev pub CanDo : List SecondInput → ℕ → List ℕ → Band → Task → List PlaneValue → List Tally → Type 0
+abbrev pub CanDo : (ℕ → Option ObjectValue) → ℕ → List ℕ → Band → Task → List PlaneValue → List Tally → Type 0
 CanDo tables high halos rows (Write s) planes tallies = (s.output < length halos) × CanStep tables high s (band_rows planes halos rows s.output) planes
 CanDo tables high halos rows (Reduce r) planes tallies = IsReadable (plane planes r.input) × CanReduce rows.start planes tallies r

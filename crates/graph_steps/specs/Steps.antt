@@ -1,5 +1,5 @@
 -- Steps: nodes over planes, and the effect of one step.
-use Rattle.std.specs.Prelude.{ℕ, ℤ, pos, ◌+◌, ◌-◌, ◌*◌, ◌<◌, ◌≤◌, ◌≡◌, ◌≢◌, ◌⊎◌, ◌==◌, ◌||◌, Bool, true, false, if◌then◌else◌, unsigned_abs, IsTrue, List, [], length, map, slice_get, slice_index_or, slice_set, Option, Some, None, IfSome}
+use Rattle.std.specs.Prelude.{ℕ, ℤ, pos, ◌+◌, ◌-◌, ◌*◌, ◌<◌, ◌≤◌, ◌≡◌, ◌≢◌, ◌⊎◌, ◌==◌, ◌||◌, Bool, true, false, if◌then◌else◌, unsigned_abs, IsTrue, List, [], length, map, slice_index_or, slice_set, Option, Some, None, IfSome}
 use Rattle.std.specs.Option.{option_and_then}
 use Rattle.vx_base.specs.declared.format.Format.{Format}
 use Rattle.vx_base.specs.declared.format.Format.TheVariants.{U8}
@@ -17,7 +17,6 @@ use Rattle.vx_base.specs.Object.{ObjectValue, ImageObject, IsObject, object_kind
 use Rattle.vx_base.specs.Outputs.{node_image, second_or_output}
 use Rattle.vx_base.specs.Rectangle.{empty_rectangle}
 use Rattle.image_core.specs.declared.band.Band.{Band}
-use Rattle.image_core.specs.declared.second.SecondInput.{SecondInput}
 use Rattle.image_core.specs.declared.image_mut.ImageMut.{ImageMut}
 use Rattle.image_core.specs.Bands.{IsInRows, image_over_rows}
 use Rattle.image_core.specs.Target.{target_image}
@@ -38,10 +37,10 @@ abbrev pub ReadsPlane : Step → ℕ → Type 0
 ReadsPlane s c = (s.first ≡ c) ⊎ (s.second ≡ Plane c)
 
 -- a step's second input: an image, a table, or none
-abbrev pub second_in : List SecondInput → (ℕ → ImageValue) → SecondSource → Option ObjectValue
+abbrev pub second_in : (ℕ → Option ObjectValue) → (ℕ → ImageValue) → SecondSource → Option ObjectValue
 second_in tables images Nothing = None
 second_in tables images (Plane c) = Some (ImageObject (images c))
-second_in tables images (Table k) = option_and_then (λ t. second_object t) (slice_get tables k)
+second_in tables images (Table k) = tables k
 
 -- the image that a step computes from its inputs and, if it accumulates, from its old output
 abbrev pub image_from_inputs : Step → ImageValue → Option ObjectValue → ImageValue → ImageValue
@@ -56,7 +55,7 @@ abbrev pub held_image : ImageMut → ImageValue
 held_image out = image_over_rows out.desc out.valid out.rows (target_image out).samples
 
 -- the image that a step computes from the images of its planes
-abbrev pub step_image : List SecondInput → Step → (ℕ → ImageValue) → ImageValue → ImageValue
+abbrev pub step_image : (ℕ → Option ObjectValue) → Step → (ℕ → ImageValue) → ImageValue → ImageValue
 step_image tables s images own = image_from_inputs s (images s.first) (second_in tables images s.second) own
 
 -- the step of a node whose inputs are passed to its kernel; the step's plane indices aren't used
@@ -83,7 +82,7 @@ abbrev pub scan_image : ℕ → ImageValue → PlaneValue → ImageValue
 scan_image start first out = image_from first.width first.height out.desc.format first.valid (sum_on first start (sums_above out.desc.width out.top start out.samples))
 
 -- the image whose rows a step writes
-abbrev pub rows_image : List SecondInput → Step → Band → (ℕ → ImageValue) → PlaneValue → ImageValue
+abbrev pub rows_image : (ℕ → Option ObjectValue) → Step → Band → (ℕ → ImageValue) → PlaneValue → ImageValue
 rows_image tables s rows images out =
     if is_integral s.node.function then scan_image rows.start (images s.first) out else step_image tables s images (plane_image (with_read_rows rows out))
 
@@ -116,18 +115,18 @@ second_plane (Plane c) = c
 second_plane other = 0
 
 -- a step can run on planes with these descriptions, if the heights are at most `high`
-pub record Suits (tables : List SecondInput) (high : ℕ) (s : Step) (first second out : Description) : Type 0 where
+pub record Suits (tables : ℕ → Option ObjectValue) (high : ℕ) (s : Step) (first second out : Description) : Type 0 where
   pub makes : CanMake s (blank_image first) (second_in tables (λ _. blank_image second) s.second) out
-  pub table : (k : ℕ) → s.second ≡ Table k → (k < length tables) × IfSome (second_in tables (λ _. blank_image second) s.second) IsObject
+  pub table : (k : ℕ) → s.second ≡ Table k → IfSome (tables k) IsObject
   pub near : Covers (step_radius s.node.function (matrix_in (second_in tables (λ _. blank_image second) s.second))) s.radius high
 
 -- the same for the planes at its indices
-abbrev pub SuitsPlanes : List SecondInput → ℕ → Step → List PlaneValue → Type 0
+abbrev pub SuitsPlanes : (ℕ → Option ObjectValue) → ℕ → Step → List PlaneValue → Type 0
 SuitsPlanes tables high s planes =
     Suits tables high s (plane planes s.first).desc (plane planes (second_plane s.second)).desc (plane planes s.output).desc
 
 -- a step can write these rows of its output
-pub record CanStep (tables : List SecondInput) (high : ℕ) (s : Step) (rows : Band) (planes : List PlaneValue) : Type 0 where
+pub record CanStep (tables : ℕ → Option ObjectValue) (high : ℕ) (s : Step) (rows : Band) (planes : List PlaneValue) : Type 0 where
   pub suits : SuitsPlanes tables high s planes
   pub output : s.output < length planes
   pub reads : (c : ℕ) → ReadsPlane s c → (c < length planes) × (c ≢ s.output) × (s.takes ≢ Some c) × IsReadable (plane planes c)
@@ -139,9 +138,8 @@ pub record CanStep (tables : List SecondInput) (high : ℕ) (s : Step) (rows : B
   pub whole : s.takes ≡ None → IsWhole (plane planes s.output)
 
 -- a step that reads these planes can write rows of this output
-pub record CanWrite (tables : List SecondInput) (s : Step) (rows : Band) (planes : List PlaneValue) (out : PlaneValue) : Type 0 where
+pub record CanWrite (tables : ℕ → Option ObjectValue) (s : Step) (rows : Band) (planes : List PlaneValue) (out : PlaneValue) : Type 0 where
   pub reads : (c : ℕ) → ReadsPlane s c → (c < length planes) × IsReadable (plane planes c)
-  pub table : (k : ℕ) → s.second ≡ Table k → k < length tables
   pub makes : CanMake s (read_images planes s.first) (second_in tables (read_images planes) s.second) out.desc
   pub output : TakesRows rows out
 
@@ -159,13 +157,13 @@ with_output_block None c top planes = planes
 with_output_block (Some t) c top planes = with_moved_block t c top planes
 
 -- the planes after these rows of the output are written
-abbrev pub with_output : List SecondInput → Step → Band → List PlaneValue → List PlaneValue
+abbrev pub with_output : (ℕ → Option ObjectValue) → Step → Band → List PlaneValue → List PlaneValue
 with_output tables s rows planes =
     let out = plane planes s.output in
     slice_set planes s.output (with_rows rows (rows_image tables s rows (read_images planes) out) out)
 
 -- the planes after a step has run on these rows of its output
-abbrev pub after_step : List SecondInput → Step → Band → List PlaneValue → List PlaneValue
+abbrev pub after_step : (ℕ → Option ObjectValue) → Step → Band → List PlaneValue → List PlaneValue
 after_step tables s rows planes = with_output tables s rows (with_output_block s.takes s.output rows.start planes)
 
 -- the format and the number of samples of each plane's block

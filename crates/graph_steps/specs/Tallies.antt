@@ -1,12 +1,11 @@
 -- Tallies: the results of reductions for the bands that have run so far.
-use Rattle.std.specs.Prelude.{ℕ, ◌+◌, ◌*◌, ◌<◌, ◌≤◌, ◌^◌, ◌≡◌, ◌≢◌, List, [], ◌∷◌, length, replicate, slice_index, slice_index_or, slice_set}
+use Rattle.std.specs.Prelude.{ℕ, ◌+◌, ◌*◌, ◌<◌, ◌≤◌, ◌^◌, ◌≡◌, ◌≢◌, List, [], ◌∷◌, length, replicate, slice_index, slice_index_or, slice_set, Option}
 use Rattle.vx_base.specs.declared.format.Format.{Format}
 use Rattle.vx_base.specs.declared.format.Format.TheVariants.{U8, U32}
 use Rattle.vx_base.specs.Image.{ImageValue}
-use Rattle.vx_base.specs.Object.{DistributionValue, no_extremes}
+use Rattle.vx_base.specs.Object.{DistributionValue, no_extremes, ObjectValue}
 use Rattle.vx_base.specs.Statistics.{extremes, histogram, valid_samples}
 use Rattle.image_core.specs.declared.band.Band.{Band}
-use Rattle.image_core.specs.declared.second.SecondInput.{SecondInput}
 use Rattle.stat_kernels.specs.Counts.{bin_sums}
 use Rattle.stat_kernels.specs.Extreme.{added_extremes}
 use Rattle.stat_kernels.specs.Part.{valid_in}
@@ -77,7 +76,7 @@ tallies_after rows (Write s) planes tallies = tallies
 tallies_after rows (Reduce r) planes tallies = after_reduction rows planes r tallies
 
 -- the tallies after all tasks on a band, in order
-abbrev pub all_tallies_after : List SecondInput → List ℕ → Band → List Task → List PlaneValue → List Tally → List Tally
+abbrev pub all_tallies_after : (ℕ → Option ObjectValue) → List ℕ → Band → List Task → List PlaneValue → List Tally → List Tally
 all_tallies_after tables halos rows [] planes tallies = tallies
 all_tallies_after tables halos rows (t ∷ later) planes tallies =
     all_tallies_after tables halos rows later (after_task tables halos rows t planes) (tallies_after rows t planes tallies)

@@ -16,8 +16,9 @@ ghost use Rattle.graph_steps.specs.Tallies.{tallies_after, tally_at, tally_of};
 use crate::one_step::run_step;
 use crate::plane::Plane;
 use crate::step::{Reduction, Step, Task};
+use crate::tables::Tables;
 use crate::tally::Tally;
-use image_core::{Band, SecondInput};
+use image_core::Band;
 
 /// Returns the rows of the step's output that a band needs: the band and the output's halo.
 fn rows_for(step: &Step, halos: &[u16], band: Band, planes: &[Plane]) -> Band
@@ -42,8 +43,8 @@ fn reduce(reduction: &Reduction, band: Band, planes: &[Plane], tallies: &mut [Ta
 }
 
 /// Runs a task on a band.
-fn do_task(
-    tables: &[SecondInput<'_>],
+fn do_task<T: Tables>(
+    tables: &T,
     task: &Task,
     halos: &[u16],
     band: Band,
@@ -52,8 +53,9 @@ fn do_task(
 )
     requires fits { band.start + band.count < 2 ^ 16 }
     requires can { (high : ℕ) ×
-        CanDo tables.now high halos.now band task.now planes.old tallies.old }
-    ensures planes { planes.new ≡ after_task tables.now halos.now band task.now planes.old }
+        CanDo (T.tables tables.now) high halos.now band task.now planes.old tallies.old }
+    ensures planes { planes.new
+        ≡ after_task (T.tables tables.now) halos.now band task.now planes.old }
     ensures tallies { tallies.new ≡ tallies_after band task.now planes.old tallies.old }
 {
     match task {
@@ -67,20 +69,21 @@ fn do_task(
 
 /// Runs all tasks on a band. Each step writes the rows of the band and its output's halo, and each
 /// reduction adds the rows of the band to its tally.
-fn run_band(
-    tables: &[SecondInput<'_>],
+fn run_band<T: Tables>(
+    tables: &T,
     tasks: &[Task],
     halos: &[u16],
     band: Band,
     planes: &mut [Plane],
     tallies: &mut [Tally],
 )
-    requires can { (high : ℕ) × CanRunBand tables.now high halos.now band
+    requires can { (high : ℕ) × CanRunBand (T.tables tables.now) high halos.now band
         (KeepsBlock (length planes.old) tasks.now) tasks.now planes.old }
     requires reduces { CanReduceBand band.start tasks.now planes.old tallies.old }
-    ensures planes { planes.new ≡ after_tasks tables.now halos.now band tasks.now planes.old }
-    ensures tallies { tallies.new
-        ≡ all_tallies_after tables.now halos.now band tasks.now planes.old tallies.old }
+    ensures planes { planes.new
+        ≡ after_tasks (T.tables tables.now) halos.now band tasks.now planes.old }
+    ensures tallies { tallies.new ≡ all_tallies_after (T.tables tables.now) halos.now band
+        tasks.now planes.old tallies.old }
 {
     let mut rest = tasks;
     while let Some((task, later)) = rest.split_first() {
@@ -93,8 +96,8 @@ fn run_band(
 ///
 /// The results don't depend on `size`. Each client's image and each tally are those of any solution
 /// of the steps' equations over whole images.
-pub fn run(
-    tables: &[SecondInput<'_>],
+pub fn run<T: Tables>(
+    tables: &T,
     tasks: &[Task],
     halos: &[u16],
     high: u16,
@@ -102,14 +105,16 @@ pub fn run(
     planes: &mut [Plane],
     tallies: &mut [Tally],
 )
-    requires program { IsProgram tables.now high size halos.now tasks.now planes.old }
+    requires program { IsProgram (T.tables tables.now) high size halos.now tasks.now planes.old }
     requires reduces { CanReduceBand 0 tasks.now planes.old tallies.old }
     ensures solution { (whole : ℕ → ImageValue) →
-        SolvesSteps tables.now (length planes.old) tasks.now (block_images planes.old) whole →
+        SolvesSteps (T.tables tables.now) (length planes.old) tasks.now
+        (block_images planes.old) whole →
         (c : ℕ) → KeepsBlock (length planes.old) tasks.now c →
         block_image (plane planes.new c) ≡ whole c }
     ensures reductions { (whole : ℕ → ImageValue) →
-        SolvesSteps tables.now (length planes.old) tasks.now (block_images planes.old) whole →
+        SolvesSteps (T.tables tables.now) (length planes.old) tasks.now
+        (block_images planes.old) whole →
         (r : ReductionValue) → Reduces r tasks.now → IsNew (tally_at tallies.old r.tally) →
         tally_at tallies.new r.tally
         ≡ tally_of (whole r.input) (tally_at tallies.old r.tally) }

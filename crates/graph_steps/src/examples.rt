@@ -1,19 +1,18 @@
 //! Worked examples: programs in bands.
-ghost use Rattle.std.specs.Prelude.{[]};
 ghost use Rattle.graph_steps.specs.Examples.{boxes, box_halos, box_planes, box_tallies};
-ghost use Rattle.graph_steps.specs.Examples.{sums, sums_halos, sums_planes};
+ghost use Rattle.graph_steps.specs.Examples.{no_tables, sums, sums_halos, sums_planes};
 ghost use Rattle.graph_steps.specs.Program.{IsProgram};
 ghost use Rattle.graph_steps.specs.Runs.{CanReduceBand};
 
 /// Two box filters in sequence over images of four rows can run in bands of two rows. The virtual
 /// image between them is also reduced to its extremes.
 pub fn two_boxes()
-    ensures program { IsProgram [] 4 2 box_halos boxes box_planes }
+    ensures program { IsProgram no_tables 4 2 box_halos boxes box_planes }
     ensures reduces { CanReduceBand 0 boxes box_planes box_tallies }
 {}
 
 /// An integral image of four rows can run in bands of two rows. The second band continues from the
 /// last row of the first.
 pub fn integral_image()
-    ensures { IsProgram [] 4 2 sums_halos sums sums_planes }
+    ensures { IsProgram no_tables 4 2 sums_halos sums sums_planes }
 {}

@@ -17,6 +17,7 @@
 //!
 //! - `step`: steps and reductions
 //! - `plane`: planes
+//! - `tables`: the tables, thresholds and matrices that steps read
 //! - `kernel`: runs the kernel of a step's function
 //! - `rows`: reads and writes rows in a block of samples
 //! - `one_step`: runs one step on some rows
@@ -36,6 +37,7 @@ mod one_step;
 mod plane;
 mod rows;
 mod step;
+mod tables;
 mod tally;
 
 pub use bands::run;
@@ -44,4 +46,5 @@ pub use kernel::{Kernel, run_node};
 pub use one_step::run_step;
 pub use plane::Plane;
 pub use step::{Reduction, SecondSource, Step, Task, step_radius};
+pub use tables::Tables;
 pub use tally::{Histogram, Tally};

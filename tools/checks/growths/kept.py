@@ -6,8 +6,6 @@ from feqyldan import wire
 from checks.growths.refusing import Refusing, check
 
 CLIENT, TIMES = 7, 20
-# How often a run of the graph below takes memory: once, for its list of tables.
-OF_A_RUN = 1
 SAMPLES = bytes(range(256))
 # Images 1 and 2, graph 3 with virtual image 4, delay 5, extremes 6 and S16 image 7. The graph has
 # run, so its plan is kept, and a free block for its virtual image exists.
@@ -28,6 +26,7 @@ BEFORE = [
 # image's, and the image's old memory is kept for the next one.
 NONE = {
     "VerifyGraph of a graph that can run": wire.verify_graph(CLIENT, 3),
+    "ProcessGraph of a graph that has run": wire.process_graph(CLIENT, 3),
     "WriteImage of U8": wire.write_image(CLIENT, 1, wire.U8, 64, 4, SAMPLES),
     "WriteImage of S16": wire.write_image(CLIENT, 7, wire.S16, 64, 4, SAMPLES * 2),
     "ReadImage": wire.read_image(CLIENT, 1),
@@ -63,8 +62,8 @@ def changed_graphs() -> List[bytes]:
 
 
 def check_kept(program: Refusing) -> str:
-    """Checks that these requests take no memory, that a run takes it only for its list, and that a
-    changed graph takes it again for its plan."""
+    """Checks that these requests take no memory, and that a changed graph takes it again for its
+    plan."""
     def more(asked: List[bytes], first: int = 1) -> int:
         """Returns the additional allocations compared with only the first of these requests."""
         return growths_of(program, asked) - growths_of(program, asked[:first])
@@ -74,8 +73,6 @@ def check_kept(program: Refusing) -> str:
         check(taken == 0, f"{TIMES - 1} times {words}: {taken} growths")
     taken = more(images_in_turn(), 2)
     check(taken == 0, f"{TIMES - 1} images in turn: {taken} growths")
-    taken = more([wire.process_graph(CLIENT, 3)] * TIMES)
-    check(taken <= OF_A_RUN * (TIMES - 1), f"{TIMES - 1} runs of a graph: {taken} growths")
     taken = more(changed_graphs(), 3)
     check(taken >= TIMES - 1, f"{TIMES - 1} verdicts on changed graphs: {taken} growths")
     return f"{len(NONE) + 1} kinds of requests take no memory again"

@@ -52,7 +52,7 @@ give-requires-clause-planes c =
     planes_enough c.args.table.now.objects c.requires.ready.0 c.args.verified.now c.requires.ready.1 c.requires.schedule.0 c.requires.schedule.1 c.args.schedule.now c.requires.schedule.2
     c.requires.objects c.requires.names c.prove_descriptions.ensures c.as_mut_slice-blocks.result.now (ap (map block_size) c.as_mut_slice-blocks.ensures.value ∙ c.requires.schedule.3) c.take.ensures.planes.0 c.as_mut_slice-planes.result.now c.take.ensures.planes.1 c.take.ensures.planes.2
     (c.as_mut_slice-planes.ensures.value ∙ c.take.ensures.planes.3) c.take.new.table.objects (ap (λ (x : Context). x.objects) c.take.ensures.left)
-    c.args.tallies.now c.requires.tallies c.run_tasks.ensures.leaves.0 c.run_tasks.ensures.leaves.1 c.run_tasks.new.planes c.run_tasks.new.tallies c.run_tasks.ensures.leaves.2
+    c.args.tallies.now c.requires.tallies c.run_tasks.new.planes c.run_tasks.new.tallies c.run_tasks.ensures.leaves
 
 pub give-requires-clause-within : goal.give-requires-clause-within
 give-requires-clause-within c = λ k below. omega (arith, slot_within c.args.table.now.objects c.requires.ready.0 c.args.verified.now c.requires.ready.1 c.requires.schedule.0 c.requires.schedule.1 c.args.schedule.now c.requires.schedule.2 c.as_mut_slice-blocks.result.now (ap (map block_size) c.as_mut_slice-blocks.ensures.value ∙ c.requires.schedule.3) k below, c.take.auto.blocks)
@@ -62,14 +62,14 @@ give-requires-clause-formats c =
     formats_back c.args.table.now.objects c.requires.ready.0 c.args.verified.now c.requires.ready.1 c.requires.schedule.0 c.requires.schedule.1 c.args.schedule.now c.requires.schedule.2
     c.requires.objects c.requires.names c.prove_descriptions.ensures c.as_mut_slice-blocks.result.now (ap (map block_size) c.as_mut_slice-blocks.ensures.value ∙ c.requires.schedule.3) c.take.ensures.planes.0 c.as_mut_slice-planes.result.now c.take.ensures.planes.1 c.take.ensures.planes.2
     (c.as_mut_slice-planes.ensures.value ∙ c.take.ensures.planes.3) c.take.new.table.objects (ap (λ (x : Context). x.objects) c.take.ensures.left)
-    c.args.tallies.now c.requires.tallies c.run_tasks.ensures.leaves.0 c.run_tasks.ensures.leaves.1 c.run_tasks.new.planes c.run_tasks.new.tallies c.run_tasks.ensures.leaves.2 c.run_tasks.ensures.blocks c.take.new.blocks c.take.ensures.formats
+    c.args.tallies.now c.requires.tallies c.run_tasks.new.planes c.run_tasks.new.tallies c.run_tasks.ensures.leaves c.run_tasks.ensures.blocks c.take.new.blocks c.take.ensures.formats
 
 pub give-requires-clause-images : goal.give-requires-clause-images
 give-requires-clause-images c =
     images_back c.args.table.now.objects c.requires.ready.0 c.args.verified.now c.requires.ready.1 c.requires.schedule.0 c.requires.schedule.1 c.args.schedule.now c.requires.schedule.2
     c.requires.objects c.requires.names c.prove_descriptions.ensures c.as_mut_slice-blocks.result.now (ap (map block_size) c.as_mut_slice-blocks.ensures.value ∙ c.requires.schedule.3) c.take.ensures.planes.0 c.as_mut_slice-planes.result.now c.take.ensures.planes.1 c.take.ensures.planes.2
     (c.as_mut_slice-planes.ensures.value ∙ c.take.ensures.planes.3) c.take.new.table.objects (ap (λ (x : Context). x.objects) c.take.ensures.left)
-    c.args.tallies.now c.requires.tallies c.run_tasks.ensures.leaves.0 c.run_tasks.ensures.leaves.1 c.run_tasks.new.planes c.run_tasks.new.tallies c.run_tasks.ensures.leaves.2
+    c.args.tallies.now c.requires.tallies c.run_tasks.new.planes c.run_tasks.new.tallies c.run_tasks.ensures.leaves
 
 pub give-requires-clause-apart : goal.give-requires-clause-apart
 give-requires-clause-apart c = clients_are_apart c.args.table.now.objects c.requires.ready.0 c.args.verified.now c.requires.ready.1 c.requires.schedule.0 c.requires.schedule.1 c.args.schedule.now c.requires.schedule.2
@@ -79,14 +79,14 @@ give-requires-clause-back c =
     planes_back c.args.table.now.objects c.requires.ready.0 c.args.verified.now c.requires.ready.1 c.requires.schedule.0 c.requires.schedule.1 c.args.schedule.now c.requires.schedule.2
     c.requires.objects c.requires.names c.prove_descriptions.ensures c.as_mut_slice-blocks.result.now (ap (map block_size) c.as_mut_slice-blocks.ensures.value ∙ c.requires.schedule.3) c.take.ensures.planes.0 c.as_mut_slice-planes.result.now c.take.ensures.planes.1 c.take.ensures.planes.2
     (c.as_mut_slice-planes.ensures.value ∙ c.take.ensures.planes.3) c.take.new.table.objects (ap (λ (x : Context). x.objects) c.take.ensures.left)
-    c.args.tallies.now c.requires.tallies c.run_tasks.ensures.leaves.0 c.run_tasks.ensures.leaves.1 c.run_tasks.new.planes c.run_tasks.new.tallies c.run_tasks.ensures.leaves.2
+    c.args.tallies.now c.requires.tallies c.run_tasks.new.planes c.run_tasks.new.tallies c.run_tasks.ensures.leaves
 
 pub give-requires-clause-tallies : goal.give-requires-clause-tallies
 give-requires-clause-tallies c =
     tallies_back c.args.table.now.objects c.requires.ready.0 c.args.verified.now c.requires.ready.1 c.requires.schedule.0 c.requires.schedule.1 c.args.schedule.now c.requires.schedule.2
     c.requires.objects c.requires.names c.prove_descriptions.ensures c.as_mut_slice-blocks.result.now (ap (map block_size) c.as_mut_slice-blocks.ensures.value ∙ c.requires.schedule.3) c.take.ensures.planes.0 c.as_mut_slice-planes.result.now c.take.ensures.planes.1 c.take.ensures.planes.2
     (c.as_mut_slice-planes.ensures.value ∙ c.take.ensures.planes.3) c.take.new.table.objects (ap (λ (x : Context). x.objects) c.take.ensures.left)
-    c.args.tallies.now c.requires.tallies c.run_tasks.ensures.leaves.0 c.run_tasks.ensures.leaves.1 c.run_tasks.new.planes c.run_tasks.new.tallies c.run_tasks.ensures.leaves.2
+    c.args.tallies.now c.requires.tallies c.run_tasks.new.planes c.run_tasks.new.tallies c.run_tasks.ensures.leaves
 
 pub returns-clause-value : goal.returns-clause-value
 returns-clause-value c = λ nodes ready.
@@ -98,7 +98,7 @@ returns-clause-value c = λ nodes ready.
     (run_value c.args.table.now.objects nodes c.args.verified.now ready c.requires.schedule.0 c.requires.schedule.1 c.args.schedule.now c.requires.schedule.2
     c.requires.objects c.requires.names c.prove_descriptions.ensures c.as_mut_slice-blocks.result.now (ap (map block_size) c.as_mut_slice-blocks.ensures.value ∙ c.requires.schedule.3) c.take.ensures.planes.0 c.as_mut_slice-planes.result.now c.take.ensures.planes.1 c.take.ensures.planes.2
     (c.as_mut_slice-planes.ensures.value ∙ c.take.ensures.planes.3) c.take.new.table.objects (ap (λ (x : Context). x.objects) c.take.ensures.left)
-    c.args.tallies.now c.requires.tallies c.run_tasks.ensures.leaves.0 c.run_tasks.ensures.leaves.1 c.run_tasks.new.planes c.run_tasks.new.tallies c.run_tasks.ensures.leaves.2)
+    c.args.tallies.now c.requires.tallies c.run_tasks.new.planes c.run_tasks.new.tallies c.run_tasks.ensures.leaves)
 
 pub returns-clause-lasts : goal.returns-clause-lasts
 returns-clause-lasts c =
@@ -110,7 +110,7 @@ returns-clause-lasts c =
     ap (λ (t : Context). t.objects) c.give.ensures.value ∙ run_value c.args.table.now.objects nodes c.args.verified.now ready c.requires.schedule.0 c.requires.schedule.1 c.args.schedule.now c.requires.schedule.2
     c.requires.objects c.requires.names c.prove_descriptions.ensures c.as_mut_slice-blocks.result.now (ap (map block_size) c.as_mut_slice-blocks.ensures.value ∙ c.requires.schedule.3) c.take.ensures.planes.0 c.as_mut_slice-planes.result.now c.take.ensures.planes.1 c.take.ensures.planes.2
     (c.as_mut_slice-planes.ensures.value ∙ c.take.ensures.planes.3) c.take.new.table.objects (ap (λ (x : Context). x.objects) c.take.ensures.left)
-    c.args.tallies.now c.requires.tallies c.run_tasks.ensures.leaves.0 c.run_tasks.ensures.leaves.1 c.run_tasks.new.planes c.run_tasks.new.tallies c.run_tasks.ensures.leaves.2
+    c.args.tallies.now c.requires.tallies c.run_tasks.new.planes c.run_tasks.new.tallies c.run_tasks.ensures.leaves
     in
     subst (Lasts objects) (sym left) (run_lasts objects nodes v ready c.requires.names c.requires.objects c.prove_descriptions.ensures)
 

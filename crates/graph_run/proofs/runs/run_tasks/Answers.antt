@@ -1,6 +1,5 @@
-use Rattle.std.proofs.Common.{◌≡◌, ◌++◌, List, map, ap, subst, ◌∙◌}
-use Rattle.image_core.specs.declared.second.SecondInput.{SecondInput}
-use Rattle.image_core.specs.Second.{second_object}
+use Rattle.std.proofs.Common.{List, subst}
+use Rattle.vx_base.specs.declared.node.Node.{Node}
 use Rattle.graph_steps.specs.declared.step.Task.{Task}
 use Rattle.graph_run.specs.Program.{tables_of}
 use Rattle.graph_run.specs.Results.{Leaves}
@@ -8,14 +7,8 @@ use Rattle.graph_run.proofs.runs.run_tasks.Goals as goal
 
 pub returns-clause-leaves : goal.returns-clause-leaves
 returns-clause-leaves c =
-    let lent = c.deref-2.result.now in
     let objects = c.args.table.now.objects in
-    let made : map second_object lent ≡ tables_of objects c.args.verified.now.steps.items =
-    ap (map second_object) c.deref-2.ensures.value ∙ c.add_tables.ensures
-    ∙ ap (λ (l : List SecondInput). map second_object l ++ tables_of objects c.deref.result.now) c.requires.none
-    ∙ ap (tables_of objects) c.deref.ensures.value
-    in
-    let left : Leaves lent c.deref-3.result.now c.args.planes.now c.args.tallies.now c.run.new.planes c.run.new.tallies =
+    let left : Leaves (tables_of objects c.deref.result.now) c.deref-2.result.now c.args.planes.now c.args.tallies.now c.run.new.planes c.run.new.tallies =
     record {
       images = c.run.ensures.solution;
       reductions = c.run.ensures.reductions;
@@ -25,4 +18,5 @@ returns-clause-leaves c =
       tallies_count = c.run.auto.tallies;
     }
     in
-    (lent, made, subst (λ (ts : List Task). Leaves lent ts c.args.planes.now c.args.tallies.now c.run.new.planes c.run.new.tallies) c.deref-3.ensures.value left)
+    subst (λ (ts : List Task). Leaves (tables_of objects c.args.verified.now.steps.items) ts c.args.planes.now c.args.tallies.now c.run.new.planes c.run.new.tallies) c.deref-2.ensures.value
+    (subst (λ (ns : List Node). Leaves (tables_of objects ns) c.deref-2.result.now c.args.planes.now c.args.tallies.now c.run.new.planes c.run.new.tallies) c.deref.ensures.value left)

@@ -9,17 +9,17 @@ use Rattle.graph_steps.proofs.RunLaws.{Remains, Stands, remains_first, remains_n
 use Rattle.graph_steps.proofs.bands.run.Goals as goal
 
 pub loop-first-init : goal.loop-first-init
-loop-first-init c = record {
+loop-first-init g c = record {
   within = omega arith;
   begun = inl refl;
-  remains = λ program. remains_first c.args.tables.now c.args.high c.args.size c.args.halos.now c.args.tasks.now c.args.planes.now program;
-  stands = λ program whole solves. stands_first c.args.tables.now c.args.high c.args.size c.args.halos.now c.args.tasks.now c.args.planes.now program whole solves;
+  remains = λ program. remains_first (g.T.Tables.tables c.args.tables.now) c.args.high c.args.size c.args.halos.now c.args.tasks.now c.args.planes.now program;
+  stands = λ program whole solves. stands_first (g.T.Tables.tables c.args.tables.now) c.args.high c.args.size c.args.halos.now c.args.tasks.now c.args.planes.now program whole solves;
   reduces = c.requires.reduces;
-  tallied = λ program whole solves. tallied_first c.args.tables.now c.args.high c.args.size c.args.halos.now c.args.tasks.now c.args.planes.now program whole solves c.args.tallies.now;
+  tallied = λ program whole solves. tallied_first (g.T.Tables.tables c.args.tables.now) c.args.high c.args.size c.args.halos.now c.args.tasks.now c.args.planes.now program whole solves c.args.tallies.now;
 }
 
 pub run_band-requires-clause-can : goal.run_band-requires-clause-can
-run_band-requires-clause-can c =
+run_band-requires-clause-can g c =
     let program = c.requires.program in
     let planes = c.loop-first.planes in
     let band : Band = record { start = c.loop-first.first; count = c.min.result } in
@@ -29,12 +29,12 @@ run_band-requires-clause-can c =
     let below = c.loop-first-test.true in
     let fits : c.loop-first.first + c.min.result < 2 ^ 16 = omega arith in
     let less : c.min.result ≤ c.args.size = omega arith in
-    let P : ℕ → Type 0 = λ n. CanRunBand c.args.tables.now c.args.high c.args.halos.now band (KeepsBlock n c.args.tasks.now) c.args.tasks.now planes in
-    (c.args.high, subst P (sym r.count) (can_run c.args.tables.now c.args.high c.args.size c.args.halos.now c.args.tasks.now c.args.planes.now program band planes fits less r))
+    let P : ℕ → Type 0 = λ n. CanRunBand (g.T.Tables.tables c.args.tables.now) c.args.high c.args.halos.now band (KeepsBlock n c.args.tasks.now) c.args.tasks.now planes in
+    (c.args.high, subst P (sym r.count) (can_run (g.T.Tables.tables c.args.tables.now) c.args.high c.args.size c.args.halos.now c.args.tasks.now c.args.planes.now program band planes fits less r))
 
 pub loop-first-preserved : goal.loop-first-preserved
-loop-first-preserved c =
-    let tables = c.args.tables.now in
+loop-first-preserved g c =
+    let tables = g.T.Tables.tables c.args.tables.now in
     let high = c.args.high in
     let size = c.args.size in
     let halos = c.args.halos.now in
@@ -72,29 +72,29 @@ loop-first-preserved c =
     }
 
 pub run_band-requires-clause-reduces : goal.run_band-requires-clause-reduces
-run_band-requires-clause-reduces c = c.loop-first.invariant.reduces
+run_band-requires-clause-reduces g c = c.loop-first.invariant.reduces
 
 pub returns-clause-reductions : goal.returns-clause-reductions
-returns-clause-reductions c = λ whole solves r i new.
+returns-clause-reductions g c = λ whole solves r i new.
     let program = c.requires.program in
     let inv = c.loop-first.invariant in
-    tallied_last c.args.tables.now c.args.high c.args.size c.args.halos.now c.args.tasks.now c.args.planes.now program whole solves c.loop-first.first c.args.tallies.now c.loop-first.tallies c.loop-first-test.false (inv.tallied program whole solves)
+    tallied_last (g.T.Tables.tables c.args.tables.now) c.args.high c.args.size c.args.halos.now c.args.tasks.now c.args.planes.now program whole solves c.loop-first.first c.args.tallies.now c.loop-first.tallies c.loop-first-test.false (inv.tallied program whole solves)
     r i (c.requires.reduces.reduces r i).input new
 
 pub returns-clause-solution : goal.returns-clause-solution
-returns-clause-solution c = λ whole solves.
+returns-clause-solution g c = λ whole solves.
     let program = c.requires.program in
     let inv = c.loop-first.invariant in
-    stands_last c.args.tables.now c.args.high c.args.size c.args.halos.now c.args.tasks.now c.args.planes.now program whole solves c.loop-first.first c.loop-first.planes c.loop-first-test.false (inv.remains program) (inv.stands program whole solves)
+    stands_last (g.T.Tables.tables c.args.tables.now) c.args.high c.args.size c.args.halos.now c.args.tasks.now c.args.planes.now program whole solves c.loop-first.first c.loop-first.planes c.loop-first-test.false (inv.remains program) (inv.stands program whole solves)
 
 pub returns-clause-whole : goal.returns-clause-whole
-returns-clause-whole c = (c.loop-first.invariant.remains c.requires.program).whole
+returns-clause-whole g c = (c.loop-first.invariant.remains c.requires.program).whole
 
 pub returns-clause-blocks : goal.returns-clause-blocks
-returns-clause-blocks c = (c.loop-first.invariant.remains c.requires.program).blocks
+returns-clause-blocks g c = (c.loop-first.invariant.remains c.requires.program).blocks
 
 pub returns-clause-count : goal.returns-clause-count
-returns-clause-count c = (c.loop-first.invariant.remains c.requires.program).count
+returns-clause-count g c = (c.loop-first.invariant.remains c.requires.program).count
 
 pub returns-clause-descs : goal.returns-clause-descs
-returns-clause-descs c = (c.loop-first.invariant.remains c.requires.program).desc
+returns-clause-descs g c = (c.loop-first.invariant.remains c.requires.program).desc

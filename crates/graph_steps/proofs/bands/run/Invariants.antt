@@ -8,16 +8,16 @@ use Rattle.graph_steps.proofs.RunLaws.{Remains, Stands, Tallied}
 use Rattle.graph_steps.proofs.bands.run.Given as goal
 
 abbrev pub invariant-loop-first : goal.invariant-loop-first
-invariant-loop-first l = record {
+invariant-loop-first g l = record {
   within : l.first ≤ l.high;
   begun : (l.first ≡ 0) ⊎ (min l.size l.high ≤ l.first);
-  remains : (program : IsProgram l.tables l.high l.size l.halos l.tasks l.fn.planes) → Remains l.tables l.high l.size l.halos l.tasks l.fn.planes program l.planes;
-  stands : (program : IsProgram l.tables l.high l.size l.halos l.tasks l.fn.planes) (whole : ℕ → ImageValue) (solves : SolvesSteps l.tables (length l.fn.planes) l.tasks (block_images l.fn.planes) whole)
-      → Stands l.tables l.high l.size l.halos l.tasks l.fn.planes program whole solves l.first l.planes;
+  remains : (program : IsProgram (g.T.Tables.tables l.tables) l.high l.size l.halos l.tasks l.fn.planes) → Remains (g.T.Tables.tables l.tables) l.high l.size l.halos l.tasks l.fn.planes program l.planes;
+  stands : (program : IsProgram (g.T.Tables.tables l.tables) l.high l.size l.halos l.tasks l.fn.planes) (whole : ℕ → ImageValue) (solves : SolvesSteps (g.T.Tables.tables l.tables) (length l.fn.planes) l.tasks (block_images l.fn.planes) whole)
+      → Stands (g.T.Tables.tables l.tables) l.high l.size l.halos l.tasks l.fn.planes program whole solves l.first l.planes;
   reduces : CanReduceBand l.first l.tasks l.planes l.tallies;
-  tallied : (program : IsProgram l.tables l.high l.size l.halos l.tasks l.fn.planes) (whole : ℕ → ImageValue) (solves : SolvesSteps l.tables (length l.fn.planes) l.tasks (block_images l.fn.planes) whole)
-      → Tallied l.tables l.high l.size l.halos l.tasks l.fn.planes program whole solves l.first l.fn.tallies l.tallies;
+  tallied : (program : IsProgram (g.T.Tables.tables l.tables) l.high l.size l.halos l.tasks l.fn.planes) (whole : ℕ → ImageValue) (solves : SolvesSteps (g.T.Tables.tables l.tables) (length l.fn.planes) l.tasks (block_images l.fn.planes) whole)
+      → Tallied (g.T.Tables.tables l.tables) l.high l.size l.halos l.tasks l.fn.planes program whole solves l.first l.fn.tallies l.tallies;
 }
 
 abbrev pub decreases-loop-first : goal.decreases-loop-first
-decreases-loop-first l = l.high - l.first
+decreases-loop-first g l = l.high - l.first

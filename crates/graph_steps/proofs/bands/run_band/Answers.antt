@@ -9,10 +9,10 @@ use Rattle.graph_steps.proofs.ReduceLaws.{reduces_next}
 use Rattle.graph_steps.proofs.bands.run_band.Goals as goal
 
 pub do_task-requires-clause-fits : goal.do_task-requires-clause-fits
-do_task-requires-clause-fits c = c.loop-task.invariant.can.1.fits
+do_task-requires-clause-fits g c = c.loop-task.invariant.can.1.fits
 
 pub do_task-requires-clause-can : goal.do_task-requires-clause-can
-do_task-requires-clause-can c =
+do_task-requires-clause-can g c =
     let t = c.in-Some.task.now in
     let later = c.in-Some.later.now in
     let planes = c.loop-task.planes in
@@ -20,13 +20,13 @@ do_task-requires-clause-can c =
     let inv = c.loop-task.invariant in
     let e = c.in-Some.ensures.cases.0 in
     let kept = KeepsBlock (length c.args.planes.now) c.args.tasks.now in
-    let can : CanRunBand c.args.tables.now inv.can.0 halos c.args.band kept (t ∷ later) planes = rw e at inv.can.1 in
+    let can : CanRunBand (g.T.Tables.tables c.args.tables.now) inv.can.0 halos c.args.band kept (t ∷ later) planes = rw e at inv.can.1 in
     let reduces : CanReduceBand c.args.band.start (t ∷ later) planes c.loop-task.tallies = rw e at inv.reduces in
-    (inv.can.0, task_can c.args.tables.now inv.can.0 halos c.args.band kept t later planes can c.loop-task.tallies reduces)
+    (inv.can.0, task_can (g.T.Tables.tables c.args.tables.now) inv.can.0 halos c.args.band kept t later planes can c.loop-task.tallies reduces)
 
 pub loop-task-preserved : goal.loop-task-preserved
-loop-task-preserved c =
-    let tables = c.args.tables.now in
+loop-task-preserved g c =
+    let tables = g.T.Tables.tables c.args.tables.now in
     let t = c.in-Some.task.now in
     let later = c.in-Some.later.now in
     let planes = c.loop-task.planes in

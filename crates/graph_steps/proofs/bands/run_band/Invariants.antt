@@ -5,12 +5,12 @@ use Rattle.graph_steps.specs.Tallies.{all_tallies_after}
 use Rattle.graph_steps.proofs.bands.run_band.Given as goal
 
 abbrev pub invariant-loop-task : goal.invariant-loop-task
-invariant-loop-task l = record {
-  can : (high : ℕ) × CanRunBand l.tables high l.halos l.band (KeepsBlock (length l.fn.planes) l.tasks) l.rest l.planes;
+invariant-loop-task g l = record {
+  can : (high : ℕ) × CanRunBand (g.T.Tables.tables l.tables) high l.halos l.band (KeepsBlock (length l.fn.planes) l.tasks) l.rest l.planes;
   reduces : CanReduceBand l.band.start l.rest l.planes l.tallies;
-  same : after_tasks l.tables l.halos l.band l.rest l.planes ≡ after_tasks l.tables l.halos l.band l.tasks l.fn.planes;
-  tallied : all_tallies_after l.tables l.halos l.band l.rest l.planes l.tallies ≡ all_tallies_after l.tables l.halos l.band l.tasks l.fn.planes l.fn.tallies;
+  same : after_tasks (g.T.Tables.tables l.tables) l.halos l.band l.rest l.planes ≡ after_tasks (g.T.Tables.tables l.tables) l.halos l.band l.tasks l.fn.planes;
+  tallied : all_tallies_after (g.T.Tables.tables l.tables) l.halos l.band l.rest l.planes l.tallies ≡ all_tallies_after (g.T.Tables.tables l.tables) l.halos l.band l.tasks l.fn.planes l.fn.tallies;
 }
 
 abbrev pub decreases-loop-task : goal.decreases-loop-task
-decreases-loop-task l = length l.rest
+decreases-loop-task g l = length l.rest

@@ -6,17 +6,17 @@ use Rattle.graph_steps.proofs.StepLaws.{can_write_apart, rows_image_same}
 use Rattle.graph_steps.proofs.one_step.write_output.Goals as goal
 
 pub write_step_rows-requires : goal.write_rows-requires
-write_step_rows-requires c =
+write_step_rows-requires g c =
     let planes = c.args.planes.now in
     let s = c.args.step.now in
     let took : c.take_out-output.result ≡ plane planes s.output = c.take_out-output.ensures ∙ get_or_default planes s.output c.index-planes-step.result no_plane c.requires.output in
-    can_write_apart c.args.tables.now s c.args.rows planes (set planes s.output c.take_out-output.new.self) (plane planes s.output) c.take_out-output.result
+    can_write_apart (g.T.Tables.tables c.args.tables.now) s c.args.rows planes (set planes s.output c.take_out-output.new.self) (plane planes s.output) c.take_out-output.result
     (length-set planes s.output c.take_out-output.new.self) (λ k reads. get_or-set_other planes s.output k c.take_out-output.new.self no_plane (c.requires.apart k reads)) took c.requires.can
 
 pub returns : goal.returns
-returns c =
+returns g c =
     let planes = c.args.planes.now in
-    let tables = c.args.tables.now in
+    let tables = g.T.Tables.tables c.args.tables.now in
     let s = c.args.step.now in
     let rows = c.args.rows in
     let left = set planes s.output c.take_out-output.new.self in
