@@ -27,7 +27,7 @@ class Server:
         self.asked = 0
 
     def answer(self, request: bytes) -> bytes:
-        """The reply to a request, whatever it is."""
+        """Returns the reply to a request, whatever it is."""
         assert self.process.stdin and self.process.stdout
         at = f"request {self.asked}, {wire.Op(request[6]).name}"
         try:
@@ -44,7 +44,7 @@ class Server:
         return reply
 
     def ask(self, request: bytes) -> bytes:
-        """The reply to a request, which has to succeed."""
+        """Returns the reply to a request, which has to succeed."""
         self.asked += 1
         reply = self.answer(request)
         if wire.code_of(reply) != wire.SUCCESS:
@@ -59,7 +59,7 @@ Kind = TypeVar("Kind", bound=Server)
 @contextlib.contextmanager
 def serving(kind: Type[Kind], words: List[str], patience: float = PATIENCE,
             environment: Optional[Dict[str, str]] = None) -> Iterator[Kind]:
-    """A context with a server of these words, which has to end with status 0 after it."""
+    """Runs a server of these words in a context, after which it has to end with status 0."""
     process = subprocess.Popen(words, env=environment, stdin=subprocess.PIPE,
                                stdout=subprocess.PIPE)
     watch = threading.Timer(patience, process.kill)
