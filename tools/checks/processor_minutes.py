@@ -6,13 +6,14 @@ import subprocess
 import sys
 import threading
 import time
-from typing import DefaultDict, Dict, Optional, Tuple
+from typing import DefaultDict, Dict, List, Optional, Tuple
 
 TICKS = os.sysconf("SC_CLK_TCK")
 KINDS = ("proof", "tests", "edits", "build")
 # A process by its number and start time; a crate with the kind of work, or None.
 Process = Tuple[int, str]
 Work = Optional[Tuple[str, str]]
+Sums = DefaultDict[str, Dict[str, float]]
 
 
 def stat(pid: str) -> Tuple[Process, int, float]:
@@ -77,9 +78,9 @@ def line(words: str, minutes: Dict[str, float]) -> str:
     return f"{words:22} {kinds}  {sum(minutes.values()):7.1f}"
 
 
-def main() -> int:
-    start = time.time()
-    process = subprocess.Popen(sys.argv[1:])
+def run(command: List[str]) -> Tuple[int, Sums]:
+    """Runs a command, and returns its status, and the minutes of each crate by kind."""
+    process = subprocess.Popen(command)
     times: Dict[Process, float] = {}
     works: Dict[Process, Work] = {}
     ended = threading.Event()
@@ -90,16 +91,25 @@ def main() -> int:
 
     watcher = threading.Thread(target=watch)
     watcher.start()
-    status = process.wait()
-    ended.set()
-    watcher.join()
-    sums: DefaultDict[str, Dict[str, float]] = collections.defaultdict(
-        lambda: dict.fromkeys(KINDS, 0.0))
+    try:
+        status = process.wait()
+    finally:
+        ended.set()
+        watcher.join()
+    sums: Sums = collections.defaultdict(lambda: dict.fromkeys(KINDS, 0.0))
     for counted, seconds in times.items():
         work = works[counted]
         if work is not None:
             crate, kind = work
             sums[crate][kind] += seconds / 60
+    return status, sums
+
+
+def main() -> int:
+    if len(sys.argv) < 2:
+        sys.exit("usage: tools/processor_minutes COMMAND [WORD ..]")
+    start = time.time()
+    status, sums = run(sys.argv[1:])
     print(f"\nprocessor minutes      {'  '.join(f'{kind:>7}' for kind in KINDS)}      all")
     for crate, minutes in sums.items():
         print(line(crate, minutes))

@@ -127,7 +127,7 @@ def paths_of(patterns: Sequence[str]) -> List[str]:
 
 
 def natural(path: str) -> Tuple[List[Union[str, int]], str]:
-    """The sort key of paths: numbers in them sort by value, so f2 comes before f10."""
+    """Returns the sort key of a path: numbers in it sort by value, so f2 comes before f10."""
     parts = re.split("([0-9]+)", path)
     return [int(part) if at % 2 else part for at, part in enumerate(parts)], path
 

@@ -298,7 +298,8 @@ class Replies:
 
     def _place(self, into: memoryview, at: int,
                received: int) -> Optional[Tuple[memoryview, int]]:
-        """The same for a reply whose samples go to a place of their own."""
+        """Returns the same as frame_at() for a reply whose samples go to a place of their own:
+        a frame without samples, and the position where it ends."""
         buffer, base, _ = self._into
         chunk = buffer[at - base : received - base]
         if len(chunk) < BEFORE_SAMPLES:

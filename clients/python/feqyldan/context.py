@@ -413,7 +413,8 @@ class Context(Uncopied):
         return int(wire.name_of(self._reply_to(request)))
 
     def _note_made(self, reply: memoryview, size: int, thread: int) -> None:
-        """Called by the thread that reads the reply, which may be another one."""
+        """Notes an object for the thread that asked for it. The thread that reads the reply calls
+        this, and may be another one."""
         if reply[7] == wire.SUCCESS:
             name = wire.name_of(reply)
             self._used.add(name, size)

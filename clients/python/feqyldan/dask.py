@@ -121,7 +121,7 @@ def line_of(context: Context, built: Any) -> Line:
     return Line(context, *built)
 
 
-class Station:
+class WorkerServer:
     """The server of a worker, with the graphs that wait for pictures."""
 
     def __init__(self, server: Server) -> None:
@@ -168,18 +168,18 @@ class Job(NamedTuple):
         picture = picture.rows if isinstance(picture, Rows) else picture
         height, width = shape_of(picture)
         key = self.number, width, height
-        station = station_of(self)
+        worker = worker_server_of(self)
         line = None
         try:
-            line = station.take(key, self.build)
+            line = worker.take(key, self.build)
             output = line.run(picture)
         except BaseException as error:
             if line is not None:
                 close(line.context)
             if isinstance(error, ServerEnded):
-                drop(station)
+                drop(worker)
             raise
-        station.give_back(line, key)
+        worker.give_back(line, key)
         return output
 
 
@@ -193,19 +193,19 @@ def shape_of(picture: Any) -> Tuple[int, int]:
 
 
 # Of this process, by the program, the quota and the work bytes.
-STATIONS: Dict[Tuple[Optional[str], Optional[int], Optional[int]], Station] = {}
-STATIONS_LOCK = threading.Lock()
+SERVERS: Dict[Tuple[Optional[str], Optional[int], Optional[int]], WorkerServer] = {}
+SERVERS_LOCK = threading.Lock()
 
 
-def station_of(job: Job) -> Station:
-    """Returns the station of this process for a job, and starts its server if there is none. A
+def worker_server_of(job: Job) -> WorkerServer:
+    """Returns the server of this process for a job, and starts its server if there is none. A
     process that was forked from one with a server closes that server, and starts its own."""
-    with STATIONS_LOCK:
+    with SERVERS_LOCK:
         key = job.program, job.quota, job.work
-        station = STATIONS.get(key)
-        if station is None or station.server.closed:
-            station = STATIONS[key] = Station(server_of(job))
-        return station
+        worker = SERVERS.get(key)
+        if worker is None or worker.server.closed:
+            worker = SERVERS[key] = WorkerServer(server_of(job))
+        return worker
 
 
 def server_of(job: Job) -> Server:
@@ -220,14 +220,14 @@ def server_of(job: Job) -> Server:
         raise type(error)(error.errno, words, error.filename) from None
 
 
-def drop(station: Station) -> None:
+def drop(worker: WorkerServer) -> None:
     """
     Drops a server that has ended: the next picture starts another. It isn't closed here, so that
     other threads that use it get the reason why it ended.
     """
-    with STATIONS_LOCK:
-        for key in [key for key, other in STATIONS.items() if other is station]:
-            del STATIONS[key]
+    with SERVERS_LOCK:
+        for key in [key for key, other in SERVERS.items() if other is worker]:
+            del SERVERS[key]
 
 
 def close(context: Context) -> None:

@@ -47,7 +47,7 @@ Extremes = wire.Extremes
 
 
 def in_words(fmt: Optional[Format], width: Optional[int], height: Optional[int]) -> str:
-    """The format and the size of an image in words; those of a virtual one may be open."""
+    """Returns the format and the size of an image in words. Those of a virtual one may be open."""
     if fmt is None and width is None and height is None:
         return "open"
     return f"{fmt or 'open'}, {width or 'open'} by {height or 'open'}"
@@ -130,7 +130,7 @@ class Named(Uncopied):
         return f"<{self._words}{self._values()}{', closed' if self.closed else ''}>"
 
     def _values(self) -> str:
-        """The part of repr() after the words."""
+        """Returns the part of repr() after the words."""
         return ""
 
     @property
@@ -260,7 +260,7 @@ class Distribution(Named):
         return self._context.ask(*self.reading())
 
     def reading(self) -> Asked[Tuple[int, ...]]:
-        """What read() asks, for a pipeline that asks it ahead."""
+        """Returns the request of read(), for a pipeline."""
         return (f"read {self}", lambda client: wire.read_distribution(client, self.name),
                 wire.counts_of, Body(2 + 4 * self.bins, struct.pack(">H", self.bins)))
 
@@ -281,7 +281,7 @@ class MinMax(Named):
         return self._context.ask(*self.reading())
 
     def reading(self) -> Asked[Extremes]:
-        """What read() asks, for a pipeline that asks it ahead."""
+        """Returns the request of read(), for a pipeline."""
         return (f"read {self}", lambda client: wire.read_min_max(client, self.name),
                 wire.extremes_of, None)
 

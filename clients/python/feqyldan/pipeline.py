@@ -222,7 +222,7 @@ class Pipeline(Uncopied):
 
 
 def number_of(request: Request) -> int:
-    """The number of the call in its pipeline; one without a number comes after all others."""
+    """Returns the number of a call in its pipeline. One without a number comes after all others."""
     return sys.maxsize if request.place is None else request.place.number
 
 

@@ -240,6 +240,8 @@ class SocketServer(Server):
 
     def __init__(self, path: Path, *, timeout: Optional[float] = None, retry: float = 0.0,
                  owner: Union[int, str, None] = None) -> None:
+        if not retry >= 0:
+            raise ValueError(f"retry must be a number of seconds, 0 or more, not {retry}")
         self._path, self._timeout, self._retry = os.fspath(path), seconds_of(timeout), retry
         self._owner = None if owner is None else user_number(owner)
         self._lock = threading.Lock()

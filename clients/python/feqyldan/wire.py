@@ -442,14 +442,17 @@ def bitwise_not(client: int, source: Reference, target: Reference) -> bytes:
 
 
 def split(stream: bytes, head: int) -> list[bytes]:
-    """Returns the frames of a stream. `head` is the number of bytes before the body of a frame."""
+    """Returns the frames of a stream. `head` is the number of bytes before the body of a frame.
+    Raises ValueError if the stream has anything but whole frames."""
     frames: list[bytes] = []
     at = 0
     while at < len(stream):
-        (length,) = struct.unpack_from(">I", stream, at)
-        assert at + 4 + length <= len(stream) and length + 4 >= head, "a whole frame"
-        frames.append(stream[at : at + 4 + length])
-        at += 4 + length
+        end = at + 4 + int.from_bytes(stream[at : at + 4], "big")
+        if not at + head <= end <= len(stream):
+            raise ValueError(f"no whole frame begins at byte {at} of {len(stream)}: by its length "
+                             f"it ends at byte {end}; is the stream cut off?")
+        frames.append(stream[at:end])
+        at = end
     return frames
 
 

@@ -10,7 +10,7 @@ import time
 import unittest
 
 from program import PROGRAM, needs_program, vx
-from feqyldan.dask import STATIONS, Job, map_pictures, shape_of
+from feqyldan.dask import SERVERS, Job, map_pictures, shape_of
 
 try:
     import distributed
@@ -67,7 +67,7 @@ def worker_process():
 def servers():
     """Returns the processes of this worker's servers."""
     from feqyldan import dask
-    return [station.server._process.pid for station in dask.STATIONS.values()]
+    return [worker.server._process.pid for worker in dask.SERVERS.values()]
 
 
 def is_running(process):
@@ -117,7 +117,7 @@ def send_output(job, pipe):
 class TestForks(unittest.TestCase):
     def test_a_forked_worker_starts_its_own_server(self):
         job = Job("one", inverse, PROGRAM, None, None)
-        self.addCleanup(lambda: STATIONS.pop((PROGRAM, None, None)).server.close())
+        self.addCleanup(lambda: SERVERS.pop((PROGRAM, None, None)).server.close())
         self.assertEqual(rows_of(job.run(picture(1))), inverted(picture(1)))
         ours, theirs = multiprocessing.Pipe()
         child = multiprocessing.get_context("fork").Process(target=send_output, args=(job, theirs))

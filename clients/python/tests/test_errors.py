@@ -41,6 +41,15 @@ class TestCodes(unittest.TestCase):
             self.assertIn(advice, str(errors.refusal(code, "some request", op)))
 
 
+class TestFrames(unittest.TestCase):
+    def test_a_stream_that_is_cut_off(self):
+        reply = wire.reply_frame(7, 1, 0, b"ab")
+        self.assertEqual(wire.replies(reply * 2), [reply] * 2)
+        for cut in (reply[:-1], reply + b"\0", bytes(8)):
+            with self.assertRaisesRegex(ValueError, "no whole frame begins at byte"):
+                wire.replies(cut)
+
+
 class TestNames(unittest.TestCase):
     def test_each_is_called_in_vx_and_in_the_manual_what_a_traceback_calls_it(self):
         with open(os.path.join(ROOT, "docs", "python.md"), encoding="utf-8") as file:

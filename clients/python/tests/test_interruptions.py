@@ -145,6 +145,17 @@ class Everywhere:
                 raise KeyboardInterrupt
         return self
 
+    def interrupts(self, call, *arguments):
+        """Calls a function, and returns whether it was interrupted."""
+        try:
+            sys.settrace(self)
+            call(*arguments)
+        except KeyboardInterrupt:
+            return True
+        finally:
+            sys.settrace(None)
+        return False
+
 
 def can_lend():
     return samples.numpy_module() is not None and pages.can_lend()
@@ -188,26 +199,14 @@ class TestEachLine(unittest.TestCase):
         trace = Everywhere(interrupted_at)
         taken = []
         for number, request in enumerate(requests):
-            try:
-                sys.settrace(trace)
-                connection.send(request, [frames[number]])
-            except KeyboardInterrupt:
-                is_interrupted = True
-            finally:
-                sys.settrace(None)
+            is_interrupted |= trace.interrupts(connection.send, request, [frames[number]])
             taken.append(request.end > 0 and request in connection._line)
             if not taken[-1]:
                 connection.send(request, [frames[number]])
         while requests[-1].answer is None:
             with contextlib.suppress(BlockingIOError):
                 at += os.write(ours, replies[at:])
-            try:
-                sys.settrace(trace)
-                connection.look()
-            except KeyboardInterrupt:
-                is_interrupted = True
-            finally:
-                sys.settrace(None)
+            is_interrupted |= trace.interrupts(connection.look)
         os.close(writer)
         with open(theirs, "rb") as sent:
             self.assertEqual(sent.read(), b"".join(frames))
@@ -240,17 +239,12 @@ class TestEachLine(unittest.TestCase):
         reader doesn't see the change. Returns whether it was interrupted."""
         (theirs, writer), (reader, ours) = os.pipe(), os.pipe()
         connection = Connection(writer, reader, lambda _: vx.ServerEnded("ended"), lambda: None)
-        picture, got, is_interrupted = bytearray(b"1" * 300_000), [], False
+        picture, got = bytearray(b"1" * 300_000), []
         server = threading.Thread(target=answer_slowly, args=(theirs, ours, got, 300_004))
         server.start()
         request = Request("one", 7, 1)
-        try:
-            sys.settrace(Everywhere(interrupted_at))
-            connection.ask(request, [b"head", memoryview(picture)])
-        except KeyboardInterrupt:
-            is_interrupted = True
-        finally:
-            sys.settrace(None)
+        is_interrupted = Everywhere(interrupted_at).interrupts(
+            connection.ask, request, [b"head", memoryview(picture)])
         picture[:] = b"2" * len(picture)
         if request in connection._line:
             connection.wait(request)
@@ -269,7 +263,7 @@ class TestEachLine(unittest.TestCase):
         there, and the next read is right."""
         (theirs, writer), (reader, ours) = os.pipe(), os.pipe()
         connection = Connection(writer, reader, lambda _: vx.ServerEnded("ended"), lambda: None)
-        place, is_interrupted = memoryview(bytearray(200_000)), False
+        place = memoryview(bytearray(200_000))
         replies = b"".join(wire.reply_frame(7, number, 0, b"12345" + b"%d" % number * 200_000)
                            for number in (1, 2))
         server = threading.Thread(target=write_slowly, args=(ours, replies))
@@ -277,13 +271,7 @@ class TestEachLine(unittest.TestCase):
         requests = [Request("one", 7, number, body=Body(200_005)) for number in (1, 2)]
         requests[0].into = place
         connection.send(requests[0], [b"head"])
-        try:
-            sys.settrace(Everywhere(interrupted_at))
-            connection.wait(requests[0])
-        except KeyboardInterrupt:
-            is_interrupted = True
-        finally:
-            sys.settrace(None)
+        is_interrupted = Everywhere(interrupted_at).interrupts(connection.wait, requests[0])
         if is_interrupted:
             connection.let_go(place)
             place[:] = b"X" * 200_000

@@ -71,6 +71,9 @@ class TestOwnServers(unittest.TestCase):
             self.assertRaises(ValueError, vx.Server, answering(), timeout=wrong)
             self.assertRaises(ValueError, vx.connect, "/no/such/socket", timeout=wrong)
         self.assertRaises(TypeError, vx.Server, answering(), timeout="1")
+        for wrong in (-1, float("nan")):
+            with self.assertRaisesRegex(ValueError, f"retry must be .*, not {wrong}"):
+                vx.connect("/no/such/socket", retry=wrong)
 
 
 class TestSockets(unittest.TestCase):

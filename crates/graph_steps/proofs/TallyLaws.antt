@@ -20,7 +20,7 @@ use Rattle.std.specs.List.{flat_map}
 use Rattle.image_core.specs.declared.band.Band.{Band}
 use Rattle.image_core.specs.Bands.{IsInRows, all_rows}
 use Rattle.node_rows.specs.Rows.{AgreeInRows}
-use Rattle.stat_kernels.specs.declared.located.Extreme.{Extreme}
+use Rattle.stat_kernels.specs.declared.extreme.Extreme.{Extreme}
 use Rattle.stat_kernels.specs.Counts.{bin_sums}
 use Rattle.stat_kernels.specs.Extreme.{merge, shift_down, found_of}
 use Rattle.stat_kernels.specs.Part.{band_of, valid_in}

@@ -1,12 +1,12 @@
 """Refuses each allocation of the server in turn."""
 
 import os
-import subprocess
 import sys
 import tempfile
 from typing import Iterator, List, Set, Tuple
 
 from feqyldan import wire
+from checks import shim
 from checks.graphs.accumulators import sum_and_its_depth, sums_in_rows
 from checks.graphs.ageing import aged_after_each_run
 from checks.graphs.limits import under_quotas
@@ -24,7 +24,6 @@ from checks.sessions.texts import faulty_pgm_texts, pgm_texts
 from checks.tables.endings import TURNS
 
 DEFAULT = 268_435_456
-HERE = os.path.dirname(os.path.abspath(__file__))
 
 
 def streams() -> Iterator[Tuple[str, int, List[bytes]]]:
@@ -80,10 +79,7 @@ def check_lost(program: str, library: str, counts: str) -> Iterator[str]:
 def main() -> None:
     check(len(sys.argv) == 2, "usage: tools/refused_growths PROGRAM")
     program = os.path.abspath(sys.argv[1])
-    with tempfile.TemporaryDirectory() as folder:
-        library = os.path.join(folder, "refuse_growth.so")
-        subprocess.run(["cc", "-O1", "-shared", "-fPIC", "-o", library,
-                        os.path.join(HERE, "refuse_growth.c")], check=True)
+    with shim.built("growths/refuse_growth.c") as library, tempfile.TemporaryDirectory() as folder:
         counts = os.path.join(folder, "counts")
         said = [*check_lost(program, library, counts),
                 check_kept(Refusing([program, "serve"], library, counts))]

@@ -3,12 +3,12 @@
 import os
 import subprocess
 import sys
-import tempfile
 from typing import Callable, Dict, Iterator, List, NamedTuple, Tuple, Type
 
 from feqyldan import wire
-from checks.memory.again import SIDE, again, registered
+from checks import shim
 from checks.lockstep import Fault, WrongAnswer
+from checks.memory.again import SIDE, again, registered
 from checks.memory.great import rising, small_in_great, written
 from checks.memory.server import (
     Program, Server, TooLittleMemory, TooMuchMemory, memory_of)
@@ -190,15 +190,15 @@ def failure(program: Program, measure: Measure) -> str:
     return ""
 
 
-def missed(path: str, shim: str) -> Iterator[str]:
+def missed(path: str, library: str) -> Iterator[str]:
     for fault in PLANTED:
-        environment = {"LD_PRELOAD": shim, "KEEP_MEMORY": fault.keeps} if fault.keeps else {}
+        environment = {"LD_PRELOAD": library, "KEEP_MEMORY": fault.keeps} if fault.keeps else {}
         found = failure(Program(path, environment, fault.server), fault.measure)
         told = f"{fault.words}: {fault.measure.__name__} finds {found or 'nothing'}"
         print(f"  {told}", flush=True)
         if found != fault.found.__name__:
             yield f"{told}, and not {fault.found.__name__}"
-    right = Program(path, {"LD_PRELOAD": shim, "KEEP_MEMORY": "nothing"}, Asking)
+    right = Program(path, {"LD_PRELOAD": library, "KEEP_MEMORY": "nothing"}, Asking)
     for measure in MEASURES:
         found = failure(right, measure)
         if found:
@@ -206,11 +206,8 @@ def missed(path: str, shim: str) -> Iterator[str]:
 
 
 def check_faults(path: str) -> None:
-    with tempfile.TemporaryDirectory() as folder:
-        shim = os.path.join(folder, "keep_memory.so")
-        subprocess.run(["cc", "-O1", "-shared", "-fPIC", "-o", shim,
-                        os.path.join(HERE, "keep_memory.c")], check=True)
-        wrong: List[str] = [*missed(path, shim)]
+    with shim.built("memory/keep_memory.c") as library:
+        wrong: List[str] = [*missed(path, library)]
     if wrong:
         sys.exit("\n".join(f"check_memory: {words}" for words in wrong))
     print(f"check_memory: {len(PLANTED)} wrong servers and readings were all found")

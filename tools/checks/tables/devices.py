@@ -8,13 +8,13 @@ from typing import Sequence, Tuple
 
 from feqyldan import wire
 from feqyldan.wire import NOT_BITS, U8
+from checks import shim
 from checks.sessions.images import pictures_in_long_bodies
 from checks.sessions.rows import CLIENT, holds, made, opened, ran, wrote
 from checks.tables.apply import SQUARE
 from checks.tables.endings import Pairs, pairs_of
 from checks.tables.program import Program, check, shown
 
-HERE = os.path.dirname(os.path.abspath(__file__))
 # Two images of one sample; the second is the inverse of the first.
 STORED = [
     opened(), made(1, U8), made(2, U8), wrote(1, U8, [10]), ran(NOT_BITS, 1, None, 2),
@@ -42,14 +42,11 @@ def run_into_a_full_device(program: Program, words: Sequence[str],
 def check_pieces(program: Program) -> None:
     """Runs streams in pieces of all sizes, and in single bytes with each read and each write
     failing in turn."""
-    with tempfile.TemporaryDirectory() as folder:
-        shim = os.path.join(folder, "fail_call.so")
-        subprocess.run(["cc", "-O1", "-shared", "-fPIC", "-o", shim,
-                        os.path.join(HERE, "fail_call.c"), "-ldl"], check=True)
+    with shim.built("tables/fail_call.c") as library:
         for pairs in pairs_of(STORED), pairs_of(pictures_in_long_bodies()):
-            check_sizes(program, shim, pairs)
-            check_failing_reads(program, shim, pairs)
-            check_failing_writes(program, shim, pairs)
+            check_sizes(program, library, pairs)
+            check_failing_reads(program, library, pairs)
+            check_failing_writes(program, library, pairs)
 
 
 def joined(pairs: Pairs) -> Tuple[bytes, bytes]:
@@ -57,15 +54,15 @@ def joined(pairs: Pairs) -> Tuple[bytes, bytes]:
     return b"".join(request for request, _ in pairs), b"".join(reply for _, reply in pairs)
 
 
-def check_sizes(program: Program, shim: str, pairs: Pairs) -> None:
+def check_sizes(program: Program, library: str, pairs: Pairs) -> None:
     """Runs in pieces of at most this many bytes, up to the longest frame."""
     stream, output = joined(pairs)
     for size in range(1, max(len(frame) for pair in pairs for frame in pair) + 1):
-        got = run_in_pieces(program, shim, stream, PIECE=size)
+        got = run_in_pieces(program, library, stream, PIECE=size)
         check(got == (0, output, b""), f"in pieces of {size}: {got}")
 
 
-def check_failing_reads(program: Program, shim: str, pairs: Pairs) -> None:
+def check_failing_reads(program: Program, library: str, pairs: Pairs) -> None:
     """Fails each read. The replies to completely read frames are there. The last read finds the end
     of the stream."""
     stream, output = joined(pairs)
@@ -74,30 +71,30 @@ def check_failing_reads(program: Program, shim: str, pairs: Pairs) -> None:
         answered = joined(pairs[:k])[1]
         for _ in request:
             number += 1
-            got = run_in_pieces(program, shim, stream, FAIL_READ=number)
+            got = run_in_pieces(program, library, stream, FAIL_READ=number)
             check(got == (4, answered, b"read failed\n"), f"read {number}: {got}")
-    got = run_in_pieces(program, shim, stream, FAIL_READ=number + 1)
+    got = run_in_pieces(program, library, stream, FAIL_READ=number + 1)
     check(got == (4, output, b"read failed\n"), f"the read of the end: {got}")
 
 
-def check_failing_writes(program: Program, shim: str, pairs: Pairs) -> None:
+def check_failing_writes(program: Program, library: str, pairs: Pairs) -> None:
     """Fails each write. All earlier bytes are there, and nothing after the reply whose write
     failed, the rest of which the program may still write at its end."""
     stream, number = joined(pairs)[0], 0
     for k, (_, reply) in enumerate(pairs):
         before, most = number, joined(pairs[:k + 1])[1]
         for number in range(before + 1, before + 1 + len(reply)):
-            status, output, line = run_in_pieces(program, shim, stream, FAIL_WRITE=number)
+            status, output, line = run_in_pieces(program, library, stream, FAIL_WRITE=number)
             check((status, line) == (4, b"write failed\n"), f"write {number}: {status}, {line!r}")
             check(len(output) >= number - 1 and most.startswith(output),
                   f"write {number}: {shown(output)}")
 
 
-def run_in_pieces(program: Program, shim: str, stream: bytes,
+def run_in_pieces(program: Program, library: str, stream: bytes,
                   **told: int) -> Tuple[int, bytes, bytes]:
     """Returns the program's status, output and line with pieces of this size, or with a failure of
     this call."""
-    environment = {**os.environ, "LD_PRELOAD": shim}
+    environment = {**os.environ, "LD_PRELOAD": library}
     environment.update({variable: str(number) for variable, number in told.items()})
     program.runs += 1
     run = subprocess.run([program.path, "serve"], input=stream, capture_output=True,

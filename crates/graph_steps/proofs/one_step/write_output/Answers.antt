@@ -5,7 +5,7 @@ use Rattle.graph_steps.specs.Steps.{rows_image}
 use Rattle.graph_steps.proofs.StepLaws.{can_write_apart, rows_image_same}
 use Rattle.graph_steps.proofs.one_step.write_output.Goals as goal
 
-pub write_step_rows-requires : goal.write_rows-requires
+pub write_step_rows-requires : goal.write_step_rows-requires
 write_step_rows-requires g c =
     let planes = c.args.planes.now in
     let s = c.args.step.now in
