@@ -16,6 +16,9 @@
     }
 #define ERROR_CHECK_OBJECT(obj) ERROR_CHECK_STATUS(vxGetStatus((vx_reference)(obj)))
 
+/* A kernel's number under the vendor of those that have none of their own. */
+enum own_kernel_e { OWN_KERNEL = VX_KERNEL_BASE(VX_ID_DEFAULT, 1) + 0x2 };
+
 static void VX_CALLBACK log_callback(vx_context context, vx_reference ref, vx_status status,
                                      const vx_char string[]) {
     (void)context;
@@ -96,6 +99,10 @@ int main(void) {
     vx_image input, output;
     vx_scalar min_val, max_val;
     ERROR_CHECK_OBJECT(context);
+    if (VX_VENDOR(OWN_KERNEL) != VX_ID_DEFAULT || VX_LIBRARY(OWN_KERNEL) != 1 ||
+        vxGetStatus((vx_reference)vxGetKernelByEnum(context, OWN_KERNEL)) !=
+            VX_ERROR_NOT_SUPPORTED)
+        return 3;
     vxRegisterLogCallback(context, log_callback, vx_false_e);
     input = vxCreateImage(context, width, height, VX_DF_IMAGE_U8);
     output = vxCreateImage(context, width, height, VX_DF_IMAGE_U8);
