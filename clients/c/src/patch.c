@@ -333,11 +333,12 @@ PUBLIC vx_status VX_API_CALL vxSetImagePixelValues(vx_image image,
     vx_context context = enter(image, VX_TYPE_IMAGE);
     if (context == NULL)
         return VX_ERROR_INVALID_REFERENCE;
-    if (pixel_value == NULL || image->is_uniform ||
-        (image->is_handle && image->memory.first == NULL))
+    if (image->is_uniform || image->scope != 0)
+        return leave(context, VX_ERROR_INVALID_REFERENCE);
+    if (pixel_value == NULL)
         return leave(context, VX_ERROR_INVALID_PARAMETERS);
-    if (image->scope != 0)
-        return leave(context, VX_ERROR_OPTIMIZED_AWAY);
+    if (image->is_handle && image->memory.first == NULL)
+        return leave(context, VX_ERROR_NOT_ALLOCATED);
     return leave(context, fill(image, pixel_value));
 }
 
