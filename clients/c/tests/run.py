@@ -7,6 +7,7 @@ import os
 import re
 import shutil
 import signal
+import socket
 import subprocess
 import sys
 import tempfile
@@ -370,6 +371,41 @@ class Library(unittest.TestCase):
             self.assertIn("/nowhere: No such file or directory; set FEQYLDAN_PROGRAM to a server, "
                           "or FEQYLDAN_SOCKET to a socket", ended.stderr)
 
+    def test_a_server_that_accepts_nobody_is_given_up(self):
+        path = os.path.join(tempfile.mkdtemp(dir=folder), "socket")
+        with socket.socket(socket.AF_UNIX) as listener, socket.socket(socket.AF_UNIX) as other:
+            listener.bind(path)
+            listener.listen(0)
+            other.connect(path)
+            ended = subprocess.run([build("ending")], stderr=subprocess.PIPE, text=True,
+                                   timeout=PATIENCE, check=False,
+                                   env={**os.environ, "FEQYLDAN_SOCKET": path,
+                                        "FEQYLDAN_TIMEOUT": "0.1"})
+        self.assertEqual(ended.returncode, 3)
+        self.assertIn("allow more time by FEQYLDAN_TIMEOUT", ended.stderr)
+
+    @unittest.skipUnless(os.geteuid() == 0, "only root can make a setuid program")
+    def test_a_setuid_program_starts_nothing_that_its_user_names(self):
+        home = tempfile.mkdtemp()
+        self.addCleanup(shutil.rmtree, home)
+        os.chmod(home, 0o777)
+        program, mark = os.path.join(home, "ending"), os.path.join(home, "mark")
+        subprocess.run(["cc", "-I" + os.path.join(HOME, "include"),
+                        os.path.join(HERE, "ending.c"),
+                        os.path.join(installed(), "lib/libfeqyldan.a"), "-o", program], check=True)
+        for name in ("feqyldan", "vx_main"):
+            with open(os.path.join(home, name), "w", encoding="utf-8") as script:
+                script.write(f"#!/bin/sh\necho started > {mark}\n")
+            os.chmod(script.name, 0o755)
+        for mode, starts in ((0o755, True), (0o4755, False)):
+            os.chmod(program, mode)
+            for words in ({}, {"FEQYLDAN_PROGRAM": os.path.join(home, "feqyldan")}):
+                subprocess.run([program], env={"PATH": home, **words}, user=65534,
+                               stderr=subprocess.DEVNULL, check=False)
+                self.assertEqual(os.path.exists(mark), starts)
+                if starts:
+                    os.remove(mark)
+
     def test_a_program_that_is_no_server_gives_no_context(self):
         path = build("ending")
         for program in ("true", "echo", "cat"):
@@ -391,9 +427,9 @@ class Library(unittest.TestCase):
         return path
 
     def test_a_broker_answers_as_a_server_of_ones_own(self):
-        socket = self.started_broker()
+        path = self.started_broker()
         for name in ("programs", "published"):
-            run(name, env={"FEQYLDAN_SOCKET": socket, "FEQYLDAN_PROGRAM": "/nowhere"})
+            run(name, env={"FEQYLDAN_SOCKET": path, "FEQYLDAN_PROGRAM": "/nowhere"})
 
     def test_installed_it_serves_c_and_cxx(self):
         prefix = installed()
