@@ -78,8 +78,11 @@ static void tell_operands(void) {
     EXPECT(VX_ERROR_NOT_SUPPORTED, STATUS(phase));
     LACKS("vxCreateGenericNode: ", VX_ERROR_NOT_SUPPORTED, vxCreateGenericNode(graph, phase));
     SAYS(VX_ERROR_NOT_SUPPORTED, vxuMagnitude(context, s16, s16, s16), "vxuMagnitude: ");
-    SAYS(VX_ERROR_NOT_SUPPORTED, STATUS(vxCreatePyramid(context, 3, 0.5f, 8, 8, VX_DF_IMAGE_U8)),
+    vx_pyramid pyramid;
+    SAYS(VX_ERROR_NOT_SUPPORTED,
+         STATUS(pyramid = vxCreatePyramid(context, 3, 0.5f, 8, 8, VX_DF_IMAGE_U8)),
          "vxCreatePyramid: ");
+    EXPECT(VX_ERROR_INVALID_REFERENCE, vxReleasePyramid(&pyramid));
     EXPECT(VX_ERROR_INVALID_REFERENCE, vxuMagnitude(NULL, s16, s16, s16));
     CHECK(vxMagnitudeNode(NULL, s16, s16, s16) == NULL);
 }

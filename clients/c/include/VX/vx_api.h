@@ -430,7 +430,7 @@ VX_API_ENTRY vx_status VX_API_CALL vxSetGraphParameterByIndex(vx_graph graph, vx
  *
  * These calls are declared so that programs compile. Each of them adds a log entry and answers
  * VX_ERROR_NOT_SUPPORTED, or gives an object of which vxGetStatus tells that. docs/from_openvx.md
- * lists them.
+ * lists them. A vxRelease of such an object answers VX_ERROR_INVALID_REFERENCE.
  */
 
 /* Contexts. */
