@@ -17,16 +17,6 @@ static void on_entry(vx_context of, vx_reference ref, vx_status status, const vx
     snprintf(said, sizeof said, "%s", string);
 }
 
-/* A call gives a status, with one log entry, which begins so. */
-#define SAYS(status, call, words)                                                                  \
-    do {                                                                                           \
-        int before = entries;                                                                      \
-        EXPECT(status, call);                                                                      \
-        if (entries != before + 1 || strncmp(said, words, strlen(words)) != 0)                     \
-            fprintf(stderr, "%d entries: %s\n", entries - before, said);                           \
-        CHECK(entries == before + 1 && strncmp(said, words, strlen(words)) == 0);                  \
-    } while (0)
-
 /* A node that couldn't be made: the graph is refused, however it is used. */
 static void refuse_holes(void) {
     vx_image error = vxCreateImage(context, WIDTH, HEIGHT, VX_DF_IMAGE_RGB);
