@@ -213,6 +213,8 @@ static void log_entries(void) {
     EXPECT(VX_SUCCESS, vxReleaseGraph(&graph));
     vxAddLogEntry((vx_reference)u8, VX_FAILURE, "%d of %s", 3, "four");
     CHECK(entries == 3 && told == VX_FAILURE && strcmp(said, "3 of four") == 0);
+    vxAddLogEntry((vx_reference)u8, VX_SUCCESS, "unheard");
+    CHECK(entries == 3);
     EXPECT(VX_SUCCESS, vxDirective((vx_reference)context, VX_DIRECTIVE_DISABLE_LOGGING));
     vxAddLogEntry((vx_reference)u8, VX_FAILURE, "unheard");
     CHECK(entries == 3);

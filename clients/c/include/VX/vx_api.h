@@ -59,7 +59,7 @@ VX_API_ENTRY vx_status VX_API_CALL vxSetImmediateModeTarget(vx_context context, 
 VX_API_ENTRY void VX_API_CALL vxRegisterLogCallback(vx_context context, vx_log_callback_f callback,
                                                     vx_bool reentrant);
 
-/* Adds a log entry, whose message is a format of printf. */
+/* Adds a log entry, whose message is a format of printf; none for VX_SUCCESS. */
 VX_API_ENTRY void VX_API_CALL vxAddLogEntry(vx_reference ref, vx_status status,
                                             const char *message, ...);
 

@@ -45,7 +45,12 @@ typedef uint32_t vx_df_image;
 typedef uintptr_t vx_map_id;
 typedef uint32_t vx_bitfield;
 
-typedef enum _vx_bool { vx_false_e = 0, vx_true_e = 1 } vx_bool;
+typedef vx_enum vx_bool;
+
+typedef enum _vx_bool {
+    vx_false_e = 0,
+    vx_true_e = 1
+} vx_bool_e;
 
 #define VX_FALSE (0)
 #define VX_TRUE (1)
