@@ -62,7 +62,7 @@ static void *work_alone(void *unused) {
         vx_parameter parameter = vxGetParameterByIndex(node, 0);
         EXPECT(VX_SUCCESS, vxSetParameterByReference(parameter, (vx_reference)a));
         EXPECT(VX_SUCCESS, vxReleaseParameter(&parameter));
-        vxAddLogEntry((vx_reference)a, VX_SUCCESS, "turn %d", turn);
+        vxAddLogEntry((vx_reference)a, VX_FAILURE, "turn %d", turn);
     }
     EXPECT(VX_SUCCESS, vxReleaseGraph(&graph));
     EXPECT(VX_SUCCESS, vxReleaseNode(&node));
