@@ -56,6 +56,16 @@ int main() {
 }
 """
 
+IN_LOCALE = """#include <VX/vx.h>
+#include <locale.h>
+int main(void) {
+    if (setlocale(LC_ALL, "") == NULL)
+        return 2;
+    vx_context context = vxCreateContext();
+    return context != NULL && vxReleaseContext(&context) == VX_SUCCESS ? 0 : 1;
+}
+"""
+
 
 def setUpModule():
     global folder
@@ -413,6 +423,21 @@ class Library(unittest.TestCase):
                 self.assertEqual(os.path.exists(mark), starts)
                 if starts:
                     os.remove(mark)
+
+    def test_a_timeout_has_a_point_where_the_programs_locale_has_a_comma(self):
+        if shutil.which("localedef") is None:
+            self.skipTest("localedef isn't installed")
+        locale = os.path.join(folder, "de_DE.UTF-8")
+        subprocess.run(["localedef", "-i", "de_DE", "-f", "UTF-8", locale],
+                       stderr=subprocess.DEVNULL, check=False)
+        if not os.path.exists(locale):
+            self.skipTest("localedef doesn't know de_DE")
+        source, program = os.path.join(folder, "in_locale.c"), os.path.join(folder, "in_locale")
+        with open(source, "w", encoding="utf-8") as text:
+            text.write(IN_LOCALE)
+        cc(MEMORY, source, library(MEMORY), "-o", program)
+        subprocess.run([program], check=True, env={
+            **os.environ, "LOCPATH": folder, "LC_ALL": "de_DE.UTF-8", "FEQYLDAN_TIMEOUT": "99.5"})
 
     def test_a_program_that_is_no_server_gives_no_context(self):
         path = build("ending")
