@@ -84,6 +84,11 @@ vx_status check_value(vx_reference about, const struct call *call, const struct 
                       vx_reference value) {
     vx_context context = about->context;
     vx_status status = check(context, value, formal->type);
+    if (status == VX_SUCCESS && formal->place >= OPERANDS &&
+        ((vx_scalar)value)->item != VX_TYPE_ENUM)
+        return refuse(about, call, VX_ERROR_INVALID_TYPE,
+                      "%s is a scalar of %s, and has to be of VX_TYPE_ENUM", formal->name,
+                      name_of_type(((vx_scalar)value)->item));
     if (status == VX_SUCCESS)
         return status;
     if (value == NULL)
@@ -93,7 +98,8 @@ vx_status check_value(vx_reference about, const struct call *call, const struct 
         return refuse(about, call, status, "%s belongs to another context: make it in this one",
                       formal->name);
     if (check(context, value, VX_TYPE_ERROR) == VX_SUCCESS)
-        return refuse(about, call, status, "%s is an object that couldn't be made: status %d; see the log entry of the "
+        return refuse(about, call, status,
+                      "%s is an object that couldn't be made: status %d; see the log entry of the "
                       "call that made it",
                       formal->name, value->status);
     return refuse(about, call, status, "%s isn't %s: was it released, or is it of another type?",

@@ -258,8 +258,8 @@ void connection_say_end(struct connection *connection, char *words, size_t room)
     }
     if (connection->has_timed_out) {
         snprintf(words, room,
-                 "the server didn't answer within the %g s that FEQYLDAN_TIMEOUT allows: allow more, "
-                 "or see what keeps it busy",
+                 "the server didn't answer within the %g s that FEQYLDAN_TIMEOUT allows: allow "
+                 "more, or see what keeps it busy",
                  connection->timeout / 1000.0);
         return;
     }

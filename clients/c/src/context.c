@@ -57,20 +57,26 @@ static vx_status lost(vx_context context) {
     return VX_FAILURE;
 }
 
-/* What to do after a refusal that is no mistake of the program; empty for others. */
-static const char *advice_on(vx_status status) {
+const char *advice_on(enum op op, vx_status status) {
     if (status == VX_ERROR_NO_MEMORY)
         return ": the machine had no memory; release objects, or try again";
-    if (status == VX_ERROR_NO_RESOURCES)
-        return ": release objects, or allow more bytes of images by FEQYLDAN_QUOTA";
-    return "";
+    if (status != VX_ERROR_NO_RESOURCES)
+        return "";
+    if (op == OPEN_CONTEXT)
+        return ": it has too many connections; close one, or allow more (--connections)";
+    if (op == ADD_NODE)
+        return ": a graph has at most 256 nodes; make a second graph";
+    if (op == VERIFY_GRAPH)
+        return ": its virtual images have too many bytes together; make a second graph, or allow "
+               "more (--work)";
+    return ": release objects, or allow more bytes of images by FEQYLDAN_QUOTA";
 }
 
 static vx_status status_of(vx_context context, const struct request *request) {
     vx_status status = STATUS_OF_CODE[request->code];
     if (status != VX_SUCCESS && !request->is_quiet)
         tell(REFERENCE(context), status, "the server refused %s: %s%s", OP_NAMES[request->op],
-             CODE_NAMES[request->code], advice_on(status));
+             CODE_NAMES[request->code], advice_on(request->op, status));
     return status;
 }
 
@@ -158,9 +164,7 @@ static bool open_server(vx_context context, char *why, size_t room) {
         connection_say_end(&context->connection, why, room);
     else
         snprintf(why, room, "the server refused OpenContext: %s%s", name_of_status(status),
-                 status == VX_ERROR_NO_RESOURCES
-                     ? ": it has too many connections; close one, or allow more (--connections)"
-                     : "");
+                 advice_on(OPEN_CONTEXT, status));
     return status == VX_SUCCESS;
 }
 
@@ -191,6 +195,7 @@ PUBLIC vx_context VX_API_CALL vxCreateContext(void) {
 void leave_context(vx_context context) {
     leave_to_parent(&context->connection);
     context->users = context->depth = 0;
+    context->is_in_callback = false;
     make_mutexes(context);
 }
 
@@ -295,19 +300,15 @@ PUBLIC vx_status VX_API_CALL vxQueryContext(vx_context context, vx_enum attribut
     return look_away(context, query_context(context, attribute, ptr, size));
 }
 
-bool is_border(const vx_border_t *border) {
-    return border->mode == VX_BORDER_UNDEFINED || border->mode == VX_BORDER_CONSTANT ||
-           border->mode == VX_BORDER_REPLICATE;
-}
-
-static vx_status set_border(vx_context context, const void *ptr, vx_size size) {
-    vx_border_t border;
-    if (ptr == NULL || size != sizeof border)
+vx_status set_border(vx_border_t *border, const void *ptr, vx_size size) {
+    vx_border_t value;
+    if (ptr == NULL || size != sizeof value)
         return VX_ERROR_INVALID_PARAMETERS;
-    memcpy(&border, ptr, sizeof border);
-    if (!is_border(&border))
+    memcpy(&value, ptr, sizeof value);
+    if (value.mode != VX_BORDER_UNDEFINED && value.mode != VX_BORDER_CONSTANT &&
+        value.mode != VX_BORDER_REPLICATE)
         return VX_ERROR_INVALID_VALUE;
-    context->border = border;
+    *border = value;
     return VX_SUCCESS;
 }
 
@@ -327,7 +328,7 @@ PUBLIC vx_status VX_API_CALL vxSetContextAttribute(vx_context context, vx_enum a
     if (enter(context, VX_TYPE_CONTEXT) == NULL)
         return VX_ERROR_INVALID_REFERENCE;
     if (attribute == VX_CONTEXT_IMMEDIATE_BORDER)
-        return leave(context, set_border(context, ptr, size));
+        return leave(context, set_border(&context->border, ptr, size));
     if (attribute == VX_CONTEXT_IMMEDIATE_BORDER_POLICY)
         return leave(context, set_border_policy(context, ptr, size));
     return leave(context, VX_ERROR_NOT_SUPPORTED);

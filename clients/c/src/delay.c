@@ -68,7 +68,7 @@ static vx_image slot_of(vx_delay delay, vx_size number) {
 PUBLIC vx_reference VX_API_CALL vxGetReferenceFromDelay(vx_delay delay, vx_int32 index) {
     vx_context context = enter(delay, VX_TYPE_DELAY);
     if (context == NULL)
-        return NULL;
+        return pass_error(delay);
     vx_reference slot = error_of(context, VX_ERROR_INVALID_PARAMETERS);
     if (index <= 0 && index > -(vx_int32)delay->slots) {
         vx_image image = slot_of(delay, (vx_size)-index);

@@ -3,15 +3,34 @@
 
 enum { U8 = 1 << 0, S16 = 1 << 1, U32 = 1 << 2 };
 
-/* As an object, a policy is a scalar. */
-enum { VX_TYPE_OF_ENUM = VX_TYPE_SCALAR, VX_TYPE_OF_FLOAT = VX_TYPE_SCALAR,
-       VX_TYPE_OF_INT = VX_TYPE_SCALAR, VX_TYPE_OF_SCALAR = VX_TYPE_SCALAR,
-       VX_TYPE_OF_IMAGE = VX_TYPE_IMAGE, VX_TYPE_OF_THRESHOLD = VX_TYPE_THRESHOLD,
-       VX_TYPE_OF_LUT = VX_TYPE_LUT, VX_TYPE_OF_CONVOLUTION = VX_TYPE_CONVOLUTION,
-       VX_TYPE_OF_DISTRIBUTION = VX_TYPE_DISTRIBUTION, VX_TYPE_OF_ARRAY = VX_TYPE_ARRAY };
+/* What a parameter of a kind is: the type of its object; its types in vx<Name>Node and vxu<Name>;
+   and how each of these puts it into a call. As an object, a policy is a scalar. */
+#define OBJECT(TYPE, type) (TYPE, type, type, OPERAND, OPERAND)
+#define KIND_OF_IMAGE OBJECT(VX_TYPE_IMAGE, vx_image)
+#define KIND_OF_THRESHOLD OBJECT(VX_TYPE_THRESHOLD, vx_threshold)
+#define KIND_OF_LUT OBJECT(VX_TYPE_LUT, vx_lut)
+#define KIND_OF_CONVOLUTION OBJECT(VX_TYPE_CONVOLUTION, vx_convolution)
+#define KIND_OF_DISTRIBUTION OBJECT(VX_TYPE_DISTRIBUTION, vx_distribution)
+#define KIND_OF_ARRAY OBJECT(VX_TYPE_ARRAY, vx_array)
+#define KIND_OF_SCALAR OBJECT(VX_TYPE_SCALAR, vx_scalar)
+#define KIND_OF_ENUM (VX_TYPE_SCALAR, vx_enum, vx_enum, CHOICE, CHOICE)
+#define KIND_OF_FLOAT (VX_TYPE_SCALAR, vx_scalar, vx_float32, OPERAND, NUMBER)
+#define KIND_OF_INT (VX_TYPE_SCALAR, vx_scalar, vx_int32, OPERAND, NUMBER)
+
+#define OPERAND(PLACE, name) .operands[PLACE] = REFERENCE(name),
+#define CHOICE(PLACE, name) .policies[PLACE - OPERANDS] = name,
+#define NUMBER(PLACE, name) .amount = name,
+
+#define OF(COLUMN, KIND) APPLY(COLUMN, KIND_OF_##KIND)
+#define APPLY(COLUMN, row) COLUMN row
+#define TYPE(type, node, at_once, put_node, put_at_once) type
+#define NODE_TYPE(type, node, at_once, put_node, put_at_once) node
+#define AT_ONCE_TYPE(type, node, at_once, put_node, put_at_once) at_once
+#define PUT_NODE(type, node, at_once, put_node, put_at_once) put_node
+#define PUT_AT_ONCE(type, node, at_once, put_node, put_at_once) put_at_once
 
 #define FORMAL(PLACE, KIND, direction, state, name)                                                \
-    {PLACE, VX_TYPE_OF_##KIND, direction, state, #name},
+    {PLACE, OF(TYPE, KIND), direction, state, #name},
 #define DEFINITION(NUMBER, Name, kernel, name, PARAMETERS, FORMATS)                                \
     [NUMBER] = {"vx" #Name "Node", "vxu" #Name, VX_KERNEL_##kernel, "org.khronos.openvx." name,    \
                 sizeof((struct formal[]){PARAMETERS(FORMAL)}) / sizeof(struct formal),             \
@@ -23,51 +42,8 @@ const struct definition *definition_of(enum function function) { return &DEFINIT
 
 vx_uint32 count_functions(void) { return sizeof DEFINITIONS / sizeof *DEFINITIONS - 1; }
 
-/* A parameter's type in vx<Name>Node and in vxu<Name>, and the field of a call for it. */
-#define TYPE_OF_IMAGE vx_image
-#define TYPE_OF_THRESHOLD vx_threshold
-#define TYPE_OF_LUT vx_lut
-#define TYPE_OF_CONVOLUTION vx_convolution
-#define TYPE_OF_DISTRIBUTION vx_distribution
-#define TYPE_OF_ARRAY vx_array
-#define TYPE_OF_SCALAR vx_scalar
-#define TYPE_OF_ENUM vx_enum
-#define TYPE_OF_FLOAT vx_scalar
-#define TYPE_OF_INT vx_scalar
-#define NUMBER_OF_IMAGE vx_image
-#define NUMBER_OF_THRESHOLD vx_threshold
-#define NUMBER_OF_LUT vx_lut
-#define NUMBER_OF_CONVOLUTION vx_convolution
-#define NUMBER_OF_DISTRIBUTION vx_distribution
-#define NUMBER_OF_ARRAY vx_array
-#define NUMBER_OF_SCALAR vx_scalar
-#define NUMBER_OF_ENUM vx_enum
-#define NUMBER_OF_FLOAT vx_float32
-#define NUMBER_OF_INT vx_int32
-#define OPERAND(PLACE, name) .operands[PLACE] = REFERENCE(name),
-#define FIELD_OF_IMAGE OPERAND
-#define FIELD_OF_THRESHOLD OPERAND
-#define FIELD_OF_LUT OPERAND
-#define FIELD_OF_CONVOLUTION OPERAND
-#define FIELD_OF_DISTRIBUTION OPERAND
-#define FIELD_OF_ARRAY OPERAND
-#define FIELD_OF_SCALAR OPERAND
-#define FIELD_OF_ENUM(PLACE, name) .policies[PLACE - OPERANDS] = name,
-#define FIELD_OF_FLOAT OPERAND
-#define FIELD_OF_INT OPERAND
-#define VALUE_OF_IMAGE OPERAND
-#define VALUE_OF_THRESHOLD OPERAND
-#define VALUE_OF_LUT OPERAND
-#define VALUE_OF_CONVOLUTION OPERAND
-#define VALUE_OF_DISTRIBUTION OPERAND
-#define VALUE_OF_ARRAY OPERAND
-#define VALUE_OF_SCALAR OPERAND
-#define VALUE_OF_ENUM FIELD_OF_ENUM
-#define VALUE_OF_FLOAT(PLACE, name) .amount = name,
-#define VALUE_OF_INT VALUE_OF_FLOAT
-
-#define NODE_PARAMETER(PLACE, KIND, direction, state, name) , TYPE_OF_##KIND name
-#define NODE_FIELD(PLACE, KIND, direction, state, name) FIELD_OF_##KIND(PLACE, name)
+#define NODE_PARAMETER(PLACE, KIND, direction, state, name) , OF(NODE_TYPE, KIND) name
+#define NODE_FIELD(PLACE, KIND, direction, state, name) OF(PUT_NODE, KIND)(PLACE, name)
 #define NODE(NUMBER, Name, kernel, name, PARAMETERS, FORMATS)                                      \
     PUBLIC vx_node VX_API_CALL vx##Name##Node(vx_graph graph PARAMETERS(NODE_PARAMETER)) {         \
         return add_node(graph, (struct call){.function = NUMBER, PARAMETERS(NODE_FIELD)});         \
@@ -109,8 +85,8 @@ static vx_status run(vx_context context, struct call call) {
     return leave(context, run_call(context, &call));
 }
 
-#define AT_ONCE_PARAMETER(PLACE, KIND, direction, state, name) , NUMBER_OF_##KIND name
-#define AT_ONCE_FIELD(PLACE, KIND, direction, state, name) VALUE_OF_##KIND(PLACE, name)
+#define AT_ONCE_PARAMETER(PLACE, KIND, direction, state, name) , OF(AT_ONCE_TYPE, KIND) name
+#define AT_ONCE_FIELD(PLACE, KIND, direction, state, name) OF(PUT_AT_ONCE, KIND)(PLACE, name)
 #define AT_ONCE(NUMBER, Name, kernel, name, PARAMETERS, FORMATS)                                   \
     PUBLIC vx_status VX_API_CALL vxu##Name(vx_context context PARAMETERS(AT_ONCE_PARAMETER)) {     \
         return run(context, (struct call){.function = NUMBER, PARAMETERS(AT_ONCE_FIELD)});         \

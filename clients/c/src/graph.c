@@ -176,21 +176,15 @@ PUBLIC vx_status VX_API_CALL vxQueryNode(vx_node node, vx_enum attribute, void *
 
 PUBLIC vx_status VX_API_CALL vxSetNodeAttribute(vx_node node, vx_enum attribute, const void *ptr,
                                                 vx_size size) {
-    vx_border_t border;
     vx_context context = enter(node, VX_TYPE_NODE);
     if (context == NULL)
         return VX_ERROR_INVALID_REFERENCE;
     if (attribute != VX_NODE_BORDER)
         return leave(context, VX_ERROR_NOT_SUPPORTED);
-    if (ptr == NULL || size != sizeof border)
-        return leave(context, VX_ERROR_INVALID_PARAMETERS);
-    memcpy(&border, ptr, sizeof border);
-    if (!is_border(&border))
-        return leave(context, VX_ERROR_INVALID_VALUE);
-    node->call.border = border;
-    if (node->graph != NULL)
+    vx_status status = set_border(&node->call.border, ptr, size);
+    if (status == VX_SUCCESS && node->graph != NULL)
         change(node->graph);
-    return leave(context, VX_SUCCESS);
+    return leave(context, status);
 }
 
 PUBLIC vx_status VX_API_CALL vxReleaseNode(vx_node *node) { return release(node, VX_TYPE_NODE); }

@@ -40,8 +40,10 @@ PUBLIC vx_status VX_API_CALL vxSwapImageHandle(vx_image image, void *const new_p
     vx_context context = enter(image, VX_TYPE_IMAGE);
     if (context == NULL)
         return VX_ERROR_INVALID_REFERENCE;
-    if (!image->is_handle || num_planes != 1 || image->maps != NULL)
+    if (!image->is_handle || num_planes != 1 || (new_ptrs != NULL && new_ptrs[0] == NULL))
         return leave(context, VX_ERROR_INVALID_PARAMETERS);
+    if (image->maps != NULL)
+        return leave(context, VX_FAILURE);
     if (prev_ptrs != NULL)
         prev_ptrs[0] = image->memory.first;
     image->memory.first = new_ptrs == NULL ? NULL : new_ptrs[0];

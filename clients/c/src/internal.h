@@ -199,7 +199,8 @@ struct _vx_context {
 void free_context(vx_context context);
 /* After a fork, in the child: the context has no server, and no thread uses it. */
 void leave_context(vx_context context);
-bool is_border(const vx_border_t *border);
+/* Sets a border to the value of an attribute. */
+vx_status set_border(vx_border_t *border, const void *ptr, vx_size size);
 /* Sends a request and waits for its reply, which has a body of exactly room bytes. */
 vx_status ask(vx_context context, enum op op, const uint8_t *body, size_t length, uint8_t *reply,
               size_t room);
@@ -218,6 +219,8 @@ void end_look(vx_context context);
 vx_status await_reply(vx_context context, struct request *request, bool is_sent);
 /* The name of a code in docs/wire.md. */
 const char *name_of_status(vx_status status);
+/* What to do after a refusal that is no mistake of the program; empty for others. */
+const char *advice_on(enum op op, vx_status status);
 
 /* ---- log.c ---- */
 
@@ -463,7 +466,8 @@ struct definition {
 };
 
 const struct definition *definition_of(enum function function);
-/* Checks that a value for a parameter is a reference of the right type and context. */
+/* Checks that a value for a parameter is a reference of the right type and context; for a policy, a
+   scalar of VX_TYPE_ENUM. */
 vx_status check_value(vx_reference about, const struct call *call, const struct formal *formal,
                       vx_reference value);
 /* Functions are numbered from 1 to this. */

@@ -76,7 +76,7 @@ PUBLIC vx_status VX_API_CALL vxQueryKernel(vx_kernel kernel, vx_enum attribute, 
 PUBLIC vx_parameter VX_API_CALL vxGetKernelParameterByIndex(vx_kernel kernel, vx_uint32 index) {
     vx_context context = enter(kernel, VX_TYPE_KERNEL);
     if (context == NULL)
-        return NULL;
+        return (vx_parameter)pass_error(kernel);
     vx_parameter made = make_parameter(context, kernel->function, NULL, index);
     leave(context, VX_SUCCESS);
     return made;

@@ -43,7 +43,9 @@ PUBLIC void VX_API_CALL vxRegisterLogCallback(vx_context context, vx_log_callbac
 
 PUBLIC void VX_API_CALL vxAddLogEntry(vx_reference ref, vx_status status, const char *message,
                                       ...) {
-    vx_context context = message == NULL ? NULL : enter(ref, VX_TYPE_REFERENCE);
+    if (message == NULL || status == VX_SUCCESS)
+        return;
+    vx_context context = enter(ref, VX_TYPE_REFERENCE);
     if (context == NULL)
         return;
     va_list list;

@@ -21,7 +21,7 @@ vx_parameter make_parameter(vx_context context, enum function function, vx_node 
 PUBLIC vx_parameter VX_API_CALL vxGetParameterByIndex(vx_node node, vx_uint32 index) {
     vx_context context = enter(node, VX_TYPE_NODE);
     if (context == NULL)
-        return NULL;
+        return (vx_parameter)pass_error(node);
     vx_parameter made = make_parameter(context, node->call.function, node, index);
     leave(context, VX_SUCCESS);
     return made;
@@ -93,8 +93,6 @@ static vx_status put_value(vx_node node, struct call *call, const struct formal 
         call->operands[formal->place] = value;
         return VX_SUCCESS;
     }
-    if (((vx_scalar)value)->item != VX_TYPE_ENUM)
-        return VX_ERROR_INVALID_TYPE;
     call->policies[formal->place - OPERANDS] = ((vx_scalar)value)->value.s32;
     return VX_SUCCESS;
 }
@@ -167,7 +165,7 @@ PUBLIC vx_status VX_API_CALL vxAddParameterToGraph(vx_graph graph, vx_parameter 
 PUBLIC vx_parameter VX_API_CALL vxGetGraphParameterByIndex(vx_graph graph, vx_uint32 index) {
     vx_context context = enter(graph, VX_TYPE_GRAPH);
     if (context == NULL)
-        return NULL;
+        return (vx_parameter)pass_error(graph);
     vx_status status = VX_ERROR_INVALID_PARAMETERS;
     vx_reference found = NULL;
     if (index < graph->parameter_count) {

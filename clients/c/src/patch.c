@@ -126,13 +126,15 @@ static void copy_row(struct grid to, struct grid from, vx_uint32 width, vx_size 
         turn_samples(to.first + x * to.column, from.first + x * from.column, size, unit);
 }
 
+/* The rows of a grid from one on. */
+static struct grid rows_from(struct grid grid, vx_uint32 y) {
+    return (struct grid){grid.first + (ptrdiff_t)y * grid.row, grid.column, grid.row};
+}
+
 static void copy_grid(struct grid to, struct grid from, vx_uint32 width, vx_uint32 height,
                       vx_size size, size_t unit) {
-    for (vx_uint32 y = 0; y < height; y++) {
-        copy_row(to, from, width, size, unit);
-        to.first += to.row;
-        from.first += from.row;
-    }
+    for (vx_uint32 y = 0; y < height; y++)
+        copy_row(rows_from(to, y), rows_from(from, y), width, size, unit);
 }
 
 static void copy_part(struct grid to, struct grid from, const vx_rectangle_t *rect, vx_size size,
@@ -207,10 +209,8 @@ static bool send_rows(vx_image image, struct source source) {
     vx_uint32 some = (vx_uint32)(PIECE / row) + 1;
     for (vx_uint32 y = 0; y < image->height; y += some) {
         vx_uint32 rows = image->height - y < some ? image->height - y : some;
-        struct grid from = source.users, to = {source.bytes + y * row, (ptrdiff_t)size,
-                                               (ptrdiff_t)row};
-        from.first += (ptrdiff_t)y * from.row;
-        copy_grid(to, from, image->width, rows, size, size);
+        struct grid to = {source.bytes + y * row, (ptrdiff_t)size, (ptrdiff_t)row};
+        copy_grid(to, rows_from(source.users, y), image->width, rows, size, size);
         if (!connection_go_on(connection, to.first, rows * row))
             return false;
     }
@@ -333,11 +333,12 @@ PUBLIC vx_status VX_API_CALL vxSetImagePixelValues(vx_image image,
     vx_context context = enter(image, VX_TYPE_IMAGE);
     if (context == NULL)
         return VX_ERROR_INVALID_REFERENCE;
-    if (pixel_value == NULL || image->is_uniform ||
-        (image->is_handle && image->memory.first == NULL))
+    if (image->is_uniform || image->scope != 0)
+        return leave(context, VX_ERROR_INVALID_REFERENCE);
+    if (pixel_value == NULL)
         return leave(context, VX_ERROR_INVALID_PARAMETERS);
-    if (image->scope != 0)
-        return leave(context, VX_ERROR_OPTIMIZED_AWAY);
+    if (image->is_handle && image->memory.first == NULL)
+        return leave(context, VX_ERROR_NOT_ALLOCATED);
     return leave(context, fill(image, pixel_value));
 }
 

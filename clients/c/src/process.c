@@ -5,11 +5,13 @@
 #include <dirent.h>
 #include <errno.h>
 #include <fcntl.h>
+#include <locale.h>
 #include <poll.h>
 #include <signal.h>
 #include <spawn.h>
 #include <stdlib.h>
 #include <string.h>
+#include <sys/auxv.h>
 #include <sys/mman.h>
 #include <sys/socket.h>
 #include <sys/time.h>
@@ -26,17 +28,38 @@ extern char **environ;
 enum { END_TIME = 1000, PIPE_BYTES = 1 << 19, GREATEST_TIMEOUT = 1000000 };
 
 static bool no_server(char *why, size_t room, const char *what, const char *path, int error) {
-    snprintf(why, room, "can't %s %s: %s%s", what, path, strerror(error),
-             error == ENOENT ? "; set FEQYLDAN_PROGRAM to a server, or FEQYLDAN_SOCKET to a socket"
-                             : "");
+    const char *advice = "";
+    if (error == ENOENT)
+        advice = "; set FEQYLDAN_PROGRAM to a server, or FEQYLDAN_SOCKET to a socket";
+    if (error == EAGAIN)
+        advice = ": too many programs wait for it; allow more time by FEQYLDAN_TIMEOUT";
+    snprintf(why, room, "can't %s %s: %s%s", what, path, strerror(error), advice);
     return false;
 }
 
-/* A variable of the environment. NULL where it is empty, and in a setuid program, whose user could
-   misuse its rights by the variables. */
+/* Whether the program has more rights than its user, as a setuid program has. By the environment
+   the user could misuse them. */
+static bool is_privileged(void) { return getauxval(AT_SECURE) != 0; }
+
+/* A variable of the environment; NULL where it is empty, and in a privileged program. */
 static const char *setting(const char *name) {
-    const char *value = secure_getenv(name);
+    const char *value = is_privileged() ? NULL : getenv(name);
     return value != NULL && *value != '\0' ? value : NULL;
+}
+
+/* The program to start; NULL for one that is looked for in PATH. */
+static const char *named_program(void) {
+    return is_privileged() ? "/usr/bin/feqyldan" : setting("FEQYLDAN_PROGRAM");
+}
+
+/* Parses a number with a decimal point, whatever the locale of the program has. */
+static double parse_number(const char *text, char **rest) {
+    locale_t plain = newlocale(LC_NUMERIC_MASK, "C", (locale_t)0);
+    if (plain == (locale_t)0)
+        return strtod(text, rest);
+    double number = strtod_l(text, rest, plain);
+    freelocale(plain);
+    return number;
 }
 
 /* Sets how long to wait for the server to accept or send a byte. */
@@ -46,7 +69,7 @@ static bool set_timeout(struct connection *connection, char *why, size_t room) {
     if (said == NULL)
         return true;
     char *rest;
-    double seconds = strtod(said, &rest);
+    double seconds = parse_number(said, &rest);
     if (*rest != '\0' || !(seconds >= 0.001 && seconds <= GREATEST_TIMEOUT)) {
         snprintf(why, room, "FEQYLDAN_TIMEOUT is %s, and has to be 0.001 to %d seconds", said,
                  GREATEST_TIMEOUT);
@@ -56,11 +79,14 @@ static bool set_timeout(struct connection *connection, char *why, size_t room) {
     return true;
 }
 
-static void limit_reads(struct connection *connection) {
+/* Limits how long a socket waits for a byte, and how long to be accepted. */
+static void limit_waits(struct connection *connection) {
     const int timeout = connection->timeout;
     const struct timeval limit = {timeout / 1000, timeout % 1000 * 1000};
-    if (timeout > 0)
-        setsockopt(connection->in, SOL_SOCKET, SO_RCVTIMEO, &limit, sizeof limit);
+    if (timeout < 0)
+        return;
+    setsockopt(connection->in, SOL_SOCKET, SO_RCVTIMEO, &limit, sizeof limit);
+    setsockopt(connection->in, SOL_SOCKET, SO_SNDTIMEO, &limit, sizeof limit);
 }
 
 static bool reach_socket(struct connection *connection, const char *path, char *why, size_t room) {
@@ -71,6 +97,7 @@ static bool reach_socket(struct connection *connection, const char *path, char *
     connection->in = socket(AF_UNIX, SOCK_STREAM | SOCK_CLOEXEC, 0);
     if (connection->in < 0)
         return no_server(why, room, "connect to", path, errno);
+    limit_waits(connection);
     while (connect(connection->in, (struct sockaddr *)&address, sizeof address) != 0) {
         if (errno == EINTR)
             continue;
@@ -80,7 +107,6 @@ static bool reach_socket(struct connection *connection, const char *path, char *
         return no_server(why, room, "connect to", path, error);
     }
     connection->out = connection->in;
-    limit_reads(connection);
     return true;
 }
 
@@ -116,20 +142,21 @@ static int plan_descriptors(posix_spawn_file_actions_t *actions, struct ends the
     return error ? error : plan_closing(actions);
 }
 
-/* Copies the environment for the program. Its malloc is told to use huge pages, in which pictures
-   are read and computed in less time, unless the environment tells malloc something already.
-   Returns NULL where there is no memory. */
+/* Copies the environment for the program; a privileged program's server gets a PATH alone. Its
+   malloc is told to use huge pages, in which pictures are read and computed in less time, unless
+   the environment tells malloc something already. Returns NULL where there is no memory. */
 static char **copy_environment(void) {
-    static char tunables[] = "GLIBC_TUNABLES=glibc.malloc.hugetlb=1";
+    static char tunables[] = "GLIBC_TUNABLES=glibc.malloc.hugetlb=1", path[] = "PATH=/usr/bin:/bin";
+    char *safe[] = {path, NULL}, **given = is_privileged() ? safe : environ;
     size_t count = 0;
-    while (environ != NULL && environ[count] != NULL)
+    while (given != NULL && given[count] != NULL)
         count++;
     char **copy = calloc(count + 2, sizeof *copy);
     if (copy == NULL)
         return NULL;
     for (size_t i = 0; i < count; i++)
-        copy[i] = environ[i];
-    if (getenv("GLIBC_TUNABLES") == NULL)
+        copy[i] = given[i];
+    if (setting("GLIBC_TUNABLES") == NULL)
         copy[count] = tunables;
     return copy;
 }
@@ -165,9 +192,9 @@ static int spawn(const char *program, char **environment, struct ends theirs, pi
     return error;
 }
 
-/* Starts the program that the environment names, or else the first one that is found. */
+/* Starts the program that is named, or else the first one that is found. */
 static int spawn_found(struct ends theirs, pid_t *process) {
-    const char *program = setting("FEQYLDAN_PROGRAM");
+    const char *program = named_program();
     char **environment = copy_environment();
     if (environment == NULL)
         return ENOMEM;
@@ -215,8 +242,8 @@ static int make_ends(int ends[5]) {
 
 static bool start(struct connection *connection, char *why, size_t room) {
     int ends[5];
-    const char *set = setting("FEQYLDAN_PROGRAM");
-    const char *program = set != NULL ? set : "feqyldan or vx_main";
+    const char *named = named_program();
+    const char *program = named != NULL ? named : "feqyldan or vx_main";
     int error = make_ends(ends);
     if (error != 0)
         return no_server(why, room, "start", program, error);
@@ -236,7 +263,7 @@ static bool start(struct connection *connection, char *why, size_t room) {
     fcntl(connection->out, F_SETFL, O_NONBLOCK);
     /* If that much isn't allowed, the pipe stays as it is. */
     fcntl(connection->out, F_SETPIPE_SZ, PIPE_BYTES);
-    limit_reads(connection);
+    limit_waits(connection);
     return true;
 }
 

@@ -29,6 +29,9 @@ static vx_reference refuse_object(const void *reference, const char *name) {
     PUBLIC vx_status VX_API_CALL name(__VA_ARGS__) { return refuse_call(first, #name); }
 #define OBJECT(type, first, name, ...)                                                             \
     PUBLIC type VX_API_CALL name(__VA_ARGS__) { return (type)refuse_object(first, #name); }
+/* There is no object of the type, only error objects, which aren't released. */
+#define RELEASE(type, name, TYPE)                                                                  \
+    PUBLIC vx_status VX_API_CALL name(type *object) { return release(object, TYPE); }
 #define NODE(name, ...)                                                                            \
     PUBLIC vx_node VX_API_CALL vx##name##Node(vx_graph graph, __VA_ARGS__) {                       \
         return add_missing_node(graph, "vx" #name "Node: the server has no such function");        \
@@ -96,27 +99,21 @@ OBJECT(vx_matrix, context, vxCreateMatrixFromPattern, vx_context context, vx_enu
        vx_size columns, vx_size rows)
 OBJECT(vx_matrix, context, vxCreateMatrixFromPatternAndOrigin, vx_context context, vx_enum pattern,
        vx_size columns, vx_size rows, vx_size origin_col, vx_size origin_row)
-PUBLIC vx_status VX_API_CALL vxReleaseMatrix(vx_matrix *mat) {
-    return mat == NULL ? VX_ERROR_INVALID_REFERENCE : refuse_call(*mat, "vxReleaseMatrix");
-}
+RELEASE(vx_matrix, vxReleaseMatrix, VX_TYPE_MATRIX)
 STATUS(mat, vxQueryMatrix, vx_matrix mat, vx_enum attribute, void *ptr, vx_size size)
 STATUS(matrix, vxCopyMatrix, vx_matrix matrix, void *user_ptr, vx_enum usage, vx_enum user_mem_type)
 OBJECT(vx_pyramid, context, vxCreatePyramid, vx_context context, vx_size levels, vx_float32 scale,
        vx_uint32 width, vx_uint32 height, vx_df_image format)
 OBJECT(vx_pyramid, graph, vxCreateVirtualPyramid, vx_graph graph, vx_size levels, vx_float32 scale,
        vx_uint32 width, vx_uint32 height, vx_df_image format)
-PUBLIC vx_status VX_API_CALL vxReleasePyramid(vx_pyramid *pyr) {
-    return pyr == NULL ? VX_ERROR_INVALID_REFERENCE : refuse_call(*pyr, "vxReleasePyramid");
-}
+RELEASE(vx_pyramid, vxReleasePyramid, VX_TYPE_PYRAMID)
 STATUS(pyr, vxQueryPyramid, vx_pyramid pyr, vx_enum attribute, void *ptr, vx_size size)
 OBJECT(vx_image, pyr, vxGetPyramidLevel, vx_pyramid pyr, vx_uint32 index)
 OBJECT(vx_remap, context, vxCreateRemap, vx_context context, vx_uint32 src_width,
        vx_uint32 src_height, vx_uint32 dst_width, vx_uint32 dst_height)
 OBJECT(vx_remap, graph, vxCreateVirtualRemap, vx_graph graph, vx_uint32 src_width,
        vx_uint32 src_height, vx_uint32 dst_width, vx_uint32 dst_height)
-PUBLIC vx_status VX_API_CALL vxReleaseRemap(vx_remap *table) {
-    return table == NULL ? VX_ERROR_INVALID_REFERENCE : refuse_call(*table, "vxReleaseRemap");
-}
+RELEASE(vx_remap, vxReleaseRemap, VX_TYPE_REMAP)
 STATUS(remap, vxMapRemapPatch, vx_remap remap, const vx_rectangle_t *rect, vx_map_id *map_id,
        vx_size *stride_y, void **ptr, vx_enum coordinate_type, vx_enum usage, vx_enum mem_type)
 STATUS(remap, vxUnmapRemapPatch, vx_remap remap, vx_map_id map_id)
@@ -129,9 +126,7 @@ OBJECT(vx_object_array, context, vxCreateObjectArray, vx_context context, vx_ref
 OBJECT(vx_object_array, graph, vxCreateVirtualObjectArray, vx_graph graph, vx_reference exemplar,
        vx_size count)
 OBJECT(vx_reference, arr, vxGetObjectArrayItem, vx_object_array arr, vx_uint32 index)
-PUBLIC vx_status VX_API_CALL vxReleaseObjectArray(vx_object_array *arr) {
-    return arr == NULL ? VX_ERROR_INVALID_REFERENCE : refuse_call(*arr, "vxReleaseObjectArray");
-}
+RELEASE(vx_object_array, vxReleaseObjectArray, VX_TYPE_OBJECT_ARRAY)
 STATUS(arr, vxQueryObjectArray, vx_object_array arr, vx_enum attribute, void *ptr, vx_size size)
 STATUS(meta, vxSetMetaFormatAttribute, vx_meta_format meta, vx_enum attribute, const void *ptr,
        vx_size size)
@@ -158,9 +153,7 @@ STATUS(tensor, vxMapTensorPatch, vx_tensor tensor, vx_size number_of_dims,
        void **ptr, vx_enum usage, vx_enum mem_type)
 STATUS(tensor, vxUnmapTensorPatch, vx_tensor tensor, vx_map_id map_id)
 STATUS(tensor, vxQueryTensor, vx_tensor tensor, vx_enum attribute, void *ptr, vx_size size)
-PUBLIC vx_status VX_API_CALL vxReleaseTensor(vx_tensor *tensor) {
-    return tensor == NULL ? VX_ERROR_INVALID_REFERENCE : refuse_call(*tensor, "vxReleaseTensor");
-}
+RELEASE(vx_tensor, vxReleaseTensor, VX_TYPE_TENSOR)
 
 NODE(ColorConvert, vx_image input, vx_image output)
 NODE(ChannelExtract, vx_image input, vx_enum channel, vx_image output)

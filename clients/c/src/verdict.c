@@ -313,8 +313,8 @@ bool explain_cycle(vx_graph graph) {
     vx_node node = find_cycle(graph);
     if (node != NULL)
         tell_node(node, VX_ERROR_INVALID_GRAPH,
-                  "it reads, directly or through other nodes, what it writes: remove a node of this "
-                  "cycle, or let it read an older slot of a delay");
+                  "it reads, directly or through other nodes, what it writes: remove a node of "
+                  "this cycle, or let it read an older slot of a delay");
     return node != NULL;
 }
 
@@ -330,7 +330,8 @@ void explain_verdict(vx_graph graph, vx_status status) {
         is_explained = explain_images(graph, status);
     if (!is_explained)
         tell(graph->base.type == VX_TYPE_GRAPH ? &graph->base : &graph->base.context->base, status,
-             "the server refused the graph: %s", name_of_status(status));
+             "the server refused the graph: %s%s", name_of_status(status),
+             advice_on(VERIFY_GRAPH, status));
 }
 
 void explain_call(vx_context context, const struct call *call, vx_status status) {

@@ -1,11 +1,7 @@
 /* Log callbacks that release, remove and unmap what the call at fault has in hand. The sanitizer of
-   addresses tells of memory that is used after it was freed. The server's program is the driver's,
-   see ended.c. */
+   addresses tells of memory that is used after it was freed. */
 #define _XOPEN_SOURCE 700
-#include "testing.h"
-
-#include <signal.h>
-#include <sys/wait.h>
+#include "server.h"
 
 enum { SIDE = 4, COUNT = SIDE * SIDE, NODES = 3 };
 
@@ -71,17 +67,6 @@ static void close_context(void) {
     CHECK(entries > 0);
     if (context != NULL)
         EXPECT(VX_SUCCESS, vxReleaseContext(&context));
-}
-
-/* Ends the server of the context that was made last. */
-static void kill_server(void) {
-    int process = 0;
-    siginfo_t ended;
-    FILE *file = fopen(getenv("SERVER_PROCESS"), "r");
-    CHECK(file != NULL && fscanf(file, "%d", &process) == 1 && process > 0);
-    fclose(file);
-    CHECK(kill(process, SIGKILL) == 0);
-    CHECK(waitid(P_PID, (id_t)process, &ended, WEXITED | WNOWAIT) == 0);
 }
 
 /* Calls that are refused: by the server, or by the library. */

@@ -1,12 +1,8 @@
 /* A server that is killed: each call that needs it answers VX_FAILURE and adds an entry, whatever
-   threads are waiting. The program of the server is the driver's, which writes its process's number
-   to the file that the environment names. */
+   threads are waiting. */
 #define _XOPEN_SOURCE 700
-#include "testing.h"
-
-#include <pthread.h>
-#include <signal.h>
-#include <sys/wait.h>
+#include "server.h"
+#include "turns.h"
 
 enum { SIDE = 4, COUNT = SIDE * SIDE, THREADS = 4, FIRST_TURNS = 5 };
 
@@ -14,28 +10,10 @@ static vx_context context;
 static vx_image a, b, c, s, t, u;
 static int entries;
 
-static struct {
-    pthread_mutex_t mutex;
-    pthread_cond_t changed;
-    int turns;
-} progress = {PTHREAD_MUTEX_INITIALIZER, PTHREAD_COND_INITIALIZER, 0};
-
 static void on_entry(vx_context of, vx_reference ref, vx_status status, const vx_char string[]) {
     CHECK(of == context && ref == (vx_reference)context && status == VX_FAILURE);
     CHECK(strncmp(string, "the server has ended", 20) == 0);
     entries++;
-}
-
-/* Ends the server of the context that was made last, and waits until it has. */
-static void kill_server(void) {
-    int process = 0;
-    siginfo_t ended;
-    FILE *file = fopen(getenv("SERVER_PROCESS"), "r");
-    CHECK(file != NULL && fscanf(file, "%d", &process) == 1 && process > 0);
-    fclose(file);
-    CHECK(kill(process, SIGKILL) == 0);
-    /* The library is left to wait for it too. */
-    CHECK(waitid(P_PID, (id_t)process, &ended, WEXITED | WNOWAIT) == 0);
 }
 
 static void open_context(void) {
@@ -145,21 +123,6 @@ static void fail_after_the_end(void) {
     CHECK(entries == before);
 }
 
-static void tell_turn(void) {
-    pthread_mutex_lock(&progress.mutex);
-    progress.turns++;
-    pthread_cond_signal(&progress.changed);
-    pthread_mutex_unlock(&progress.mutex);
-}
-
-/* Waits until each thread has had its first turns. */
-static void await_turns(void) {
-    pthread_mutex_lock(&progress.mutex);
-    while (progress.turns < THREADS * FIRST_TURNS)
-        pthread_cond_wait(&progress.changed, &progress.mutex);
-    pthread_mutex_unlock(&progress.mutex);
-}
-
 /* Runs a graph ahead, and another function meanwhile, as long as the server lives. */
 static void *work_until_the_end(void *unused) {
     vx_graph graph = vxCreateGraph(context);
@@ -187,7 +150,7 @@ static void end_under_threads(void) {
     open_context();
     for (int i = 0; i < THREADS; i++)
         CHECK(pthread_create(&threads[i], NULL, work_until_the_end, NULL) == 0);
-    await_turns();
+    await_turns(THREADS * FIRST_TURNS);
     kill_server();
     for (int i = 0; i < THREADS; i++)
         CHECK(pthread_join(threads[i], NULL) == 0);

@@ -18,15 +18,6 @@ static void on_entry(vx_context of, vx_reference ref, vx_status status, const vx
     snprintf(said, sizeof said, "%s", string);
 }
 
-#define SAYS(status, call, words)                                                                  \
-    do {                                                                                           \
-        int before = entries;                                                                      \
-        EXPECT(status, call);                                                                      \
-        if (entries != before + 1 || strncmp(said, words, strlen(words)) != 0)                     \
-            fprintf(stderr, "%d entries: %s\n", entries - before, said);                           \
-        CHECK(entries == before + 1 && strncmp(said, words, strlen(words)) == 0);                  \
-    } while (0)
-
 static vx_image new_image(vx_df_image format) {
     return vxCreateImage(context, WIDTH, HEIGHT, format);
 }

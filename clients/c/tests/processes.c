@@ -1,12 +1,9 @@
-/* What the library and its server have to do with other processes, descriptors and time. The
-   driver's server writes its process's number to the file that the environment names. */
+/* What the library and its server have to do with other processes, descriptors and time. */
 #define _XOPEN_SOURCE 700
-#include "testing.h"
+#include "server.h"
 
 #include <pthread.h>
-#include <signal.h>
 #include <sys/resource.h>
-#include <sys/wait.h>
 #include <time.h>
 #include <unistd.h>
 
@@ -31,14 +28,6 @@ static void open_context(void) {
     EXPECT(VX_SUCCESS, STATUS(vxNotNode(graph, a, b)));
     EXPECT(VX_SUCCESS, vxVerifyGraph(graph));
     vxRegisterLogCallback(context, on_entry, vx_false_e);
-}
-
-static pid_t server_process(void) {
-    int process = 0;
-    FILE *file = fopen(getenv("SERVER_PROCESS"), "r");
-    CHECK(file != NULL && fscanf(file, "%d", &process) == 1 && process > 0);
-    fclose(file);
-    return process;
 }
 
 /* A pipe of the program's ends when the program closes it, whatever servers there are. */

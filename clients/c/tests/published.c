@@ -97,18 +97,22 @@ static void swap_handles(vx_graph graph, vx_image in) {
 /* A map is in place, and there is none of an image without memory. */
 static void map_handle(vx_graph graph, vx_image in) {
     const vx_rectangle_t part = {2, 1, WIDTH, HEIGHT};
+    const vx_pixel_value_t value = {.U8 = 1};
     vx_map_id map;
     vx_imagepatch_addressing_t addr;
     void *where;
     ERROR_CHECK_STATUS(vxMapImagePatch(in, &part, 0, &map, &addr, &where, VX_READ_AND_WRITE,
                                        VX_MEMORY_TYPE_HOST, VX_NOGAP_X));
     CHECK(where == frames[0] + STRIDE + 2 && addr.stride_y == STRIDE && addr.dim_x == WIDTH - 2);
-    EXPECT(VX_ERROR_INVALID_PARAMETERS, vxSwapImageHandle(in, NULL, NULL, 1));
+    void *const none[] = {NULL};
+    EXPECT(VX_FAILURE, vxSwapImageHandle(in, NULL, NULL, 1));
+    EXPECT(VX_ERROR_INVALID_PARAMETERS, vxSwapImageHandle(in, none, NULL, 1));
     ERROR_CHECK_STATUS(vxUnmapImagePatch(in, map));
     ERROR_CHECK_STATUS(vxSwapImageHandle(in, NULL, NULL, 1));
     EXPECT(VX_ERROR_NOT_ALLOCATED, vxProcessGraph(graph));
     EXPECT(VX_ERROR_NOT_ALLOCATED, vxMapImagePatch(in, &part, 0, &map, &addr, &where,
                                                    VX_READ_ONLY, VX_MEMORY_TYPE_HOST, 0));
+    EXPECT(VX_ERROR_NOT_ALLOCATED, vxSetImagePixelValues(in, &value));
 }
 
 /* Functions in immediate mode, and one value for all pixels, which leaves the gaps. */
@@ -172,7 +176,8 @@ static void use_uniform_images(void) {
     CHECK(pixel == -5);
     EXPECT(VX_ERROR_NOT_SUPPORTED, vxCopyImagePatch(one, &corner, 0, &addr, &pixel, VX_WRITE_ONLY,
                                                     VX_MEMORY_TYPE_HOST));
-    EXPECT(VX_ERROR_INVALID_PARAMETERS, vxSetImagePixelValues(one, &value));
+    EXPECT(VX_ERROR_INVALID_REFERENCE, vxSetImagePixelValues(one, &value));
+    EXPECT(VX_ERROR_INVALID_PARAMETERS, vxSetImagePixelValues(other, NULL));
     EXPECT(VX_ERROR_INVALID_PARAMETERS, vxuMax(context, other, other, one));
     EXPECT(VX_ERROR_NOT_SUPPORTED, vxQueryImage(other, VX_IMAGE_UNIFORM_VALUE, &told, sizeof told));
     ERROR_CHECK_STATUS(vxReleaseImage(&one));

@@ -7,6 +7,7 @@ import os
 import re
 import shutil
 import signal
+import socket
 import subprocess
 import sys
 import tempfile
@@ -52,6 +53,16 @@ int main() {
     vx_image b = vxCreateImage(context, 2, 2, VX_DF_IMAGE_U8);
     vx_imagepatch_addressing_t addr = VX_IMAGEPATCH_ADDR_INIT;
     return addr.dim_x + vxuNot(context, a, b) + vxReleaseContext(&context);
+}
+"""
+
+IN_LOCALE = """#include <VX/vx.h>
+#include <locale.h>
+int main(void) {
+    if (setlocale(LC_ALL, "") == NULL)
+        return 2;
+    vx_context context = vxCreateContext();
+    return context != NULL && vxReleaseContext(&context) == VX_SUCCESS ? 0 : 1;
 }
 """
 
@@ -118,6 +129,13 @@ def has_thread_sanitizer():
     except subprocess.CalledProcessError:
         return False
     return True
+
+
+def can_make_setuid(home):
+    """Whether this process can make a program in a folder that runs as root."""
+    with open("/proc/self/status", encoding="utf-8") as status:
+        is_bound = "NoNewPrivs:\t1" in status.read()
+    return os.geteuid() == 0 and not is_bound and not os.statvfs(home).f_flag & os.ST_NOSUID
 
 
 def numbers(seed):
@@ -370,6 +388,57 @@ class Library(unittest.TestCase):
             self.assertIn("/nowhere: No such file or directory; set FEQYLDAN_PROGRAM to a server, "
                           "or FEQYLDAN_SOCKET to a socket", ended.stderr)
 
+    def test_a_server_that_accepts_nobody_is_given_up(self):
+        path = os.path.join(tempfile.mkdtemp(dir=folder), "socket")
+        with socket.socket(socket.AF_UNIX) as listener, socket.socket(socket.AF_UNIX) as other:
+            listener.bind(path)
+            listener.listen(0)
+            other.connect(path)
+            ended = subprocess.run([build("ending")], stderr=subprocess.PIPE, text=True,
+                                   timeout=PATIENCE, check=False,
+                                   env={**os.environ, "FEQYLDAN_SOCKET": path,
+                                        "FEQYLDAN_TIMEOUT": "0.1"})
+        self.assertEqual(ended.returncode, 3)
+        self.assertIn("allow more time by FEQYLDAN_TIMEOUT", ended.stderr)
+
+    def test_a_setuid_program_starts_nothing_that_its_user_names(self):
+        home = tempfile.mkdtemp()
+        self.addCleanup(shutil.rmtree, home)
+        if not can_make_setuid(home):
+            self.skipTest("setuid programs can't be made here")
+        os.chmod(home, 0o777)
+        program, mark = os.path.join(home, "ending"), os.path.join(home, "mark")
+        subprocess.run(["cc", "-I" + os.path.join(HOME, "include"),
+                        os.path.join(HERE, "ending.c"),
+                        os.path.join(installed(), "lib/libfeqyldan.a"), "-o", program], check=True)
+        for name in ("feqyldan", "vx_main"):
+            with open(os.path.join(home, name), "w", encoding="utf-8") as script:
+                script.write(f"#!/bin/sh\necho started > {mark}\n")
+            os.chmod(script.name, 0o755)
+        for mode, starts in ((0o755, True), (0o4755, False)):
+            os.chmod(program, mode)
+            for words in ({}, {"FEQYLDAN_PROGRAM": os.path.join(home, "feqyldan")}):
+                subprocess.run([program], env={"PATH": home, **words}, user=65534,
+                               stderr=subprocess.DEVNULL, check=False)
+                self.assertEqual(os.path.exists(mark), starts)
+                if starts:
+                    os.remove(mark)
+
+    def test_a_timeout_has_a_point_where_the_programs_locale_has_a_comma(self):
+        if shutil.which("localedef") is None:
+            self.skipTest("localedef isn't installed")
+        locale = os.path.join(folder, "de_DE.UTF-8")
+        subprocess.run(["localedef", "-i", "de_DE", "-f", "UTF-8", locale],
+                       stderr=subprocess.DEVNULL, check=False)
+        if not os.path.exists(locale):
+            self.skipTest("localedef doesn't know de_DE")
+        source, program = os.path.join(folder, "in_locale.c"), os.path.join(folder, "in_locale")
+        with open(source, "w", encoding="utf-8") as text:
+            text.write(IN_LOCALE)
+        cc(MEMORY, source, library(MEMORY), "-o", program)
+        subprocess.run([program], check=True, env={
+            **os.environ, "LOCPATH": folder, "LC_ALL": "de_DE.UTF-8", "FEQYLDAN_TIMEOUT": "99.5"})
+
     def test_a_program_that_is_no_server_gives_no_context(self):
         path = build("ending")
         for program in ("true", "echo", "cat"):
@@ -391,9 +460,9 @@ class Library(unittest.TestCase):
         return path
 
     def test_a_broker_answers_as_a_server_of_ones_own(self):
-        socket = self.started_broker()
+        path = self.started_broker()
         for name in ("programs", "published"):
-            run(name, env={"FEQYLDAN_SOCKET": socket, "FEQYLDAN_PROGRAM": "/nowhere"})
+            run(name, env={"FEQYLDAN_SOCKET": path, "FEQYLDAN_PROGRAM": "/nowhere"})
 
     def test_installed_it_serves_c_and_cxx(self):
         prefix = installed()

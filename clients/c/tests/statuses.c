@@ -131,6 +131,7 @@ static void refuse_registrations(vx_graph graph) {
 static void refuse_graphs(void) {
     vx_graph graph = vxCreateGraph(context), other = vxCreateGraph(context);
     vx_image virtual_image = vxCreateVirtualImage(graph, 0, 0, VX_DF_IMAGE_VIRT);
+    const vx_pixel_value_t value = {.U8 = 1};
     vx_rectangle_t rect;
     vx_df_image format;
     refuse_sums(graph);
@@ -139,6 +140,7 @@ static void refuse_graphs(void) {
     CHECK(format == VX_DF_IMAGE_VIRT);
     EXPECT(VX_ERROR_OPTIMIZED_AWAY, vxGetValidRegionImage(virtual_image, &rect));
     EXPECT(VX_ERROR_OPTIMIZED_AWAY, vxSetImageValidRectangle(virtual_image, NULL));
+    EXPECT(VX_ERROR_INVALID_REFERENCE, vxSetImagePixelValues(virtual_image, &value));
     EXPECT(VX_ERROR_OPTIMIZED_AWAY, copy_whole(virtual_image, 8, 6, 1, &rect, VX_READ_ONLY));
     EXPECT(VX_ERROR_OPTIMIZED_AWAY, vxuNot(context, virtual_image, v8));
     EXPECT(VX_ERROR_INVALID_SCOPE, STATUS(vxNotNode(other, u8, virtual_image)));
@@ -211,6 +213,8 @@ static void log_entries(void) {
     EXPECT(VX_SUCCESS, vxReleaseGraph(&graph));
     vxAddLogEntry((vx_reference)u8, VX_FAILURE, "%d of %s", 3, "four");
     CHECK(entries == 3 && told == VX_FAILURE && strcmp(said, "3 of four") == 0);
+    vxAddLogEntry((vx_reference)u8, VX_SUCCESS, "unheard");
+    CHECK(entries == 3);
     EXPECT(VX_SUCCESS, vxDirective((vx_reference)context, VX_DIRECTIVE_DISABLE_LOGGING));
     vxAddLogEntry((vx_reference)u8, VX_FAILURE, "unheard");
     CHECK(entries == 3);

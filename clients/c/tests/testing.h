@@ -13,6 +13,17 @@
 #define STATUS(object) vxGetStatus((vx_reference)(object))
 #define CHECK(condition) expect_status(1, (condition) ? 1 : 0, #condition, __LINE__)
 
+/* A call gives a status, with one log entry, which begins so. The program counts its
+   entries, and keeps what the last one said. */
+#define SAYS(status, call, words)                                                                  \
+    do {                                                                                           \
+        int before = entries;                                                                      \
+        EXPECT(status, call);                                                                      \
+        if (entries != before + 1 || strncmp(said, words, strlen(words)) != 0)                     \
+            fprintf(stderr, "%d entries: %s\n", entries - before, said);                           \
+        CHECK(entries == before + 1 && strncmp(said, words, strlen(words)) == 0);                  \
+    } while (0)
+
 static inline void expect_status(vx_status expected, vx_status given, const char *call, int line) {
     if (expected == given)
         return;

@@ -1,7 +1,6 @@
 /* Several threads on one context. The driver builds this for the sanitizer of threads too. */
 #include "testing.h"
-
-#include <pthread.h>
+#include "turns.h"
 
 enum { SIDE = 16, COUNT = SIDE * SIDE, THREADS = 4, TURNS = 30, FIRST_TURNS = 3 };
 
@@ -10,12 +9,6 @@ static vx_graph common_graph;
 static vx_image common;
 /* The callback alone has it: it is never called by two threads at once. */
 static int entries;
-
-static struct {
-    pthread_mutex_t mutex;
-    pthread_cond_t changed;
-    int turns;
-} progress = {PTHREAD_MUTEX_INITIALIZER, PTHREAD_COND_INITIALIZER, 0};
 
 static void on_entry(vx_context of, vx_reference ref, vx_status status, const vx_char string[]) {
     (void)of;
@@ -69,7 +62,7 @@ static void *work_alone(void *unused) {
         vx_parameter parameter = vxGetParameterByIndex(node, 0);
         EXPECT(VX_SUCCESS, vxSetParameterByReference(parameter, (vx_reference)a));
         EXPECT(VX_SUCCESS, vxReleaseParameter(&parameter));
-        vxAddLogEntry((vx_reference)a, VX_SUCCESS, "turn %d", turn);
+        vxAddLogEntry((vx_reference)a, VX_FAILURE, "turn %d", turn);
     }
     EXPECT(VX_SUCCESS, vxReleaseGraph(&graph));
     EXPECT(VX_SUCCESS, vxReleaseNode(&node));
@@ -102,21 +95,6 @@ static void *work_together(void *unused) {
     return unused;
 }
 
-static void tell_turn(void) {
-    pthread_mutex_lock(&progress.mutex);
-    progress.turns++;
-    pthread_cond_signal(&progress.changed);
-    pthread_mutex_unlock(&progress.mutex);
-}
-
-/* Waits until each thread has had its first turns. */
-static void await_turns(void) {
-    pthread_mutex_lock(&progress.mutex);
-    while (progress.turns < THREADS * FIRST_TURNS)
-        pthread_cond_wait(&progress.changed, &progress.mutex);
-    pthread_mutex_unlock(&progress.mutex);
-}
-
 /* Uses an image until another thread has released it, or its context. */
 static void *use_until_gone(void *unused) {
     const vx_image image = common;
@@ -136,7 +114,7 @@ static void release_in_use(vx_reference reference) {
     pthread_t threads[THREADS];
     progress.turns = 0;
     run_threads(use_until_gone, threads);
-    await_turns();
+    await_turns(THREADS * FIRST_TURNS);
     EXPECT(VX_SUCCESS, vxReleaseReference(&reference));
     join_threads(threads);
 }

@@ -17,16 +17,6 @@ static void on_entry(vx_context of, vx_reference ref, vx_status status, const vx
     snprintf(said, sizeof said, "%s", string);
 }
 
-/* A call gives a status, with one log entry, which begins so. */
-#define SAYS(status, call, words)                                                                  \
-    do {                                                                                           \
-        int before = entries;                                                                      \
-        EXPECT(status, call);                                                                      \
-        if (entries != before + 1 || strncmp(said, words, strlen(words)) != 0)                     \
-            fprintf(stderr, "%d entries: %s\n", entries - before, said);                           \
-        CHECK(entries == before + 1 && strncmp(said, words, strlen(words)) == 0);                  \
-    } while (0)
-
 /* A node that couldn't be made: the graph is refused, however it is used. */
 static void refuse_holes(void) {
     vx_image error = vxCreateImage(context, WIDTH, HEIGHT, VX_DF_IMAGE_RGB);
@@ -67,8 +57,8 @@ static void tell_operands(void) {
     LACKS("vxConvertDepthNode: shift is a scalar of VX_TYPE_INT16, and has to be of VX_TYPE_INT32",
           VX_ERROR_INVALID_TYPE,
           vxConvertDepthNode(graph, u8, s16, VX_CONVERT_POLICY_WRAP, word));
-    LACKS("vxTableLookupNode: lut isn't a lookup table: was it released, or ", VX_ERROR_INVALID_REFERENCE,
-          vxTableLookupNode(graph, u8, (vx_lut)shift, v8));
+    LACKS("vxTableLookupNode: lut isn't a lookup table: was it released, or ",
+          VX_ERROR_INVALID_REFERENCE, vxTableLookupNode(graph, u8, (vx_lut)shift, v8));
     LACKS("vxMinMaxLocNode: minLoc is an array of VX_TYPE_UINT8, and has to be of "
           "VX_TYPE_COORDINATES2D", VX_ERROR_INVALID_TYPE,
           vxMinMaxLocNode(graph, u8, byte, byte, numbers, NULL, NULL, NULL));
@@ -78,8 +68,11 @@ static void tell_operands(void) {
     EXPECT(VX_ERROR_NOT_SUPPORTED, STATUS(phase));
     LACKS("vxCreateGenericNode: ", VX_ERROR_NOT_SUPPORTED, vxCreateGenericNode(graph, phase));
     SAYS(VX_ERROR_NOT_SUPPORTED, vxuMagnitude(context, s16, s16, s16), "vxuMagnitude: ");
-    SAYS(VX_ERROR_NOT_SUPPORTED, STATUS(vxCreatePyramid(context, 3, 0.5f, 8, 8, VX_DF_IMAGE_U8)),
+    vx_pyramid pyramid;
+    SAYS(VX_ERROR_NOT_SUPPORTED,
+         STATUS(pyramid = vxCreatePyramid(context, 3, 0.5f, 8, 8, VX_DF_IMAGE_U8)),
          "vxCreatePyramid: ");
+    EXPECT(VX_ERROR_INVALID_REFERENCE, vxReleasePyramid(&pyramid));
     EXPECT(VX_ERROR_INVALID_REFERENCE, vxuMagnitude(NULL, s16, s16, s16));
     CHECK(vxMagnitudeNode(NULL, s16, s16, s16) == NULL);
 }
@@ -95,12 +88,35 @@ static void tell_numbers(void) {
            vxCopyThresholdRange(range, &lower, &upper, VX_WRITE_ONLY, VX_MEMORY_TYPE_HOST));
     SAYS(VX_ERROR_INVALID_VALUE, vxuThreshold(context, u8, range, v8),
          "vxuThreshold: thresh has an upper limit of 8, below its lower one of 9: set both anew");
-    EXPECT(VX_SUCCESS, STATUS(vxMultiplyNode(graph, u8, u8, scale, VX_CONVERT_POLICY_WRAP,
-                                             VX_ROUND_POLICY_TO_ZERO, v8)));
+    vx_node node = vxMultiplyNode(graph, u8, u8, scale, VX_CONVERT_POLICY_WRAP,
+                                  VX_ROUND_POLICY_TO_ZERO, v8);
+    EXPECT(VX_SUCCESS, STATUS(node));
     SAYS(VX_ERROR_NOT_SUPPORTED, vxVerifyGraph(graph),
          "node 0 (vxMultiplyNode): scale is 0.333333343, and has to be 1 / 2^n with n from 0 to "
          "15");
+    SAYS(VX_ERROR_INVALID_TYPE, vxSetParameterByIndex(node, 3, (vx_reference)scale),
+         "node 0 (vxMultiplyNode): overflow_policy is a scalar of VX_TYPE_FLOAT32, and has to be "
+         "of VX_TYPE_ENUM");
     EXPECT(VX_SUCCESS, vxReleaseGraph(&graph));
+}
+
+/* A graph with more nodes, or with larger virtual images, than the server allows. */
+static void tell_limits(void) {
+    vx_graph graph = vxCreateGraph(context), large = vxCreateGraph(context);
+    vx_image input = vxCreateImage(context, 8192, 4096, VX_DF_IMAGE_U8);
+    for (int i = 0; i < 257; i++)
+        EXPECT(VX_SUCCESS, STATUS(vxHistogramNode(
+                               graph, u8, vxCreateDistribution(context, 8, 0, 256))));
+    SAYS(VX_ERROR_NO_RESOURCES, vxVerifyGraph(graph),
+         "the server refused AddNode: NO_RESOURCES: a graph has at most 256 nodes; make a second");
+    for (int i = 0; i < 9; i++)
+        EXPECT(VX_SUCCESS, STATUS(vxNotNode(
+                               large, input, vxCreateVirtualImage(large, 0, 0, VX_DF_IMAGE_VIRT))));
+    SAYS(VX_ERROR_NO_RESOURCES, vxVerifyGraph(large),
+         "the server refused the graph: NO_RESOURCES: its virtual images have too many bytes");
+    EXPECT(VX_SUCCESS, vxReleaseGraph(&graph));
+    EXPECT(VX_SUCCESS, vxReleaseGraph(&large));
+    EXPECT(VX_SUCCESS, vxReleaseImage(&input));
 }
 
 static vx_status status_of(vx_node node) {
@@ -115,6 +131,10 @@ static void pass_errors(void) {
     EXPECT(VX_ERROR_NOT_SUPPORTED, STATUS(vxNotNode(error, u8, v8)));
     EXPECT(VX_ERROR_NOT_SUPPORTED, STATUS(vxPhaseNode(error, s16, s16, u8)));
     EXPECT(VX_ERROR_NOT_SUPPORTED, STATUS(vxCreateVirtualImage(error, 0, 0, VX_DF_IMAGE_VIRT)));
+    EXPECT(VX_ERROR_NOT_SUPPORTED, STATUS(vxGetGraphParameterByIndex(error, 0)));
+    EXPECT(VX_ERROR_NOT_SUPPORTED, STATUS(vxGetParameterByIndex((vx_node)error, 0)));
+    EXPECT(VX_ERROR_NOT_SUPPORTED, STATUS(vxGetKernelParameterByIndex((vx_kernel)error, 0)));
+    EXPECT(VX_ERROR_NOT_SUPPORTED, STATUS(vxGetReferenceFromDelay((vx_delay)error, 0)));
     EXPECT(VX_ERROR_INVALID_REFERENCE, vxVerifyGraph(error));
 }
 
@@ -312,6 +332,7 @@ int main(void) {
     refuse_holes();
     tell_operands();
     tell_numbers();
+    tell_limits();
     pass_errors();
     tell_nodes();
     tell_links();

@@ -59,7 +59,7 @@ VX_API_ENTRY vx_status VX_API_CALL vxSetImmediateModeTarget(vx_context context, 
 VX_API_ENTRY void VX_API_CALL vxRegisterLogCallback(vx_context context, vx_log_callback_f callback,
                                                     vx_bool reentrant);
 
-/* Adds a log entry, whose message is a format of printf. */
+/* Adds a log entry, whose message is a format of printf; none for VX_SUCCESS. */
 VX_API_ENTRY void VX_API_CALL vxAddLogEntry(vx_reference ref, vx_status status,
                                             const char *message, ...);
 
@@ -122,7 +122,7 @@ VX_API_ENTRY vx_image VX_API_CALL vxCreateImageFromHandle(vx_context context, vx
 
 /* Gives such an image other memory of the same layout, or none for NULL, for which its uses answer
    VX_ERROR_NOT_ALLOCATED; and tells the one before. VX_ERROR_INVALID_PARAMETERS, it isn't such an
-   image or is mapped, or num_planes isn't 1. */
+   image, num_planes isn't 1, or the plane's new pointer is NULL; VX_FAILURE, it is mapped. */
 VX_API_ENTRY vx_status VX_API_CALL vxSwapImageHandle(vx_image image, void *const new_ptrs[],
                                                      void *prev_ptrs[], vx_size num_planes);
 
@@ -141,7 +141,9 @@ VX_API_ENTRY vx_status VX_API_CALL vxGetValidRegionImage(vx_image image, vx_rect
 VX_API_ENTRY vx_status VX_API_CALL vxSetImageValidRectangle(vx_image image,
                                                             const vx_rectangle_t *rect);
 
-/* Sets all pixels of an image to one value. VX_ERROR_OPTIMIZED_AWAY, it is virtual. */
+/* Sets all pixels of an image to one value, after which it is wholly valid; memory of the program
+   keeps its valid rectangle. VX_ERROR_INVALID_REFERENCE, the image is virtual or uniform;
+   VX_ERROR_NOT_ALLOCATED, it is from a handle without memory. */
 VX_API_ENTRY vx_status VX_API_CALL vxSetImagePixelValues(vx_image image,
                                                          const vx_pixel_value_t *pixel_value);
 
@@ -428,7 +430,7 @@ VX_API_ENTRY vx_status VX_API_CALL vxSetGraphParameterByIndex(vx_graph graph, vx
  *
  * These calls are declared so that programs compile. Each of them adds a log entry and answers
  * VX_ERROR_NOT_SUPPORTED, or gives an object of which vxGetStatus tells that. docs/from_openvx.md
- * lists them.
+ * lists them. A vxRelease of such an object answers VX_ERROR_INVALID_REFERENCE.
  */
 
 /* Contexts. */

@@ -45,7 +45,12 @@ typedef uint32_t vx_df_image;
 typedef uintptr_t vx_map_id;
 typedef uint32_t vx_bitfield;
 
-typedef enum _vx_bool { vx_false_e = 0, vx_true_e = 1 } vx_bool;
+typedef vx_enum vx_bool;
+
+typedef enum _vx_bool {
+    vx_false_e = 0,
+    vx_true_e = 1
+} vx_bool_e;
 
 #define VX_FALSE (0)
 #define VX_TRUE (1)
@@ -83,9 +88,12 @@ typedef enum _vx_bool { vx_false_e = 0, vx_true_e = 1 } vx_bool;
 #define VX_KERNEL_MASK (0x00000FFF)
 #define VX_ATTRIBUTE_ID_MASK (0x000000FF)
 
-#define VX_ATTRIBUTE_BASE(vendor, object) (((vendor) << 20) | ((object) << 8))
-#define VX_KERNEL_BASE(vendor, lib) (((vendor) << 20) | ((lib) << 12))
-#define VX_ENUM_BASE(vendor, id) (((vendor) << 20) | ((id) << 12))
+/* By unsigned shifts, since the vendors from 0x800 on, with VX_ID_DEFAULT, reach the sign. */
+#define VX_ATTRIBUTE_BASE(vendor, object)                                                          \
+    ((vx_enum)((vx_uint32)(vendor) << 20 | (vx_uint32)(object) << 8))
+#define VX_KERNEL_BASE(vendor, lib)                                                                \
+    ((vx_enum)((vx_uint32)(vendor) << 20 | (vx_uint32)(lib) << 12))
+#define VX_ENUM_BASE(vendor, id) VX_KERNEL_BASE(vendor, id)
 #define VX_DF_IMAGE(a, b, c, d)                                                                    \
     ((vx_uint32)(vx_uint8)(a) | (vx_uint32)(vx_uint8)(b) << 8 | (vx_uint32)(vx_uint8)(c) << 16 |   \
      (vx_uint32)(vx_uint8)(d) << 24)
