@@ -4,7 +4,7 @@ use Rattle.stat_kernels.proofs.Common.{cases_Bool, nat_tests, ImageValue, Rectan
 use Rattle.vx_base.specs.Rectangle.{has_pixel}
 use Rattle.stat_kernels.specs.Extreme.{added_extremes}
 use Rattle.stat_kernels.specs.Sums.{AreRowsOf}
-use Rattle.stat_kernels.proofs.ExtremeLaws.{AreLowered, extremes_joined, lowered_none, lowered_row}
+use Rattle.stat_kernels.proofs.FirstPixelLaws.{AreLowered, extremes_joined, lowered_none, lowered_row}
 use Rattle.stat_kernels.proofs.BandLaws.{places_lowered, row_of, rows_at, rows_follow}
 use Rattle.stat_kernels.proofs.NextRowLaws.{inside_from, inside_parts, same_columns}
 

@@ -5,7 +5,7 @@ use Rattle.std.specs.List.{count_by}
 use Rattle.stat_kernels.proofs.PlaceLaws.{area_fits, length-samples, places_more, places_none}
 use Rattle.vx_base.specs.Object.{no_extremes}
 use Rattle.stat_kernels.specs.Extreme.{added_extremes}
-use Rattle.stat_kernels.proofs.ExtremeLaws.{at_most, AreLowered, extremes_joined, lowered_more, lowered_none}
+use Rattle.stat_kernels.proofs.FirstPixelLaws.{at_most, AreLowered, extremes_joined, lowered_more, lowered_none}
 use Rattle.stat_kernels.proofs.Rows.{above}
 
 abbrev pub rows_at : ℕ → ℕ → Band

@@ -3,7 +3,7 @@ mod Rows
 mod PlaceLaws
 mod TallyLaws
 pub mod BandLaws
-pub mod ExtremeLaws
+pub mod FirstPixelLaws
 mod SumLaws
 pub mod NextRowLaws
 pub mod AlikeLaws

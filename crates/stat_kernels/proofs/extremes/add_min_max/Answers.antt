@@ -1,7 +1,7 @@
 use Rattle.std.proofs.Common.{◌+◌, ◌-◌, ◌≤◌, ap, arith, ℤ}
 use Rattle.stat_kernels.proofs.Common.{int_min, int_max, nat_tests, rectangle_ordered, ImageValue, IsImage, pixel_at, best_of, rectangle_pixels, samples_in, first_of, Band, band_of, Found}
 use Rattle.image_core.specs.Bands.{IsInRows}
-use Rattle.stat_kernels.proofs.ExtremeLaws.{first_within}
+use Rattle.stat_kernels.proofs.FirstPixelLaws.{first_within}
 use Rattle.stat_kernels.proofs.extremes.add_min_max.Goals as goal
 
 -- the first of some places of a band of an image is within it

@@ -2,7 +2,7 @@ use Rattle.std.proofs.Common.{◌≡◌, ◌∙◌, sym, ap, arith}
 use Rattle.stat_kernels.proofs.Common.{IsValidPart, pixel_at, rectangle_pixels, valid_in, found_in}
 use Rattle.stat_kernels.proofs.Rows.{above}
 use Rattle.stat_kernels.proofs.PlaceLaws.{places_none}
-use Rattle.stat_kernels.proofs.ExtremeLaws.{found_room, next_found}
+use Rattle.stat_kernels.proofs.FirstPixelLaws.{found_room, next_found}
 use Rattle.stat_kernels.proofs.extremes.found_in.Goals as goal
 use Rattle.stat_kernels.proofs.extremes.found_in.Goals.{After-in_rows-part}
 

@@ -1,4 +1,4 @@
-use Rattle.stat_kernels.proofs.ExtremeLaws.{row_found}
+use Rattle.stat_kernels.proofs.FirstPixelLaws.{row_found}
 use Rattle.stat_kernels.proofs.extremes.with_row.Goals as goal
 
 pub returns-in-U8 : goal.returns-in-U8

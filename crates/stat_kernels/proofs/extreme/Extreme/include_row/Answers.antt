@@ -1,7 +1,7 @@
 use Rattle.std.proofs.Common.{◌≡◌, ◌+◌, inl, inr, ◌∙◌, sym, ap, arith, rules, to_z, of_z, w16, FitsSigned}
 use Rattle.stat_kernels.proofs.Common.{to_z-of_z}
 use Rattle.lane_rows.proofs.CountLaws.{none_of_first}
-use Rattle.stat_kernels.proofs.ExtremeLaws.{parts, joins_taken, joins_equal, joins_other}
+use Rattle.stat_kernels.proofs.FirstPixelLaws.{parts, joins_taken, joins_equal, joins_other}
 use Rattle.stat_kernels.proofs.extreme.Extreme.include_row.Goals as goal
 
 pub returns-then-is_beyond : goal.returns-then-is_beyond

@@ -1,6 +1,6 @@
 use Rattle.std.proofs.Common.{◌≡◌, ◌<◌, ◌++◌, ◌∙◌, ap, sym, rules, w16, FitsSigned, map, length, arith, int_lt, append-nil, refl}
 use Rattle.stat_kernels.proofs.Common.{int_min, int_max, nat_tests, to_z-of_z, length-map, row_pixels, Found, found_in}
-use Rattle.stat_kernels.proofs.ExtremeLaws.{downwards, upwards, chosen_among}
+use Rattle.stat_kernels.proofs.FirstPixelLaws.{downwards, upwards, chosen_among}
 use Rattle.stat_kernels.proofs.extreme.Found.include_row.Goals as goal
 
 pub returns-then-is_empty : goal.returns-then-is_empty
