@@ -1,10 +1,6 @@
 -- Delays: images of one description.
 use Rattle.std.proofs.Common.{◌≡◌, ℕ, ◌*◌, ◌≤◌, List, [], ◌∷◌, ◌++◌, length, map, refl, arith, sum_by, All, take, drop, nat_le, IsTrue, leb-true}
-use Rattle.object_table.proofs.Common.{AllPairs, and_parts, length-map, get_or-map, All-head, All-tail, sum_by-cons, sum_by-append, Description, ImageValue, IsImage, new_image, description_of, IsDelay, image_bytes, new_image_is, new_delay}
-use Rattle.std.proofs.lemmas.List.{length-replicate}
-use Rattle.std.proofs.lemmas.List.Elements.{All-replicate}
-use Rattle.std.proofs.lemmas.List.Sums.{sum_by-take-drop}
-use Rattle.vx_base.specs.Description.{IsDescription, byte_count}
+use Rattle.object_table.proofs.Common.{AllPairs, and_parts, length-map, get_or-map, All-head, All-tail, sum_by-cons, sum_by-append, Description, ImageValue, IsImage, new_image, description_of, IsDelay, image_bytes, new_image_is, new_delay, All-replicate, IsDescription, byte_count, length-replicate, sum_by-take-drop}
 use Rattle.vx_base.specs.Slots.{is_slot_count}
 
 -- images of one description take as many bytes as one of them, times their number

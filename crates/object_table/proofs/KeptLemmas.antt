@@ -1,8 +1,6 @@
 -- Entries that are held, and those that are left when uses and names end.
 use Rattle.std.proofs.Common.{◌≡◌, ℕ, ◌+◌, ◌-◌, true, false, cond, List, [], ◌∷◌, ◌++◌, length, map, IsTrue, Option, Some, None, refl, sym, ap, ◌∙◌, arith, ◌==◌, nat_lt, ◌||◌, unwrap_or, All}
-use Rattle.object_table.proofs.Common.{keys_of, lookup, set_value, remove_entry, is_at, nat_cmp, option_map, cases_Bool, length-map, All-head, All-tail, filter_passes, sorted_tail, Numbered, object_bytes, object_kind, Entry, charge_of, without_name, entry_object, is_kept, kept_entries, nodes_at, used_less, entries_without_name, nodes_in, name_count, nat_tests}
-use Rattle.std.proofs.lemmas.Bool.{or_left}
-use Rattle.std.proofs.lemmas.Bool.{or_parts}
+use Rattle.object_table.proofs.Common.{keys_of, lookup, set_value, remove_entry, is_at, nat_cmp, option_map, cases_Bool, length-map, All-head, All-tail, filter_passes, sorted_tail, Numbered, object_bytes, object_kind, Entry, charge_of, without_name, entry_object, is_kept, kept_entries, nodes_at, used_less, entries_without_name, nodes_in, name_count, nat_tests, or_left, or_parts}
 use Rattle.object_table.proofs.EntryLemmas.{InOrder, same_name, past_head, charge_is, All-written, sum-written, sum-removed}
 use Rattle.object_table.proofs.UseLemmas.{with_uses, less, less_is, used-append, used-nil, shown-used}
 
@@ -39,11 +37,11 @@ dropped (e ∷ entries) name old new found held none =
     let others = All-tail (λ e. IsTrue (is_kept e)) e entries held in
     grind (arith, dropped entries name old new, others, all_kept entries others, All-head (λ e. IsTrue (is_kept e)) e entries held)
 
--- an object of as many bytes leaves the charge
-pub charge-written : (entries : List (ℕ × Entry)) (name : ℕ) (old new : Entry) → lookup (is_at (nat_cmp name)) entries ≡ Some old → new.object ≡ old.object
-    → charge_of (map entry_object entries) ≡ charge_of (map entry_object (set_value (is_at (nat_cmp name)) entries new))
-charge-written entries name old new found same =
-    omega (arith, charge_is entries, charge_is (set_value (is_at (nat_cmp name)) entries new), sum-written (λ e. object_bytes e.1.object) entries name old new found, ap object_bytes same)
+-- an entry of the same object leaves the charge
+pub charge-written : (charge : ℕ) (entries written : List (ℕ × Entry)) (name : ℕ) (old new : Entry) → charge ≡ charge_of (map entry_object entries) → lookup (is_at (nat_cmp name)) entries ≡ Some old
+    → written ≡ set_value (is_at (nat_cmp name)) entries new → new.object ≡ old.object → charge ≡ charge_of (map entry_object written)
+charge-written charge entries written name old new charged found is same =
+    rw is (omega (arith, charged, charge_is entries, charge_is (set_value (is_at (nat_cmp name)) entries new), sum-written (λ e. object_bytes e.1.object) entries name old new found, ap object_bytes same))
 
 -- what is dropped isn't charged
 pub charge-removed : (entries : List (ℕ × Entry)) (name : ℕ) (old : Entry) → lookup (is_at (nat_cmp name)) entries ≡ Some old

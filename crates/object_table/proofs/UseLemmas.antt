@@ -1,7 +1,6 @@
 -- How often nodes use each object.
 use Rattle.std.proofs.Common.{◌≡◌, ℕ, ◌+◌, ◌-◌, ◌<◌, ◌≤◌, Bool, cond, List, [], ◌∷◌, ◌++◌, length, map, get_or, take, Option, Some, None, refl, sym, ap, ◌∙◌, arith, ◌==◌, All}
-use Rattle.object_table.proofs.Common.{nat_cmp, keys_of, lookup, set_value, is_at, flat_map, option_map, map-append, length-map, get_or-map, All-map, sum_by-append, count_by-le-length, sorted_tail, Node, Numbered, Reference, optional_cells, ObjectValue, Entry, used_more, used_names, name_count}
-use Rattle.std.proofs.lemmas.List.{take_more, flat_map_more}
+use Rattle.object_table.proofs.Common.{nat_cmp, keys_of, lookup, set_value, is_at, flat_map, option_map, map-append, length-map, get_or-map, All-map, sum_by-append, count_by-le-length, sorted_tail, Node, Numbered, Reference, optional_cells, ObjectValue, Entry, used_more, used_names, name_count, flat_map_more, take_more}
 use Rattle.object_table.proofs.EntryLemmas.{InOrder, same_name, past_head}
 
 -- how often a name occurs in two lists
