@@ -61,17 +61,11 @@ pub held_aged : (names : List ℕ) (objects : List NamedObject) (name : ℕ)
 held_aged names [] name = refl
 held_aged names (o ∷ objects) name = grind (arith, held_aged names objects name, eqb-true o.name name)
 
-aged_kind : (object : ObjectValue) → object_kind (aged_object object) ≡ object_kind object
-aged_kind object = grind arith
-
-aged_graph : (object : ObjectValue) → graph_value (aged_object object) ≡ graph_value object
-aged_graph object = grind arith
-
 pub kind_aged : (names : List ℕ) (objects : List NamedObject) (wanted : Kind) (name : ℕ) → IsUnder objects wanted name → IsUnder (aged_under names objects) wanted name
-kind_aged names objects wanted name h = grind (arith, held_aged names objects name, aged_kind)
+kind_aged names objects wanted name h = grind (arith, held_aged names objects name)
 
 pub graph_aged : (names : List ℕ) (objects : List NamedObject) (name : ℕ) → graph_under (aged_under names objects) name ≡ graph_under objects name
-graph_aged names objects name = grind (arith, held_aged names objects name, aged_graph)
+graph_aged names objects name = grind (arith, held_aged names objects name)
 
 -- ---- one more delay
 

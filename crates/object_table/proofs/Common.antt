@@ -19,7 +19,7 @@ pub use Rattle.std.proofs.lemmas.List.{get_or-map, length-map, map-append, get_o
 pub use Rattle.std.proofs.lemmas.List.Elements.{All-cons, All-filter, All-head, All-map, All-nil, All-tail, All-weaker, filter_passes, All-replicate, All-push, All-append, All-take, All-drop, All-set}
 pub use Rattle.std.proofs.lemmas.List.Folds.{list_any_more, list_any_none, flat_map-map, list_any-append}
 pub use Rattle.std.proofs.lemmas.List.Kept.{AllPairs-from_increasing, AllPairs-filter, AllPairs-cons}
-pub use Rattle.std.proofs.lemmas.List.Sums.{count_by-le-length, sum_by-append, sum_by-cons, sum_by-le, sum_by_push, sum-map, sum_by-take-drop, length-filter}
+pub use Rattle.std.proofs.lemmas.List.Sums.{count_by-le-length, sum_by-append, sum_by-cons, sum_by-le, sum_by_push, sum-map, length-filter}
 pub use Rattle.std.proofs.lemmas.Map.{keys-set_value, length-set_value, lookup-none}
 pub use Rattle.std.proofs.lemmas.Map.Entries.{All-lookup, none_past_head}
 pub use Rattle.std.proofs.lemmas.Map.Keys.{sorted_tail, sorted_from_strictly_increasing, IsDistinct-from_sorted, IsStrictlyIncreasing-from_sorted}

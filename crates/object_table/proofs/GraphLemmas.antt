@@ -114,9 +114,6 @@ named_by name n = grind (arith, names_of_operands, any_map, any_alike, eqb-sym)
 used_in : (name : ℕ) (object : ObjectValue) → list_any (λ other. name == other) (flat_map used_names (nodes_in object)) ≡ uses object name
 used_in name object = grind (arith, any-flat_map, any_map, any_alike, named_by)
 
-used_live : (name : ℕ) (o : NamedObject) → list_any (λ other. name == other) (names_used_by o) ≡ (o.live && uses o.object name)
-used_live name o = grind (arith, used_in)
-
 -- by those of all unreleased graphs
 pub is_used_there : (objects : List NamedObject) (name : ℕ) → nat_lt 0 (name_count name (names_used objects)) ≡ is_used objects name
 is_used_there objects name =
@@ -125,7 +122,7 @@ is_used_there objects name =
       any_times name (names_used objects),
       any-flat_map names_used_by (λ other. name == other) objects,
       any_alike (λ o. list_any (λ other. name == other) (names_used_by o)) (λ o. o.live && uses o.object name) objects,
-      used_live,
+      used_in,
     )
 
 -- ---- entries

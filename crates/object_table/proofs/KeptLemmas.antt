@@ -62,13 +62,9 @@ held-left names entries others is = rw is (filter_passes is_kept (used_less name
 pub left-nil : (entries : List (ℕ × Entry)) → All (λ e. IsTrue (is_kept e)) entries → entries ≡ left_of [] entries
 left-nil entries held = sym (all_kept entries held) ∙ ap kept_entries (sym (used-nil less less_is entries))
 
-left-kept : (names : List ℕ) (entries : List (ℕ × Entry)) → left_of names (kept_entries entries) ≡ left_of names entries
-left-kept names entries =
-    kept-map (λ e. (e.0, with_uses e.1 (e.1.uses - name_count e.0 names)))
-    (λ e is. grind (arith, nat_tests, or_parts e.1.live (nat_lt 0 e.1.uses) is)) entries
-
 pub left-append : (first second : List ℕ) (entries : List (ℕ × Entry)) → left_of second (left_of first entries) ≡ left_of (first ++ second) entries
-left-append first second entries = left-kept second (used_less first entries) ∙ ap kept_entries (used-append less less_is first second entries)
+left-append first second entries =
+    kept-map (λ e. (e.0, with_uses e.1 (e.1.uses - name_count e.0 second))) (λ e is. grind (arith, nat_tests, or_parts e.1.live (nat_lt 0 e.1.uses) is)) (used_less first entries) ∙ ap kept_entries (used-append less less_is first second entries)
 
 -- the graph under a live name stays, whose nodes end their uses
 module _ (graph : ℕ) (names : List ℕ) (old now : List (ℕ × Entry)) (then : now ≡ left_of names old) (live : option_map (λ (e : Entry). e.live) (lookup (is_at (nat_cmp graph)) old) ≡ Some true) where
@@ -111,11 +107,6 @@ pub shown-ended : (name : ℕ) (entries : List (ℕ × Entry)) → map entry_obj
 shown-ended name [] = refl
 shown-ended name (e ∷ entries) = grind (arith, shown-ended name entries, cases_Bool (e.0 == name))
 
-kept-ended : (name : ℕ) (entries : List (ℕ × Entry)) → kept_entries (entries_without_name name (kept_entries entries)) ≡ kept_entries (entries_without_name name entries)
-kept-ended name entries =
-    kept-map (λ e. let n : Entry = e.1 in cond (e.0 == name) (e.0, record n { live = false }) e)
-    (λ e is. grind (arith, cases_Bool e.1.live)) entries
-
 ended-less : (name : ℕ) (names : List ℕ) (entries : List (ℕ × Entry)) → entries_without_name name (used_less names entries) ≡ used_less names (entries_without_name name entries)
 ended-less name names [] = refl
 ended-less name names (e ∷ entries) = grind (arith, ended-less name names entries, cases_Bool (e.0 == name))
@@ -124,5 +115,7 @@ ended-less name names (e ∷ entries) = grind (arith, ended-less name names entr
 pub left-ended : (entries now next : List (ℕ × Entry)) (names : List ℕ) (name : ℕ) (old : Entry) → InOrder entries → lookup (is_at (nat_cmp name)) entries ≡ Some old
     → now ≡ left_of names entries → next ≡ kept_entries (entries_without_name name now) → next ≡ left_of names (set_value (is_at (nat_cmp name)) entries (record old { live = false }))
 left-ended entries now next names name old order found so_far then =
-    then ∙ ap (λ l. kept_entries (entries_without_name name l)) so_far ∙ kept-ended name (used_less names entries) ∙ ap kept_entries (ended-less name names entries)
+    then ∙ ap (λ l. kept_entries (entries_without_name name l)) so_far 
+    ∙ kept-map (λ e. let n : Entry = e.1 in cond (e.0 == name) (e.0, record n { live = false }) e) (λ e is. grind (arith, cases_Bool e.1.live)) (used_less names entries)
+    ∙ ap kept_entries (ended-less name names entries)
     ∙ ap (left_of names) (sym (ended-one entries name old order found))

@@ -4,7 +4,6 @@ use Rattle.object_table.proofs.UseLemmas.{with_uses, less, less_is, used-one, us
 use Rattle.object_table.proofs.KeptLemmas.{all_kept, held-written, dropped, charge-written, left_of, left-nil}
 use Rattle.object_table.proofs.EntryBlockLemmas.{owns-written, Balances-written, Balances-written_then}
 use Rattle.object_table.proofs.table.graphs.end_use.Goals as goal
-use Rattle.object_table.proofs.table.graphs.end_use.Goals.{Joined-then-entry}
 
 pub returns-in_default-clause-entries : goal.returns-in_default-clause-entries
 returns-in_default-clause-entries c =
@@ -20,7 +19,7 @@ returns-in_default-get_mut-clause-entries c =
     ∙ operand_uses left_of c.args.operand c.in-Some.cell name entries c.in-Some.is c.name-name.ensures.value
 
 -- the entry that is left of it
-then_is : (c : Joined-then-entry) → c.then-entry.entries.entries ≡ set_value (is_at (nat_cmp c.name-name.result)) c.args.entries.now.entries (with_uses c.in-Some-get_mut.entry.now c.saturating_sub-entry.result)
+then_is : (c : goal.Joined-then-entry) → c.then-entry.entries.entries ≡ set_value (is_at (nat_cmp c.name-name.result)) c.args.entries.now.entries (with_uses c.in-Some-get_mut.entry.now c.saturating_sub-entry.result)
 then_is c =
     let written = (c.get_mut.follows.holds (with_uses c.in-Some-get_mut.entry.now c.saturating_sub-entry.result)).0 in
     grind (arith, written, c.then-entry.branch)
