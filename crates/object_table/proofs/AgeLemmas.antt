@@ -1,12 +1,7 @@
 -- Delays that age with graphs.
-use Rattle.std.proofs.Common.{◌≡◌, ◌≢◌, ℕ, ◌+◌, ◌<◌, Bool, true, false, List, [], ◌∷◌, ◌++◌, length, map, take, get_or, Some, None, refl, sym, ap, ◌∙◌, arith, ◌==◌, if◌then◌else◌, is_some, map-id, eqb-true, ne_eqb, All, filter, length-take, get_or-take}
-use Rattle.object_table.proofs.Common.{list_any, AllPairs, keys_of, lookup, set_value, is_at, option_map, nat_cmp, eqb-false, All-nil, All-cons, All-filter, sorted_tail, Kind, with_delays, ObjectValue, GraphObject, object_kind, Entry, is_there, aged_under, Context, with_objects, NamedObject, object_held, aged_object, graph_value, IsUnder, graph_under, entry_object, nodes_in}
-use Rattle.std.proofs.lemmas.List.Kept.{AllPairs-filter}
-use Rattle.std.proofs.lemmas.List.{get_or_default}
-use Rattle.std.proofs.lemmas.List.Folds.{list_any_more, list_any_none}
+use Rattle.std.proofs.Common.{◌≡◌, ◌≢◌, ℕ, ◌+◌, ◌<◌, Bool, true, false, List, [], ◌∷◌, ◌++◌, length, map, take, get_or, Some, None, refl, sym, ap, ◌∙◌, arith, ◌==◌, if◌then◌else◌, is_some, eqb-true, ne_eqb, All, filter, length-take, get_or-take}
+use Rattle.object_table.proofs.Common.{list_any, AllPairs, keys_of, lookup, set_value, is_at, option_map, nat_cmp, eqb-false, All-nil, All-cons, All-filter, sorted_tail, Kind, with_delays, ObjectValue, GraphObject, object_kind, Entry, is_there, aged_under, Context, with_objects, NamedObject, object_held, aged_object, graph_value, IsUnder, graph_under, entry_object, nodes_in, AllPairs-filter, aged_if, get_or_default, list_any_more, list_any_none}
 use Rattle.std.proofs.lemmas.List.Quantifiers.{all_pairs_push}
-use Rattle.vx_base.specs.declared.kind.Kind.TheVariants as kind
-use Rattle.object_table.specs.Ageing.{aged_if}
 use Rattle.object_table.proofs.EntryLemmas.{InOrder, same_name, past_head, held_is, objects_are}
 
 -- ---- one name
@@ -31,9 +26,10 @@ module _ (t : Context) (next : ℕ) (entries : List (ℕ × Entry)) (view : ◌�
   none_to_age none = ap (with_objects t) (sym (objects_are t next entries view) ∙ sym (none_aged entries name none) ∙ ap (aged_under (name ∷ [])) (objects_are t next entries view))
 
   -- what ages shows
-  pub shown_aged : (old new : Entry) (after : List (ℕ × Entry)) → lookup (is_at (nat_cmp name)) entries ≡ Some old → InOrder entries → new.live ≡ old.live → new.object ≡ aged_object old.object
-      → after ≡ set_value (is_at (nat_cmp name)) entries new → ◌≡◌ {A = Context} (record { next = next; objects = map entry_object after }) (with_objects t (aged_under (name ∷ []) t.objects))
-  shown_aged old new after found order live is after_is = grind (arith, aged_written entries name old new order found live is, objects_are t next entries view)
+  pub shown_aged : (old : Entry) (object : ObjectValue) (after : List (ℕ × Entry)) → lookup (is_at (nat_cmp name)) entries ≡ Some old → InOrder entries
+      → after ≡ set_value (is_at (nat_cmp name)) entries (record old { object = object }) → object ≡ aged_object old.object
+      → ◌≡◌ {A = Context} (record { next = next; objects = map entry_object after }) (with_objects t (aged_under (name ∷ []) t.objects))
+  shown_aged old object after found order after_is is = grind (arith, aged_written entries name old (record old { object = object }) order found refl is, objects_are t next entries view)
 
 -- ---- several names, one after the other
 
@@ -58,10 +54,6 @@ aged_more names k d (o ∷ objects) apart there =
         grind (arith, list_any_more is_it names k d there, list_any_none is_it (take k names) (λ i e less. before i e less here))
     one false other = grind (arith, list_any_more is_it names k d there, other)
 
--- no name
-pub aged_none : (objects : List NamedObject) → aged_under [] objects ≡ objects
-aged_none objects = map-id objects
-
 -- ---- the objects held after aging
 
 pub held_aged : (names : List ℕ) (objects : List NamedObject) (name : ℕ)
@@ -69,17 +61,11 @@ pub held_aged : (names : List ℕ) (objects : List NamedObject) (name : ℕ)
 held_aged names [] name = refl
 held_aged names (o ∷ objects) name = grind (arith, held_aged names objects name, eqb-true o.name name)
 
-aged_kind : (object : ObjectValue) → object_kind (aged_object object) ≡ object_kind object
-aged_kind object = grind arith
-
-aged_graph : (object : ObjectValue) → graph_value (aged_object object) ≡ graph_value object
-aged_graph object = grind arith
-
 pub kind_aged : (names : List ℕ) (objects : List NamedObject) (wanted : Kind) (name : ℕ) → IsUnder objects wanted name → IsUnder (aged_under names objects) wanted name
-kind_aged names objects wanted name h = grind (arith, held_aged names objects name, aged_kind)
+kind_aged names objects wanted name h = grind (arith, held_aged names objects name)
 
 pub graph_aged : (names : List ℕ) (objects : List NamedObject) (name : ℕ) → graph_under (aged_under names objects) name ≡ graph_under objects name
-graph_aged names objects name = grind (arith, held_aged names objects name, aged_graph)
+graph_aged names objects name = grind (arith, held_aged names objects name)
 
 -- ---- one more delay
 
@@ -94,5 +80,5 @@ apart_and names p name apart none =
     others (n ∷ l) h = All-cons (λ m. m ≢ name) n l (eqb-false n name (grind arith)) (others l (grind arith))
 
 -- a graph has the nodes that it had
-pub graph_nodes : (object : ObjectValue) (delays : List ℕ) → object_kind object ≡ kind.Graph → nodes_in (GraphObject (with_delays (graph_value object) delays)) ≡ nodes_in object
+pub graph_nodes : (object : ObjectValue) (delays : List ℕ) → object_kind object ≡ Kind.Graph → nodes_in (GraphObject (with_delays (graph_value object) delays)) ≡ nodes_in object
 graph_nodes object delays is = grind arith

@@ -1,8 +1,6 @@
 -- The skeletons of objects determine how many blocks they occupy.
 use Rattle.std.proofs.Common.{◌≡◌, ℕ, ◌+◌, List, [], ◌∷◌, ◌++◌, map, refl, sym, ap, ◌∙◌, sum}
-use Rattle.object_table.proofs.Common.{sum_by_push, Format, ImageValue, ObjectValue, DelayObject, image_blocks, object_blocks, blocks_in, NamedObject, image_skeleton, skeleton, sum_map}
-use Rattle.std.proofs.lemmas.List.Sums.{sum-map}
-use Rattle.object_table.specs.Blocks.{KeepsBlocks}
+use Rattle.object_table.proofs.Common.{sum_by_push, Format, ImageValue, ObjectValue, DelayObject, image_blocks, object_blocks, blocks_in, NamedObject, image_skeleton, skeleton, sum_map, KeepsBlocks, sum-map}
 use Rattle.object_table.proofs.SkeletonLaws.{map-told}
 
 -- ---- of one object

@@ -1,10 +1,6 @@
 -- Delays: images of one description.
-use Rattle.std.proofs.Common.{◌≡◌, ℕ, ◌*◌, ◌≤◌, List, [], ◌∷◌, ◌++◌, length, map, refl, arith, sum_by, All, take, drop, nat_le, IsTrue, leb-true}
-use Rattle.object_table.proofs.Common.{AllPairs, and_parts, length-map, get_or-map, All-head, All-tail, sum_by-cons, sum_by-append, Description, ImageValue, IsImage, new_image, description_of, IsDelay, image_bytes, new_image_is, new_delay}
-use Rattle.std.proofs.lemmas.List.{length-replicate}
-use Rattle.std.proofs.lemmas.List.Elements.{All-replicate}
-use Rattle.std.proofs.lemmas.List.Sums.{sum_by-take-drop}
-use Rattle.vx_base.specs.Description.{IsDescription, byte_count}
+use Rattle.std.proofs.Common.{◌≡◌, ℕ, ◌*◌, ◌≤◌, List, [], ◌∷◌, length, map, refl, arith, sum_by, All, nat_le, IsTrue, leb-true}
+use Rattle.object_table.proofs.Common.{AllPairs, and_parts, length-map, get_or-map, All-head, All-tail, sum_by-cons, Description, ImageValue, IsImage, new_image, description_of, IsDelay, image_bytes, new_image_is, new_delay, All-replicate, IsDescription, byte_count, length-replicate}
 use Rattle.vx_base.specs.Slots.{is_slot_count}
 
 -- images of one description take as many bytes as one of them, times their number
@@ -12,10 +8,6 @@ pub bytes_alike : (d : Description) (images : List ImageValue) → All (λ image
 bytes_alike d [] h = omega arith
 bytes_alike d (image ∷ images) h =
     grind (arith, bytes_alike d images (All-tail (λ i. description_of i ≡ d) image images h), All-head (λ i. description_of i ≡ d) image images h, All-tail (λ i. description_of i ≡ d) image images h, sum_by-cons image_bytes image images)
-
--- what is turned round takes as much
-pub sum-turned : {X : Type 0} (f : X → ℕ) (n : ℕ) (xs : List X) → sum_by f (drop n xs ++ take n xs) ≡ sum_by f xs
-sum-turned f n xs = omega (arith, sum_by-append f (drop n xs) (take n xs), sum_by-take-drop f xs n)
 
 -- images of one description are alike, any two of them
 pub alike : (d : Description) (images : List ImageValue) → All (λ image. description_of image ≡ d) images → AllPairs (λ a b. a ≡ b) (map description_of images)

@@ -1,9 +1,7 @@
 -- In how many blocks of a pool the entries of a map have their samples.
 use Rattle.std.proofs.Common.{◌≡◌, ℕ, ◌+◌, List, [], ◌∷◌, map, Some, refl, sym, ap, ◌∙◌, arith, rules, sum_by}
-use Rattle.object_table.proofs.Common.{lookup, set_value, remove_entry, is_at, nat_cmp, sum_by-cons, Format, Entry, GraphValue, ObjectValue, GraphObject, object_kind, object_blocks, blocks_in, LendsAtLeast, Balances, NamedObject, entry_object}
-use Rattle.vx_base.specs.declared.kind.Kind.TheVariants as kind
+use Rattle.object_table.proofs.Common.{lookup, set_value, remove_entry, is_at, nat_cmp, sum_by-cons, Format, Entry, GraphValue, ObjectValue, GraphObject, object_kind, object_blocks, blocks_in, LendsAtLeast, Balances, NamedObject, entry_object, Kind}
 use Rattle.pixel_pool.specs.declared.pool.Pool.{Pool}
-use Rattle.object_table.specs.Blocks.{LendsLess}
 use Rattle.object_table.proofs.EntryLemmas.{sum-written, sum-removed}
 
 -- in how many blocks of a format they have theirs
@@ -33,16 +31,9 @@ blocks-removed entries name old found format =
 
 -- ---- what is lent as the entries change
 
--- the objects that are left occupy no more blocks than are lent
-pub owns_after : (pool changed : Pool) (before after : List NamedObject) → LendsAtLeast pool (blocks_in before) → Balances pool changed before after → LendsAtLeast changed (blocks_in after)
-owns_after pool changed before after owns balances format = omega (arith, owns format, balances format)
-
--- two changes, one after the other
-pub Balances-trans : (pool middle changed : Pool) (first second third : List NamedObject) → Balances pool middle first second → Balances middle changed second third → Balances pool changed first third
-Balances-trans pool middle changed first second third one other format = omega (arith, one format, other format)
-
 -- an entry that is written with an object of as many blocks
-module _ (entries : List (ℕ × Entry)) (name : ℕ) (old new : Entry) (found : lookup (is_at (nat_cmp name)) entries ≡ Some old) (same : (format : Format) → object_blocks new.object format ≡ object_blocks old.object format) (written : List (ℕ × Entry)) (is : written ≡ set_value (is_at (nat_cmp name)) entries new) where
+module _ (entries : List (ℕ × Entry)) (name : ℕ) (old new : Entry) (written : List (ℕ × Entry))
+    (found : lookup (is_at (nat_cmp name)) entries ≡ Some old) (is : written ≡ set_value (is_at (nat_cmp name)) entries new) (same : (format : Format) → object_blocks new.object format ≡ object_blocks old.object format) where
   as_many : (format : Format) → entry_blocks written format ≡ entry_blocks entries format
   as_many format = ap (λ l. entry_blocks l format) is ∙ blocks-written entries name old new format found (same format)
 
@@ -56,27 +47,12 @@ module _ (entries : List (ℕ × Entry)) (name : ℕ) (old new : Entry) (found :
   pub Balances-written_then : (pool changed : Pool) (after : List (ℕ × Entry)) → Balances pool changed (map entry_object written) (map entry_object after) → Balances pool changed (map entry_object entries) (map entry_object after)
   Balances-written_then pool changed after balances format = omega (arith, as_many format, balances format)
 
--- entries that end, each in its turn: the first of those that are left
-pub owns_first : (pool changed : Pool) (before : List NamedObject) (entries : List (ℕ × Entry)) (e : ℕ × Entry) (rest : List (ℕ × Entry)) → entries ≡ e ∷ rest → LendsAtLeast pool (blocks_in before)
-    → Balances pool changed before (map entry_object entries) → LendsAtLeast changed (object_blocks e.1.object)
-owns_first pool changed before entries e rest first owns balances format =
-    omega (arith, owns format, balances format, blocks-cons e rest format, ap (λ l. entry_blocks l format) first)
-
-pub Balances-first : (pool changed next : Pool) (before : List NamedObject) (entries : List (ℕ × Entry)) (e : ℕ × Entry) (rest : List (ℕ × Entry)) → entries ≡ e ∷ rest
-    → Balances pool changed before (map entry_object entries) → LendsLess changed next (object_blocks e.1.object) → Balances pool next before (map entry_object rest)
-Balances-first pool changed next before entries e rest first balances less format =
-    omega (arith, balances format, less format, blocks-cons e rest format, ap (λ l. entry_blocks l format) first)
-
--- once none is left
-pub Balances-all : (pool changed : Pool) (before : List NamedObject) (entries : List (ℕ × Entry)) → entries ≡ [] → Balances pool changed before (map entry_object entries) → LendsLess pool changed (blocks_in before)
-Balances-all pool changed before entries none balances format = omega (arith, balances format, ap (λ l. entry_blocks l format) none)
-
 -- ---- graphs
 
 -- they have no samples
-no_blocks : (object : ObjectValue) → object_kind object ≡ kind.Graph → (format : Format) → object_blocks object format ≡ 0
+no_blocks : (object : ObjectValue) → object_kind object ≡ Kind.Graph → (format : Format) → object_blocks object format ≡ 0
 no_blocks object is format = grind arith
 
 -- so another graph under the same name occupies as many
-pub graph_blocks : (old new : ObjectValue) (graph : GraphValue) → object_kind old ≡ kind.Graph → new ≡ GraphObject graph → (format : Format) → object_blocks new format ≡ object_blocks old format
+pub graph_blocks : (old new : ObjectValue) (graph : GraphValue) → object_kind old ≡ Kind.Graph → new ≡ GraphObject graph → (format : Format) → object_blocks new format ≡ object_blocks old format
 graph_blocks old new graph of_graph is format = ap (λ o. object_blocks o format) is ∙ sym (no_blocks old of_graph format)

@@ -1,18 +1,7 @@
 -- Entries of a map by name, and what they show.
 use Rattle.std.proofs.Common.{◌≡◌, ℕ, ◌+◌, ◌<◌, ◌≤◌, true, cond, List, [], ◌∷◌, ◌++◌, ◌*◌, length, map, Option, Some, None, refl, sym, ap, subst, ◌∙◌, arith, rules, ◌==◌, nat_lt, ◌||◌, sum_by, unwrap_or, length-append, All, IsTrue}
-use Rattle.object_table.proofs.Common.{nat_cmp, keys_of, lookup, set_value, remove_entry, is_at, option_map, IsStrictlyIncreasing, cases_lt, and_parts, length-map, All-cons, All-head, All-tail, All-weaker, sum_by-cons, sum_by-le, sum_by_push, keys-set_value, length-set_value, All-lookup, sorted_tail, Kind, Reference, ImageValue, new_image, ObjectValue, ImageObject, object_bytes, object_kind, Entry, Context, object_named, charge_of, with_objects, object_in, with_slot, HasImage, object_held, with_object, image_value, aged_object, IsUnder, entry_object, is_kept, IsTable, nodes_in, names_used_by, names_used, name_count, GREATEST_SLOTS, GREATEST_BYTES}
-use Rattle.vx_base.specs.declared.format.Format.TheVariants.{U8}
-use Rattle.std.specs.BTreeMap.{insert_entry}
-use Rattle.std.specs.List.Sorted.{IsStrictlySortedBy}
+use Rattle.object_table.proofs.Common.{nat_cmp, keys_of, lookup, set_value, remove_entry, is_at, option_map, IsStrictlyIncreasing, cases_lt, and_parts, length-map, All-cons, All-head, All-tail, All-weaker, sum_by-cons, sum_by-le, sum_by_push, keys-set_value, length-set_value, sorted_tail, Kind, Reference, ImageValue, new_image, ObjectValue, ImageObject, object_bytes, object_kind, Entry, Context, object_named, charge_of, with_objects, object_in, with_slot, HasImage, object_held, with_object, image_value, IsUnder, entry_object, is_kept, IsTable, nodes_in, names_used_by, names_used, name_count, GREATEST_SLOTS, GREATEST_BYTES, All-push, HoldsImage, IsDistinct-from_sorted, IsStrictlySortedBy, can_insert, cell_object, image_held, insert_entry, lookup-none, none_past_head, object_under, reference_to, sorted_from_strictly_increasing, Format}
 use Rattle.std.proofs.lemmas.Cmp.{nat_cmp_total, eq_by_cmp_equiv}
-use Rattle.std.proofs.lemmas.List.Elements.{All-push}
-use Rattle.std.proofs.lemmas.Map.{lookup-none}
-use Rattle.std.proofs.lemmas.Map.Entries.{none_past_head}
-use Rattle.std.proofs.lemmas.Map.Keys.{sorted_from_strictly_increasing, IsDistinct-from_sorted}
-use Rattle.vx_base.specs.declared.kind.Kind.TheVariants as kind
-use Rattle.vx_base.specs.Reference.{reference_to}
-use Rattle.object_table.specs.Context.{can_insert}
-use Rattle.object_table.specs.Table.{object_under, cell_object, image_held, HoldsImage}
 
 -- ---- keys
 
@@ -106,23 +95,17 @@ times_none name (other ∷ names) h = grind (arith, times_none name names (All-t
 pub charge_limit : (next charge : ℕ) (entries : List (ℕ × Entry)) → IsTable next charge entries → charge ≤ 1024 * (GREATEST_SLOTS * GREATEST_BYTES)
 charge_limit next charge entries t = omega (arith, t.charged, charge_is entries, t.count, sum_by-le (λ e. object_bytes e.1.object) (GREATEST_SLOTS * GREATEST_BYTES) entries t.each)
 
-module _ (next charge : ℕ) (entries : List (ℕ × Entry)) (t : IsTable next charge entries) (name : ℕ) (old : Entry) (found : lookup (is_at (nat_cmp name)) entries ≡ Some old) where
-  bytes_found : object_bytes old.object ≤ GREATEST_SLOTS * GREATEST_BYTES
-  bytes_found = rw found at (All-lookup (λ (e : Entry). object_bytes e.object ≤ GREATEST_SLOTS * GREATEST_BYTES) (is_at (nat_cmp name)) entries t.each)
-
-  -- replacing the object by one with the same nodes leaves a table; the charge changes to that of the new object
-  pub IsTable-exchanged : (charged : ℕ) (new : Entry) → new.live ≡ old.live → new.uses ≡ old.uses → nodes_in new.object ≡ nodes_in old.object
-      → object_bytes new.object ≤ GREATEST_SLOTS * GREATEST_BYTES → charged + object_bytes old.object ≡ charge + object_bytes new.object → IsTable next charged (set_value (is_at (nat_cmp name)) entries new)
-  IsTable-exchanged charged new live uses nodes limit balance =
-      grind (arith, used-written entries name old new found live nodes, sum-written (λ e. object_bytes e.1.object) entries name old new found, All-written (λ e. e.0 < next) entries name old new found (λ k h. h) t.below, All-written (λ e. object_bytes e.1.object ≤ GREATEST_SLOTS * GREATEST_BYTES) entries name old new found (λ k h. limit) t.each, All-written (λ e. length (nodes_in e.1.object) ≤ 256) entries name old new found (λ k h. subst (λ l. length l ≤ 256) (sym nodes) h) t.nodes, charge_is entries, All-written (λ e. e.1.uses ≡ name_count e.0 (names_used (map entry_object entries))) entries name old new found (λ k h. uses ∙ h) t.uses, All-written (λ e. IsTrue (is_kept e)) entries name old new found (λ k h. ap (λ b. b || nat_lt 0 new.uses) live ∙ ap (λ n. old.live || nat_lt 0 n) uses ∙ h) t.held, used-written, sum-written, keys-set_value, All-written, length-set_value, charge_is)
-
--- an object of as many bytes
-pub IsTable-written : (next charge : ℕ) (entries : List (ℕ × Entry)) (name : ℕ) (old new : Entry) (after : List (ℕ × Entry)) → IsTable next charge entries → lookup (is_at (nat_cmp name)) entries ≡ Some old
-    → new.live ≡ old.live → new.uses ≡ old.uses → nodes_in new.object ≡ nodes_in old.object → object_bytes new.object ≡ object_bytes old.object
-    → after ≡ set_value (is_at (nat_cmp name)) entries new → IsTable next charge after
-IsTable-written next charge entries name old new after t found live uses nodes bytes then =
-    let limit = bytes_found next charge entries t name old found in
-    subst (IsTable next charge) (sym then) (IsTable-exchanged next charge entries t name old found charge new live uses nodes (omega (arith, bytes, limit)) (omega (arith, bytes)))
+-- an object of as many bytes and the same nodes
+pub IsTable-written : (next charge : ℕ) (entries : List (ℕ × Entry)) (name : ℕ) (old : Entry) (object : ObjectValue) (after : List (ℕ × Entry)) → IsTable next charge entries
+    → lookup (is_at (nat_cmp name)) entries ≡ Some old → after ≡ set_value (is_at (nat_cmp name)) entries (record old { object = object })
+    → nodes_in object ≡ nodes_in old.object → object_bytes object ≡ object_bytes old.object → IsTable next charge after
+IsTable-written next charge entries name old object after t found then nodes bytes =
+    let new : Entry = record old { object = object } in
+    rw then (grind (arith, used-written entries name old new found refl nodes, sum-written (λ e. object_bytes e.1.object) entries name old new found, bytes, All-written (λ e. e.0 < next) entries name old new found (λ k h. h) t.below,
+    All-written (λ e. object_bytes e.1.object ≤ GREATEST_SLOTS * GREATEST_BYTES) entries name old new found (λ k h. omega (arith, h, bytes)) t.each,
+    All-written (λ e. length (nodes_in e.1.object) ≤ 256) entries name old new found (λ k h. subst (λ l. length l ≤ 256) (sym nodes) h) t.nodes,
+    All-written (λ e. e.1.uses ≡ name_count e.0 (names_used (map entry_object entries))) entries name old new found (λ k h. h) t.uses,
+    All-written (λ e. IsTrue (is_kept e)) entries name old new found (λ k h. h) t.held, keys-set_value, length-set_value, charge_is))
 
 -- one object more, under the next name
 pub IsTable-inserted : (next charge : ℕ) (entries : List (ℕ × Entry)) (new : Entry) → IsTable next charge entries → next < 4294967296 → length entries < 1024
@@ -167,12 +150,12 @@ module _ (t : Context) (next : ℕ) (entries : List (ℕ × Entry)) (view : ◌�
     held_under = ap (λ l. object_held l name) (sym objects_are) ∙ held_is entries name ∙ ap (option_map (λ (e : Entry). e.object)) found
 
     pub under_is : object_under t.objects name ≡ old.object
-    under_is = ap (λ o. unwrap_or o (ImageObject (new_image 0 0 U8))) held_under
+    under_is = ap (λ o. unwrap_or o (ImageObject (new_image 0 0 Format.U8))) held_under
 
     -- what a change of the object shows
-    pub shown_name : (f : ObjectValue → ObjectValue) (new : Entry) (after : List (ℕ × Entry)) → InOrder entries → new.live ≡ old.live → new.object ≡ f old.object
-        → after ≡ set_value (is_at (nat_cmp name)) entries new → ◌≡◌ {A = Context} (record { next = next; objects = map entry_object after }) (with_objects t (with_object t.objects (reference_to name) (f (object_under t.objects name))))
-    shown_name f new after order live is then = grind (arith, written entries (reference_to name) old new (f old.object) order found live is, written, under_is)
+    pub shown_name : (f : ObjectValue → ObjectValue) (object : ObjectValue) (after : List (ℕ × Entry)) → InOrder entries → after ≡ set_value (is_at (nat_cmp name)) entries (record old { object = object })
+        → object ≡ f old.object → ◌≡◌ {A = Context} (record { next = next; objects = map entry_object after }) (with_objects t (with_object t.objects (reference_to name) (f (object_under t.objects name))))
+    shown_name f object after order then is = grind (arith, written entries (reference_to name) old (record old { object = object }) (f old.object) order found refl is, under_is)
 
   -- what a cell holds, of which the name and the slot were read
   module _ (cell : Reference) (name : ℕ) (slot : Option ℕ) (at : name ≡ cell.name) (in_it : slot ≡ cell.slot) (old : Entry) (found : lookup (is_at (nat_cmp name)) entries ≡ Some old) where
@@ -188,25 +171,23 @@ module _ (t : Context) (next : ℕ) (entries : List (ℕ × Entry)) (view : ◌�
     pub image_there : HoldsImage t.objects cell → HasImage slot old.object
     image_there h = grind (arith, held_under name old found)
 
-    pub shown_cell : (f : ObjectValue → ObjectValue) (new : Entry) (after : List (ℕ × Entry)) → InOrder entries → new.live ≡ old.live → new.object ≡ with_slot slot (f (object_in slot old.object)) old.object
-        → after ≡ set_value (is_at (nat_cmp name)) entries new → ◌≡◌ {A = Context} (record { next = next; objects = map entry_object after }) (with_objects t (with_object t.objects cell (f (cell_object t.objects cell))))
-    shown_cell f new after order live is then =
+    pub shown_cell : (f : ObjectValue → ObjectValue) (object : ObjectValue) (after : List (ℕ × Entry)) → InOrder entries → after ≡ set_value (is_at (nat_cmp name)) entries (record old { object = object })
+        → object ≡ with_slot slot (f (object_in slot old.object)) old.object
+        → ◌≡◌ {A = Context} (record { next = next; objects = map entry_object after }) (with_objects t (with_object t.objects cell (f (cell_object t.objects cell))))
+    shown_cell f object after order then is =
         let here : lookup (is_at (nat_cmp cell.name)) entries ≡ Some old = ap (λ k. lookup (is_at (nat_cmp k)) entries) (sym at) ∙ found in
-        grind (arith, written entries cell old new (f (object_in slot old.object)) order here live, cell_is)
+        grind (arith, written entries cell old (record old { object = object }) (f (object_in slot old.object)) order here refl, cell_is)
 
 -- an image that is written over an image leaves no nodes
 pub no_nodes : (slot : Option ℕ) (image : ImageValue) (object : ObjectValue) → HasImage slot object → nodes_in (with_slot slot (ImageObject image) object) ≡ nodes_in object
 no_nodes slot image object h = grind arith
 
-pub aged_nodes : (object : ObjectValue) → nodes_in (aged_object object) ≡ nodes_in object
-aged_nodes object = grind arith
-
 -- only a graph has nodes
-pub plain : (object : ObjectValue) → (object_kind object ≡ kind.Graph → ⊥) → nodes_in object ≡ []
+pub plain : (object : ObjectValue) → (object_kind object ≡ Kind.Graph → ⊥) → nodes_in object ≡ []
 plain object h = grind arith
 
 -- an object of another kind has as many as any that isn't a graph
-pub none_of_kind : (wanted : Kind) (object new : ObjectValue) → object_kind object ≡ wanted → object_kind new ≡ wanted → (wanted ≡ kind.Graph → ⊥) → nodes_in new ≡ nodes_in object
+pub none_of_kind : (wanted : Kind) (object new : ObjectValue) → object_kind object ≡ wanted → object_kind new ≡ wanted → (wanted ≡ Kind.Graph → ⊥) → nodes_in new ≡ nodes_in object
 none_of_kind wanted object new is same other = grind (arith, plain object, plain new)
 
 module _ (t : Context) (next : ℕ) (entries : List (ℕ × Entry)) (view : ◌≡◌ {A = Context} (record { next = next; objects = map entry_object entries }) t) where

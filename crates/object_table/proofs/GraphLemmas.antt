@@ -1,18 +1,9 @@
 -- Nodes that are added and removed, the names that they use, and the objects held after that.
 use Rattle.std.proofs.Common.{inl, inr, ◌≡◌, ℕ, ◌+◌, ◌-◌, ◌*◌, ◌<◌, ◌≤◌, zero, suc, Bool, true, false, cond, List, [], ◌∷◌, ◌++◌, Some, None, length, map, get_or, IsTrue, refl, sym, ap, subst, ◌∙◌, arith, rules, ◌==◌, ◌||◌, nat_lt, find, sum_by, is_some, eqb-true, ne_eqb, length-append, All, ◌&&◌, not, filter, ltb-true, take_at, drop_at}
-use Rattle.object_table.proofs.Common.{map-map, keys_of, lookup, set_value, list_any, flat_map, AllPairs, IsStrictlyIncreasing, is_at, nat_cmp, cases_Bool, and_parts, map-append, length-map, All-nil, All-cons, All-head, All-tail, All-map, All-weaker, All-filter, filter_passes, AllPairs-from_increasing, sum_by-cons, sum_by-le, count_by-le-length, keys-set_value, length-set_value, Kind, Node, Numbered, Reference, GraphValue, can_add, with_node, without_node, optional_cells, ObjectValue, GraphObject, object_bytes, object_kind, Entry, Context, charge_of, object_named, still_held, without_name, NamedObject, object_held, graph_value, entry_object, used_more, used_less, is_kept, kept_entries, IsTable, used_names, nodes_in, names_used_by, names_used, name_count, GREATEST_SLOTS, GREATEST_BYTES, nat_tests}
-use Rattle.std.proofs.lemmas.Bool.{false≢true}
+use Rattle.object_table.proofs.Common.{map-map, keys_of, lookup, set_value, list_any, flat_map, AllPairs, IsStrictlyIncreasing, is_at, nat_cmp, cases_Bool, and_parts, map-append, length-map, All-nil, All-cons, All-head, All-tail, All-map, All-weaker, All-filter, filter_passes, AllPairs-from_increasing, sum_by-cons, sum_by-le, count_by-le-length, keys-set_value, length-set_value, Kind, Node, Numbered, Reference, GraphValue, can_add, with_node, without_node, optional_cells, ObjectValue, GraphObject, object_bytes, object_kind, Entry, Context, charge_of, object_named, still_held, without_name, NamedObject, object_held, graph_value, entry_object, used_more, used_less, is_kept, kept_entries, IsTable, used_names, nodes_in, names_used_by, names_used, name_count, GREATEST_SLOTS, GREATEST_BYTES, nat_tests, All-append, All-drop, All-take, AllPairs-cons, IsGraph, false≢true, flat_map-map, is_used, length-filter, list_any-append, nodes_of, operands, uses}
 use Rattle.std.proofs.lemmas.Grind.{flat_map-append}
 use Rattle.std.proofs.lemmas.List.Concat.{length-flat_map}
-use Rattle.std.proofs.lemmas.List.Elements.{All-append, All-take, All-drop}
-use Rattle.std.proofs.lemmas.List.Kept.{AllPairs-cons}
-use Rattle.std.proofs.lemmas.List.Folds.{flat_map-map, list_any-append}
-use Rattle.std.proofs.lemmas.List.Sums.{length-filter}
 use Rattle.std.proofs.lemmas.Map.Steps.{set_value_same}
-use Rattle.vx_base.specs.declared.kind.Kind.TheVariants as kind
-use Rattle.vx_base.specs.Graph.{IsGraph, nodes_of}
-use Rattle.vx_base.specs.Node.{operands}
-use Rattle.object_table.specs.Holds.{uses, is_used}
 use Rattle.graph_verify.proofs.MemberLemmas.{any-map}
 use Rattle.object_table.proofs.HeldLemmas.{All-from_map, increasing_from_pairs, increasing_head, increasing_tail}
 use Rattle.object_table.proofs.KeptLemmas.{ended-one, shown-ended}
@@ -22,13 +13,10 @@ use Rattle.object_table.proofs.EntryLemmas.{none_named, InOrder, in_order, named
 
 -- ---- how often a name occurs in a list
 
-times-cons : (name other : ℕ) (names : List ℕ) → name_count name (other ∷ names) ≡ cond (name == other) 1 0 + name_count name names
-times-cons name other names = sum_by-cons (λ other. cond (name == other) 1 0) other names
-
 -- whether a name occurs in a list
 any_times : (name : ℕ) (names : List ℕ) → nat_lt 0 (name_count name names) ≡ list_any (λ other. name == other) names
 any_times name [] = refl
-any_times name (other ∷ names) = grind (arith, any_times name names, times-cons name other names)
+any_times name (other ∷ names) = grind (arith, any_times name names, sum_by-cons (λ other. cond (name == other) 1 0) other names)
 
 -- ---- lists of lists
 
@@ -126,9 +114,6 @@ named_by name n = grind (arith, names_of_operands, any_map, any_alike, eqb-sym)
 used_in : (name : ℕ) (object : ObjectValue) → list_any (λ other. name == other) (flat_map used_names (nodes_in object)) ≡ uses object name
 used_in name object = grind (arith, any-flat_map, any_map, any_alike, named_by)
 
-used_live : (name : ℕ) (o : NamedObject) → list_any (λ other. name == other) (names_used_by o) ≡ (o.live && uses o.object name)
-used_live name o = grind (arith, used_in)
-
 -- by those of all unreleased graphs
 pub is_used_there : (objects : List NamedObject) (name : ℕ) → nat_lt 0 (name_count name (names_used objects)) ≡ is_used objects name
 is_used_there objects name =
@@ -137,7 +122,7 @@ is_used_there objects name =
       any_times name (names_used objects),
       any-flat_map names_used_by (λ other. name == other) objects,
       any_alike (λ o. list_any (λ other. name == other) (names_used_by o)) (λ o. o.live && uses o.object name) objects,
-      used_live,
+      used_in,
     )
 
 -- ---- entries
@@ -240,14 +225,11 @@ module _ (f : ℕ → ℕ → ℕ) where
   pub named-recounted : (entries : List (ℕ × Entry)) → map entry_object (recounted entries) ≡ map entry_object entries
   named-recounted entries = map-map entry_object _ entries
 
-  keys-recounted : (entries : List (ℕ × Entry)) → map (λ (e : ℕ × Entry). e.0) (recounted entries) ≡ map (λ (e : ℕ × Entry). e.0) entries
-  keys-recounted entries = map-map (λ (e : ℕ × Entry). e.0) _ entries
-
   entries-recounted : (next : ℕ) (entries : List (ℕ × Entry)) → AreEntries next entries → AreEntries next (recounted entries)
   entries-recounted next entries h =
       let step : ℕ × Entry → ℕ × Entry = λ e. let n : Entry = e.1 in (e.0, record n { uses = f e.0 n.uses }) in
       record {
-        names = subst IsStrictlyIncreasing (sym (keys-recounted entries)) h.names;
+        names = subst IsStrictlyIncreasing (sym (map-map (λ (e : ℕ × Entry). e.0) step entries)) h.names;
         below = All-map (λ (e : ℕ × Entry). e.0 < next) step entries h.below;
         left = h.left;
         count = omega (arith, h.count, length-map entries step);
@@ -313,7 +295,7 @@ IsTable-kept next entries h uses =
 -- ---- one node more
 
 module _ (next charge : ℕ) (entries : List (ℕ × Entry)) (h : IsTable next charge entries) (name : ℕ) (old new : Entry) (found : lookup (is_at (nat_cmp name)) entries ≡ Some old) (same : new.uses ≡ old.uses)
-    (bytes : object_bytes new.object ≡ object_bytes old.object) (live : old.live ≡ true) (still : new.live ≡ old.live) (graph : object_kind old.object ≡ kind.Graph) (node : Node) where
+    (bytes : object_bytes new.object ≡ object_bytes old.object) (live : old.live ≡ true) (still : new.live ≡ old.live) (graph : object_kind old.object ≡ Kind.Graph) (node : Node) where
   -- what the graph's nodes use
   before_is : (k : ℕ) → used_by (k, old) ≡ names_in (GraphObject (graph_value old.object))
   before_is k = used_when_live k old live ∙ ap names_in (graph_of_kind old.object graph)
@@ -362,20 +344,6 @@ module _ (next charge : ℕ) (entries : List (ℕ × Entry)) (h : IsTable next c
         entries-after next charge entries h name old new found same (λ _. few) bytes
         (λ k optional_cells. subst (All (λ n. n < next)) (sym (now_is k (without_node g number) is)) (All-without_node (λ n. n < next) g number (subst (All (λ n. n < next)) (before_is k) optional_cells)))
 
--- ---- a name that ends
-
-module _ (next charge : ℕ) (entries : List (ℕ × Entry)) (h : IsTable next charge entries) (name : ℕ) (old : Entry) (found : lookup (is_at (nat_cmp name)) entries ≡ Some old) (live : old.live ≡ true) where
-  fewer-released : (n : ℕ) → name_count n (names_used (map entry_object entries)) ≡ name_count n (names_used (map entry_object (set_value (is_at (nat_cmp name)) entries (record old { live = false })))) + name_count n (names_in old.object)
-  fewer-released n =
-      omega (
-        arith,
-        times-after next charge entries h name old (record old { live = false }) found refl n,
-        ap (name_count n) (used_when_live name old live),
-      )
-
-  entries-released : AreEntries next (set_value (is_at (nat_cmp name)) entries (record old { live = false }))
-  entries-released = entries-after next charge entries h name old (record old { live = false }) found refl (λ few. few) refl (λ k optional_cells. All-nil (λ n. n < next))
-
 -- ---- the objects that are held after uses end
 
 -- entries with new use counts, and those that are left when entries no longer held are dropped
@@ -392,12 +360,6 @@ module _ (next charge : ℕ) (entries : List (ℕ × Entry)) (h : IsTable next c
   abbrev anew : ℕ → ℕ → ℕ
   anew k u = u - name_count k gone
 
-  named-less : map entry_object less ≡ map entry_object then
-  named-less = ap (map entry_object) is ∙ named-recounted anew then
-
-  entries-less : AreEntries next less
-  entries-less = subst (AreEntries next) (sym is) (entries-recounted anew next then are)
-
   uses-less : All (λ e. e.1.uses ≡ name_count e.0 (names_used (map entry_object less))) less
   uses-less =
       rw is (uses-recounted anew then
@@ -408,20 +370,24 @@ module _ (next charge : ℕ) (entries : List (ℕ × Entry)) (h : IsTable next c
   pub are-left : AreLeft next then less
   are-left =
       record {
-        table = IsTable-kept next less entries-less uses-less;
-        shown = shown-kept less uses-less ∙ ap still_held named-less;
+        table = IsTable-kept next less (subst (AreEntries next) (sym is) (entries-recounted anew next then are)) uses-less;
+        shown = shown-kept less uses-less ∙ ap (λ l. still_held (map entry_object l)) is ∙ ap still_held (named-recounted anew then);
       }
 
 module _ (next charge : ℕ) (entries : List (ℕ × Entry)) (h : IsTable next charge entries) (name : ℕ) (old : Entry) (found : lookup (is_at (nat_cmp name)) entries ≡ Some old) (live : old.live ≡ true) (less : List (ℕ × Entry)) where
   -- once a graph has lost a node
-  pub removed-left : (object : ObjectValue) → object_bytes object ≡ object_bytes old.object → object_kind old.object ≡ kind.Graph → (node : Node) (number : ℕ) → IsGraph (graph_value old.object)
+  pub removed-left : (object : ObjectValue) → object_bytes object ≡ object_bytes old.object → object_kind old.object ≡ Kind.Graph → (node : Node) (number : ℕ) → IsGraph (graph_value old.object)
       → find (λ n. n.number == number) (graph_value old.object).nodes ≡ Some (record { number = number; node = node }) → object ≡ GraphObject (without_node (graph_value old.object) number)
       → less ≡ used_less (used_names node) (set_value (is_at (nat_cmp name)) entries (record old { object = object })) → AreLeft next (set_value (is_at (nat_cmp name)) entries (record old { object = object })) less
   removed-left object bytes graph node number holds there is = search (rules, are-left, fewer-removed, entries-removed)
 
   -- once a name isn't live
   pub released-left : less ≡ used_less (names_in old.object) (set_value (is_at (nat_cmp name)) entries (record old { live = false })) → AreLeft next (set_value (is_at (nat_cmp name)) entries (record old { live = false })) less
-  released-left is = search (rules, are-left, fewer-released, entries-released)
+  released-left is =
+      let ended = record old { live = false } in
+      are-left next charge entries h name old ended found refl (names_in old.object)
+      (λ n. omega (arith, times-after next charge entries h name old ended found refl n, ap (name_count n) (used_when_live name old live)))
+      (entries-after next charge entries h name old ended found refl (λ few. few) refl (λ k optional_cells. All-nil (λ n. n < next))) less is
 
 -- the same table, where its parts are the same
 pub IsTable-same : (next more charge sum : ℕ) (entries others : List (ℕ × Entry)) → more ≡ next → sum ≡ charge → others ≡ entries → IsTable next charge entries → IsTable more sum others

@@ -1,10 +1,8 @@
 -- Objects under their names: the one of a name, and the objects when one is written.
 use Rattle.std.proofs.Common.{◌≡◌, ℕ, ◌+◌, ◌<◌, List, [], ◌∷◌, map, zero, suc, refl, subst, arith, Some, IfSome, rules, eqb-true, All, eq-eqb}
-use Rattle.object_table.proofs.Common.{IsStrictlyIncreasing, AllPairs, option_map, eqb-false, length-map, All-nil, All-cons, All-head, All-tail, All-weaker, AllPairs-from_increasing, Reference, ObjectValue, IsObject, with_slot, NamedObject, object_held, with_object}
+use Rattle.object_table.proofs.Common.{IsStrictlyIncreasing, AllPairs, option_map, eqb-false, length-map, All-nil, All-cons, All-head, All-tail, All-weaker, AllPairs-from_increasing, Reference, ObjectValue, IsObject, with_slot, NamedObject, object_held, with_object, IfSome_then, object_at}
 use Rattle.std.proofs.Math.ListN.{get_or-map as get_or-map_default}
-use Rattle.std.proofs.lemmas.Option.{IfSome_then}
 use Rattle.object_table.proofs.SlotLemmas.{IsObject-in_slot}
-use Rattle.object_table.specs.NamedObject.{object_at}
 
 -- ---- names that increase
 
@@ -94,7 +92,3 @@ map-with_object f [] cell object same = refl
 map-with_object f (o ∷ objects) cell object same =
     let Same : NamedObject → Type 0 = λ p. p.name ≡ cell.name → f (record p { object = with_slot cell.slot object p.object }) ≡ f p in
     grind (arith, map-with_object f objects cell object (All-tail Same o objects same), All-head Same o objects same, eqb-true o.name cell.name)
-
--- a write keeps the names
-pub names-with_object : (objects : List NamedObject) (cell : Reference) (object : ObjectValue) → names_of (with_object objects cell object) ≡ names_of objects
-names-with_object objects cell object = map-with_object (λ o. o.name) objects cell object (λ k d below e. refl)

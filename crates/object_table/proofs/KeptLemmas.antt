@@ -1,8 +1,6 @@
 -- Entries that are held, and those that are left when uses and names end.
 use Rattle.std.proofs.Common.{◌≡◌, ℕ, ◌+◌, ◌-◌, true, false, cond, List, [], ◌∷◌, ◌++◌, length, map, IsTrue, Option, Some, None, refl, sym, ap, ◌∙◌, arith, ◌==◌, nat_lt, ◌||◌, unwrap_or, All}
-use Rattle.object_table.proofs.Common.{keys_of, lookup, set_value, remove_entry, is_at, nat_cmp, option_map, cases_Bool, length-map, All-head, All-tail, filter_passes, sorted_tail, Numbered, object_bytes, object_kind, Entry, charge_of, without_name, entry_object, is_kept, kept_entries, nodes_at, used_less, entries_without_name, nodes_in, name_count, nat_tests}
-use Rattle.std.proofs.lemmas.Bool.{or_left}
-use Rattle.std.proofs.lemmas.Bool.{or_parts}
+use Rattle.object_table.proofs.Common.{keys_of, lookup, set_value, remove_entry, is_at, nat_cmp, option_map, cases_Bool, length-map, All-head, All-tail, filter_passes, sorted_tail, Numbered, object_bytes, object_kind, Entry, charge_of, without_name, entry_object, is_kept, kept_entries, nodes_at, used_less, entries_without_name, nodes_in, name_count, nat_tests, or_left, or_parts}
 use Rattle.object_table.proofs.EntryLemmas.{InOrder, same_name, past_head, charge_is, All-written, sum-written, sum-removed}
 use Rattle.object_table.proofs.UseLemmas.{with_uses, less, less_is, used-append, used-nil, shown-used}
 
@@ -39,11 +37,11 @@ dropped (e ∷ entries) name old new found held none =
     let others = All-tail (λ e. IsTrue (is_kept e)) e entries held in
     grind (arith, dropped entries name old new, others, all_kept entries others, All-head (λ e. IsTrue (is_kept e)) e entries held)
 
--- an object of as many bytes leaves the charge
-pub charge-written : (entries : List (ℕ × Entry)) (name : ℕ) (old new : Entry) → lookup (is_at (nat_cmp name)) entries ≡ Some old → new.object ≡ old.object
-    → charge_of (map entry_object entries) ≡ charge_of (map entry_object (set_value (is_at (nat_cmp name)) entries new))
-charge-written entries name old new found same =
-    omega (arith, charge_is entries, charge_is (set_value (is_at (nat_cmp name)) entries new), sum-written (λ e. object_bytes e.1.object) entries name old new found, ap object_bytes same)
+-- an entry of the same object leaves the charge
+pub charge-written : (charge : ℕ) (entries written : List (ℕ × Entry)) (name : ℕ) (old new : Entry) → charge ≡ charge_of (map entry_object entries) → lookup (is_at (nat_cmp name)) entries ≡ Some old
+    → written ≡ set_value (is_at (nat_cmp name)) entries new → new.object ≡ old.object → charge ≡ charge_of (map entry_object written)
+charge-written charge entries written name old new charged found is same =
+    rw is (omega (arith, charged, charge_is entries, charge_is (set_value (is_at (nat_cmp name)) entries new), sum-written (λ e. object_bytes e.1.object) entries name old new found, ap object_bytes same))
 
 -- what is dropped isn't charged
 pub charge-removed : (entries : List (ℕ × Entry)) (name : ℕ) (old : Entry) → lookup (is_at (nat_cmp name)) entries ≡ Some old
@@ -64,13 +62,9 @@ held-left names entries others is = rw is (filter_passes is_kept (used_less name
 pub left-nil : (entries : List (ℕ × Entry)) → All (λ e. IsTrue (is_kept e)) entries → entries ≡ left_of [] entries
 left-nil entries held = sym (all_kept entries held) ∙ ap kept_entries (sym (used-nil less less_is entries))
 
-left-kept : (names : List ℕ) (entries : List (ℕ × Entry)) → left_of names (kept_entries entries) ≡ left_of names entries
-left-kept names entries =
-    kept-map (λ e. (e.0, with_uses e.1 (e.1.uses - name_count e.0 names)))
-    (λ e is. grind (arith, nat_tests, or_parts e.1.live (nat_lt 0 e.1.uses) is)) entries
-
 pub left-append : (first second : List ℕ) (entries : List (ℕ × Entry)) → left_of second (left_of first entries) ≡ left_of (first ++ second) entries
-left-append first second entries = left-kept second (used_less first entries) ∙ ap kept_entries (used-append less less_is first second entries)
+left-append first second entries =
+    kept-map (λ e. (e.0, with_uses e.1 (e.1.uses - name_count e.0 second))) (λ e is. grind (arith, nat_tests, or_parts e.1.live (nat_lt 0 e.1.uses) is)) (used_less first entries) ∙ ap kept_entries (used-append less less_is first second entries)
 
 -- the graph under a live name stays, whose nodes end their uses
 module _ (graph : ℕ) (names : List ℕ) (old now : List (ℕ × Entry)) (then : now ≡ left_of names old) (live : option_map (λ (e : Entry). e.live) (lookup (is_at (nat_cmp graph)) old) ≡ Some true) where
@@ -113,11 +107,6 @@ pub shown-ended : (name : ℕ) (entries : List (ℕ × Entry)) → map entry_obj
 shown-ended name [] = refl
 shown-ended name (e ∷ entries) = grind (arith, shown-ended name entries, cases_Bool (e.0 == name))
 
-kept-ended : (name : ℕ) (entries : List (ℕ × Entry)) → kept_entries (entries_without_name name (kept_entries entries)) ≡ kept_entries (entries_without_name name entries)
-kept-ended name entries =
-    kept-map (λ e. let n : Entry = e.1 in cond (e.0 == name) (e.0, record n { live = false }) e)
-    (λ e is. grind (arith, cases_Bool e.1.live)) entries
-
 ended-less : (name : ℕ) (names : List ℕ) (entries : List (ℕ × Entry)) → entries_without_name name (used_less names entries) ≡ used_less names (entries_without_name name entries)
 ended-less name names [] = refl
 ended-less name names (e ∷ entries) = grind (arith, ended-less name names entries, cases_Bool (e.0 == name))
@@ -126,5 +115,7 @@ ended-less name names (e ∷ entries) = grind (arith, ended-less name names entr
 pub left-ended : (entries now next : List (ℕ × Entry)) (names : List ℕ) (name : ℕ) (old : Entry) → InOrder entries → lookup (is_at (nat_cmp name)) entries ≡ Some old
     → now ≡ left_of names entries → next ≡ kept_entries (entries_without_name name now) → next ≡ left_of names (set_value (is_at (nat_cmp name)) entries (record old { live = false }))
 left-ended entries now next names name old order found so_far then =
-    then ∙ ap (λ l. kept_entries (entries_without_name name l)) so_far ∙ kept-ended name (used_less names entries) ∙ ap kept_entries (ended-less name names entries)
+    then ∙ ap (λ l. kept_entries (entries_without_name name l)) so_far 
+    ∙ kept-map (λ e. let n : Entry = e.1 in cond (e.0 == name) (e.0, record n { live = false }) e) (λ e is. grind (arith, cases_Bool e.1.live)) (used_less names entries)
+    ∙ ap kept_entries (ended-less name names entries)
     ∙ ap (left_of names) (sym (ended-one entries name old order found))

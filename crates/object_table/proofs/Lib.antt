@@ -5,7 +5,6 @@ pub mod SlotLemmas
 pub mod SkeletonLaws
 pub mod AgeLemmas
 pub mod BlockLaws
-pub mod BlockLemmas
 pub mod HeldLemmas
 pub mod EntryLemmas
 pub mod UseLemmas

@@ -1,11 +1,8 @@
 -- What the skeleton of an object determines, and writes that keep it.
 use Rattle.std.proofs.Common.{◌≡◌, ℕ, List, map, get_or, set, Option, Some, None, arith, refl, sym, ap, ◌∙◌, slice_get}
-use Rattle.object_table.proofs.Common.{option_map, get_or_from_slice_get, map-map, ImageValue, description_of, ObjectValue, ImageObject, DelayObject, IsObject, object_kind, object_bytes, image_bytes, in_slot, with_slot, image_skeleton, skeleton, sum_map}
-use Rattle.std.specs.Option.{option_and_then}
+use Rattle.object_table.proofs.Common.{option_map, get_or_from_slice_get, map-map, ImageValue, description_of, ObjectValue, ImageObject, DelayObject, IsObject, object_kind, object_bytes, image_bytes, in_slot, with_slot, image_skeleton, skeleton, sum_map, option_and_then, slice_get-map, slot_kind}
 use Rattle.std.proofs.Math.Seq.{map-set_same}
-use Rattle.std.proofs.lemmas.Option.{slice_get-map}
 use Rattle.std.proofs.Math.Path.{fun_ext}
-use Rattle.object_table.specs.Delay.{slot_kind}
 use Rattle.object_table.proofs.SlotLemmas.{IsDelay-set}
 
 -- ---- functions that are determined by another

@@ -1,9 +1,6 @@
 -- Objects in slots, and writes to slots.
 use Rattle.std.proofs.Common.{◌≡◌, ◌≢◌, ℕ, IsTrue, List, length, map, set, Option, Some, None, IfSome, refl, sym, subst, arith, is_some, slice_get, length-set, set-set, get_or-set_same, get_or-set_other}
-use Rattle.object_table.proofs.Common.{option_map, AllPairs, cases_lt, get_or_from_slice_get, Description, ImageValue, IsImage, description_of, ObjectValue, ImageObject, GraphObject, DelayObject, IsObject, IsDelay, object_kind, in_slot, object_in, with_slot, HasImage, graph_value, image_value}
-use Rattle.std.proofs.lemmas.List.Elements.{All-set}
-use Rattle.std.proofs.lemmas.Option.{slice_get_past, slice_get_within, slice_get-get_or}
-use Rattle.vx_base.specs.declared.kind.Kind.TheVariants as kind
+use Rattle.object_table.proofs.Common.{option_map, AllPairs, cases_lt, get_or_from_slice_get, Description, ImageValue, IsImage, description_of, ObjectValue, ImageObject, GraphObject, DelayObject, IsObject, IsDelay, object_kind, in_slot, object_in, with_slot, HasImage, graph_value, image_value, All-set, slice_get-get_or, slice_get_past, slice_get_within, Kind}
 
 -- ---- objects in slots
 
@@ -11,14 +8,10 @@ use Rattle.vx_base.specs.declared.kind.Kind.TheVariants as kind
 pub there_is : (slot : Option ℕ) (object : ObjectValue) → IsTrue (is_some (in_slot slot object)) → in_slot slot object ≡ Some (object_in slot object)
 there_is slot object h = grind arith
 
--- a slot of a delay has an image
-pub slot_has_image : (k : ℕ) (object : ObjectValue) → IsTrue (is_some (in_slot (Some k) object)) → HasImage (Some k) object
-slot_has_image k object h = grind arith
-
-pub image_of_kind : (object : ObjectValue) → object_kind object ≡ kind.Image → object ≡ ImageObject (image_value object)
+pub image_of_kind : (object : ObjectValue) → object_kind object ≡ Kind.Image → object ≡ ImageObject (image_value object)
 image_of_kind object h = grind arith
 
-pub graph_of_kind : (object : ObjectValue) → object_kind object ≡ kind.Graph → object ≡ GraphObject (graph_value object)
+pub graph_of_kind : (object : ObjectValue) → object_kind object ≡ Kind.Graph → object ≡ GraphObject (graph_value object)
 graph_of_kind object h = grind arith
 
 -- a slot with an image exists, and its object is that image

@@ -1,10 +1,7 @@
 -- Images that are stored.
 use Rattle.std.proofs.Common.{◌≡◌, ℕ, ℤ, List, pos, replicate, arith}
-use Rattle.object_table.proofs.Common.{Description, IsImage, new_image, image_over, band, zero_outside, with_valid, values, sample_from}
+use Rattle.object_table.proofs.Common.{Description, IsImage, new_image, image_over, band, zero_outside, with_valid, values, sample_from, IsPicture, PictureValue, Rectangle, sample_count, whole_rectangle}
 use Rattle.vx_base.specs.declared.samples.Samples.{Samples}
-use Rattle.vx_base.specs.Rectangle.{Rectangle, whole_rectangle}
-use Rattle.vx_base.specs.Description.{sample_count}
-use Rattle.vx_base.specs.Picture.{PictureValue, IsPicture}
 use Rattle.image_core.specs.declared.band.Band.{Band}
 use Rattle.image_core.specs.Bands.{all_rows}
 use Rattle.vx_base.proofs.PictureLaws.{pictured_image}

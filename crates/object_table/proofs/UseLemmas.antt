@@ -1,7 +1,6 @@
 -- How often nodes use each object.
 use Rattle.std.proofs.Common.{◌≡◌, ℕ, ◌+◌, ◌-◌, ◌<◌, ◌≤◌, Bool, cond, List, [], ◌∷◌, ◌++◌, length, map, get_or, take, Option, Some, None, refl, sym, ap, ◌∙◌, arith, ◌==◌, All}
-use Rattle.object_table.proofs.Common.{nat_cmp, keys_of, lookup, set_value, is_at, flat_map, option_map, map-append, length-map, get_or-map, All-map, sum_by-append, count_by-le-length, sorted_tail, Node, Numbered, Reference, optional_cells, ObjectValue, Entry, used_more, used_names, name_count}
-use Rattle.std.proofs.lemmas.List.{take_more, flat_map_more}
+use Rattle.object_table.proofs.Common.{nat_cmp, keys_of, lookup, set_value, is_at, flat_map, option_map, map-append, length-map, get_or-map, All-map, sum_by-append, count_by-le-length, sorted_tail, Node, Numbered, Reference, optional_cells, ObjectValue, Entry, used_more, used_names, name_count, flat_map_more, take_more}
 use Rattle.object_table.proofs.EntryLemmas.{InOrder, same_name, past_head}
 
 -- how often a name occurs in two lists
@@ -102,12 +101,9 @@ pub uses_within : (limit : ℕ) (names : List ℕ) (entries : List (ℕ × Entry
 uses_within limit names entries h =
     grind (arith, All-map {X = ℕ × Entry} (λ e. e.1.uses ≤ limit + length names) {Y = ℕ × Entry} (λ e. (e.0, with_uses e.1 (e.1.uses + name_count e.0 names))) entries (λ k d below. omega (arith, h k d below, count_by-le-length (λ other. (get_or entries k d).0 == other) names)))
 
-one_operand : (operand : Option Reference) → length (map (λ cell. cell.name) (optional_cells operand)) ≤ 1
-one_operand operand = grind arith
-
 -- one operand is one use more at most
 pub uses_after : (limit : ℕ) (operand : Option Reference) (entries after : List (ℕ × Entry)) → All (λ e. e.1.uses ≤ limit) entries → after ≡ used_more (map (λ cell. cell.name) (optional_cells operand)) entries
     → All (λ e. e.1.uses ≤ limit + 1) after
 uses_after limit operand entries after h then =
     let within = uses_within limit (map (λ cell. cell.name) (optional_cells operand)) entries h in
-    rw then (λ k d below. omega (arith, within k d below, one_operand operand))
+    rw then (λ k d below. grind (arith, within k d below))

@@ -1,6 +1,5 @@
 use Rattle.std.proofs.Common.{◌≡◌, ◌+◌, length}
-use Rattle.object_table.proofs.Common.{into_iter_items, Format, lent_of, delay_blocks}
-use Rattle.std.specs.Vec.Iter.{into_iter_len}
+use Rattle.object_table.proofs.Common.{into_iter_items, Format, lent_of, delay_blocks, into_iter_len}
 use Rattle.object_table.proofs.delay.end_images.Given as goal
 
 abbrev pub invariant-loop-image : goal.invariant-loop-image

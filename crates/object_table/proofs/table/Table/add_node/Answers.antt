@@ -14,9 +14,8 @@ add_node-requires c = kind_under _ _ _ c.self.view_is _ c.args.graph _ (sym c.in
 
 pub invariant_of-self : goal.invariant_of-self
 invariant_of-self c =
-    let new = record c.in-Some.entry.now { object = c.add_node.new.self } in
     let same = c.in_err-number.ensures.err in
-    IsTable-written _ _ _ _ _ new _ c.self.invariant (sym c.in-Some.ensures.value) refl refl (ap nodes_in same) (ap object_bytes same) (c.get_mut.follows.holds new).0
+    IsTable-written _ _ _ _ _ c.add_node.new.self _ c.self.invariant (sym c.in-Some.ensures.value) (c.get_mut.follows.holds _).0 (ap nodes_in same) (ap object_bytes same)
 
 pub returns-in_err-number : goal.returns-in_err-number
 returns-in_err-number c =
@@ -64,8 +63,8 @@ returns-clause-ok c =
     let next = c.self.inside.next in
     ap (λ (l : List (ℕ × Entry)). let t : Context = record { next = next; objects = map entry_object l } in t) (begun (goal.at.returns-clause-ok c).After-begin_uses)
     ∙ ap (λ (l : List NamedObject). let t : Context = record { next = next; objects = l } in t) (named-recounted (λ k u. u + name_count k (used_names c.args.node)) _)
-    ∙ shown_name _ _ _ c.self.view_is c.args.graph c.in-Some.entry.now (sym c.in-Some.ensures.value) (λ o. GraphObject (with_node (graph_value o) c.args.node)) (let old : Entry = c.in-Some.entry.now in record old { object = c.add_node.new.self }) _
-    c.get_mut.ensures.ordered refl c.in_ok-number.ensures.ok refl
+    ∙ shown_name _ _ _ c.self.view_is c.args.graph c.in-Some.entry.now (sym c.in-Some.ensures.value) (λ o. GraphObject (with_node (graph_value o) c.args.node)) c.add_node.new.self _
+    c.get_mut.ensures.ordered refl c.in_ok-number.ensures.ok
 
 pub returns-clause-room : goal.returns-clause-room
 returns-clause-room c =

@@ -1,6 +1,6 @@
-use Rattle.std.proofs.Common.{refl, sym, ap, ◌∙◌}
+use Rattle.std.proofs.Common.{arith, sym, ap, ◌∙◌}
 use Rattle.object_table.proofs.Common.{aged_object, nodes_in}
-use Rattle.object_table.proofs.EntryLemmas.{nothing_under, shown_name, IsTable-written, aged_nodes}
+use Rattle.object_table.proofs.EntryLemmas.{nothing_under, shown_name, IsTable-written}
 use Rattle.object_table.proofs.table.Table.age.Goals as goal
 
 pub unreachable-requires : goal.unreachable-requires
@@ -8,11 +8,9 @@ unreachable-requires c = nothing_under _ _ _ c.self.view_is _ c.args.name (sym c
 
 pub invariant_of-self : goal.invariant_of-self
 invariant_of-self c =
-    let new = record c.in-Some.entry.now { object = c.age.new.self } in
-    IsTable-written _ _ _ _ _ new _ c.self.invariant (sym c.in-Some.ensures.value) refl refl
-    (ap nodes_in c.age.ensures.value ∙ aged_nodes _) c.age.ensures.bytes (c.get_mut.follows.holds new).0
+    IsTable-written _ _ _ _ _ c.age.new.self _ c.self.invariant (sym c.in-Some.ensures.value) (c.get_mut.follows.holds _).0
+    (ap nodes_in c.age.ensures.value ∙ (grind arith)) c.age.ensures.bytes
 
 pub returns : goal.returns
 returns c =
-    let new = record c.in-Some.entry.now { object = c.age.new.self } in
-    shown_name _ _ _ c.self.view_is c.args.name _ (sym c.in-Some.ensures.value) aged_object new _ c.get_mut.ensures.ordered refl c.age.ensures.value (c.get_mut.follows.holds new).0
+    shown_name _ _ _ c.self.view_is c.args.name _ (sym c.in-Some.ensures.value) aged_object c.age.new.self _ c.get_mut.ensures.ordered (c.get_mut.follows.holds _).0 c.age.ensures.value

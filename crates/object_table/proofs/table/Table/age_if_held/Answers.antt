@@ -1,7 +1,7 @@
-use Rattle.std.proofs.Common.{refl, sym, ap, ◌∙◌}
+use Rattle.std.proofs.Common.{arith, sym, ap, ◌∙◌}
 use Rattle.object_table.proofs.Common.{nodes_in}
 use Rattle.object_table.proofs.AgeLemmas.{none_to_age, shown_aged}
-use Rattle.object_table.proofs.EntryLemmas.{IsTable-written, aged_nodes}
+use Rattle.object_table.proofs.EntryLemmas.{IsTable-written}
 use Rattle.object_table.proofs.table.Table.age_if_held.Goals as goal
 
 pub invariant_of-self : goal.invariant_of-self
@@ -12,11 +12,9 @@ returns-in_default c = rw c.get_mut.follows.holds-at-none (c.self.view_is ∙ no
 
 pub invariant_of-self-2 : goal.invariant_of-self-2
 invariant_of-self-2 c =
-    let new = record c.in-Some.entry.now { object = c.age.new.self } in
-    IsTable-written _ _ _ _ _ new _ c.self.invariant (sym c.in-Some.ensures.value) refl refl
-    (ap nodes_in c.age.ensures.value ∙ aged_nodes _) c.age.ensures.bytes (c.get_mut.follows.holds new).0
+    IsTable-written _ _ _ _ _ c.age.new.self _ c.self.invariant (sym c.in-Some.ensures.value) (c.get_mut.follows.holds _).0
+    (ap nodes_in c.age.ensures.value ∙ (grind arith)) c.age.ensures.bytes
 
 pub returns : goal.returns
 returns c =
-    let new = record c.in-Some.entry.now { object = c.age.new.self } in
-    shown_aged _ _ _ c.self.view_is c.args.name _ new _ (sym c.in-Some.ensures.value) c.get_mut.ensures.ordered refl c.age.ensures.value (c.get_mut.follows.holds new).0
+    shown_aged _ _ _ c.self.view_is c.args.name _ c.age.new.self _ (sym c.in-Some.ensures.value) c.get_mut.ensures.ordered (c.get_mut.follows.holds _).0 c.age.ensures.value

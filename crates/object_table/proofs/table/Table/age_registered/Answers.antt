@@ -1,6 +1,6 @@
-use Rattle.std.proofs.Common.{◌≡◌, ◌≢◌, ◌≤◌, ◌<◌, ℕ, List, ◌∷◌, [], length, take, get_or, sym, ap, subst, ◌∙◌, arith, take_all}
+use Rattle.std.proofs.Common.{map-id, ◌≡◌, ◌≢◌, ◌≤◌, ◌<◌, ℕ, List, ◌∷◌, [], length, take, get_or, sym, ap, subst, ◌∙◌, arith, take_all}
 use Rattle.object_table.proofs.Common.{AllPairs, GraphValue, aged_under, Context, with_objects, graph_under}
-use Rattle.object_table.proofs.AgeLemmas.{aged_none, aged_more, kind_aged, graph_aged}
+use Rattle.object_table.proofs.AgeLemmas.{aged_more, kind_aged, graph_aged}
 use Rattle.object_table.proofs.table.Table.age_registered.Goals as goal
 use Rattle.object_table.proofs.table.Table.age_registered.Goals.{After-delays}
 
@@ -19,7 +19,7 @@ there c =
     omega (arith, ap length first, c.loop-k-test.true)
 
 pub loop-k-init : goal.loop-k-init
-loop-k-init c = ap (with_objects c.args.self.now) (sym (aged_none c.args.self.now.objects))
+loop-k-init c = ap (with_objects c.args.self.now) (sym (map-id c.args.self.now.objects))
 
 pub graph-requires-in-loop-k : goal.graph-requires-in-loop-k
 graph-requires-in-loop-k c =

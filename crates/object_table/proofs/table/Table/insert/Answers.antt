@@ -1,7 +1,5 @@
 use Rattle.std.proofs.Common.{◌≡◌, ◌+◌, ◌++◌, ◌∷◌, [], ℕ, List, true, map, refl, sym, ap, subst, ◌∙◌, arith}
-use Rattle.object_table.proofs.Common.{keys_of, IsStrictlyIncreasing, map-append, Entry, Context, NamedObject, entry_object, IsTable}
-use Rattle.std.proofs.lemmas.Map.Keys.{IsStrictlyIncreasing-from_sorted}
-use Rattle.object_table.specs.Context.{with_new}
+use Rattle.object_table.proofs.Common.{keys_of, IsStrictlyIncreasing, map-append, Entry, Context, NamedObject, entry_object, IsTable, IsStrictlyIncreasing-from_sorted, with_new}
 use Rattle.object_table.proofs.EntryLemmas.{charge_limit, insert_last, IsTable-inserted, room_left}
 use Rattle.object_table.proofs.table.Table.insert.Goals as goal
 

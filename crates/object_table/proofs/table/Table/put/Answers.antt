@@ -1,4 +1,4 @@
-use Rattle.std.proofs.Common.{refl, sym, ap, ◌∙◌}
+use Rattle.std.proofs.Common.{sym, ap, ◌∙◌}
 use Rattle.object_table.proofs.Common.{ImageValue, values, with_samples, nodes_in}
 use Rattle.object_table.proofs.EntryLemmas.{nothing_held, image_is, image_there, shown_cell, IsTable-written, no_nodes}
 use Rattle.object_table.proofs.table.Table.put.Goals as goal
@@ -14,11 +14,9 @@ put-requires-clause-format c = c.requires.format ∙ ap (λ (i : ImageValue). i.
 
 pub invariant_of-self : goal.invariant_of-self
 invariant_of-self c =
-    let new = record c.in-Some.entry.now { object = c.put.new.self } in
     let there = image_there _ _ _ c.self.view_is c.args.cell _ _ c.name.ensures.value c.slot.ensures.value _ (sym c.in-Some.ensures.value) c.requires.there in
-    IsTable-written _ _ _ _ _ new _ c.self.invariant (sym c.in-Some.ensures.value) refl refl (ap nodes_in c.put.ensures.value ∙ no_nodes _ _ _ there) c.put.ensures.bytes (c.get_mut.follows.holds new).0
+    IsTable-written _ _ _ _ _ c.put.new.self _ c.self.invariant (sym c.in-Some.ensures.value) (c.get_mut.follows.holds _).0 (ap nodes_in c.put.ensures.value ∙ no_nodes _ _ _ there) c.put.ensures.bytes
 
 pub returns : goal.returns
 returns c =
-    let new = record c.in-Some.entry.now { object = c.put.new.self } in
-    shown_cell _ _ _ c.self.view_is c.args.cell _ _ c.name.ensures.value c.slot.ensures.value _ (sym c.in-Some.ensures.value) (λ o. with_samples o c.args.valid (values c.args.samples)) new _ c.get_mut.ensures.ordered refl c.put.ensures.value (c.get_mut.follows.holds new).0
+    shown_cell _ _ _ c.self.view_is c.args.cell _ _ c.name.ensures.value c.slot.ensures.value _ (sym c.in-Some.ensures.value) (λ o. with_samples o c.args.valid (values c.args.samples)) c.put.new.self _ c.get_mut.ensures.ordered (c.get_mut.follows.holds _).0 c.put.ensures.value

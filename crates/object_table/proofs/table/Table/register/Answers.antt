@@ -1,8 +1,5 @@
-use Rattle.std.proofs.Common.{◌≡◌, ◌≢◌, ℕ, true, false, [], ◌∷◌, ◌++◌, refl, sym, ap, subst, ◌∙◌, if◌then◌else◌, ◌==◌, filter}
-use Rattle.object_table.proofs.Common.{AllPairs, list_any, GraphValue, with_delays, GraphObject, is_there, with_objects, graph_value, graph_under, nodes_in}
-use Rattle.vx_base.specs.Graph.{is_registered}
-use Rattle.object_table.specs.Ageing.{one_more}
-use Rattle.object_table.specs.Context.{with_graph}
+use Rattle.std.proofs.Common.{◌≡◌, ◌≢◌, ℕ, true, false, [], ◌∷◌, ◌++◌, sym, ap, subst, ◌∙◌, if◌then◌else◌, ◌==◌, filter}
+use Rattle.object_table.proofs.Common.{AllPairs, list_any, GraphValue, with_delays, GraphObject, is_there, with_objects, graph_value, graph_under, nodes_in, is_registered, one_more, with_graph}
 use Rattle.object_table.proofs.AgeLemmas.{apart_and, graph_nodes}
 use Rattle.object_table.proofs.EntryLemmas.{nothing_under, kind_under, under_is, shown_name, IsTable-written}
 use Rattle.object_table.proofs.table.Table.register.Goals as goal
@@ -28,17 +25,15 @@ set_delays-requires-clause-distinct c =
 
 pub invariant_of-self : goal.invariant_of-self
 invariant_of-self c =
-    let new = record c.in-Some.entry.now { object = c.set_delays.new.self } in
-    IsTable-written _ _ _ _ _ new _ c.self.invariant (sym c.in-Some.ensures.value) refl refl
+    IsTable-written _ _ _ _ _ c.set_delays.new.self _ c.self.invariant (sym c.in-Some.ensures.value) (c.get_mut.follows.holds _).0
     (ap nodes_in c.set_delays.ensures.value
     ∙ graph_nodes c.in-Some.entry.now.object c.in_ok-delays.delays.items (kind_under _ _ _ c.self.view_is _ c.args.graph _ (sym c.in-Some.ensures.value) c.requires))
-    c.set_delays.ensures.bytes (c.get_mut.follows.holds new).0
+    c.set_delays.ensures.bytes
 
 pub returns-clause-ok : goal.returns-clause-ok
 returns-clause-ok c =
     let now = c.args.self.now in
     let old = c.in-Some.entry.now.object in
-    let new = record c.in-Some.entry.now { object = c.set_delays.new.self } in
     let under : graph_under now.objects c.args.graph ≡ graph_value old = ap graph_value (under_is _ _ _ c.self.view_is c.args.graph _ (sym c.in-Some.ensures.value)) in
     let delays = c.delays.ensures.delays ∙ ap (λ (g : GraphValue). g.delays) (c.graph-found.ensures ∙ under) in
     let apart : is_registered (graph_under now.objects c.args.graph) c.args.delay ≡ false =
@@ -47,6 +42,6 @@ returns-clause-ok c =
     c.set_delays.ensures.value
     ∙ ap (λ l. GraphObject (with_delays (graph_value old) l))
     (c.in_ok-delays.ensures.value ∙ ap (λ l. filter (is_there now.objects) l ++ c.args.delay ∷ []) delays) in
-    shown_name _ _ _ c.self.view_is c.args.graph _ (sym c.in-Some.ensures.value) (λ o. GraphObject (one_more now.objects (graph_value o) c.args.delay)) new _ c.get_mut.ensures.ordered refl
-    value (c.get_mut.follows.holds new).0
+    shown_name _ _ _ c.self.view_is c.args.graph _ (sym c.in-Some.ensures.value) (λ o. GraphObject (one_more now.objects (graph_value o) c.args.delay)) c.set_delays.new.self _ c.get_mut.ensures.ordered (c.get_mut.follows.holds _).0
+    value
     ∙ ap (λ b. with_objects now (if b then now.objects else with_graph now.objects c.args.graph (one_more now.objects (graph_under now.objects c.args.graph) c.args.delay))) (sym apart)

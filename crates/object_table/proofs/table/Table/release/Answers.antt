@@ -1,5 +1,5 @@
-use Rattle.std.proofs.Common.{◌≡◌, ℕ, List, [], map, Option, Some, None, cond, false, refl, sym, ap, ◌∙◌, unwrap_or}
-use Rattle.object_table.proofs.Common.{flat_map, set_value, is_at, option_map, nat_cmp, Node, Entry, Context, charge_of, object_named, with_objects, still_held, without_name, NamedObject, entry_object, used_less, entries_without_name, kept_entries, used_names, nodes_in}
+use Rattle.std.proofs.Common.{◌≡◌, ℕ, List, [], map, Option, false, refl, sym, ap, ◌∙◌, unwrap_or}
+use Rattle.object_table.proofs.Common.{flat_map, set_value, is_at, option_map, nat_cmp, Node, Entry, Context, charge_of, with_objects, still_held, without_name, NamedObject, entry_object, used_less, entries_without_name, kept_entries, used_names, nodes_in}
 use Rattle.object_table.proofs.EntryLemmas.{in_order, plain}
 use Rattle.object_table.proofs.KeptLemmas.{left_of, left-nil, left-ended, held-left}
 use Rattle.object_table.proofs.GraphLemmas.{AreLeft, names_in, named-unlive, none_there, named_there, released-left, IsTable-same}
@@ -7,23 +7,15 @@ use Rattle.object_table.proofs.table.Table.release.Goals as goal
 use Rattle.object_table.proofs.table.Table.release.Goals.{Joined-kind, in-Graph, in_default-kind}
 
 pub returns-in_default-clause-result : goal.returns-in_default-clause-result
-returns-in_default-clause-result c =
-    let none : object_named c.args.self.now.objects c.args.name ≡ None = none_there _ _ _ _ c.self.view_is c.self.invariant c.args.name (sym c.in_default.ensures.value) in
-    rw none refl
+returns-in_default-clause-result c = rw (none_there _ _ _ _ c.self.view_is c.self.invariant c.args.name (sym c.in_default.ensures.value)) refl
 
 pub returns-then-not-entry-clause-result : goal.returns-then-not-entry-clause-result
 returns-then-not-entry-clause-result c =
-    let old = c.in-Some.entry.now in
-    let none : object_named c.args.self.now.objects c.args.name ≡ None =
-    named_there _ _ _ _ c.self.view_is c.self.invariant c.args.name old (sym c.in-Some.ensures.value) ∙ ap (λ b. cond b (Some old.object) None) c.if-not-entry.true in
-    rw none refl
+    rw (named_there _ _ _ _ c.self.view_is c.self.invariant c.args.name _ (sym c.in-Some.ensures.value), c.if-not-entry.true) refl
 
 pub returns-clause-result : goal.returns-clause-result
 returns-clause-result c =
-    let old = c.in-Some.entry.now in
-    let there : object_named c.args.self.now.objects c.args.name ≡ Some old.object =
-    named_there _ _ _ _ c.self.view_is c.self.invariant c.args.name old (sym c.in-Some.ensures.value) ∙ ap (λ b. cond b (Some old.object) None) c.if-not-entry.false in
-    rw there refl
+    rw (named_there _ _ _ _ c.self.view_is c.self.invariant c.args.name _ (sym c.in-Some.ensures.value), c.if-not-entry.false) refl
 
 -- the entries, once the graph's nodes have ended their uses
 less_is : (c : Joined-kind) → c.match-kind.self-inside.entries.entries ≡ left_of (names_in c.in-Some.entry.now.object) c.self.inside.entries.entries

@@ -1,7 +1,5 @@
 use Rattle.std.proofs.Common.{◌≡◌, ℕ, List, map, not, refl, sym, ap, subst, ◌∙◌, All, IsTrue}
-use Rattle.object_table.proofs.Common.{set_value, is_at, nat_cmp, err_from_is_err_and, Format, Node, without_node, ObjectValue, GraphObject, object_bytes, object_kind, Entry, object_blocks, blocks_in, LendsAtLeast, Balances, Context, charge_of, with_objects, still_held, NamedObject, graph_value, entry_object, used_less, is_kept, kept_entries, nodes_in, used_names}
-use Rattle.vx_base.specs.declared.kind.Kind.TheVariants as kind
-use Rattle.vx_base.specs.Graph.{has_node}
+use Rattle.object_table.proofs.Common.{set_value, is_at, nat_cmp, err_from_is_err_and, Format, Node, without_node, ObjectValue, GraphObject, object_bytes, object_kind, Entry, object_blocks, blocks_in, LendsAtLeast, Balances, Context, charge_of, with_objects, still_held, NamedObject, graph_value, entry_object, used_less, is_kept, kept_entries, nodes_in, used_names, has_node, Kind}
 use Rattle.object_table.proofs.EntryLemmas.{nothing_under, kind_under, under_is, shown_name, IsTable-written}
 use Rattle.object_table.proofs.EntryBlockLemmas.{owns-written, Balances-written, Balances-written_then, graph_blocks}
 use Rattle.object_table.proofs.GraphLemmas.{AreLeft, unchanged, charged-after, held-after, live_there, removed-left, IsTable-same}
@@ -16,9 +14,8 @@ remove_node-requires c = kind_under _ _ _ c.self.view_is _ c.args.graph _ (sym c
 
 pub invariant_of-self : goal.invariant_of-self
 invariant_of-self c =
-    let new = record c.in-Some.entry.now { object = c.remove_node.new.self } in
     let same = c.in_err-node.ensures.err in
-    IsTable-written _ _ _ _ _ new _ c.self.invariant (sym c.in-Some.ensures.value) refl refl (ap nodes_in same) (ap object_bytes same) (c.get_mut.follows.holds new).0
+    IsTable-written _ _ _ _ _ c.remove_node.new.self _ c.self.invariant (sym c.in-Some.ensures.value) (c.get_mut.follows.holds _).0 (ap nodes_in same) (ap object_bytes same)
 
 pub returns-in_err-node-clause-missing : goal.returns-in_err-node-clause-missing
 returns-in_err-node-clause-missing c =
@@ -53,7 +50,7 @@ changed c = set_value (is_at (nat_cmp c.args.graph)) c.self.inside.entries.entri
 abbrev less : In_ok-node → List (ℕ × Entry)
 less c = used_less (used_names c.in_ok-node.node) (changed c)
 
-of_graph : (c : In_ok-node) → object_kind c.in-Some.entry.now.object ≡ kind.Graph
+of_graph : (c : In_ok-node) → object_kind c.in-Some.entry.now.object ≡ Kind.Graph
 of_graph c = kind_under _ _ _ c.self.view_is _ c.args.graph _ (sym c.in-Some.ensures.value) c.requires.graph
 
 are_left : (c : In_ok-node) → AreLeft c.self.inside.next (changed c) (less c)
@@ -85,8 +82,8 @@ returns-clause-ok c =
     ap (λ (l : List (ℕ × Entry)). let t : Context = record { next = s.next; objects = map entry_object l } in t) (left_is at _ _ _ c.end_uses-self-inside.ensures.entries c.node.ensures.value (c.get_mut.follows.holds (new at)).0)
     ∙ ap (λ (l : List NamedObject). let t : Context = record { next = s.next; objects = l } in t) (are_left at).shown
     ∙ ap (λ (t : Context). with_objects t (still_held t.objects))
-    (shown_name _ _ _ c.self.view_is c.args.graph _ (sym c.in-Some.ensures.value) (λ o. GraphObject (without_node (graph_value o) c.args.number)) (new at) (changed at)
-    c.get_mut.ensures.ordered refl c.in_ok-node.ensures.ok refl)
+    (shown_name _ _ _ c.self.view_is c.args.graph _ (sym c.in-Some.ensures.value) (λ o. GraphObject (without_node (graph_value o) c.args.number)) c.remove_node.new.self (changed at)
+    c.get_mut.ensures.ordered refl c.in_ok-node.ensures.ok)
 
 pub returns-clause-missing : goal.returns-clause-missing
 returns-clause-missing c =
@@ -96,13 +93,12 @@ pub returns-in_err-node-clause-balances : goal.returns-in_err-node-clause-balanc
 returns-in_err-node-clause-balances c =
     let new = record c.in-Some.entry.now { object = c.remove_node.new.self } in
     subst (λ (t : Context). Balances c.args.pool.now c.args.pool.now t.objects (map entry_object (c.get_mut.follows.lender new).entries)) c.self.view_is
-    (Balances-written c.self.inside.entries.entries c.args.graph _ new (sym c.in-Some.ensures.value) (λ format. ap (λ o. object_blocks o format) c.in_err-node.ensures.err) (c.get_mut.follows.lender new).entries (c.get_mut.follows.holds new).0
-    c.args.pool.now)
+    (Balances-written c.self.inside.entries.entries c.args.graph _ new _ (sym c.in-Some.ensures.value) (c.get_mut.follows.holds new).0 (λ format. ap (λ o. object_blocks o format) c.in_err-node.ensures.err) c.args.pool.now)
 
 pub end_uses-self-inside-requires-clause-owns : goal.end_uses-self-inside-requires-clause-owns
 end_uses-self-inside-requires-clause-owns c =
     let at = (goal.at.end_uses-self-inside-requires-clause-owns c).In_ok-node in
-    owns-written c.self.inside.entries.entries c.args.graph c.in-Some.entry.now (new at) (sym c.in-Some.ensures.value) (same_blocks at) (c.get_mut.follows.lender (new at)).entries (c.get_mut.follows.holds (new at)).0 c.args.pool.now
+    owns-written c.self.inside.entries.entries c.args.graph _ (new at) _ (sym c.in-Some.ensures.value) (c.get_mut.follows.holds (new at)).0 (same_blocks at) c.args.pool.now
     (subst (λ (t : Context). LendsAtLeast c.args.pool.now (blocks_in t.objects)) (sym c.self.view_is) c.requires.owns)
 
 pub returns-clause-balances : goal.returns-clause-balances
@@ -110,5 +106,5 @@ returns-clause-balances c =
     let at = (goal.at.returns-clause-balances c).In_ok-node in
     let left = c.end_uses-self-inside.new.entries.entries in
     subst (λ (t : Context). Balances c.args.pool.now c.end_uses-self-inside.new.pool t.objects (map entry_object left)) c.self.view_is
-    (Balances-written_then c.self.inside.entries.entries c.args.graph c.in-Some.entry.now (new at) (sym c.in-Some.ensures.value) (same_blocks at) (c.get_mut.follows.lender (new at)).entries (c.get_mut.follows.holds (new at)).0
+    (Balances-written_then c.self.inside.entries.entries c.args.graph _ (new at) _ (sym c.in-Some.ensures.value) (c.get_mut.follows.holds (new at)).0 (same_blocks at)
     c.args.pool.now c.end_uses-self-inside.new.pool left c.end_uses-self-inside.ensures.balances)

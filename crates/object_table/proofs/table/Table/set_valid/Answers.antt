@@ -1,6 +1,5 @@
-use Rattle.std.proofs.Common.{refl, sym, ap, subst, ◌∙◌}
-use Rattle.object_table.proofs.Common.{ImageValue, with_valid, ImageObject, IsObject, image_value, nodes_in}
-use Rattle.vx_base.specs.Rectangle.{IsWithin}
+use Rattle.std.proofs.Common.{sym, ap, subst, ◌∙◌}
+use Rattle.object_table.proofs.Common.{ImageValue, with_valid, ImageObject, IsObject, image_value, nodes_in, IsWithin}
 use Rattle.object_table.proofs.EntryLemmas.{nothing_held, found_under, image_is, image_there, shown_cell, IsTable-written, no_nodes}
 use Rattle.object_table.proofs.table.Table.set_valid.Goals as goal
 
@@ -18,11 +17,9 @@ set_valid-requires-clause-room c = subst (λ (i : ImageValue). IsWithin c.args.v
 
 pub invariant_of-self : goal.invariant_of-self
 invariant_of-self c =
-    let new = record c.in-Some.entry.now { object = c.set_valid.new.self } in
     let there = image_there _ _ _ c.self.view_is c.args.cell _ _ c.name.ensures.value c.slot.ensures.value _ (sym c.in-Some.ensures.value) c.requires.there in
-    IsTable-written _ _ _ _ _ new _ c.self.invariant (sym c.in-Some.ensures.value) refl refl (ap nodes_in c.set_valid.ensures.value ∙ no_nodes _ _ _ there) c.set_valid.ensures.bytes (c.get_mut.follows.holds new).0
+    IsTable-written _ _ _ _ _ c.set_valid.new.self _ c.self.invariant (sym c.in-Some.ensures.value) (c.get_mut.follows.holds _).0 (ap nodes_in c.set_valid.ensures.value ∙ no_nodes _ _ _ there) c.set_valid.ensures.bytes
 
 pub returns : goal.returns
 returns c =
-    let new = record c.in-Some.entry.now { object = c.set_valid.new.self } in
-    shown_cell _ _ _ c.self.view_is c.args.cell _ _ c.name.ensures.value c.slot.ensures.value _ (sym c.in-Some.ensures.value) (λ o. ImageObject (with_valid c.args.valid (image_value o))) new _ c.get_mut.ensures.ordered refl c.set_valid.ensures.value (c.get_mut.follows.holds new).0
+    shown_cell _ _ _ c.self.view_is c.args.cell _ _ c.name.ensures.value c.slot.ensures.value _ (sym c.in-Some.ensures.value) (λ o. ImageObject (with_valid c.args.valid (image_value o))) c.set_valid.new.self _ c.get_mut.ensures.ordered (c.get_mut.follows.holds _).0 c.set_valid.ensures.value

@@ -1,4 +1,4 @@
-use Rattle.std.proofs.Common.{[], refl, sym, ap, ◌∙◌}
+use Rattle.std.proofs.Common.{[], sym, ap, ◌∙◌}
 use Rattle.object_table.proofs.Common.{ImageValue, description_of, image_value, with_samples, nodes_in}
 use Rattle.object_table.proofs.EntryLemmas.{nothing_held, image_is, image_there, shown_cell, IsTable-written, no_nodes}
 use Rattle.object_table.proofs.table.Table.take.Goals as goal
@@ -20,11 +20,9 @@ returns-clause-format c = c.take.ensures.format ∙ ap (λ (i : ImageValue). i.f
 
 pub invariant_of-self : goal.invariant_of-self
 invariant_of-self c =
-    let new = record c.in-Some.entry.now { object = c.take.new.self } in
     let there = image_there _ _ _ c.self.view_is c.args.cell _ _ c.name.ensures.value c.slot.ensures.value _ (sym c.in-Some.ensures.value) c.requires in
-    IsTable-written _ _ _ _ _ new _ c.self.invariant (sym c.in-Some.ensures.value) refl refl (ap nodes_in c.take.ensures.left ∙ no_nodes _ _ _ there) c.take.ensures.bytes (c.get_mut.follows.holds new).0
+    IsTable-written _ _ _ _ _ c.take.new.self _ c.self.invariant (sym c.in-Some.ensures.value) (c.get_mut.follows.holds _).0 (ap nodes_in c.take.ensures.left ∙ no_nodes _ _ _ there) c.take.ensures.bytes
 
 pub returns-clause-left : goal.returns-clause-left
 returns-clause-left c =
-    let new = record c.in-Some.entry.now { object = c.take.new.self } in
-    shown_cell _ _ _ c.self.view_is c.args.cell _ _ c.name.ensures.value c.slot.ensures.value _ (sym c.in-Some.ensures.value) (λ o. with_samples o (image_value o).valid []) new _ c.get_mut.ensures.ordered refl c.take.ensures.left (c.get_mut.follows.holds new).0
+    shown_cell _ _ _ c.self.view_is c.args.cell _ _ c.name.ensures.value c.slot.ensures.value _ (sym c.in-Some.ensures.value) (λ o. with_samples o (image_value o).valid []) c.take.new.self _ c.get_mut.ensures.ordered (c.get_mut.follows.holds _).0 c.take.ensures.left

@@ -1,6 +1,5 @@
-use Rattle.std.proofs.Common.{refl, sym, ap, subst, ◌∙◌}
-use Rattle.object_table.proofs.Common.{description_of, ImageObject, IsObject, nodes_in}
-use Rattle.vx_base.specs.Picture.{picture_image}
+use Rattle.std.proofs.Common.{sym, ap, subst, ◌∙◌}
+use Rattle.object_table.proofs.Common.{description_of, ImageObject, IsObject, nodes_in, picture_image}
 use Rattle.object_table.proofs.EntryLemmas.{nothing_held, found_under, image_is, image_there, shown_cell, IsTable-written, no_nodes}
 use Rattle.object_table.proofs.table.Table.write.Goals as goal
 
@@ -18,11 +17,9 @@ write-requires-clause-same c = ap description_of (sym (image_is _ _ _ c.self.vie
 
 pub invariant_of-self : goal.invariant_of-self
 invariant_of-self c =
-    let new = record c.in-Some.entry.now { object = c.write.new.self } in
     let there = image_there _ _ _ c.self.view_is c.args.cell _ _ c.name.ensures.value c.slot.ensures.value _ (sym c.in-Some.ensures.value) c.requires.there in
-    IsTable-written _ _ _ _ _ new _ c.self.invariant (sym c.in-Some.ensures.value) refl refl (ap nodes_in c.write.ensures.value ∙ no_nodes _ _ _ there) c.write.ensures.bytes (c.get_mut.follows.holds new).0
+    IsTable-written _ _ _ _ _ c.write.new.self _ c.self.invariant (sym c.in-Some.ensures.value) (c.get_mut.follows.holds _).0 (ap nodes_in c.write.ensures.value ∙ no_nodes _ _ _ there) c.write.ensures.bytes
 
 pub returns-clause-value : goal.returns-clause-value
 returns-clause-value c =
-    let new = record c.in-Some.entry.now { object = c.write.new.self } in
-    shown_cell _ _ _ c.self.view_is c.args.cell _ _ c.name.ensures.value c.slot.ensures.value _ (sym c.in-Some.ensures.value) (λ o. ImageObject (picture_image c.args.picture.now)) new _ c.get_mut.ensures.ordered refl c.write.ensures.value (c.get_mut.follows.holds new).0
+    shown_cell _ _ _ c.self.view_is c.args.cell _ _ c.name.ensures.value c.slot.ensures.value _ (sym c.in-Some.ensures.value) (λ o. ImageObject (picture_image c.args.picture.now)) c.write.new.self _ c.get_mut.ensures.ordered (c.get_mut.follows.holds _).0 c.write.ensures.value

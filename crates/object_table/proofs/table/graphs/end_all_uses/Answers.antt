@@ -1,8 +1,7 @@
-use Rattle.std.proofs.Common.{◌<◌, ◌≤◌, length, map, take, refl, ap, ◌∙◌, arith, take_all}
-use Rattle.object_table.proofs.Common.{flat_map, length-map, entry_object, nodes_at, used_names}
+use Rattle.std.proofs.Common.{◌<◌, ◌≤◌, length, take, refl, ap, ◌∙◌, arith, take_all}
+use Rattle.object_table.proofs.Common.{flat_map, length-map, nodes_at, used_names}
 use Rattle.object_table.proofs.UseLemmas.{node_more}
 use Rattle.object_table.proofs.KeptLemmas.{left_of, left-nil, left-append, held-left, kind_kept, nodes_kept, count_kept}
-use Rattle.object_table.proofs.EntryBlockLemmas.{owns_after, Balances-trans}
 use Rattle.object_table.proofs.table.graphs.end_all_uses.Goals as goal
 
 pub loop-k-init : goal.loop-k-init
@@ -42,14 +41,11 @@ loop-k-preserved c =
           node_more left_of left-append nodes found c.loop-k.k c.index-nodes_under-k.result c.node.result old now c.end_uses-left.new.entries.entries c.loop-k.invariant.left_over
           (c.nodes_under.ensures ∙ nodes_kept c.args.graph names old now c.loop-k.invariant.left_over c.requires.live) there c.node.ensures.value c.end_uses-left.ensures.entries;
       charge = c.end_uses-left.ensures.charge;
-      balances =
-          Balances-trans c.args.pool.now c.loop-k.pool c.end_uses-left.new.pool (map entry_object old) (map entry_object now) (map entry_object c.end_uses-left.new.entries.entries) c.loop-k.invariant.balances
-          c.end_uses-left.ensures.balances;
+      balances = λ format. omega (arith, c.loop-k.invariant.balances format, c.end_uses-left.ensures.balances format);
     }
 
 pub end_uses-left-requires-clause-owns : goal.end_uses-left-requires-clause-owns
-end_uses-left-requires-clause-owns c =
-    owns_after c.args.pool.now c.loop-k.pool (map entry_object c.args.entries.now.entries) (map entry_object c.loop-k.entries.entries) c.requires.owns c.loop-k.invariant.balances
+end_uses-left-requires-clause-owns c format = omega (arith, c.requires.owns format, c.loop-k.invariant.balances format)
 
 pub returns-clause-entries : goal.returns-clause-entries
 returns-clause-entries c =

@@ -20,11 +20,9 @@ returns-in-Some-clause-charge c =
 
 pub end-requires : goal.end-requires
 end-requires c format =
-    let gone = blocks-removed c.args.entries.now.entries c.args.name c.in-Some.entry (sym c.in-Some.ensures.value) format in
-    omega (arith, gone, c.requires.owns format)
+    omega (arith, blocks-removed c.args.entries.now.entries c.args.name c.in-Some.entry (sym c.in-Some.ensures.value) format, c.requires.owns format)
 
 pub returns-in-Some-clause-balances : goal.returns-in-Some-clause-balances
 returns-in-Some-clause-balances c format =
     let gone = blocks-removed c.args.entries.now.entries c.args.name c.in-Some.entry (sym c.in-Some.ensures.value) format in
-    let left = ap (λ l. entry_blocks l format) c.remove.ensures.entries in
-    omega (arith, gone, left, c.end.ensures format)
+    omega (arith, gone, ap (λ l. entry_blocks l format) c.remove.ensures.entries, c.end.ensures format)

@@ -1,5 +1,5 @@
-use Rattle.std.proofs.Common.{map, false, refl, sym, ap, ◌∙◌, lt-ltb, le-ltb}
-use Rattle.object_table.proofs.Common.{remove_entry, is_at, nat_cmp, charge_of, entry_object, kept_entries}
+use Rattle.std.proofs.Common.{false, refl, sym, ap, ◌∙◌, lt-ltb, le-ltb}
+use Rattle.object_table.proofs.Common.{remove_entry, is_at, nat_cmp, kept_entries}
 use Rattle.object_table.proofs.KeptLemmas.{all_kept, held-written, dropped, charge-written, ended-none, ended-one}
 use Rattle.object_table.proofs.EntryBlockLemmas.{owns-written, Balances-written, Balances-written_then}
 use Rattle.object_table.proofs.table.graphs.end_name.Goals as goal
@@ -21,15 +21,11 @@ returns-then-entry-gt0-clause-entries c =
 
 pub returns-then-entry-gt0-clause-charge : goal.returns-then-entry-gt0-clause-charge
 returns-then-entry-gt0-clause-charge c =
-    let new = record c.in-Some.entry.now { live = false } in
-    c.requires.charge ∙ charge-written c.args.entries.now.entries c.args.name _ new (sym c.in-Some.ensures.value) refl
-    ∙ ap (λ l. charge_of (map entry_object l)) (sym (c.get_mut.follows.holds new).0)
+    charge-written _ c.args.entries.now.entries _ c.args.name _ (record c.in-Some.entry.now { live = false }) c.requires.charge (sym c.in-Some.ensures.value) (c.get_mut.follows.holds _).0 refl
 
 pub end_entry-requires-clause-charge : goal.end_entry-requires-clause-charge
 end_entry-requires-clause-charge c =
-    let new = record c.in-Some.entry.now { live = false } in
-    c.requires.charge ∙ charge-written c.args.entries.now.entries c.args.name _ new (sym c.in-Some.ensures.value) refl
-    ∙ ap (λ l. charge_of (map entry_object l)) (sym (c.get_mut.follows.holds new).0)
+    charge-written _ c.args.entries.now.entries _ c.args.name _ (record c.in-Some.entry.now { live = false }) c.requires.charge (sym c.in-Some.ensures.value) (c.get_mut.follows.holds _).0 refl
 
 pub returns-clause-entries : goal.returns-clause-entries
 returns-clause-entries c =
@@ -44,15 +40,15 @@ returns-clause-entries c =
 
 pub returns-then-entry-gt0-clause-balances : goal.returns-then-entry-gt0-clause-balances
 returns-then-entry-gt0-clause-balances c =
-    let new = record c.in-Some.entry.now { live = false } in
-    Balances-written c.args.entries.now.entries c.args.name _ new (sym c.in-Some.ensures.value) (λ format. refl) _ (c.get_mut.follows.holds new).0 c.args.pool.now
+    Balances-written c.args.entries.now.entries c.args.name _ (record c.in-Some.entry.now { live = false }) _ (sym c.in-Some.ensures.value) (c.get_mut.follows.holds _).0
+    (λ format. refl) c.args.pool.now
 
 pub end_entry-requires-clause-owns : goal.end_entry-requires-clause-owns
 end_entry-requires-clause-owns c =
-    let new = record c.in-Some.entry.now { live = false } in
-    owns-written c.args.entries.now.entries c.args.name _ new (sym c.in-Some.ensures.value) (λ format. refl) _ (c.get_mut.follows.holds new).0 c.args.pool.now c.requires.owns
+    owns-written c.args.entries.now.entries c.args.name _ (record c.in-Some.entry.now { live = false }) _ (sym c.in-Some.ensures.value) (c.get_mut.follows.holds _).0
+    (λ format. refl) c.args.pool.now c.requires.owns
 
 pub returns-clause-balances : goal.returns-clause-balances
 returns-clause-balances c =
-    let new = record c.in-Some.entry.now { live = false } in
-    Balances-written_then c.args.entries.now.entries c.args.name _ new (sym c.in-Some.ensures.value) (λ format. refl) _ (c.get_mut.follows.holds new).0 c.args.pool.now c.end_entry.new.pool c.end_entry.new.entries.entries c.end_entry.ensures.balances
+    Balances-written_then c.args.entries.now.entries c.args.name _ (record c.in-Some.entry.now { live = false }) _ (sym c.in-Some.ensures.value) (c.get_mut.follows.holds _).0
+    (λ format. refl) c.args.pool.now c.end_entry.new.pool c.end_entry.new.entries.entries c.end_entry.ensures.balances

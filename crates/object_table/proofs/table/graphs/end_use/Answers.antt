@@ -1,11 +1,9 @@
-use Rattle.std.proofs.Common.{◌≡◌, arith, true, map, refl, sym, ap, ◌∙◌, nat_lt, ◌||◌, le-ltb}
-use Rattle.object_table.proofs.Common.{remove_entry, set_value, is_at, nat_cmp, charge_of, entry_object, kept_entries, nat_tests}
-use Rattle.std.proofs.lemmas.Bool.{or_from}
+use Rattle.std.proofs.Common.{◌≡◌, arith, true, refl, sym, ap, ◌∙◌, nat_lt, ◌||◌, le-ltb}
+use Rattle.object_table.proofs.Common.{remove_entry, set_value, is_at, nat_cmp, kept_entries, nat_tests, or_from}
 use Rattle.object_table.proofs.UseLemmas.{with_uses, less, less_is, used-one, used-none, operand_uses, no_operand_uses}
 use Rattle.object_table.proofs.KeptLemmas.{all_kept, held-written, dropped, charge-written, left_of, left-nil}
 use Rattle.object_table.proofs.EntryBlockLemmas.{owns-written, Balances-written, Balances-written_then}
 use Rattle.object_table.proofs.table.graphs.end_use.Goals as goal
-use Rattle.object_table.proofs.table.graphs.end_use.Goals.{Joined-then-entry}
 
 pub returns-in_default-clause-entries : goal.returns-in_default-clause-entries
 returns-in_default-clause-entries c =
@@ -21,7 +19,7 @@ returns-in_default-get_mut-clause-entries c =
     ∙ operand_uses left_of c.args.operand c.in-Some.cell name entries c.in-Some.is c.name-name.ensures.value
 
 -- the entry that is left of it
-then_is : (c : Joined-then-entry) → c.then-entry.entries.entries ≡ set_value (is_at (nat_cmp c.name-name.result)) c.args.entries.now.entries (with_uses c.in-Some-get_mut.entry.now c.saturating_sub-entry.result)
+then_is : (c : goal.Joined-then-entry) → c.then-entry.entries.entries ≡ set_value (is_at (nat_cmp c.name-name.result)) c.args.entries.now.entries (with_uses c.in-Some-get_mut.entry.now c.saturating_sub-entry.result)
 then_is c =
     let written = (c.get_mut.follows.holds (with_uses c.in-Some-get_mut.entry.now c.saturating_sub-entry.result)).0 in
     grind (arith, written, c.then-entry.branch)
@@ -43,15 +41,11 @@ returns-then-entry-clause-entries c =
 
 pub returns-then-entry-clause-charge : goal.returns-then-entry-clause-charge
 returns-then-entry-clause-charge c =
-    let new = with_uses c.in-Some-get_mut.entry.now c.saturating_sub-entry.result in
-    c.requires.charge ∙ charge-written c.args.entries.now.entries c.name-name.result _ new (sym c.in-Some-get_mut.ensures.value) refl
-    ∙ ap (λ l. charge_of (map entry_object l)) (sym (then_is c))
+    charge-written _ c.args.entries.now.entries _ c.name-name.result _ (with_uses c.in-Some-get_mut.entry.now c.saturating_sub-entry.result) c.requires.charge (sym c.in-Some-get_mut.ensures.value) (then_is c) refl
 
 pub end_entry-requires-clause-charge : goal.end_entry-requires-clause-charge
 end_entry-requires-clause-charge c =
-    let new = with_uses c.in-Some-get_mut.entry.now c.saturating_sub-entry.result in
-    c.requires.charge ∙ charge-written c.args.entries.now.entries c.name-name.result _ new (sym c.in-Some-get_mut.ensures.value) refl
-    ∙ ap (λ l. charge_of (map entry_object l)) (sym (c.get_mut.follows.holds new).0)
+    charge-written _ c.args.entries.now.entries _ c.name-name.result _ (with_uses c.in-Some-get_mut.entry.now c.saturating_sub-entry.result) c.requires.charge (sym c.in-Some-get_mut.ensures.value) (c.get_mut.follows.holds _).0 refl
 
 pub returns-clause-entries : goal.returns-clause-entries
 returns-clause-entries c =
@@ -70,15 +64,15 @@ returns-clause-entries c =
 
 pub returns-then-entry-clause-balances : goal.returns-then-entry-clause-balances
 returns-then-entry-clause-balances c =
-    let new = with_uses c.in-Some-get_mut.entry.now c.saturating_sub-entry.result in
-    Balances-written c.args.entries.now.entries c.name-name.result _ new (sym c.in-Some-get_mut.ensures.value) (λ format. refl) _ (then_is c) c.args.pool.now
+    Balances-written c.args.entries.now.entries c.name-name.result _ (with_uses c.in-Some-get_mut.entry.now c.saturating_sub-entry.result) _ (sym c.in-Some-get_mut.ensures.value) (then_is c)
+    (λ format. refl) c.args.pool.now
 
 pub end_entry-requires-clause-owns : goal.end_entry-requires-clause-owns
 end_entry-requires-clause-owns c =
-    let new = with_uses c.in-Some-get_mut.entry.now c.saturating_sub-entry.result in
-    owns-written c.args.entries.now.entries c.name-name.result _ new (sym c.in-Some-get_mut.ensures.value) (λ format. refl) _ (c.get_mut.follows.holds new).0 c.args.pool.now c.requires.owns
+    owns-written c.args.entries.now.entries c.name-name.result _ (with_uses c.in-Some-get_mut.entry.now c.saturating_sub-entry.result) _ (sym c.in-Some-get_mut.ensures.value) (c.get_mut.follows.holds _).0
+    (λ format. refl) c.args.pool.now c.requires.owns
 
 pub returns-clause-balances : goal.returns-clause-balances
 returns-clause-balances c =
-    let new = with_uses c.in-Some-get_mut.entry.now c.saturating_sub-entry.result in
-    Balances-written_then c.args.entries.now.entries c.name-name.result _ new (sym c.in-Some-get_mut.ensures.value) (λ format. refl) _ (c.get_mut.follows.holds new).0 c.args.pool.now c.end_entry.new.pool c.end_entry.new.entries.entries c.end_entry.ensures.balances
+    Balances-written_then c.args.entries.now.entries c.name-name.result _ (with_uses c.in-Some-get_mut.entry.now c.saturating_sub-entry.result) _ (sym c.in-Some-get_mut.ensures.value) (c.get_mut.follows.holds _).0
+    (λ format. refl) c.args.pool.now c.end_entry.new.pool c.end_entry.new.entries.entries c.end_entry.ensures.balances
